@@ -1,0 +1,285 @@
+-- The five empty programs of document 01, each refuted by the demands that the document names.
+-- Assumes nothing.
+use mathlib.Core.Path.{_≡_, refl, ap, sym, _∙_, subst}
+use mathlib.Core.Logic.{_⊎_, inl, inr, _↔_}
+use mathlib.Core.Option.{Option, none, some}
+use mathlib.Core.List.{List, [], _∷_, _++_, List·Memᴰ, List·Memᴰ·head, List·Memᴰ·not-nil}
+use Prim.Native.Nat.{ℕ, zero, suc, _+_, _≤_, _<_}
+use native.Mathlib.Omega.{arith}
+use lib.ListN.{length}
+use Rattle.theory.specs.Net.{Node, atom, arcs, Graph, arcsOf, nodeAt}
+use Rattle.theory.specs.Join.{join}
+use Rattle.theory.specs.Structure.{Structure, Into, Satisfies}
+use Rattle.theory.specs.Descr.{Desc, desc, Disjs, end, _and_, Alts, fail, _or_, agree, agreeing, readings, number}
+use Rattle.theory.specs.Modes.{joined, quick, full, round, finish, tidy, size, some-agree, prune, fold, folded-in}
+use Rattle.theory.specs.Satisfaction.{Sat}
+use Rattle.theory.specs.Layout.{words, WellFormed}
+use Rattle.theory.specs.Reading.{decode}
+use Rattle.theory.specs.Answer.{Answer, refuse, consistent}
+use Rattle.theory.specs.Unified.{unified, in-mode, complete, deliver}
+use Rattle.theory.specs.Rules.{mode-result}
+use Rattle.theory.specs.Demands.{Unifier, Succeeds, Demand2, Step, start, call, reached, chosen, ways, Refused, Demand3}
+use Rattle.theory.specs.Known.{gives}
+use Rattle.theory.proofs.Decode.{one-image}
+use Rattle.theory.proofs.Quick.{nil, nil-canonical}
+use Rattle.theory.proofs.Fit.{structure}
+use Rattle.theory.proofs.Model.{structure-itself}
+
+-- descriptions to try them on
+abbrev plain : Graph → Desc
+plain g = desc g end
+
+abbrev one-arc : ℕ → ℕ → Graph
+one-arc f a = arcs ((f, 1) ∷ []) ∷ atom a ∷ []
+
+abbrev dN : Desc
+dN = plain nil
+
+abbrev dA : Desc
+dA = plain (one-arc 1 10)
+
+abbrev dB : Desc
+dB = plain (one-arc 1 11)
+
+abbrev dP : Desc
+dP = desc nil ((dA or dB or fail) and end)
+
+-- feature 3 is atom 10; A, or feature 3 is atom 11; B, or feature 2 is atom 10
+abbrev dF : Desc
+dF = desc (one-arc 3 10) ((dA or plain (one-arc 3 11) or fail) and (dB or plain (one-arc 2 10) or fail) and end)
+
+wN : WellFormed dN 4
+wN = (nil-canonical, ((omega arith, tt), tt), tt)
+
+abbrev wArc : (f a n : ℕ) → f < 65536 → a < 65536 → WellFormed (plain (one-arc f a)) n
+wArc f a n h k = ((omega arith, (omega arith, tt), (omega arith, tt), (omega arith, tt, tt, omega arith)), ((omega arith, (h, tt)), (k, tt)), tt)
+
+wA : WellFormed dA 4
+wA = wArc 1 10 4 (omega arith) (omega arith)
+
+wB : WellFormed dB 4
+wB = wArc 1 11 4 (omega arith) (omega arith)
+
+wP : WellFormed dP 4
+wP = (nil-canonical, ((omega arith, tt), tt), (omega arith, (wArc 1 10 3 (omega arith) (omega arith), (wArc 1 11 3 (omega arith) (omega arith), tt)), tt))
+
+wF : WellFormed dF 4
+wF =
+    let g = wArc 3 10 4 (omega arith) (omega arith) in
+    (g .0, g .1, (omega arith, (wArc 1 10 3 (omega arith) (omega arith), (wArc 3 11 3 (omega arith) (omega arith), tt)), (omega arith, (wArc 1 11 3 (omega arith) (omega arith), (wArc 2 10 3 (omega arith) (omega arith), tt)), tt)))
+
+abbrev step : (d : Desc) → WellFormed d 4 → ℕ → Step
+step d w m = record { item = d; fine = w; mode = m; room = 2048; work = 16384 }
+
+-- the structure of one bare node
+abbrev bare : Structure
+bare = structure nil nil-canonical
+
+bare-nothing : Sat bare dN
+bare-nothing = (structure-itself nil nil-canonical, tt)
+
+bare-no-arc : (n : ℕ) (p : ℕ × ℕ) → List·Memᴰ p (arcsOf (nodeAt nil n)) → ⊥
+bare-no-arc zero p m = List·Memᴰ·not-nil m
+bare-no-arc (suc n) p m = List·Memᴰ·not-nil m
+
+bare-not-A : Sat bare dA → ⊥
+bare-not-A s = let h : Satisfies bare (one-arc 1 10) = s .0 in bare-no-arc (h .to (0, omega arith) .0) (1, h .to (1, omega arith) .0) (h .arc-to (0, omega arith) 1 (1, omega arith) (List·Memᴰ·head refl))
+
+-- "one that clashes always"
+pub always-clash : Unifier
+always-clash mode a b room work = refuse 6
+
+pub clash-2 : Demand2 always-clash → ⊥
+unfolding always-clash
+clash-2 D = D .clash 0 dN dN wN wN 2048 16384 refl bare bare-nothing bare-nothing
+
+ways-nothing : ways (step dN wN 0 ∷ []) ≡ 1
+unfolding agreeing agree join
+ways-nothing = refl
+
+pub clash-3 : Demand3 always-clash → ⊥
+unfolding always-clash
+clash-3 D = let h : ways (step dN wN 0 ∷ []) ≡ 0 = D .clash [] start (step dN wN 0) refl refl in let k = ways-nothing in omega (arith, h, k)
+
+-- "one that answers `1 0 0` always", with any count of readings
+pub always-nothing : ℕ → Unifier
+always-nothing n mode a b room work = gives start n
+
+pub nothing-2 : (n : ℕ) → Demand2 (always-nothing n) → ⊥
+unfolding always-nothing
+nothing-2 n D =
+    let (d, s) = D .success 0 dA dA wA wA 2048 16384 refl in
+    let i : dN ≡ d = one-image dN d wN (s .well) (s .written) in
+    bare-not-A (s .means bare .0 (subst (Sat bare) i bare-nothing) .0)
+
+ways-A-B : ways (step dA wA 0 ∷ step dB wB 0 ∷ []) ≡ 0
+unfolding agreeing agree join
+ways-A-B = refl
+
+readings-nothing : readings dN ≡ 1
+unfolding readings agreeing agree join
+readings-nothing = refl
+
+pub nothing-3 : (n : ℕ) → Demand3 (always-nothing n) → ⊥
+unfolding always-nothing
+nothing-3 n D =
+    let (d, w, e, r) = D .number (step dA wA 0 ∷ step dB wB 0 ∷ []) start refl in
+    let i : dN ≡ d = one-image dN d wN w e in
+    let k : readings d ≡ 1 = subst (λ (z : Desc). readings z ≡ 1) i readings-nothing in
+    let h = ways-A-B in
+    omega (arith, r, k, h)
+
+-- "one that reports 0 and writes nothing", with any length and readings
+pub writes-nothing : (ℕ → List ℕ → List ℕ → ℕ × ℕ) → Unifier
+writes-nothing f mode a b room work = record { number = 0; extent = f mode a b .0; readings = f mode a b .1; result = [] }
+
+words-some : (d : Desc) → [] ≡ words d → ⊥
+words-some (desc g ds) e = let h = ap length e in omega (arith, h)
+
+pub silent-2 : (f : ℕ → List ℕ → List ℕ → ℕ × ℕ) → Demand2 (writes-nothing f) → ⊥
+unfolding writes-nothing
+silent-2 f D = let (d, s) = D .success 0 dN dN wN wN 2048 16384 refl in words-some d (s .written)
+
+-- "one that … joins in every mode"
+pub joins-always : Unifier
+joins-always mode a b room work = unified 0 a b room work
+
+-- a program whose result in mode 1 has another length than the mode's is refuted
+wrong-length : (U : Unifier) (a b d : Desc) → WellFormed a 4 → WellFormed b 4 → U 1 (words a) (words b) 2048 16384 .number ≡ 0 → quick a b ≡ some d → (length (U 1 (words a) (words b) 2048 16384 .result) ≡ length (words d) → ⊥) → Demand2 U → ⊥
+wrong-length U a b d p q z k n D =
+    let (e, s) = D .success 1 a b p q 2048 16384 z in
+    let h : some e ≡ some d = sym (s .by-mode) ∙ k in
+    let i : e ≡ d = cc in
+    n (ap length (s .written) ∙ ap (λ (z : Desc). length (words z)) i)
+
+quick-P-A : quick dP dA ≡ some dA
+unfolding quick size tidy finish joined join
+quick-P-A = refl
+
+joins-P-A : joins-always 1 (words dP) (words dA) 2048 16384 ≡ unified 0 (words dP) (words dA) 2048 16384
+unfolding joins-always
+joins-P-A = refl
+
+joined-P-A : (unified 0 (words dP) (words dA) 2048 16384 .number ≡ 0) × (length (unified 0 (words dP) (words dA) 2048 16384 .result) ≡ 19)
+unfolding unified in-mode deliver decode joined join
+joined-P-A = (refl, refl)
+
+pub joins-2 : Demand2 joins-always → ⊥
+joins-2 = wrong-length joins-always dP dA dA wP wA (ap (λ (r : Answer). r .number) joins-P-A ∙ joined-P-A .0) quick-P-A
+    (λ e. let h = ap (λ (r : Answer). length (r .result)) joins-P-A ∙ joined-P-A .1 in omega (arith, h, e))
+
+-- "one that tidies in the first round and only pretends later"
+pub tidy-once : ℕ → Graph → Desc → Option Desc
+tidy-once zero c d = some d
+tidy-once (suc n) c (desc g ds) = elim (join (c ∷ g ∷ [])) [
+  | none ↦ none
+  | some k ↦ elim (round (tidy-once n k) ds) [ none ↦ none | some r ↦ finish (λ d. some d) g (r .left) (r .folded) ]
+]
+
+pub quick-once : Desc → Desc → Option Desc
+quick-once a b = elim (joined a b) [ none ↦ none | some d ↦ tidy-once (suc (size d)) nil d ]
+
+pub first-round : Unifier
+first-round zero a b room work = unified 0 a b room work
+first-round (suc zero) a b room work = elim (decode a) [ none ↦ refuse 4 | some d ↦ elim (decode b) [ none ↦ refuse 5 | some e ↦ deliver room 0 (quick-once d e) ] ]
+first-round (suc (suc m)) a b room work = unified (suc (suc m)) a b room work
+
+abbrev dF′ : Desc
+dF′ = plain (arcs ((1, 1) ∷ (2, 2) ∷ (3, 3) ∷ []) ∷ atom 10 ∷ atom 10 ∷ atom 10 ∷ [])
+
+quick-F : quick dF dN ≡ some dF′
+unfolding quick size tidy finish joined join
+quick-F = refl
+
+once-F : (first-round 1 (words dF) (words dN) 2048 16384 .number ≡ 0) × (length (first-round 1 (words dF) (words dN) 2048 16384 .result) ≡ 22)
+unfolding first-round quick-once tidy-once size finish joined join deliver decode
+once-F = (refl, refl)
+
+pub once-2 : Demand2 first-round → ⊥
+once-2 = wrong-length first-round dF dN dF′ wF wN (once-F .0) quick-F (λ e. let h = once-F .1 in omega (arith, h, e))
+
+-- "one that makes up readings": the same count always
+pub made-up : ℕ → Unifier
+made-up n mode a b room work = let r = unified mode a b room work in record { number = r .number; extent = r .extent; readings = n; result = r .result }
+
+zero-N : unified 2 start (words dN) 2048 16384 .number ≡ 0
+unfolding unified in-mode complete consistent deliver decode joined quick full size tidy finish some-agree prune fold folded-in agree agreeing readings number join
+zero-N = refl
+
+zero-P : unified 2 start (words dP) 2048 16384 .number ≡ 0
+unfolding unified in-mode complete consistent deliver decode joined quick full size tidy finish some-agree prune fold folded-in agree agreeing readings number join
+zero-P = refl
+
+ways-N : ways (step dN wN 2 ∷ []) ≡ 1
+unfolding agreeing agree join
+ways-N = refl
+
+ways-P : ways (step dP wP 2 ∷ []) ≡ 2
+unfolding agreeing agree join
+ways-P = refl
+
+pub made-up-3 : (n : ℕ) → Demand3 (made-up n) → ⊥
+unfolding made-up
+made-up-3 n D =
+    let h : n ≡ ways (step dN wN 2 ∷ []) = D .counted [] start (step dN wN 2) refl refl zero-N in
+    let k : n ≡ ways (step dP wP 2 ∷ []) = D .counted [] start (step dP wP 2) refl refl zero-P in
+    let i = ways-N in
+    let j = ways-P in
+    omega (arith, h, k, i, j)
+
+-- or any other count than the true one, on a call that is tried
+pub miscounted : (ℕ → ℕ) → Unifier
+miscounted f mode a b room work = let r = unified mode a b room work in record { number = r .number; extent = r .extent; readings = f (r .readings); result = r .result }
+
+one-N : unified 2 start (words dN) 2048 16384 .readings ≡ 1
+unfolding unified in-mode complete consistent deliver decode joined quick full size tidy finish some-agree prune fold folded-in agree agreeing readings number join
+one-N = refl
+
+pub miscounted-3 : (f : ℕ → ℕ) → (f 1 ≡ 1 → ⊥) → Demand3 (miscounted f) → ⊥
+unfolding miscounted
+miscounted-3 f n D = n (sym (ap f one-N) ∙ D .counted [] start (step dN wN 2) refl refl zero-N ∙ ways-N)
+
+-- the third demand speaks of something: three calls in three modes that succeed, with two readings, and a fourth that clashes
+trail : List Step
+trail = step dP wP 0 ∷ step dP wP 1 ∷ step dP wP 2 ∷ []
+
+trail-reached : reached unified start trail ≡ some (1 ∷ 0 ∷ 3 ∷ 2 ∷ (words dA ++ words dB ++ 2 ∷ (words dA ++ words dB ++ 2 ∷ (words dA ++ words dB))))
+unfolding trail unified in-mode complete consistent deliver decode joined quick full size tidy finish some-agree prune fold folded-in agree agreeing readings number join
+trail-reached = refl
+
+trail-ways : (ways trail ≡ 2) × (ways (trail ++ step (plain (one-arc 1 12)) (wArc 1 12 4 (omega arith) (omega arith)) 2 ∷ []) ≡ 0)
+unfolding trail agreeing agree join
+trail-ways = (refl, refl)
+
+-- What the two demands leave to the table of numbers: a program that refuses always meets both.
+pub always-refuse : Unifier
+always-refuse mode a b room work = refuse 1
+
+ways-none : ways [] ≡ 1
+unfolding agreeing agree join
+ways-none = refl
+
+pub refuse-meets-2 : Demand2 always-refuse
+unfolding always-refuse
+refuse-meets-2 = record {
+  success = λ mode a b p q room work z. let k : _≡_ {A = ℕ} 1 0 = z in absurd (omega arith);
+  clash = λ mode a b p q room work z. let k : _≡_ {A = ℕ} 1 6 = z in absurd (omega arith);
+}
+
+pub refuse-meets-3 : Demand3 always-refuse
+unfolding always-refuse
+refuse-meets-3 = record {
+  number = counts;
+  clash = λ l ws s h z. let k : _≡_ {A = ℕ} 1 6 = z in absurd (omega arith);
+  told = λ l ws s h m w. inr (inl (omega arith, omega arith));
+  counted = λ l ws s h m z. let k : _≡_ {A = ℕ} 1 0 = z in absurd (omega arith);
+}
+  where
+    counts : (l : List Step) (ws : List ℕ) → reached always-refuse start l ≡ some ws → (d : Desc) × WellFormed d 4 × (ws ≡ words d) × (readings d ≡ ways l)
+    counts [] ws h = let e : start ≡ ws = cc in (dN, wN, sym e, readings-nothing ∙ sym ways-none)
+    counts (s ∷ l) ws h = let z : _≡_ {A = ℕ} 0 1 = cc in absurd (omega arith)
+
+-- the table does not let it pass
+pub refuse-table : unified 0 start start 2048 16384 ≡ always-refuse 0 start start 2048 16384 → ⊥
+unfolding always-refuse unified in-mode deliver decode joined join
+refuse-table e = let h : _≡_ {A = ℕ} 0 1 = ap (λ (r : Answer). r .number) e in omega arith

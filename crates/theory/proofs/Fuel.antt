@@ -1,0 +1,119 @@
+-- The fuel of `tidy` is enough: from the size of the description on, it does not matter.
+-- Assumes nothing.
+use mathlib.Core.Path.{_≡_, refl, ap, ap₂, sym, _∙_, subst}
+use mathlib.Core.Option.{Option, none, some}
+use mathlib.Core.List.{List, [], _∷_, _++_}
+use Prim.Native.Nat.{ℕ, zero, suc, _+_, _≤_, _<_}
+use native.Mathlib.Omega.{arith}
+use lib.ListN.{length}
+use Rattle.theory.specs.Net.{Graph}
+use Rattle.theory.specs.Join.{join}
+use Rattle.theory.specs.Descr.{Desc, desc, Disjs, end, _and_, Alts, fail, _or_, _then_}
+use Rattle.theory.specs.Modes.{size, size-all, size-any, kept, Round, after, round, finish, tidy}
+
+abbrev Small : Desc → Option Desc → Type 0
+Small d none = Unit {0}
+Small d (some e) = size e ≤ size d
+
+size-then : (ds es : Disjs) → size-all (ds then es) ≡ size-all ds + size-all es
+unfolding size
+size-then end es = omega arith
+size-then (a and ds) es = rw (size-then ds es) (omega arith)
+
+kept-small : (t : Desc → Option Desc) → ((d : Desc) → Small d (t d)) → (a : Alts) → size-any (kept t a) ≤ size-any a
+unfolding size
+kept-small t T fail = omega arith
+kept-small t T (d or a) = go (t d) (T d) (kept-small t T a)
+  where
+    go : (o : Option Desc) → Small d o → size-any (kept t a) ≤ size-any a → size-any (elim o [ none ↦ kept t a | some e ↦ e or kept t a ]) ≤ size d + size-any a
+    go none s r = omega arith
+    go (some e) s r = omega arith
+
+-- a round folds a disjunction for each graph
+abbrev pub Less : ℕ → Option Round → Type 0
+Less n none = Unit {0}
+Less n (some r) = size-all (r .left) + length (r .folded) ≤ n
+
+after-less : (a : Alts) (r : Round) (n : ℕ) → Less n (some r) → Less (suc (size-any a + n)) (after a r)
+unfolding size
+after-less fail r n l = tt
+after-less (desc g ds or fail) r n l = omega (arith, size-then ds (r .left))
+after-less (d or (e or a)) r n l = omega arith
+
+less-le : (m n : ℕ) → m ≤ n → (o : Option Round) → Less m o → Less n o
+less-le m n h none l = tt
+less-le m n h (some r) l = omega arith
+
+pub round-less : (t : Desc → Option Desc) → ((d : Desc) → Small d (t d)) → (ds : Disjs) → Less (size-all ds) (round t ds)
+unfolding size
+round-less t T end = omega arith
+round-less t T (a and ds) = go (round t ds) (round-less t T ds)
+  where
+    go : (o : Option Round) → Less (size-all ds) o → Less (suc (size-any a + size-all ds)) (elim o [ none ↦ none | some r ↦ after (kept t a) r ])
+    go none l = tt
+    go (some r) l = less-le (suc (size-any (kept t a) + size-all ds)) (suc (size-any a + size-all ds)) (omega (arith, kept-small t T a)) (after (kept t a) r) (after-less (kept t a) r (size-all ds) l)
+
+small-le : (d e : Desc) → size d ≤ size e → (o : Option Desc) → Small d o → Small e o
+small-le d e h none s = tt
+small-le d e h (some f) s = omega arith
+
+finish-small : (again : Desc → Option Desc) → ((d : Desc) → Small d (again d)) → (g : Graph) (ds left : Disjs) (folded : List Graph) → size-all left + length folded ≤ size-all ds → Small (desc g ds) (finish again g left folded)
+unfolding finish size
+finish-small again A g ds left [] h = omega arith
+finish-small again A g ds left (x ∷ xs) h = go (join (g ∷ x ∷ xs))
+  where
+    go : (o : Option Graph) → Small (desc g ds) (elim o [ none ↦ none | some g′ ↦ again (desc g′ left) ])
+    go none = tt
+    go (some g′) = small-le (desc g′ left) (desc g ds) (omega arith) (again (desc g′ left)) (A (desc g′ left))
+
+pub tidy-small : (n : ℕ) (C : Graph) (d : Desc) → Small d (tidy n C d)
+unfolding tidy
+tidy-small zero C d = omega arith
+tidy-small (suc n) C (desc g ds) = go (join (C ∷ g ∷ [])) (λ K d. tidy-small n K d)
+  where
+    go : (o : Option Graph) → ((K : Graph) (d : Desc) → Small d (tidy n K d)) → Small (desc g ds) (elim o [ none ↦ none | some K ↦ elim (round (tidy n K) ds) [ none ↦ none | some r ↦ finish (tidy n C) g (r .left) (r .folded) ] ])
+    go none t = tt
+    go (some K) t = two (round (tidy n K) ds) (round-less (tidy n K) (t K) ds)
+      where
+        two : (o : Option Round) → Less (size-all ds) o → Small (desc g ds) (elim o [ none ↦ none | some r ↦ finish (tidy n C) g (r .left) (r .folded) ])
+        two none l = tt
+        two (some r) l = finish-small (tidy n C) (t C) g ds (r .left) (r .folded) l
+
+kept-same : (t t′ : Desc → Option Desc) (n : ℕ) → ((d : Desc) → size d ≤ n → t d ≡ t′ d) → (a : Alts) → size-any a ≤ n → kept t a ≡ kept t′ a
+unfolding size
+kept-same t t′ n h fail l = refl
+kept-same t t′ n h (d or a) l = ap₂ {C = Alts} (λ (o : Option Desc) (r : Alts). elim o [ none ↦ r | some e ↦ e or r ]) (h d (omega arith)) (kept-same t t′ n h a (omega arith))
+
+round-same : (t t′ : Desc → Option Desc) (n : ℕ) → ((d : Desc) → size d ≤ n → t d ≡ t′ d) → (ds : Disjs) → size-all ds ≤ suc n → round t ds ≡ round t′ ds
+unfolding size
+round-same t t′ n h end l = refl
+round-same t t′ n h (a and ds) l = ap₂ {C = Option Round} (λ (o : Option Round) (b : Alts). elim o [ none ↦ none | some r ↦ after b r ]) (round-same t t′ n h ds (omega arith)) (kept-same t t′ n h a (omega arith))
+
+finish-same : (t t′ : Desc → Option Desc) (n : ℕ) → ((d : Desc) → size d ≤ n → t d ≡ t′ d) → (g : Graph) (left : Disjs) (folded : List Graph) → size-all left + length folded ≤ n → finish t g left folded ≡ finish t′ g left folded
+unfolding finish size
+finish-same t t′ n h g left [] l = refl
+finish-same t t′ n h g left (x ∷ xs) l = go (join (g ∷ x ∷ xs))
+  where
+    go : (o : Option Graph) → _≡_ {A = Option Desc} (elim o [ none ↦ none | some g′ ↦ t (desc g′ left) ]) (elim o [ none ↦ none | some g′ ↦ t′ (desc g′ left) ])
+    go none = refl
+    go (some g′) = h (desc g′ left) (omega arith)
+
+pub tidy-same : (n m : ℕ) (C : Graph) (d : Desc) → size d ≤ n → size d ≤ m → tidy n C d ≡ tidy m C d
+unfolding tidy size
+tidy-same zero m C (desc g ds) h k = absurd (omega arith)
+tidy-same (suc n) zero C (desc g ds) h k = absurd (omega arith)
+tidy-same (suc n) (suc m) C (desc g ds) h k = go (join (C ∷ g ∷ [])) (λ K d a b. tidy-same n m K d a b)
+  where
+    go : (o : Option Graph) → ((K : Graph) (d : Desc) → size d ≤ n → size d ≤ m → tidy n K d ≡ tidy m K d) →
+        _≡_ {A = Option Desc} (elim o [ none ↦ none | some K ↦ elim (round (tidy n K) ds) [ none ↦ none | some r ↦ finish (tidy n C) g (r .left) (r .folded) ] ])
+        (elim o [ none ↦ none | some K ↦ elim (round (tidy m K) ds) [ none ↦ none | some r ↦ finish (tidy m C) g (r .left) (r .folded) ] ])
+    go none t = refl
+    go (some K) t = two (round (tidy n K) ds) (round (tidy m K) ds) (round-same (tidy n K) (tidy m K) (size-all ds) (λ d l. t K d (omega arith) (omega arith)) ds (omega arith)) (round-less (tidy n K) (tidy-small n K) ds)
+      where
+        two : (o o′ : Option Round) → o ≡ o′ → Less (size-all ds) o →
+            _≡_ {A = Option Desc} (elim o [ none ↦ none | some r ↦ finish (tidy n C) g (r .left) (r .folded) ]) (elim o′ [ none ↦ none | some r ↦ finish (tidy m C) g (r .left) (r .folded) ])
+        two o o′ e l = subst (λ (z : Option Round). _≡_ {A = Option Desc} (elim o [ none ↦ none | some r ↦ finish (tidy n C) g (r .left) (r .folded) ]) (elim z [ none ↦ none | some r ↦ finish (tidy m C) g (r .left) (r .folded) ])) e (three o l)
+          where
+            three : (o : Option Round) → Less (size-all ds) o → _≡_ {A = Option Desc} (elim o [ none ↦ none | some r ↦ finish (tidy n C) g (r .left) (r .folded) ]) (elim o [ none ↦ none | some r ↦ finish (tidy m C) g (r .left) (r .folded) ])
+            three none l = refl
+            three (some r) l = finish-same (tidy n C) (tidy m C) (size-all ds) (λ d q. t C d (omega arith) (omega arith)) g (r .left) (r .folded) l
