@@ -18,7 +18,7 @@ use Rattle.theory.specs.Reading.{decode}
 use Rattle.theory.specs.Answer.{Answer, refuse, consistent}
 use Rattle.theory.specs.Unified.{unified, in-mode, complete, deliver}
 use Rattle.theory.specs.Rules.{mode-result}
-use Rattle.theory.specs.Demands.{Unifier, Succeeds, Demand2, Step, start, call, reached, chosen, ways, Refused, Demand3}
+use Rattle.theory.specs.Demands.{Unifier, Succeeds, Demand2, Step, start, call, reached, chosen, ways, items, Refused, Demand3}
 use Rattle.theory.specs.Known.{gives}
 use Rattle.theory.proofs.Decode.{one-image}
 use Rattle.theory.proofs.Quick.{nil, nil-canonical}
@@ -93,13 +93,13 @@ pub clash-2 : Demand2 always-clash → ⊥
 unfolding always-clash
 clash-2 D = D .clash 0 dN dN wN wN 2048 16384 refl bare bare-nothing bare-nothing
 
-ways-nothing : ways (step dN wN 0 ∷ []) ≡ 1
+ways-nothing : ways (dN ∷ []) ≡ 1
 unfolding agreeing agree join
 ways-nothing = refl
 
 pub clash-3 : Demand3 always-clash → ⊥
 unfolding always-clash
-clash-3 D = let h : ways (step dN wN 0 ∷ []) ≡ 0 = D .clash [] start (step dN wN 0) refl refl in let k = ways-nothing in omega (arith, h, k)
+clash-3 D = let h : ways (dN ∷ []) ≡ 0 = D .clash [] start (step dN wN 0) refl refl in let k = ways-nothing in omega (arith, h, k)
 
 -- "one that answers `1 0 0` always", with any count of readings
 pub always-nothing : ℕ → Unifier
@@ -112,7 +112,7 @@ nothing-2 n D =
     let i : dN ≡ d = one-image dN d wN (s .well) (s .written) in
     bare-not-A (s .means bare .0 (subst (Sat bare) i bare-nothing) .0)
 
-ways-A-B : ways (step dA wA 0 ∷ step dB wB 0 ∷ []) ≡ 0
+ways-A-B : ways (dA ∷ dB ∷ []) ≡ 0
 unfolding agreeing agree join
 ways-A-B = refl
 
@@ -210,20 +210,16 @@ zero-P : unified 2 start (words dP) 2048 16384 .number ≡ 0
 unfolding unified in-mode complete consistent deliver decode joined quick full size tidy finish some-agree prune fold folded-in agree agreeing readings number join
 zero-P = refl
 
-ways-N : ways (step dN wN 2 ∷ []) ≡ 1
-unfolding agreeing agree join
-ways-N = refl
-
-ways-P : ways (step dP wP 2 ∷ []) ≡ 2
+ways-P : ways (dP ∷ []) ≡ 2
 unfolding agreeing agree join
 ways-P = refl
 
 pub made-up-3 : (n : ℕ) → Demand3 (made-up n) → ⊥
 unfolding made-up
 made-up-3 n D =
-    let h : n ≡ ways (step dN wN 2 ∷ []) = D .counted [] start (step dN wN 2) refl refl zero-N in
-    let k : n ≡ ways (step dP wP 2 ∷ []) = D .counted [] start (step dP wP 2) refl refl zero-P in
-    let i = ways-N in
+    let h : n ≡ ways (dN ∷ []) = D .counted [] start (step dN wN 2) refl refl zero-N in
+    let k : n ≡ ways (dP ∷ []) = D .counted [] start (step dP wP 2) refl refl zero-P in
+    let i = ways-nothing in
     let j = ways-P in
     omega (arith, h, k, i, j)
 
@@ -237,7 +233,7 @@ one-N = refl
 
 pub miscounted-3 : (f : ℕ → ℕ) → (f 1 ≡ 1 → ⊥) → Demand3 (miscounted f) → ⊥
 unfolding miscounted
-miscounted-3 f n D = n (sym (ap f one-N) ∙ D .counted [] start (step dN wN 2) refl refl zero-N ∙ ways-N)
+miscounted-3 f n D = n (sym (ap f one-N) ∙ D .counted [] start (step dN wN 2) refl refl zero-N ∙ ways-nothing)
 
 -- the third demand speaks of something: three calls in three modes that succeed, with two readings, and a fourth that clashes
 trail : List Step
@@ -247,7 +243,7 @@ trail-reached : reached unified start trail ≡ some (1 ∷ 0 ∷ 3 ∷ 2 ∷ (w
 unfolding trail unified in-mode complete consistent deliver decode joined quick full size tidy finish some-agree prune fold folded-in agree agreeing readings number join
 trail-reached = refl
 
-trail-ways : (ways trail ≡ 2) × (ways (trail ++ step (plain (one-arc 1 12)) (wArc 1 12 4 (omega arith) (omega arith)) 2 ∷ []) ≡ 0)
+trail-ways : (ways (items trail) ≡ 2) × (ways (items trail ++ plain (one-arc 1 12) ∷ []) ≡ 0)
 unfolding trail agreeing agree join
 trail-ways = (refl, refl)
 
@@ -275,7 +271,7 @@ refuse-meets-3 = record {
   counted = λ l ws s h m z. let k : _≡_ {A = ℕ} 1 0 = z in absurd (omega arith);
 }
   where
-    counts : (l : List Step) (ws : List ℕ) → reached always-refuse start l ≡ some ws → (d : Desc) × WellFormed d 4 × (ws ≡ words d) × (readings d ≡ ways l)
+    counts : (l : List Step) (ws : List ℕ) → reached always-refuse start l ≡ some ws → (d : Desc) × WellFormed d 4 × (ws ≡ words d) × (readings d ≡ ways (items l))
     counts [] ws h = let e : start ≡ ws = cc in (dN, wN, sym e, readings-nothing ∙ sym ways-none)
     counts (s ∷ l) ws h = let z : _≡_ {A = ℕ} 0 1 = cc in absurd (omega arith)
 

@@ -43,12 +43,6 @@ module _ (mode : ℕ) (a b d : Desc) (p : WellFormed a depth-limit) (q : WellFor
   pub result-well : length (words a) ≤ input-limit → length (words b) ≤ input-limit → WellFormed d depth-limit
   result-well la lb = let h = kept .1 in soft-well d 4 (kept .0) (omega (arith, h, len-is a, len-is b))
 
--- satisfaction
-pub result-sat : (S : Structure) (mode : ℕ) (a b : Desc) → WellFormed a depth-limit → WellFormed b depth-limit → Both S a b (mode-result mode a b)
-result-sat S zero a b p q = joined-sat S a b (well-can a p) (well-can b q)
-result-sat S (suc zero) a b p q = quick-sat S a b (well-can a p) (well-can b q)
-result-sat S (suc (suc m)) a b p q = full-sat S a b (well-can a p) (well-can b q)
-
 -- what an answer 0 says
 pub record Good (mode : ℕ) (a b : List ℕ) (work : ℕ) (r : Answer) (d e s : Desc) : Type 0 where
   pub accepted : Accepted mode a b work d e

@@ -56,13 +56,27 @@ reached U ws [] = some ws
 reached U ws (s ∷ l) = elim (eqb (call U ws s .number) 0) [ true ↦ reached U (call U ws s .result) l | false ↦ none ]
 
 -- "the ways to choose one reading from each description on the list": each as the graphs that it takes
-abbrev pub chosen : List Step → List (List Graph)
+abbrev pub chosen : List Desc → List (List Graph)
 chosen [] = [] ∷ []
-chosen (s ∷ l) = pairs (choices (s .item)) (chosen l)
+chosen (d ∷ l) = pairs (choices d) (chosen l)
 
 -- "so that all agree"
-abbrev pub ways : List Step → ℕ
+abbrev pub ways : List Desc → ℕ
 ways l = agreeing (chosen l)
+
+-- the same before any words, rooms or limits: each description with its mode, one after another into d
+abbrev pub gathered : Desc → List (ℕ × Desc) → Option Desc
+gathered d [] = some d
+gathered d (s ∷ l) = elim (mode-result (s .0) d (s .1)) [ none ↦ none | some e ↦ gathered e l ]
+
+-- the descriptions on a list
+abbrev pub descriptions : List (ℕ × Desc) → List Desc
+descriptions [] = []
+descriptions (s ∷ l) = s .1 ∷ descriptions l
+
+abbrev pub items : List Step → List Desc
+items [] = []
+items (s ∷ l) = s .item ∷ items l
 
 -- a refusal on another ground
 abbrev pub Refused : ℕ → Type 0
@@ -70,10 +84,10 @@ Refused n = ((1 ≤ n) × (n ≤ 5)) ⊎ ((7 ≤ n) × (n ≤ 8))
 
 pub record Demand3 (U : Unifier) : Type 0 where
   -- "While every call succeeds, the consistent readings of the result number as many as the ways"
-  pub number : (l : List Step) (ws : List ℕ) → reached U start l ≡ some ws → (d : Desc) × WellFormed d depth-limit × (ws ≡ words d) × (readings d ≡ ways l)
+  pub number : (l : List Step) (ws : List ℕ) → reached U start l ≡ some ws → (d : Desc) × WellFormed d depth-limit × (ws ≡ words d) × (readings d ≡ ways (items l))
   -- "A clash is reported only when that number is zero"
-  pub clash : (l : List Step) (ws : List ℕ) (s : Step) → reached U start l ≡ some ws → call U ws s .number ≡ 6 → ways (l ++ s ∷ []) ≡ 0
+  pub clash : (l : List Step) (ws : List ℕ) (s : Step) → reached U start l ≡ some ws → call U ws s .number ≡ 6 → ways (items l ++ s .item ∷ []) ≡ 0
   -- "the complete mode, unless it refuses on another ground, reports a clash whenever it is zero"
-  pub told : (l : List Step) (ws : List ℕ) (s : Step) → reached U start l ≡ some ws → s .mode ≡ 2 → ways (l ++ s ∷ []) ≡ 0 → (call U ws s .number ≡ 6) ⊎ Refused (call U ws s .number)
+  pub told : (l : List Step) (ws : List ℕ) (s : Step) → reached U start l ≡ some ws → s .mode ≡ 2 → ways (items l ++ s .item ∷ []) ≡ 0 → (call U ws s .number ≡ 6) ⊎ Refused (call U ws s .number)
   -- "and on success it reports that number"
-  pub counted : (l : List Step) (ws : List ℕ) (s : Step) → reached U start l ≡ some ws → s .mode ≡ 2 → call U ws s .number ≡ 0 → call U ws s .readings ≡ ways (l ++ s ∷ [])
+  pub counted : (l : List Step) (ws : List ℕ) (s : Step) → reached U start l ≡ some ws → s .mode ≡ 2 → call U ws s .number ≡ 0 → call U ws s .readings ≡ ways (items l ++ s .item ∷ [])
