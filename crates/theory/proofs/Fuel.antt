@@ -15,7 +15,7 @@ abbrev Small : Desc → Option Desc → Type 0
 Small d none = Unit {0}
 Small d (some e) = size e ≤ size d
 
-size-then : (ds es : Disjs) → size-all (ds then es) ≡ size-all ds + size-all es
+pub size-then : (ds es : Disjs) → size-all (ds then es) ≡ size-all ds + size-all es
 unfolding size
 size-then end es = omega arith
 size-then (a and ds) es = rw (size-then ds es) (omega arith)

@@ -115,7 +115,7 @@ mutual
   pub fold-ok : (d : Desc) → Can d → Keeps d (fold d)
   fold-ok (desc g ds) p = folded-ok g (p .0) ds (fold-all ds) (fold-all-ok ds (p .1)) (join (g ∷ fold-all ds .folded)) refl
 
-  fold-all-ok : (ds : Disjs) → CanAll ds → Rounded nil ds (some (fold-all ds))
+  pub fold-all-ok : (ds : Disjs) → CanAll ds → Rounded nil ds (some (fold-all ds))
   fold-all-ok end p = (tt, tt, λ c f h k g. ap (λ (z : Ctx). k z ++ []) (sym (append-nil (c ++ []))))
   fold-all-ok (a and ds) p = carry-any a (fold-any a) ds (fold-any-ok a (p .0)) (p .1) (some (in-place (fold-any a) (fold-all ds))) (in-place-ok (fold-any a) (fold-any-ok a (p .0) .0) ds (fold-all ds) (fold-all-ok ds (p .1)))
 

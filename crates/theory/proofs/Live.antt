@@ -71,7 +71,7 @@ mutual
       (each-in (g ∷ []) (choices-all (prune-all (pairs others ((g ∷ []) ∷ [])) ds)) s
       (keep-all ds (p .1) (pairs others ((g ∷ []) ∷ [])) (full-graph others g (p .0) fo) (o ++ g ∷ []) s (pairs-in others ((g ∷ []) ∷ []) o (g ∷ []) i (List·Memᴰ·head refl)) j a′))
 
-  keep-all : (ds : Disjs) → CanAll ds → (others : List Ctx) → AllFull others → (o r : Ctx) → List·Memᴰ o others → List·Memᴰ r (choices-all ds) → Agrees (o ++ r) → List·Memᴰ r (choices-all (prune-all others ds))
+  pub keep-all : (ds : Disjs) → CanAll ds → (others : List Ctx) → AllFull others → (o r : Ctx) → List·Memᴰ o others → List·Memᴰ r (choices-all ds) → Agrees (o ++ r) → List·Memᴰ r (choices-all (prune-all others ds))
   keep-all end p others fo o r i m a = m
   keep-all (a and ds) p others fo o r i m ag =
       let (x, y, j, k, e) = pairs-from (choices-any a) (choices-all ds) r m in
@@ -87,7 +87,7 @@ mutual
       let v = keep-all ds (p .1) o₂ (full-pairs others (choices-any a) fo fa) (o ++ x) y (pairs-in others (choices-any a) o x i j) k (subst Agrees (sym (append-assoc o x y)) whole-ag) in
       subst (λ (z : Ctx). List·Memᴰ z (choices-all (prune-all others (a and ds)))) (sym e) (pairs-in (choices-any (prune-any o₁ a)) (choices-all (prune-all o₂ ds)) x y u v)
 
-  keep-any : (a : Alts) → CanAny a → (others : List Ctx) → AllFull others → (o r : Ctx) → List·Memᴰ o others → List·Memᴰ r (choices-any a) → Agrees (o ++ r) → List·Memᴰ r (choices-any (prune-any others a))
+  pub keep-any : (a : Alts) → CanAny a → (others : List Ctx) → AllFull others → (o r : Ctx) → List·Memᴰ o others → List·Memᴰ r (choices-any a) → Agrees (o ++ r) → List·Memᴰ r (choices-any (prune-any others a))
   keep-any fail p others fo o r i m ag = m
   keep-any (d or a) p others fo o r i m ag = kept-or d (prune others d) a (prune-any others a) r (some-agree (pairs others (choices d)))
       (λ j. (some-agree-in (pairs others (choices d)) (o ++ r) (pairs-in others (choices d) o r i j) ag, keep d (p .0) others (fine-full others fo) o r i j ag))

@@ -1,0 +1,353 @@
+-- The passes by marks come to the greatest stable part, which `tidy` folds: mode 1 by marks is mode 1, word for word.
+-- Assumes nothing.
+use mathlib.Core.Path.{_≡_, refl, _∙_, subst}
+use mathlib.Core.Logic.{inl, inr}
+use mathlib.Core.Bool.{Bool, true, false}
+use mathlib.Core.Option.{Option, none, some}
+use mathlib.Core.List.{[], _∷_, _++_, List·Memᴰ·head, List·Memᴰ·not-nil, Memᴰ·append-right}
+use Prim.Native.Nat.{ℕ, zero, suc, _≤_}
+use native.Mathlib.Omega.{arith}
+use lib.Dec.{eqb}
+use Rattle.theory.specs.Net.{Graph}
+use Rattle.theory.specs.Join.{join}
+use Rattle.theory.specs.Descr.{Desc, desc, Disjs, end, _and_, Alts, fail, _or_, answers, agree}
+use Rattle.theory.specs.Modes.{size, size-all, size-any}
+use Rattle.theory.proofs.Instance.{AllCanonical}
+use Rattle.theory.proofs.Sets.{Within}
+use Rattle.theory.proofs.Close.{Test, equal, differ, test}
+use Rattle.theory.proofs.Mean.{Ctx, Fine, Can, CanAll, CanAny, fine-append, within-both, in-l, in-r}
+use Rattle.theory.proofs.Quick.{nil, nil-canonical, nil-holds}
+use Rattle.theory.proofs.Live.{Agrees, not-none}
+use Rattle.engine.specs.Certain.{flat, sure, sure-any}
+use Rattle.engine.proofs.Entail.{Says, SaysAll, w-self, w-right, w-cons, w-tail, w-trans, same-set, fine-cons, fine-before, canon-in, says-within, says-more, says-append, says-cons, agrees-says}
+use Rattle.engine.proofs.Stable.{Part, PartAll, PartAny, Stable, StableIn, StableAll, StableSome, StableEach, Best, Hopeless, flat-can, sure-can, part-can, part-all-can, part-any-can, part-trans, part-size, part-all-size, part-any-size, some-size, sure-part, sure-any-part, stable-all-less, stable-each}
+use Rattle.engine.proofs.Greatest.{part-fail, drop-part}
+use Rattle.engine.proofs.Tidy.{with-part}
+use Rattle.engine.proofs.Dropping.{Left, settle, try, narrow, narrow-any, inside, sift, passes}
+
+pub data Agreeing (c : Ctx) : Bool → Type 0 where
+  can : Agrees c → Agreeing c true
+  cannot : join c ≡ none → Agreeing c false
+
+pub agreeing-view : (c : Ctx) → Agreeing c (agree c)
+unfolding agree
+agreeing-view c = go (join c) refl
+  where
+    go : (o : Option Graph) → join c ≡ o → Agreeing c (answers o)
+    go none e = cannot e
+    go (some K) e = can (K, e)
+
+-- what a step under S may do: it drops only what no stable part under more than S can keep, and if it drops nothing, all was stable
+pub record TrySome (S : Ctx) (d e : Desc) : Type 0 where
+  pub part : Part d e
+  pub greatest : (f : Desc) → Part d f → (X : Ctx) → Fine X → SaysAll X S → Stable X f → Part e f
+  pub still : size d ≤ size e → Stable S d
+
+abbrev pub Tries : Ctx → Desc → Option Desc → Type 0
+Tries S d none = (f : Desc) → Part d f → (X : Ctx) → Fine X → SaysAll X S → Stable X f → ⊥
+Tries S d (some e) = TrySome S d e
+
+pub record NarrowSome (S : Ctx) (ds : Disjs) (r : Left Disjs) : Type 0 where
+  pub part : PartAll ds (r .left)
+  pub fine : Fine (r .stack)
+  pub greatest : (fs : Disjs) → PartAll ds fs → (X : Ctx) → Fine X → SaysAll X S → Agrees X → Within (sure fs) X → StableAll X fs → PartAll (r .left) fs × SaysAll X (r .stack)
+  pub still : size-all ds ≤ size-all (r .left) → StableAll S ds × (r .stack ≡ S)
+
+abbrev pub Narrows : Ctx → Disjs → Option (Left Disjs) → Type 0
+Narrows S ds none = (fs : Disjs) → PartAll ds fs → (X : Ctx) → Fine X → SaysAll X S → Agrees X → Within (sure fs) X → StableAll X fs → ⊥
+Narrows S ds (some r) = NarrowSome S ds r
+
+pub record AnySome (S : Ctx) (a : Alts) (r : Left Alts) : Type 0 where
+  pub part : PartAny a (r .left)
+  pub fine : Fine (r .stack)
+  pub greatest : (c : Alts) → PartAny a c → (X : Ctx) → Fine X → SaysAll X S → Agrees X → Within (sure-any c) X → StableSome X c → PartAny (r .left) c × SaysAll X (r .stack)
+  pub still : size-any a ≤ size-any (r .left) → StableSome S a × (r .stack ≡ S)
+
+abbrev pub Anys : Ctx → Alts → Option (Left Alts) → Type 0
+Anys S a none = (c : Alts) → PartAny a c → (X : Ctx) → Fine X → SaysAll X S → Agrees X → Within (sure-any c) X → StableSome X c → ⊥
+Anys S a (some r) = AnySome S a r
+
+pub record InSome (S : Ctx) (d : Desc) (r : Left Desc) : Type 0 where
+  pub part : Part d (r .left)
+  pub fine : Fine (r .stack)
+  pub greatest : (f : Desc) → Part d f → (X : Ctx) → Fine X → SaysAll X S → Agrees X → Within (flat f) X → StableIn X f → Part (r .left) f × SaysAll X (r .stack)
+  pub still : size d ≤ size (r .left) → StableIn S d × (r .stack ≡ S)
+
+abbrev pub Ins : Ctx → Desc → Option (Left Desc) → Type 0
+Ins S d none = (f : Desc) → Part d f → (X : Ctx) → Fine X → SaysAll X S → Agrees X → Within (flat f) X → StableIn X f → ⊥
+Ins S d (some r) = InSome S d r
+
+pub record Sifts (S : Ctx) (a b : Alts) : Type 0 where
+  pub part : PartAny a b
+  pub greatest : (c : Alts) → PartAny a c → (X : Ctx) → Fine X → SaysAll X S → StableEach X c → PartAny b c
+  pub still : size-any a ≤ size-any b → StableEach S a
+
+-- an alternative
+try-desc : (S : Ctx) → AllCanonical S → (g : Graph) (ds : Disjs) → Can (desc g ds) → (t : Bool) → Agreeing (S ++ g ∷ sure ds) t → (o : Option (Left Disjs)) → Narrows (S ++ g ∷ sure ds) ds o →
+    Tries S (desc g ds) (elim t [ false ↦ none | true ↦ elim o [ none ↦ none | some r ↦ some (desc g (r .left)) ] ])
+unfolding size
+try-desc S cS g ds c t v o N = go t v o N
+  where
+    T : Ctx
+    T = S ++ g ∷ sure ds
+
+    fT : Fine T
+    fT = fine-before S (g ∷ sure ds) cS (fine-cons g (sure ds) (c .0) (sure-can ds (c .1)))
+
+    fY : (X : Ctx) → Fine X → (es : Disjs) → PartAll ds es → Fine (X ++ g ∷ sure es)
+    fY X fX es p = fine-append X (g ∷ sure es) fX (c .0, sure-can es (part-all-can ds es p (c .1)))
+
+    says-T : (X : Ctx) → Fine X → SaysAll X S → (es : Disjs) → PartAll ds es → StableAll (X ++ g ∷ sure es) es → SaysAll (X ++ g ∷ sure es) T
+    says-T X fX x es p s =
+        let Y = X ++ g ∷ sure es in
+        let f = fY X fX es p in
+        says-append Y S (g ∷ sure ds)
+        (λ h m. says-more X Y h fX f (canon-in S cS h m) (in-l X (g ∷ sure es)) (x h m))
+        (says-within Y (g ∷ sure ds) f (w-right (g ∷ sure ds) X (g ∷ sure es) (w-cons g (sure ds) (g ∷ sure es) (List·Memᴰ·head refl) (w-tail g (sure ds) (sure es) (sure-part ds es Y p s)))))
+
+    inY : (X : Ctx) (es : Disjs) → Within (sure es) (X ++ g ∷ sure es)
+    inY X es = w-right (sure es) X (g ∷ sure es) (w-tail g (sure es) (sure es) (w-self (sure es)))
+
+    go : (t : Bool) → Agreeing T t → (o : Option (Left Disjs)) → Narrows T ds o → Tries S (desc g ds) (elim t [ false ↦ none | true ↦ elim o [ none ↦ none | some r ↦ some (desc g (r .left)) ] ])
+    go false (cannot z) o N = with-part g ds (λ f. (X : Ctx) → Fine X → SaysAll X S → Stable X f → ⊥) (λ es p X fX x s.
+        not-none T (agrees-says (X ++ g ∷ sure es) T (fY X fX es p) fT (says-T X fX x es p (s .1)) (s .0)) z)
+    go true (can a) none N = with-part g ds (λ f. (X : Ctx) → Fine X → SaysAll X S → Stable X f → ⊥) (λ es p X fX x s.
+        N es p (X ++ g ∷ sure es) (fY X fX es p) (says-T X fX x es p (s .1)) (s .0) (inY X es) (s .1))
+    go true (can a) (some r) N = record {
+      part = (refl, N .part);
+      greatest = with-part g ds (λ f. (X : Ctx) → Fine X → SaysAll X S → Stable X f → Part (desc g (r .left)) f) (λ es p X fX x s.
+          (refl, N .greatest es p (X ++ g ∷ sure es) (fY X fX es p) (says-T X fX x es p (s .1)) (s .0) (inY X es) (s .1) .0));
+      still = λ l. (a, N .still (omega arith) .0);
+    }
+
+in-desc : (S : Ctx) (g : Graph) (ds : Disjs) (o : Option (Left Disjs)) → Narrows S ds o → Ins S (desc g ds) (elim o [ none ↦ none | some r ↦ some (record { stack = r .stack; left = desc g (r .left) }) ])
+unfolding size
+in-desc S g ds none N = with-part g ds (λ f. (X : Ctx) → Fine X → SaysAll X S → Agrees X → Within (flat f) X → StableIn X f → ⊥)
+    (λ es p X fX x a w s. N es p X fX x a (w-trans (sure es) (g ∷ sure es) X (w-tail g (sure es) (sure es) (w-self (sure es))) w) s)
+in-desc S g ds (some r) N = record {
+  part = (refl, N .part);
+  fine = N .fine;
+  greatest = with-part g ds (λ f. (X : Ctx) → Fine X → SaysAll X S → Agrees X → Within (flat f) X → StableIn X f → Part (desc g (r .left)) f × SaysAll X (r .stack))
+      (λ es p X fX x a w s. let q = N .greatest es p X fX x a (w-trans (sure es) (g ∷ sure es) X (w-tail g (sure es) (sure es) (w-self (sure es))) w) s in ((refl, q .0), q .1));
+  still = λ l. N .still (omega arith);
+}
+
+narrow-more : (S : Ctx) (a : Alts) (ds : Disjs) (o : Option (Left Alts)) → Anys S a o → (q : Ctx → Option (Left Disjs)) → ((T : Ctx) → Fine T → Narrows T ds (q T)) →
+    Narrows S (a and ds) (elim o [ none ↦ none | some r ↦ elim (q (r .stack)) [ none ↦ none | some u ↦ some (record { stack = u .stack; left = r .left and u .left }) ] ])
+unfolding size
+narrow-more S a ds none A q Q = none-more
+  where
+    none-more : Narrows S (a and ds) none
+    none-more end p X fX x g w s = p
+    none-more (b and es) p X fX x g w s = A b (p .0) X fX x g (w-trans (sure-any b) (sure-any b ++ sure es) X (in-l (sure-any b) (sure es)) w) (s .0)
+narrow-more S a ds (some r) A q Q = go (q (r .stack)) (Q (r .stack) (A .fine))
+  where
+    first : (b : Alts) (es : Disjs) → PartAny a b → (X : Ctx) → Fine X → SaysAll X S → Agrees X → Within (sure-any b ++ sure es) X → StableSome X b → PartAny (r .left) b × SaysAll X (r .stack)
+    first b es p X fX x g w s = A .greatest b p X fX x g (w-trans (sure-any b) (sure-any b ++ sure es) X (in-l (sure-any b) (sure es)) w) s
+
+    later : (b : Alts) (es : Disjs) (X : Ctx) → Within (sure-any b ++ sure es) X → Within (sure es) X
+    later b es X w = w-trans (sure es) (sure-any b ++ sure es) X (in-r (sure-any b) (sure es)) w
+
+    none-left : Narrows (r .stack) ds none → Narrows S (a and ds) none
+    none-left N end p X fX x g w s = p
+    none-left N (b and es) p X fX x g w s = N es (p .1) X fX (first b es (p .0) X fX x g w (s .0) .1) g (later b es X w) (s .1)
+
+    best : (u : Left Disjs) → NarrowSome (r .stack) ds u → (fs : Disjs) → PartAll (a and ds) fs → (X : Ctx) → Fine X → SaysAll X S → Agrees X → Within (sure fs) X → StableAll X fs → PartAll (r .left and u .left) fs × SaysAll X (u .stack)
+    best u N end p X fX x g w s = absurd p
+    best u N (b and es) p X fX x g w s =
+        let y = first b es (p .0) X fX x g w (s .0) in
+        let z = N .greatest es (p .1) X fX (y .1) g (later b es X w) (s .1) in
+        ((y .0, z .0), z .1)
+
+    go : (o : Option (Left Disjs)) → Narrows (r .stack) ds o → Narrows S (a and ds) (elim o [ none ↦ none | some u ↦ some (record { stack = u .stack; left = r .left and u .left }) ])
+    go none N = none-left N
+    go (some u) N = record {
+      part = (A .part, N .part);
+      fine = N .fine;
+      greatest = best u N;
+      still = λ l.
+          let m = part-any-size a (r .left) (A .part) .0 in
+          let k = part-all-size ds (u .left) (N .part) .0 in
+          let y = A .still (omega arith) in
+          let z = N .still (omega arith) in
+          ((y .0, subst (λ (T : Ctx). StableAll T ds) (y .1) (z .0)), z .1 ∙ y .1);
+    }
+
+sift-more : (S : Ctx) (d : Desc) (a b : Alts) (o : Option Desc) → Tries S d o → Sifts S a b → Sifts S (d or a) (elim o [ none ↦ b | some e ↦ e or b ])
+unfolding size
+sift-more S d a b none T r = record {
+  part = drop-part d a b (r .part);
+  greatest = none-greatest;
+  still = λ l. absurd (omega (arith, some-size d, part-any-size a b (r .part) .0));
+}
+  where
+    none-greatest : (c : Alts) → PartAny (d or a) c → (X : Ctx) → Fine X → SaysAll X S → StableEach X c → PartAny b c
+    none-greatest fail p X fX x s = part-fail b
+    none-greatest (f or c) (inl p) X fX x s = absurd (T f (p .0) X fX x (s .0))
+    none-greatest (f or c) (inr p) X fX x s = r .greatest (f or c) p X fX x s
+sift-more S d a b (some e) T r = record {
+  part = inl (T .part, r .part);
+  greatest = some-greatest;
+  still = λ l.
+      let m = part-size d e (T .part) .0 in
+      let k = part-any-size a b (r .part) .0 in
+      (T .still (omega arith), r .still (omega arith));
+}
+  where
+    some-greatest : (c : Alts) → PartAny (d or a) c → (X : Ctx) → Fine X → SaysAll X S → StableEach X c → PartAny (e or b) c
+    some-greatest fail p X fX x s = tt
+    some-greatest (f or c) (inl p) X fX x s = inl (T .greatest f (p .0) X fX x (s .0), r .greatest c (p .1) X fX x (s .1))
+    some-greatest (f or c) (inr p) X fX x s = inr (r .greatest (f or c) p X fX x s)
+
+-- an alternative that stands alone
+any-lone : (S : Ctx) (d : Desc) (o : Option (Left Desc)) → Ins S d o → Anys S (d or fail) (elim o [ none ↦ none | some r ↦ some (record { stack = r .stack; left = r .left or fail }) ])
+unfolding size
+any-lone S d o I = go o I
+  where
+    lone : (P : Alts → Type 0) → ((f : Desc) → Part d f → P (f or fail)) → P fail → (c : Alts) → PartAny (d or fail) c → P c
+    lone P h z fail p = z
+    lone P h z (f or fail) (inl p) = h f (p .0)
+    lone P h z (f or fail) (inr p) = absurd p
+    lone P h z (f or (e or b)) (inl p) = absurd (p .1)
+    lone P h z (f or (e or b)) (inr p) = absurd p
+
+    go : (o : Option (Left Desc)) → Ins S d o → Anys S (d or fail) (elim o [ none ↦ none | some r ↦ some (record { stack = r .stack; left = r .left or fail }) ])
+    go none I = lone (λ c. (X : Ctx) → Fine X → SaysAll X S → Agrees X → Within (sure-any c) X → StableSome X c → ⊥) I (λ X fX x a w s. s)
+    go (some r) I = record {
+      part = inl (I .part, tt);
+      fine = I .fine;
+      greatest = lone (λ c. (X : Ctx) → Fine X → SaysAll X S → Agrees X → Within (sure-any c) X → StableSome X c → PartAny (r .left or fail) c × SaysAll X (r .stack))
+          (λ f p X fX x a w s. let q = I .greatest f p X fX x a w s in (inl (q .0, tt), q .1)) (λ X fX x a w s. absurd s);
+      still = λ l. I .still (omega arith);
+    }
+
+-- two or more alternatives
+any-many : (S : Ctx) → Fine S → (d e : Desc) (a : Alts) → CanAny (d or (e or a)) → (b : Alts) → Sifts S (d or (e or a)) b → Anys S (d or (e or a)) (settle S b)
+unfolding size
+any-many S fS d e a ca fail r = refuse
+  where
+    refuse : Anys S (d or (e or a)) none
+    refuse fail p X fX x g w s = s
+    refuse (f or c) p X fX x g w s = r .greatest (f or c) p X fX x (stable-each (f or c) X X (part-any-can (d or (e or a)) (f or c) p ca) fX fX (says-within X X fX (w-self X)) g w s)
+any-many S fS d e a ca (f or fail) r = go (agree (S ++ flat f)) (agreeing-view (S ++ flat f))
+  where
+    cf : Can f
+    cf = part-any-can (d or (e or a)) (f or fail) (r .part) ca .0
+
+    fT : Fine (S ++ flat f)
+    fT = fine-append S (flat f) fS (flat-can f cf)
+
+    part-of : (c : Alts) → PartAny (d or (e or a)) c → (X : Ctx) → Fine X → SaysAll X S → Agrees X → Within (sure-any c) X → StableSome X c → PartAny (f or fail) c × SaysAll X (S ++ flat f)
+    part-of c p X fX x g w s =
+        let q : PartAny (f or fail) c = r .greatest c p X fX x (stable-each c X X (part-any-can (d or (e or a)) c p ca) fX fX (says-within X X fX (w-self X)) g w s) in
+        (q, says-append X S (flat f) x (says-within X (flat f) fX (w-trans (flat f) (sure-any c) X (sure-any-part (f or fail) c X q s) w)))
+
+    two-one : (x y : Desc) (b : Alts) → x or (y or b) ≡ f or fail → ⊥
+    two-one x y b h = let z : _≡_ {A = ℕ} 0 1 = cc in omega arith
+
+    go : (t : Bool) → Agreeing (S ++ flat f) t → Anys S (d or (e or a)) (elim t [ false ↦ none | true ↦ some (record { stack = S ++ flat f; left = f or fail }) ])
+    go false (cannot z) = λ c p X fX x g w s. not-none (S ++ flat f) (agrees-says X (S ++ flat f) fX fT (part-of c p X fX x g w s .1) g) z
+    go true (can y) = record {
+      part = r .part;
+      fine = fT;
+      greatest = part-of;
+      still = λ l. absurd (two-one d e a (part-any-size (d or (e or a)) (f or fail) (r .part) .1 l));
+    }
+any-many S fS d e a ca (f or (h or b)) r = record {
+  part = r .part;
+  fine = fS;
+  greatest = λ c p X fX x g w s. (r .greatest c p X fX x (stable-each c X X (part-any-can (d or (e or a)) c p ca) fX fX (says-within X X fX (w-self X)) g w s), x);
+  still = λ l. (r .still l, refl);
+}
+
+mutual
+  unfolding try
+
+  pub try-ok : (d : Desc) → Can d → (S : Ctx) → AllCanonical S → Tries S d (try S d)
+  try-ok (desc g ds) c S cS = try-desc S cS g ds c (agree (S ++ g ∷ sure ds)) (agreeing-view (S ++ g ∷ sure ds)) (narrow (S ++ g ∷ sure ds) ds)
+      (narrow-ok ds (c .1) (S ++ g ∷ sure ds) (fine-before S (g ∷ sure ds) cS (fine-cons g (sure ds) (c .0) (sure-can ds (c .1)))))
+
+  pub narrow-ok : (ds : Disjs) → CanAll ds → (S : Ctx) → Fine S → Narrows S ds (narrow S ds)
+  narrow-ok end c S f = record { part = tt; fine = f; greatest = λ fs p X fX x a w s. (p, x); still = λ l. (tt, refl) }
+  narrow-ok (a and ds) c S f = narrow-more S a ds (narrow-any S a) (any-ok a (c .0) S f) (λ T. narrow T ds) (λ T fT. narrow-ok ds (c .1) T fT)
+
+  pub any-ok : (a : Alts) → CanAny a → (S : Ctx) → Fine S → Anys S a (narrow-any S a)
+  any-ok fail c S f = refuse
+    where
+      refuse : Anys S fail none
+      refuse fail p X fX x g w s = s
+      refuse (e or b) p X fX x g w s = p
+  any-ok (d or a) c S f = go a c (sift-ok a (c .1) S (f .1)) (inside-ok d (c .0) S f) (try-ok d (c .0) S (f .1))
+    where
+      go : (a : Alts) → CanAny (d or a) → Sifts S a (sift S a) → Ins S d (inside S d) → Tries S d (try S d) → Anys S (d or a) (narrow-any S (d or a))
+      go fail c r i t = any-lone S d (inside S d) i
+      go (e or b) c r i t = any-many S f d e b c (elim (try S d) [ none ↦ sift S (e or b) | some x ↦ x or sift S (e or b) ]) (sift-more S d (e or b) (sift S (e or b)) (try S d) t r)
+
+  pub inside-ok : (d : Desc) → Can d → (S : Ctx) → Fine S → Ins S d (inside S d)
+  inside-ok (desc g ds) c S f = in-desc S g ds (narrow S ds) (narrow-ok ds (c .1) S f)
+
+  pub sift-ok : (a : Alts) → CanAny a → (S : Ctx) → AllCanonical S → Sifts S a (sift S a)
+  sift-ok fail c S cS = record { part = tt; greatest = λ b p X fX x s. p; still = λ l. tt }
+  sift-ok (d or a) c S cS = sift-more S d a (sift S a) (try S d) (try-ok d (c .0) S cS) (sift-ok a (c .1) S cS)
+
+-- the condition that says nothing
+pub says-nil : (T : Ctx) → Fine T → Says T nil
+says-nil T f hs h =
+    let th : Fine (T ++ hs) = fine-append T hs f h in
+    nil-holds (T ++ hs) (th .1) (th .0)
+    ∙ same-set (nil ∷ (T ++ hs)) (T ++ nil ∷ hs) (fine-cons nil (T ++ hs) nil-canonical (th .1)) (fine-append T (nil ∷ hs) f (nil-canonical, h))
+    (w-cons nil (T ++ hs) (T ++ nil ∷ hs) (Memᴰ·append-right T (List·Memᴰ·head refl)) (within-both T hs (T ++ nil ∷ hs) (in-l T (nil ∷ hs)) (w-right hs T (nil ∷ hs) (w-tail nil hs hs (w-self hs)))))
+    (within-both T (nil ∷ hs) (nil ∷ (T ++ hs)) (w-tail nil T (T ++ hs) (in-l T hs)) (w-cons nil hs (nil ∷ (T ++ hs)) (List·Memᴰ·head refl) (w-tail nil hs (T ++ hs) (in-r T hs))))
+
+pub stable-nil : (d : Desc) → Can d → Stable [] d → Stable (nil ∷ []) d
+stable-nil (desc g ds) c s =
+    let f : Fine (g ∷ sure ds) = fine-cons g (sure ds) (c .0) (sure-can ds (c .1)) in
+    let f′ : Fine (nil ∷ g ∷ sure ds) = fine-cons nil (g ∷ sure ds) nil-canonical (f .1) in
+    let k : SaysAll (g ∷ sure ds) (nil ∷ g ∷ sure ds) = says-cons (g ∷ sure ds) nil (g ∷ sure ds) (says-nil (g ∷ sure ds) f) (says-within (g ∷ sure ds) (g ∷ sure ds) f (w-self (g ∷ sure ds))) in
+    (agrees-says (g ∷ sure ds) (nil ∷ g ∷ sure ds) f f′ k (s .0), stable-all-less ds (g ∷ sure ds) (nil ∷ g ∷ sure ds) (c .1) f f′ k (s .1))
+
+abbrev pub Passed : Desc → Option Desc → Type 0
+Passed d none = Hopeless (nil ∷ []) d
+Passed d (some e) = Best (nil ∷ []) d e
+
+-- as many passes as the size of the description are enough
+pub passes-ok : (n : ℕ) (d : Desc) → Can d → size d ≤ n → Passed d (passes n d)
+unfolding passes
+passes-ok zero d c l = absurd (omega (arith, some-size d))
+passes-ok (suc n) d c l = go (try [] d) (try-ok d c [] tt) (λ e. passes-ok n e)
+  where
+    fn : Fine (nil ∷ [])
+    fn = fine-cons nil [] nil-canonical tt
+
+    none-said : SaysAll (nil ∷ []) []
+    none-said g m = absurd (List·Memᴰ·not-nil m)
+
+    go : (o : Option Desc) → Tries [] d o → ((e : Desc) → Can e → size e ≤ n → Passed e (passes n e)) → Passed d (elim o [ none ↦ none | some e ↦ elim (eqb (size e) (size d)) [ true ↦ some e | false ↦ passes n e ] ])
+    go none T ih = λ f p s. T f p (nil ∷ []) fn none-said s
+    go (some e) T ih = two (eqb (size e) (size d)) (test (size e) (size d))
+      where
+        below : (f : Desc) → Part d f → Stable (nil ∷ []) f → Part e f
+        below f p s = T .greatest f p (nil ∷ []) fn none-said s
+
+        carry : (o : Option Desc) → Passed e o → Passed d o
+        carry none h = λ f p s. h f (below f p s) s
+        carry (some x) h = record { part = part-trans d e x (T .part) (h .part); stable = h .stable; greatest = λ f p s. h .greatest f (below f p s) s }
+
+        two : (t : Bool) → Test (size e) (size d) t → Passed d (elim t [ true ↦ some e | false ↦ passes n e ])
+        two true (equal q) = record {
+          part = T .part;
+          stable = subst (Stable (nil ∷ [])) (part-size d e (T .part) .1 (omega arith)) (stable-nil d c (T .still (omega arith)));
+          greatest = below;
+        }
+        two false (differ q) = carry (passes n e) (ih e (part-can d e (T .part) c) (small (part-size d e (T .part) .0) (λ h. q h)))
+          where
+            small : size e ≤ size d → (size e ≡ size d → ⊥) → size e ≤ n
+            small a b = omega arith
+
+-- a pass drops something exactly where the size falls
+pub pass-size : (S : Ctx) → AllCanonical S → (d e : Desc) → Can d → try S d ≡ some e → (size e ≤ size d) × (size d ≤ size e → d ≡ e)
+pass-size S cS d e c h = go (try S d) (try-ok d c S cS) h
+  where
+    go : (o : Option Desc) → Tries S d o → o ≡ some e → (size e ≤ size d) × (size d ≤ size e → d ≡ e)
+    go none t p = let z : _≡_ {A = ℕ} 0 1 = cc in absurd (omega arith)
+    go (some x) t p = let q : x ≡ e = cc in subst (λ (y : Desc). (size y ≤ size d) × (size d ≤ size y → d ≡ y)) q (part-size d x (t .part))

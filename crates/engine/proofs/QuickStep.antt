@@ -1,0 +1,320 @@
+-- The quick step on marks does what the quick step on descriptions does, and so it is mode 1.
+-- Assumes nothing.
+use mathlib.Core.Path.{_≡_, refl, ap, ap₂, sym, _∙_, subst}
+use mathlib.Core.Logic.{_≢_}
+use mathlib.Core.Bool.{Bool, true, false}
+use mathlib.Core.Option.{Option, none, some}
+use mathlib.Core.List.{List, [], _∷_, _++_, List·Memᴰ, List·Memᴰ·head, List·Memᴰ·tail, Memᴰ·append-left, Memᴰ·append-right}
+use Prim.Native.Nat.{ℕ, zero, suc}
+use native.Mathlib.Omega.{arith}
+use lib.Dec.{eqb}
+use Rattle.theory.specs.Net.{Graph}
+use Rattle.theory.specs.Descr.{Desc, desc, Disjs, _and_, Alts, fail, _or_, alts, agree}
+use Rattle.theory.specs.Modes.{size}
+use Rattle.theory.proofs.Close.{eqb-yes, eqb-no}
+use Rattle.theory.proofs.Mean.{Ctx}
+use Rattle.engine.specs.Certain.{sure-any, certain, certain-any}
+use Rattle.engine.specs.Placed.{Placed, place, Places, stop, _also_, Options, no-more, option, strip, strip-all, strip-any, names, names-all, names-any, Apart, Distinct, DistinctAll, DistinctAny}
+use Rattle.engine.specs.Marks.{keep, keep-all, keep-any, Marking, drop, kept-of, all-kept, left-by}
+use Rattle.engine.specs.Quickly.{State, settle-at, try-at, narrow-at, any-at, inside-at, sift-at, passes-at, quick-at}
+use Rattle.engine.proofs.Dropping.{Left, settle, try, narrow, narrow-any, inside, sift, passes}
+
+-- n differs from m only at these numbers
+abbrev pub Only : List ℕ → Marking → Marking → Type 0
+Only ns m n = (y : ℕ) → ¬ (List·Memᴰ y ns) → n y ≡ m y
+
+only-trans : (ns : List ℕ) (k m n : Marking) → Only ns k m → Only ns m n → Only ns k n
+only-trans ns k m n p q y h = q y h ∙ p y h
+
+only-more : (ns ms : List ℕ) (m n : Marking) → ((y : ℕ) → List·Memᴰ y ns → List·Memᴰ y ms) → Only ns m n → Only ms m n
+only-more ns ms m n w p y h = p y (λ i. h (w y i))
+
+-- marks elsewhere do not count
+or-same : (m n : Marking) (x : ℕ) (d : Placed) (a : Options) → m x ≡ n x → keep m d ≡ keep n d → keep-any m a ≡ keep-any n a →
+    keep-any m (option x d a) ≡ keep-any n (option x d a)
+or-same m n x d a e f g = ap₂ {C = Options} (λ (t : Bool) (z : Options). elim t [ true ↦ option x (keep m d) z | false ↦ z ]) e g ∙ ap (λ (z : Placed). elim (n x) [ true ↦ option x z (keep-any n a) | false ↦ keep-any n a ]) f
+
+mutual
+  pub keep-same : (d : Placed) (m n : Marking) → ((y : ℕ) → List·Memᴰ y (names d) → m y ≡ n y) → keep m d ≡ keep n d
+  keep-same (place g ds) m n h = ap (place g) (keep-all-same ds m n h)
+
+  pub keep-all-same : (ds : Places) (m n : Marking) → ((y : ℕ) → List·Memᴰ y (names-all ds) → m y ≡ n y) → keep-all m ds ≡ keep-all n ds
+  keep-all-same stop m n h = refl
+  keep-all-same (a also ds) m n h = ap₂ {C = Places} _also_ (keep-any-same a m n (λ y i. h y (Memᴰ·append-left (names-all ds) i))) (keep-all-same ds m n (λ y i. h y (Memᴰ·append-right (names-any a) i)))
+
+  pub keep-any-same : (a : Options) (m n : Marking) → ((y : ℕ) → List·Memᴰ y (names-any a) → m y ≡ n y) → keep-any m a ≡ keep-any n a
+  keep-any-same no-more m n h = refl
+  keep-any-same (option x d a) m n h = or-same m n x d a (h x (List·Memᴰ·head refl)) (keep-same d m n (λ y i. h y (List·Memᴰ·tail (Memᴰ·append-left (names-any a) i)))) (keep-any-same a m n (λ y i. h y (List·Memᴰ·tail (Memᴰ·append-right (names d) i))))
+
+apart-same : (ns ms : List ℕ) (m n : Marking) → Apart ns ms → Only ns m n → (y : ℕ) → List·Memᴰ y ms → n y ≡ m y
+apart-same ns ms m n w p y i = p y (λ j. w y j i)
+
+apart-back : (ns ms : List ℕ) (m n : Marking) → Apart ns ms → Only ms m n → (y : ℕ) → List·Memᴰ y ns → n y ≡ m y
+apart-back ns ms m n w p y i = p y (λ j. w y i j)
+
+pub kept-alts : (m : Marking) (a : Options) → kept-of m a ≡ alts (strip-any (keep-any m a))
+kept-alts m no-more = refl
+kept-alts m (option x d a) = go (m x) (kept-alts m a)
+  where
+    go : (t : Bool) → kept-of m a ≡ alts (strip-any (keep-any m a)) → elim t [ true ↦ suc (kept-of m a) | false ↦ kept-of m a ] ≡ alts (strip-any (elim t [ true ↦ option x (keep m d) (keep-any m a) | false ↦ keep-any m a ]))
+    go true e = ap suc e
+    go false e = e
+
+-- what the steps on marks say of the steps on descriptions
+abbrev TriedAt : Ctx → Marking → Placed → Option Marking → Type 0
+TriedAt S m d none = try S (strip (keep m d)) ≡ none
+TriedAt S m d (some n) = (try S (strip (keep m d)) ≡ some (strip (keep n d))) × Only (names d) m n
+
+abbrev NarrowedAt : Ctx → Marking → Places → Option State → Type 0
+NarrowedAt S m ds none = narrow S (strip-all (keep-all m ds)) ≡ none
+NarrowedAt S m ds (some r) = (narrow S (strip-all (keep-all m ds)) ≡ some (record { stack = r .stack; left = strip-all (keep-all (r .marks) ds) })) × Only (names-all ds) m (r .marks)
+
+abbrev AnyAt : Ctx → Marking → Options → Option State → Type 0
+AnyAt S m a none = narrow-any S (strip-any (keep-any m a)) ≡ none
+AnyAt S m a (some r) = (narrow-any S (strip-any (keep-any m a)) ≡ some (record { stack = r .stack; left = strip-any (keep-any (r .marks) a) })) × Only (names-any a) m (r .marks)
+
+abbrev InAt : Ctx → Marking → Placed → Option State → Type 0
+InAt S m d none = inside S (strip (keep m d)) ≡ none
+InAt S m d (some r) = (inside S (strip (keep m d)) ≡ some (record { stack = r .stack; left = strip (keep (r .marks) d) })) × Only (names d) m (r .marks)
+
+abbrev SiftedAt : Ctx → Marking → Options → Marking → Type 0
+SiftedAt S m a n = (sift S (strip-any (keep-any m a)) ≡ strip-any (keep-any n a)) × Only (names-any a) m n
+
+try-at-desc : (S : Ctx) (m : Marking) (g : Graph) (ds : Places) (t : Bool) (o : Option State) → NarrowedAt (S ++ g ∷ certain m ds) m ds o → agree (S ++ g ∷ certain m ds) ≡ t →
+    TriedAt S m (place g ds) (elim t [ false ↦ none | true ↦ elim o [ none ↦ none | some r ↦ some (r .marks) ] ])
+unfolding try
+try-at-desc S m g ds false o N e = ap (λ (t : Bool). elim t [ false ↦ none | true ↦ elim (narrow (S ++ g ∷ certain m ds) (strip-all (keep-all m ds))) [ none ↦ none | some r ↦ some (desc g (r .left)) ] ]) e
+try-at-desc S m g ds true none N e = ap₂ {C = Option Desc} (λ (t : Bool) (o : Option (Left Disjs)). elim t [ false ↦ none | true ↦ elim o [ none ↦ none | some r ↦ some (desc g (r .left)) ] ]) e N
+try-at-desc S m g ds true (some r) N e = (ap₂ {C = Option Desc} (λ (t : Bool) (o : Option (Left Disjs)). elim t [ false ↦ none | true ↦ elim o [ none ↦ none | some r ↦ some (desc g (r .left)) ] ]) e (N .0), N .1)
+
+in-at-desc : (S : Ctx) (m : Marking) (g : Graph) (ds : Places) (o : Option State) → NarrowedAt S m ds o → InAt S m (place g ds) o
+unfolding try
+in-at-desc S m g ds none N = ap (λ (o : Option (Left Disjs)). elim o [ none ↦ none | some r ↦ some (record { stack = r .stack; left = desc g (r .left) }) ]) N
+in-at-desc S m g ds (some r) N = (ap (λ (o : Option (Left Disjs)). elim o [ none ↦ none | some r ↦ some (record { stack = r .stack; left = desc g (r .left) }) ]) (N .0), N .1)
+
+narrow-at-more : (S : Ctx) (m : Marking) (a : Options) (ds : Places) → Apart (names-any a) (names-all ds) → (o : Option State) → AnyAt S m a o → (q : Ctx → Marking → Option State) → ((T : Ctx) (n : Marking) → NarrowedAt T n ds (q T n)) →
+    NarrowedAt S m (a also ds) (elim o [ none ↦ none | some r ↦ q (r .stack) (r .marks) ])
+unfolding try
+narrow-at-more S m a ds w none A q Q = ap (λ (o : Option (Left Alts)). elim o [ none ↦ none | some r ↦ elim (narrow (r .stack) (strip-all (keep-all m ds))) [ none ↦ none | some q ↦ some (record { stack = q .stack; left = r .left and q .left }) ] ]) A
+narrow-at-more S m a ds w (some r) A q Q = go (q (r .stack) (r .marks)) (Q (r .stack) (r .marks))
+  where
+    D : Disjs
+    D = strip-all (keep-all m ds)
+
+    D-same : strip-all (keep-all (r .marks) ds) ≡ D
+    D-same = ap strip-all (keep-all-same ds (r .marks) m (apart-same (names-any a) (names-all ds) m (r .marks) w (A .1)))
+
+    first : narrow S (strip-any (keep-any m a) and D) ≡ elim (narrow (r .stack) (strip-all (keep-all (r .marks) ds))) [ none ↦ none | some q ↦ some (record { stack = q .stack; left = strip-any (keep-any (r .marks) a) and q .left }) ]
+    first = ap (λ (o : Option (Left Alts)). elim o [ none ↦ none | some r ↦ elim (narrow (r .stack) D) [ none ↦ none | some q ↦ some (record { stack = q .stack; left = r .left and q .left }) ] ]) (A .0)
+        ∙ ap (λ (z : Disjs). elim (narrow (r .stack) z) [ none ↦ none | some q ↦ some (record { stack = q .stack; left = strip-any (keep-any (r .marks) a) and q .left }) ]) (sym D-same)
+
+    go : (o : Option State) → NarrowedAt (r .stack) (r .marks) ds o → NarrowedAt S m (a also ds) o
+    go none N = first ∙ ap (λ (o : Option (Left Disjs)). elim o [ none ↦ none | some q ↦ some (record { stack = q .stack; left = strip-any (keep-any (r .marks) a) and q .left }) ]) N
+    go (some u) N = (
+      first ∙ ap (λ (o : Option (Left Disjs)). elim o [ none ↦ none | some q ↦ some (record { stack = q .stack; left = strip-any (keep-any (r .marks) a) and q .left }) ]) (N .0)
+          ∙ ap (λ (z : Options). some (record { stack = u .stack; left = strip-any z and strip-all (keep-all (u .marks) ds) })) (keep-any-same a (r .marks) (u .marks) (λ y i. sym (apart-back (names-any a) (names-all ds) (r .marks) (u .marks) w (N .1) y i))),
+      only-trans (names-any a ++ names-all ds) m (r .marks) (u .marks)
+          (only-more (names-any a) (names-any a ++ names-all ds) m (r .marks) (λ y i. Memᴰ·append-left (names-all ds) i) (A .1))
+          (only-more (names-all ds) (names-any a ++ names-all ds) (r .marks) (u .marks) (λ y i. Memᴰ·append-right (names-any a) i) (N .1)),
+    )
+
+keep-true : (m : Marking) (x : ℕ) (d : Placed) (a : Options) → m x ≡ true → keep-any m (option x d a) ≡ option x (keep m d) (keep-any m a)
+keep-true m x d a e = ap (λ (t : Bool). elim t [ true ↦ option x (keep m d) (keep-any m a) | false ↦ keep-any m a ]) e
+
+keep-false : (m : Marking) (x : ℕ) (d : Placed) (a : Options) → m x ≡ false → keep-any m (option x d a) ≡ keep-any m a
+keep-false m x d a e = ap (λ (t : Bool). elim t [ true ↦ option x (keep m d) (keep-any m a) | false ↦ keep-any m a ]) e
+
+drop-self : (x : ℕ) (m : Marking) → drop x m x ≡ false
+drop-self x m = ap (λ (t : Bool). elim t [ true ↦ false | false ↦ m x ]) (eqb-yes x x refl)
+
+drop-other : (x : ℕ) (m : Marking) (y : ℕ) → y ≢ x → drop x m y ≡ m y
+drop-other x m y h = ap (λ (t : Bool). elim t [ true ↦ false | false ↦ m y ]) (eqb-no y x h)
+
+-- one alternative tried, the later ones sifted
+module _ (S : Ctx) (x : ℕ) (d : Placed) (a : Options) (w : DistinctAny (option x d a)) (q : Marking → Marking) (Q : (n : Marking) → SiftedAt S n a (q n)) where
+  off-any : ¬ (List·Memᴰ x (names-any a))
+  off-any i = w .3 x (List·Memᴰ·head refl) i
+
+  off-in : ¬ (List·Memᴰ x (names d))
+  off-in i = w .2 x (List·Memᴰ·head refl) i
+
+  abbrev here : List ℕ
+  here = x ∷ (names d ++ names-any a)
+
+  any-here : (m n : Marking) → Only (names-any a) m n → Only here m n
+  any-here m n = only-more (names-any a) here m n (λ y i. List·Memᴰ·tail (Memᴰ·append-right (names d) i))
+
+  in-here : (m n : Marking) → Only (names d) m n → Only here m n
+  in-here m n = only-more (names d) here m n (λ y i. List·Memᴰ·tail (Memᴰ·append-left (names-any a) i))
+
+  -- an alternative that failed is dropped; whatever the failed attempt did to the marks inside it does not count
+  step-dropped : (m n : Marking) → try S (strip (keep m d)) ≡ none → Only (names d) m n →
+      (elim (try S (strip (keep m d))) [ none ↦ sift S (strip-any (keep-any m a)) | some f ↦ f or sift S (strip-any (keep-any m a)) ] ≡ strip-any (keep-any (q (drop x n)) (option x d a)))
+      × Only here m (q (drop x n))
+  step-dropped m n T u =
+      let k : Marking = drop x n in
+      let A : Alts = strip-any (keep-any m a) in
+      let s : keep-any k a ≡ keep-any m a =
+      keep-any-same a k n (λ y i. drop-other x n y (λ h. off-any (subst (λ (z : ℕ). List·Memᴰ z (names-any a)) h i)))
+      ∙ keep-any-same a n m (apart-same (names d) (names-any a) m n (w .4) u) in (
+        ap (λ (o : Option Desc). elim o [ none ↦ sift S A | some f ↦ f or sift S A ]) T
+            ∙ ap (λ (z : Options). sift S (strip-any z)) (sym s) ∙ Q k .0
+            ∙ ap strip-any (sym (keep-false (q k) x d a (Q k .1 x off-any ∙ drop-self x n))),
+        only-trans here m n (q k) (in-here m n u) (only-trans here n k (q k) (λ y h. drop-other x n y (λ z. h (List·Memᴰ·head z))) (any-here k (q k) (Q k .1))),
+      )
+
+  step-at : (m : Marking) → (o : Option Marking) → TriedAt S m d o → m x ≡ true →
+      (elim (try S (strip (keep m d))) [ none ↦ sift S (strip-any (keep-any m a)) | some f ↦ f or sift S (strip-any (keep-any m a)) ] ≡ strip-any (keep-any (q (elim o [ none ↦ drop x m | some n ↦ n ])) (option x d a)))
+      × Only here m (q (elim o [ none ↦ drop x m | some n ↦ n ]))
+  step-at m none T e = step-dropped m m T (λ y h. refl)
+  step-at m (some n) T e =
+      let A : Alts = strip-any (keep-any m a) in
+      let s : keep-any n a ≡ keep-any m a = keep-any-same a n m (apart-same (names d) (names-any a) m n (w .4) (T .1)) in
+      let k : keep n d ≡ keep (q n) d = keep-same d n (q n) (λ y i. sym (apart-back (names d) (names-any a) n (q n) (w .4) (Q n .1) y i)) in (
+        ap (λ (o : Option Desc). elim o [ none ↦ sift S A | some f ↦ f or sift S A ]) (T .0)
+            ∙ ap₂ {C = Alts} (λ (u : Placed) (v : Alts). strip u or v) k (ap (λ (z : Options). sift S (strip-any z)) (sym s) ∙ Q n .0)
+            ∙ ap strip-any (sym (keep-true (q n) x d a (Q n .1 x off-any ∙ T .1 x off-in ∙ e))),
+        only-trans here m n (q n) (in-here m n (T .1)) (any-here n (q n) (Q n .1)),
+      )
+
+  sift-at-more : (m : Marking) (o : Option Marking) → TriedAt S m d o → (t : Bool) → m x ≡ t → SiftedAt S m (option x d a) (elim t [ false ↦ q m | true ↦ q (elim o [ none ↦ drop x m | some n ↦ n ]) ])
+  unfolding try
+  sift-at-more m o T false e =
+      (ap (λ (z : Options). sift S (strip-any z)) (keep-false m x d a e) ∙ Q m .0 ∙ ap strip-any (sym (keep-false (q m) x d a (Q m .1 x off-any ∙ e))), any-here m (q m) (Q m .1))
+  sift-at-more m o T true e = let r = step-at m o T e in (ap (λ (z : Options). sift S (strip-any z)) (keep-true m x d a e) ∙ r .0, r .1)
+
+-- after the alternatives were tried
+settle-by : (S : Ctx) (B : Alts) → settle S B ≡ elim (alts B) [ zero ↦ none | suc k ↦ elim k [ zero ↦ elim (agree (S ++ sure-any B)) [ false ↦ none | true ↦ some (record { stack = S ++ sure-any B; left = B }) ] | suc l ↦ some (record { stack = S; left = B }) ] ]
+settle-by S fail = refl
+settle-by S (d or fail) = refl
+settle-by S (d or (e or b)) = refl
+
+abbrev SettledAt : Ctx → Marking → Options → Option State → Type 0
+SettledAt S n a none = settle S (strip-any (keep-any n a)) ≡ none
+SettledAt S n a (some r) = (settle S (strip-any (keep-any n a)) ≡ some (record { stack = r .stack; left = strip-any (keep-any (r .marks) a) })) × (r .marks ≡ n)
+
+settle-at-ok : (S : Ctx) (n : Marking) (a : Options) → SettledAt S n a (settle-at S n a)
+settle-at-ok S n a = go (kept-of n a) (kept-alts n a) (agree (S ++ certain-any n a)) refl
+  where
+    B : Alts
+    B = strip-any (keep-any n a)
+
+    by : (k : ℕ) → k ≡ alts B → settle S B ≡ elim k [ zero ↦ none | suc k ↦ elim k [ zero ↦ elim (agree (S ++ sure-any B)) [ false ↦ none | true ↦ some (record { stack = S ++ sure-any B; left = B }) ] | suc l ↦ some (record { stack = S; left = B }) ] ]
+    by k e = settle-by S B ∙ ap (λ (k : ℕ). elim k [ zero ↦ none | suc k ↦ elim k [ zero ↦ elim (agree (S ++ sure-any B)) [ false ↦ none | true ↦ some (record { stack = S ++ sure-any B; left = B }) ] | suc l ↦ some (record { stack = S; left = B }) ] ]) (sym e)
+
+    go : (k : ℕ) → k ≡ alts B → (t : Bool) → agree (S ++ sure-any B) ≡ t → SettledAt S n a (elim k [ zero ↦ none | suc k ↦ elim k [ zero ↦ elim t [ false ↦ none | true ↦ some (record { stack = S ++ sure-any B; marks = n }) ] | suc l ↦ some (record { stack = S; marks = n }) ] ])
+    go zero e t h = by zero e
+    go (suc zero) e false h = by (suc zero) e ∙ ap (λ (t : Bool). elim t [ false ↦ none | true ↦ some (record { stack = S ++ sure-any B; left = B }) ]) h
+    go (suc zero) e true h = (by (suc zero) e ∙ ap (λ (t : Bool). elim t [ false ↦ none | true ↦ some (record { stack = S ++ sure-any B; left = B }) ]) h, refl)
+    go (suc (suc l)) e t h = (by (suc (suc l)) e, refl)
+
+no-alts : (b : Alts) → 0 ≡ alts b → b ≡ fail
+no-alts fail e = refl
+no-alts (d or b) e = absurd (omega arith)
+
+many-any : (S : Ctx) (d : Desc) (b : Alts) (k : ℕ) → suc k ≡ alts b → narrow-any S (d or b) ≡ settle S (elim (try S d) [ none ↦ sift S b | some f ↦ f or sift S b ])
+unfolding try
+many-any S d fail k e = absurd (omega arith)
+many-any S d (f or b) k e = refl
+
+any-at-more : (S : Ctx) (x : ℕ) (d : Placed) (a : Options) → DistinctAny (option x d a) → (m : Marking) → (o : Option Marking) → TriedAt S m d o → (i : Option State) → InAt S m d i → (l : Option State) → AnyAt S m a l →
+    (q : Marking → Marking) → ((n : Marking) → SiftedAt S n a (q n)) → (t : Bool) → m x ≡ t → (k : ℕ) → kept-of m a ≡ k →
+    AnyAt S m (option x d a) (elim t [ false ↦ l | true ↦ elim k [ zero ↦ i | suc k ↦ settle-at S (q (elim o [ none ↦ drop x m | some n ↦ n ])) (option x d a) ] ])
+unfolding try
+any-at-more S x d a w m o T i I l L q Q false e k h = go l L
+  where
+    go : (l : Option State) → AnyAt S m a l → AnyAt S m (option x d a) l
+    go none z = ap (λ (y : Options). narrow-any S (strip-any y)) (keep-false m x d a e) ∙ z
+    go (some r) z = (
+      ap (λ (y : Options). narrow-any S (strip-any y)) (keep-false m x d a e) ∙ z .0 ∙ ap (λ (y : Options). some (record { stack = r .stack; left = strip-any y })) (sym (keep-false (r .marks) x d a (z .1 x (λ j. w .3 x (List·Memᴰ·head refl) j) ∙ e))),
+      only-more (names-any a) (x ∷ (names d ++ names-any a)) m (r .marks) (λ y j. List·Memᴰ·tail (Memᴰ·append-right (names d) j)) (z .1),
+    )
+any-at-more S x d a w m o T i I l L q Q true e zero h = go i I
+  where
+    A : Alts
+    A = strip-any (keep-any m a)
+
+    none-else : A ≡ fail
+    none-else = no-alts A (sym h ∙ kept-alts m a)
+
+    start : narrow-any S (strip-any (keep-any m (option x d a))) ≡ elim (inside S (strip (keep m d))) [ none ↦ none | some r ↦ some (record { stack = r .stack; left = r .left or fail }) ]
+    start = ap (λ (y : Options). narrow-any S (strip-any y)) (keep-true m x d a e) ∙ ap (λ (y : Alts). narrow-any S (strip (keep m d) or y)) none-else
+
+    go : (i : Option State) → InAt S m d i → AnyAt S m (option x d a) i
+    go none z = start ∙ ap (λ (y : Option (Left Desc)). elim y [ none ↦ none | some r ↦ some (record { stack = r .stack; left = r .left or fail }) ]) z
+    go (some r) z = (
+      start ∙ ap (λ (y : Option (Left Desc)). elim y [ none ↦ none | some r ↦ some (record { stack = r .stack; left = r .left or fail }) ]) (z .0)
+          ∙ ap (λ (y : Alts). some (record { stack = r .stack; left = strip (keep (r .marks) d) or y })) (sym (ap strip-any (keep-any-same a (r .marks) m (apart-same (names d) (names-any a) m (r .marks) (w .4) (z .1))) ∙ none-else))
+          ∙ ap (λ (y : Options). some (record { stack = r .stack; left = strip-any y })) (sym (keep-true (r .marks) x d a (z .1 x (λ j. w .2 x (List·Memᴰ·head refl) j) ∙ e))),
+      only-more (names d) (x ∷ (names d ++ names-any a)) m (r .marks) (λ y j. List·Memᴰ·tail (Memᴰ·append-left (names-any a) j)) (z .1),
+    )
+any-at-more S x d a w m o T i I l L q Q true e (suc k) h = go (settle-at S new (option x d a)) (settle-at-ok S new (option x d a))
+  where
+    new : Marking
+    new = q (elim o [ none ↦ drop x m | some n ↦ n ])
+
+    st : (elim (try S (strip (keep m d))) [ none ↦ sift S (strip-any (keep-any m a)) | some f ↦ f or sift S (strip-any (keep-any m a)) ] ≡ strip-any (keep-any new (option x d a))) × Only (x ∷ (names d ++ names-any a)) m new
+    st = step-at S x d a w q Q m o T e
+
+    start : narrow-any S (strip-any (keep-any m (option x d a))) ≡ settle S (strip-any (keep-any new (option x d a)))
+    start = ap (λ (y : Options). narrow-any S (strip-any y)) (keep-true m x d a e) ∙ many-any S (strip (keep m d)) (strip-any (keep-any m a)) k (sym h ∙ kept-alts m a) ∙ ap (settle S) (st .0)
+
+    go : (r : Option State) → SettledAt S new (option x d a) r → AnyAt S m (option x d a) r
+    go none z = start ∙ z
+    go (some r) z = (start ∙ z .0, subst (Only (x ∷ (names d ++ names-any a)) m) (sym (z .1)) (st .1))
+
+mutual
+  unfolding try-at try
+
+  pub try-at-ok : (d : Placed) → Distinct d → (S : Ctx) (m : Marking) → TriedAt S m d (try-at S m d)
+  try-at-ok (place g ds) w S m = try-at-desc S m g ds (agree (S ++ g ∷ certain m ds)) (narrow-at (S ++ g ∷ certain m ds) m ds) (narrow-at-ok ds w (S ++ g ∷ certain m ds) m) refl
+
+  pub narrow-at-ok : (ds : Places) → DistinctAll ds → (S : Ctx) (m : Marking) → NarrowedAt S m ds (narrow-at S m ds)
+  narrow-at-ok stop w S m = (refl, λ y h. refl)
+  narrow-at-ok (a also ds) w S m = narrow-at-more S m a ds (w .2) (any-at S m a) (any-at-ok a (w .0) S m) (λ T n. narrow-at T n ds) (λ T n. narrow-at-ok ds (w .1) T n)
+
+  pub any-at-ok : (a : Options) → DistinctAny a → (S : Ctx) (m : Marking) → AnyAt S m a (any-at S m a)
+  any-at-ok no-more w S m = refl
+  any-at-ok (option x d a) w S m = any-at-more S x d a w m (try-at S m d) (try-at-ok d (w .0) S m) (inside-at S m d) (inside-at-ok d (w .0) S m) (any-at S m a) (any-at-ok a (w .1) S m) (λ n. sift-at S n a) (λ n. sift-at-ok a (w .1) S n) (m x) refl (kept-of m a) refl
+
+  pub inside-at-ok : (d : Placed) → Distinct d → (S : Ctx) (m : Marking) → InAt S m d (inside-at S m d)
+  inside-at-ok (place g ds) w S m = in-at-desc S m g ds (narrow-at S m ds) (narrow-at-ok ds w S m)
+
+  pub sift-at-ok : (a : Options) → DistinctAny a → (S : Ctx) (m : Marking) → SiftedAt S m a (sift-at S m a)
+  sift-at-ok no-more w S m = (refl, λ y h. refl)
+  sift-at-ok (option x d a) w S m = sift-at-more S x d a w (λ n. sift-at S n a) (λ n. sift-at-ok a (w .1) S n) m (try-at S m d) (try-at-ok d (w .0) S m) (m x) refl
+
+-- the passes
+pub passes-at-ok : (n : ℕ) (d : Placed) → Distinct d → (m : Marking) → passes n (strip (keep m d)) ≡ left-by d (passes-at n m d)
+unfolding passes passes-at
+passes-at-ok zero d w m = refl
+passes-at-ok (suc n) d w m = go (try-at [] m d) (try-at-ok d w [] m) (λ k. passes-at-ok n d w k)
+  where
+    now : Desc
+    now = strip (keep m d)
+
+    go : (o : Option Marking) → TriedAt [] m d o → ((k : Marking) → passes n (strip (keep k d)) ≡ left-by d (passes-at n k d)) →
+        elim (try [] now) [ none ↦ none | some e ↦ elim (eqb (size e) (size now)) [ true ↦ some e | false ↦ passes n e ] ]
+        ≡ left-by d (elim o [ none ↦ none | some k ↦ elim (eqb (size (strip (keep k d))) (size now)) [ true ↦ some k | false ↦ passes-at n k d ] ])
+    go none T ih = ap (λ (o : Option Desc). elim o [ none ↦ none | some e ↦ elim (eqb (size e) (size now)) [ true ↦ some e | false ↦ passes n e ] ]) T
+    go (some k) T ih = ap (λ (o : Option Desc). elim o [ none ↦ none | some e ↦ elim (eqb (size e) (size now)) [ true ↦ some e | false ↦ passes n e ] ]) (T .0) ∙ two (eqb (size (strip (keep k d))) (size now))
+      where
+        two : (t : Bool) → _≡_ {A = Option Desc} (elim t [ true ↦ some (strip (keep k d)) | false ↦ passes n (strip (keep k d)) ]) (left-by d (elim t [ true ↦ some k | false ↦ passes-at n k d ]))
+        two true = refl
+        two false = ih k
+
+mutual
+  pub keep-all-marked : (d : Placed) → keep all-kept d ≡ d
+  keep-all-marked (place g ds) = ap (place g) (keep-all-marked-all ds)
+
+  keep-all-marked-all : (ds : Places) → keep-all all-kept ds ≡ ds
+  keep-all-marked-all stop = refl
+  keep-all-marked-all (a also ds) = ap₂ {C = Places} _also_ (keep-all-marked-any a) (keep-all-marked-all ds)
+
+  keep-all-marked-any : (a : Options) → keep-any all-kept a ≡ a
+  keep-all-marked-any no-more = refl
+  keep-all-marked-any (option x d a) = ap₂ {C = Options} (option x) (keep-all-marked d) (keep-all-marked-any a)
+
+pub quick-at-ok : (d : Placed) → Distinct d → passes (size (strip d)) (strip d) ≡ left-by d (quick-at d)
+unfolding quick-at
+quick-at-ok d w = ap (λ (z : Placed). passes (size (strip d)) (strip z)) (sym (keep-all-marked d)) ∙ passes-at-ok (size (strip d)) d w all-kept

@@ -1,0 +1,9 @@
+pub mod Placed
+pub mod Marks
+pub mod Certain
+pub mod Beside
+pub mod Quickly
+pub mod Counting
+pub mod Search
+pub mod Agenda
+pub mod Shown
