@@ -9,8 +9,8 @@ use lib.ListN.{length}
 use Rattle.theory.specs.Net.{Graph}
 use Rattle.theory.specs.Descr.{agree}
 use Rattle.theory.proofs.Mean.{Ctx}
-use Rattle.engine.specs.Certain.{sure}
 use Rattle.engine.specs.Placed.{Placed, place, Places, stop, _also_, Options, no-more, option, strip-all}
+use Rattle.engine.specs.Certain.{sure}
 use Rattle.engine.specs.Search.{Found, taking, dive, dive-all, dive-each, search, among, lit}
 use Rattle.engine.specs.Agenda.{any-found, resume}
 

@@ -11,8 +11,8 @@ use Rattle.theory.specs.Net.{Graph, Canonical}
 use Rattle.theory.specs.Join.{join}
 use Rattle.theory.proofs.Instance.{AllCanonical}
 use Rattle.theory.proofs.Sets.{Within, clash-within, joined-within, join-same}
-use Rattle.theory.proofs.Live.{Agrees}
 use Rattle.theory.proofs.Mean.{Ctx, Fine, canon-append, fine-append, alike-flat, clash-stays, join-canonical, within-both, in-l, in-r}
+use Rattle.theory.proofs.Live.{Agrees}
 
 -- joining g to A changes nothing
 abbrev pub Says : Ctx → Graph → Type 0

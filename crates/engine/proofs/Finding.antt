@@ -16,8 +16,8 @@ use Rattle.theory.proofs.Sets.{Within}
 use Rattle.theory.proofs.Mean.{Ctx, Fine, Can, CanAll, CanAny, fine-append, within-both, in-l, in-r, choices-all-fine, choices-any-fine, clash-stays}
 use Rattle.theory.proofs.Full.{each-from, pairs-from}
 use Rattle.theory.proofs.Live.{Agrees}
-use Rattle.engine.specs.Certain.{flat, sure, sure-any}
 use Rattle.engine.specs.Placed.{Placed, place, Places, stop, _also_, Options, no-more, option, strip, strip-all, strip-any}
+use Rattle.engine.specs.Certain.{flat, sure, sure-any}
 use Rattle.engine.specs.Search.{Found, taking, dive, dive-all, dive-any, dive-in, dive-each, leaf-found, search}
 use Rattle.engine.proofs.Entail.{SaysAll, w-self, w-left, w-right, w-cons, w-tail, fine-cons, fine-before, canon-in, says-within, says-more, says-trans, says-append, says-cons, join-both, says-here, says-there, says-first, says-second, says-none}
 use Rattle.engine.proofs.Stable.{flat-can, sure-can}

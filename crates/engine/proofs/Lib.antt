@@ -6,6 +6,7 @@ pub mod Tidy
 pub mod Dropping
 pub mod Passes
 pub mod Proper
+pub mod Marks
 pub mod QuickStep
 pub mod Stack
 pub mod Standing

@@ -6,21 +6,21 @@ use mathlib.Core.Bool.{Bool, true, false, _||_}
 use mathlib.Core.Option.{none}
 use mathlib.Core.List.{List, [], _∷_, _++_, append-assoc, List·Memᴰ, List·Memᴰ·head, List·Memᴰ·tail, List·Memᴰ·cases-cons, List·Memᴰ·not-nil, List·Memᴰ·append-cases, Memᴰ·append-left, Memᴰ·append-right}
 use Prim.Native.Nat.{ℕ}
-use native.Mathlib.Omega.{arith}
 use lib.Dec.{eqb}
-use Rattle.theory.specs.Net.{Graph, Canonical}
+use Rattle.theory.specs.Net.{Graph}
 use Rattle.theory.specs.Join.{join}
 use Rattle.theory.specs.Descr.{desc, Disjs, Alts, _or_, pairs, choices, choices-all, choices-any, agree, _and_}
 use Rattle.theory.specs.Modes.{some-agree, prune, prune-all, prune-any}
-use Rattle.theory.proofs.Instance.{AllCanonical}
 use Rattle.theory.proofs.Close.{Test, equal, differ, test}
+use Rattle.theory.proofs.Instance.{AllCanonical}
 use Rattle.theory.proofs.Mean.{Ctx, Fine, Can, CanAll, CanAny, AllFine, canon-append, fine-append, choices-all-fine, choices-any-fine}
 use Rattle.theory.proofs.Full.{pairs-in, pairs-from, whole, AllFull, full-pairs, full-graph, whole-fine, SomeAgree, none-agrees, some-agree-view}
 use Rattle.theory.proofs.Live.{Agrees, not-none, agrees-within, beside-within, some-agree-from}
 use Rattle.engine.specs.Placed.{Placed, place, Places, stop, _also_, Options, no-more, option, strip, strip-all, strip-any, names, names-all, names-any, Apart, Distinct, DistinctAll, DistinctAny}
-use Rattle.engine.specs.Marks.{keep, keep-all, keep-any}
+use Rattle.engine.specs.Marks.{keep, keep-all, keep-any, Marking}
 use Rattle.engine.specs.Search.{Found, search, among, lit}
 use Rattle.engine.proofs.Passes.{Agreeing, can, cannot, agreeing-view}
+use Rattle.engine.proofs.Marks.{false-true}
 use Rattle.engine.proofs.Finding.{Pick, pick-each, pick-after, pick-pairs, pick-as, picks, picks-all, picks-any, graphs, graphs-are, graphs-all-are, graphs-any-are, choice-of, choice-all-of, choice-any-of, found, search-ok}
 
 -- some list of graphs among these agrees
@@ -208,13 +208,10 @@ module _ (others : List Ctx) where
     beside-hit y (o, q, i, j, h, g) = (o, q, i, Memᴰ·append-right (pick-as x (picks d)) j, h, g)
 
 -- the marks m are those of the hits
-abbrev pub Marks : (ℕ → Bool) → List Ctx → List ℕ → List Pick → Type 0
+abbrev pub Marks : Marking → List Ctx → List ℕ → List Pick → Type 0
 Marks m others ns l = (y : ℕ) → List·Memᴰ y ns → (m y ≡ true) ↔ Hit others l y
 
-pub false-true : false ≡ true → ⊥
-false-true e = let z : _≡_ {A = ℕ} 0 1 = cc in omega arith
-
-keep-or : (m : ℕ → Bool) (x : ℕ) (d : Placed) (a : Options) (others : List Ctx) → Apart (x ∷ []) (names-any a) → (m x ≡ true) ↔ Hit others (pick-as x (picks d) ++ picks-any a) x →
+keep-or : (m : Marking) (x : ℕ) (d : Placed) (a : Options) (others : List Ctx) → Apart (x ∷ []) (names-any a) → (m x ≡ true) ↔ Hit others (pick-as x (picks d) ++ picks-any a) x →
     strip (keep m d) ≡ prune others (strip d) → strip-any (keep-any m a) ≡ prune-any others (strip-any a) → (t : Bool) → m x ≡ t → (u : Bool) → Some (pairs others (choices (strip d))) u →
     strip-any (elim t [ true ↦ option x (keep m d) (keep-any m a) | false ↦ keep-any m a ]) ≡ elim u [ true ↦ prune others (strip d) or prune-any others (strip-any a) | false ↦ prune-any others (strip-any a) ]
 keep-or m x d a others n h e f true z true (one-does c i g) = ap₂ {C = Alts} _or_ e f
@@ -222,17 +219,14 @@ keep-or m x d a others n h e f true z false (none-does w) = let (c, i, g) = hit-
 keep-or m x d a others n h e f false z true (one-does c i g) = absurd (false-true (sym z ∙ h .1 (self-hit others x d a c i g)))
 keep-or m x d a others n h e f false z false (none-does w) = f
 
-singleton-fine : (g : Graph) → Canonical g → AllFine ((g ∷ []) ∷ [])
-singleton-fine g cg r m = ⊎-elim (λ e. subst AllCanonical (sym e) (cg, tt)) (λ i. absurd (List·Memᴰ·not-nil i)) (List·Memᴰ·cases-cons m)
-
 mutual
   unfolding prune
 
-  pub keep-prune : (d : Placed) → Can (strip d) → Distinct d → (m : ℕ → Bool) (others : List Ctx) → AllFine others → Marks m others (names d) (picks d) → strip (keep m d) ≡ prune others (strip d)
+  pub keep-prune : (d : Placed) → Can (strip d) → Distinct d → (m : Marking) (others : List Ctx) → AllFine others → Marks m others (names d) (picks d) → strip (keep m d) ≡ prune others (strip d)
   keep-prune (place g ds) c w m others fo h = ap (desc g) (keep-prune-all ds (c .1) w m (pairs others ((g ∷ []) ∷ [])) (full-graph others g (c .0) fo)
       (λ y n. (λ t. hit-in others g (picks-all ds) y (h y n .0 t), λ t. h y n .1 (hit-out others g (picks-all ds) y t))))
 
-  pub keep-prune-all : (ds : Places) → CanAll (strip-all ds) → DistinctAll ds → (m : ℕ → Bool) (others : List Ctx) → AllFull others → Marks m others (names-all ds) (picks-all ds) → strip-all (keep-all m ds) ≡ prune-all others (strip-all ds)
+  pub keep-prune-all : (ds : Places) → CanAll (strip-all ds) → DistinctAll ds → (m : Marking) (others : List Ctx) → AllFull others → Marks m others (names-all ds) (picks-all ds) → strip-all (keep-all m ds) ≡ prune-all others (strip-all ds)
   keep-prune-all stop c w m others fo h = refl
   keep-prune-all (a also ds) c w m others fo h = ap₂ {C = Disjs} _and_
       (keep-prune-any a (c .0) (w .0) m (pairs others (choices-all (strip-all ds))) (full-pairs others (choices-all (strip-all ds)) fo (choices-all-fine (strip-all ds) (c .1)))
@@ -240,7 +234,7 @@ mutual
       (keep-prune-all ds (c .1) (w .1) m (pairs others (choices-any (strip-any a))) (full-pairs others (choices-any (strip-any a)) fo (choices-any-fine (strip-any a) (c .0)))
       (λ y n. let b = h y (Memᴰ·append-right (names-any a) n) in (λ t. hit-later others a ds (c .0) (c .1) fo (w .2) y n (b .0 t), λ t. b .1 (later-hit others a ds (c .0) (c .1) fo (w .2) y t))))
 
-  pub keep-prune-any : (a : Options) → CanAny (strip-any a) → DistinctAny a → (m : ℕ → Bool) (others : List Ctx) → AllFull others → Marks m others (names-any a) (picks-any a) → strip-any (keep-any m a) ≡ prune-any others (strip-any a)
+  pub keep-prune-any : (a : Options) → CanAny (strip-any a) → DistinctAny a → (m : Marking) (others : List Ctx) → AllFull others → Marks m others (names-any a) (picks-any a) → strip-any (keep-any m a) ≡ prune-any others (strip-any a)
   keep-prune-any no-more c w m others fo h = refl
   keep-prune-any (option x d a) c w m others fo h = keep-or m x d a others (w .3) (h x (List·Memᴰ·head refl))
       (keep-prune d (c .0) (w .0) m others (λ o i. fo o i .1) (λ y n. let b = h y (List·Memᴰ·tail (Memᴰ·append-left (names-any a) n)) in (λ t. hit-under others x d a (w .2) (w .4) y n (b .0 t), λ t. b .1 (under-hit others x d a y t))))

@@ -12,9 +12,9 @@ use Rattle.theory.specs.Net.{Graph}
 use Rattle.theory.specs.Join.{join}
 use Rattle.theory.specs.Descr.{Desc, desc, Disjs, end, _and_, Alts, fail, _or_, answers, agree}
 use Rattle.theory.specs.Modes.{size, size-all, size-any}
+use Rattle.theory.proofs.Close.{Test, equal, differ, test}
 use Rattle.theory.proofs.Instance.{AllCanonical}
 use Rattle.theory.proofs.Sets.{Within}
-use Rattle.theory.proofs.Close.{Test, equal, differ, test}
 use Rattle.theory.proofs.Mean.{Ctx, Fine, Can, CanAll, CanAny, fine-append, within-both, in-l, in-r}
 use Rattle.theory.proofs.Quick.{nil, nil-canonical, nil-holds}
 use Rattle.theory.proofs.Live.{Agrees, not-none}

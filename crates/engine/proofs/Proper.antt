@@ -3,23 +3,24 @@
 use mathlib.Core.Path.{_≡_, refl, ap, ap₂, sym, _∙_, subst}
 use mathlib.Core.Option.{Option, none, some}
 use mathlib.Core.List.{[], _∷_, _++_}
-use Prim.Native.Nat.{ℕ, suc, _≤_}
+use Prim.Native.Nat.{ℕ, suc, _≤_, zero}
 use native.Mathlib.Omega.{arith}
 use Rattle.theory.specs.Net.{Graph}
 use Rattle.theory.specs.Join.{join}
 use Rattle.theory.specs.Descr.{Desc, desc, Disjs, end, _and_, Alts, fail, _or_, alts, _then_}
 use Rattle.theory.specs.Modes.{size, joined, tidy, quick, fold, fold-all, fold-any, folded-in, in-place, Round}
+use Rattle.theory.specs.Layout.{WellFormed, WellAll, WellAny}
 use Rattle.theory.proofs.Mean.{Ctx, Can, CanAll, CanAny, can-then, join-canonical}
 use Rattle.theory.proofs.Quick.{nil, nil-canonical}
 use Rattle.theory.proofs.Live.{Agrees}
 use Rattle.engine.specs.Certain.{sure, sure-any}
+use Rattle.engine.specs.Shown.{fold-some}
 use Rattle.engine.proofs.Entail.{fine-cons}
 use Rattle.engine.proofs.Stable.{join-one, best-one}
 use Rattle.engine.proofs.Sane.{Sane, SaneAll, SaneAny}
 use Rattle.engine.proofs.Greatest.{TidiedBest}
 use Rattle.engine.proofs.Tidy.{tidy-best}
 use Rattle.engine.proofs.Passes.{Passed}
-use Rattle.engine.specs.Shown.{fold-some}
 
 -- two or more alternatives, everywhere
 abbrev mutual
@@ -33,6 +34,20 @@ abbrev mutual
   pub ProperAny : Alts → Type 0
   ProperAny fail = Unit {0}
   ProperAny (d or a) = Proper d × ProperAny a
+
+-- what is well formed is so
+mutual
+  pub well-proper : (d : Desc) (n : ℕ) → WellFormed d n → Proper d
+  well-proper (desc g ds) n w = well-all-proper ds n (w .2)
+
+  well-all-proper : (ds : Disjs) (n : ℕ) → WellAll ds n → ProperAll ds
+  well-all-proper end n w = tt
+  well-all-proper (a and ds) zero w = absurd w
+  well-all-proper (a and ds) (suc n) w = (w .0, well-any-proper a n (w .1), well-all-proper ds (suc n) (w .2))
+
+  well-any-proper : (a : Alts) (n : ℕ) → WellAny a n → ProperAny a
+  well-any-proper fail n w = tt
+  well-any-proper (d or a) n w = (well-proper d n (w .0), well-any-proper a n (w .1))
 
 proper-sure-any : (a : Alts) → 2 ≤ alts a → sure-any a ≡ []
 proper-sure-any fail l = absurd (omega arith)

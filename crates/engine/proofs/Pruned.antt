@@ -10,8 +10,8 @@ use Rattle.theory.specs.Modes.{some-agree, prune, prune-all, prune-any}
 use Rattle.theory.proofs.Instance.{AllCanonical}
 use Rattle.theory.proofs.Sets.{Within}
 use Rattle.theory.proofs.Mean.{Ctx, Fine, Can, CanAll, CanAny, AllFine, canon-append, fine-append, within-both, in-l, in-r, choices-all-fine, choices-any-fine}
-use Rattle.theory.proofs.Full.{each-in, each-from, pairs-in, pairs-from, whole, prune-can, AllFull, full-pairs, full-graph, whole-fine}
 use Rattle.theory.proofs.Quick.{nil}
+use Rattle.theory.proofs.Full.{each-in, each-from, pairs-in, pairs-from, whole, prune-can, AllFull, full-pairs, full-graph, whole-fine}
 use Rattle.theory.proofs.Live.{Agrees, not-none, keep, keep-all, keep-any}
 use Rattle.engine.specs.Certain.{sure}
 use Rattle.engine.proofs.Entail.{w-left, w-right, w-trans, fine-cons, fine-before, says-within, agrees-says}
@@ -65,10 +65,11 @@ mutual
   prune-any-part fail others = tt
   prune-any-part (d or a) others = or-part d (prune others d) a (prune-any others a) (some-agree (pairs others (choices d))) (prune-part d others) (prune-any-part a others)
 
--- every alternative stands in a consistent choice with the others
-abbrev pub Live : List Ctx → List Ctx → Type 0
-Live others l = (o : Ctx) × (r : Ctx) × List·Memᴰ o others × List·Memᴰ r l × Agrees (o ++ r)
+-- a choice among these agrees with one of the others
+abbrev pub Together : List Ctx → List Ctx → Type 0
+Together others l = (o : Ctx) × (r : Ctx) × List·Memᴰ o others × List·Memᴰ r l × Agrees (o ++ r)
 
+-- every alternative stands in a consistent choice with the others
 abbrev mutual
   pub Alive : List Ctx → Desc → Type 0
   Alive others (desc g ds) = AliveAll (pairs others ((g ∷ []) ∷ [])) ds
@@ -79,10 +80,10 @@ abbrev mutual
 
   pub AliveAny : List Ctx → Alts → Type 0
   AliveAny others fail = Unit {0}
-  AliveAny others (d or a) = Live others (choices d) × Alive others d × AliveAny others a
+  AliveAny others (d or a) = Together others (choices d) × Alive others d × AliveAny others a
 
 -- pruning keeps every live part
-or-keeps : (d e : Desc) (a b : Alts) (others : List Ctx) → Live others (choices d) → Part (prune others d) e → PartAny (prune-any others a) b → (t : Bool) → Some (pairs others (choices d)) t →
+or-keeps : (d e : Desc) (a b : Alts) (others : List Ctx) → Together others (choices d) → Part (prune others d) e → PartAny (prune-any others a) b → (t : Bool) → Some (pairs others (choices d)) t →
     PartAny (elim t [ true ↦ prune others d or prune-any others a | false ↦ prune-any others a ]) (e or b)
 or-keeps d e a b others l p q true v = inl (p, q)
 or-keeps d e a b others (o, r, i, j, g) p q false (none-does w) = absurd (not-none (o ++ r) g (w (o ++ r) (pairs-in others (choices d) o r i j)))
@@ -188,11 +189,11 @@ both-some S fail r m b = absurd (List·Memᴰ·not-nil m)
 both-some S (d or fail) r m b = b .1
 both-some S (d or (e or a)) r m b = (b .0, both-each S (e or a) (b .2))
 
-or-stable : (S : Ctx) (d : Desc) (a : Alts) (others : List Ctx) → (Live others (choices d) → Stable S (prune others d)) → (Live others (choices d) → StableIn S (prune others d)) → BothEach S (prune-any others a) → (t : Bool) → Some (pairs others (choices d)) t →
+or-stable : (S : Ctx) (d : Desc) (a : Alts) (others : List Ctx) → (Together others (choices d) → Stable S (prune others d)) → (Together others (choices d) → StableIn S (prune others d)) → BothEach S (prune-any others a) → (t : Bool) → Some (pairs others (choices d)) t →
     BothEach S (elim t [ true ↦ prune others d or prune-any others a | false ↦ prune-any others a ])
 or-stable S d a others f h b true (one-does x m g) =
     let (o, r, i, j, e) = pairs-from others (choices d) x m in
-    let l : Live others (choices d) = (o, r, i, j, subst Agrees e g) in
+    let l : Together others (choices d) = (o, r, i, j, subst Agrees e g) in
     (f l, h l, b)
 or-stable S d a others f h b false v = b
 
@@ -210,13 +211,13 @@ graph-stands others g l o r i j a =
     let ey : y ≡ g ∷ [] = ⊎-elim (λ q. q) (λ z. absurd (List·Memᴰ·not-nil z)) (List·Memᴰ·cases-cons iy) in
     w-left (g ∷ []) o r (subst (Within (g ∷ [])) (sym (e ∙ ap (λ (z : Ctx). x ++ z) ey)) (in-r x (g ∷ [])))
 
-live-in : (others : List Ctx) (g : Graph) (ds : Disjs) → Live others (choices (desc g ds)) → Live (pairs others ((g ∷ []) ∷ [])) (choices-all ds)
+live-in : (others : List Ctx) (g : Graph) (ds : Disjs) → Together others (choices (desc g ds)) → Together (pairs others ((g ∷ []) ∷ [])) (choices-all ds)
 live-in others g ds (o, r, i, j, a) =
     let (s, k, e) = each-from (g ∷ []) (choices-all ds) r j in
     (o ++ g ∷ [], s, pairs-in others ((g ∷ []) ∷ []) o (g ∷ []) i (List·Memᴰ·head refl), k, subst Agrees (ap (λ (z : Ctx). o ++ z) e ∙ sym (append-assoc o (g ∷ []) s)) a)
 
 -- a choice of all that stands on is fine
-all-agrees : (S : Ctx) → AllCanonical S → (g : Graph) → Canonical g → (l : Ctx) → AllCanonical l → (others : List Ctx) → AllFull others → (m : List Ctx) → AllFine m → Stands (S ++ g ∷ l) others m → Live others m → Agrees (S ++ g ∷ l)
+all-agrees : (S : Ctx) → AllCanonical S → (g : Graph) → Canonical g → (l : Ctx) → AllCanonical l → (others : List Ctx) → AllFull others → (m : List Ctx) → AllFine m → Stands (S ++ g ∷ l) others m → Together others m → Agrees (S ++ g ∷ l)
 all-agrees S cS g cg l cl others fo m fm h (o, r, i, j, a) =
     let f : Fine (o ++ r) = fine-append o r (fo o i) (fm r j) in
     agrees-says (o ++ r) (S ++ g ∷ l) f (fine-before S (g ∷ l) cS (fine-cons g l cg cl)) (says-within (o ++ r) (S ++ g ∷ l) f (h o r i j a)) a
@@ -224,7 +225,7 @@ all-agrees S cS g cg l cl others fo m fm h (o, r, i, j, a) =
 mutual
   unfolding prune
 
-  pub prune-stable : (d : Desc) → Can d → (S : Ctx) → AllCanonical S → (others : List Ctx) → AllFine others → Stands S others (choices d) → Live others (choices d) → Stable S (prune others d)
+  pub prune-stable : (d : Desc) → Can d → (S : Ctx) → AllCanonical S → (others : List Ctx) → AllFine others → Stands S others (choices d) → Together others (choices d) → Stable S (prune others d)
   prune-stable (desc g ds) c S cS others fo h l =
       let o₁ = pairs others ((g ∷ []) ∷ []) in
       let f₁ : AllFull o₁ = full-graph others g (c .0) fo in
@@ -238,10 +239,10 @@ mutual
         prune-all-stable ds (c .1) T (canon-append S (g ∷ sure es) cS (c .0, ce)) o₁ f₁ st l₁,
       )
 
-  prune-in-stable : (d : Desc) → Can d → (S : Ctx) → AllCanonical S → (others : List Ctx) → AllFine others → Stands S others (choices d) → Live others (choices d) → StableIn S (prune others d)
+  prune-in-stable : (d : Desc) → Can d → (S : Ctx) → AllCanonical S → (others : List Ctx) → AllFine others → Stands S others (choices d) → Together others (choices d) → StableIn S (prune others d)
   prune-in-stable (desc g ds) c S cS others fo h l = prune-all-stable ds (c .1) S cS (pairs others ((g ∷ []) ∷ [])) (full-graph others g (c .0) fo) (stands-in S others g ds h) (live-in others g ds l)
 
-  prune-all-stable : (ds : Disjs) → CanAll ds → (S : Ctx) → AllCanonical S → (others : List Ctx) → AllFull others → Stands S others (choices-all ds) → Live others (choices-all ds) → StableAll S (prune-all others ds)
+  prune-all-stable : (ds : Disjs) → CanAll ds → (S : Ctx) → AllCanonical S → (others : List Ctx) → AllFull others → Stands S others (choices-all ds) → Together others (choices-all ds) → StableAll S (prune-all others ds)
   prune-all-stable end c S cS others fo h l = tt
   prune-all-stable (b and ds) c S cS others fo h (o, r, i, j, a) =
       let fb = choices-any-fine b (c .0) in

@@ -1,7 +1,6 @@
 -- The quick step on marks does what the quick step on descriptions does, and so it is mode 1.
 -- Assumes nothing.
 use mathlib.Core.Path.{_≡_, refl, ap, ap₂, sym, _∙_, subst}
-use mathlib.Core.Logic.{_≢_}
 use mathlib.Core.Bool.{Bool, true, false}
 use mathlib.Core.Option.{Option, none, some}
 use mathlib.Core.List.{List, [], _∷_, _++_, List·Memᴰ, List·Memᴰ·head, List·Memᴰ·tail, Memᴰ·append-left, Memᴰ·append-right}
@@ -11,13 +10,13 @@ use lib.Dec.{eqb}
 use Rattle.theory.specs.Net.{Graph}
 use Rattle.theory.specs.Descr.{Desc, desc, Disjs, _and_, Alts, fail, _or_, alts, agree}
 use Rattle.theory.specs.Modes.{size}
-use Rattle.theory.proofs.Close.{eqb-yes, eqb-no}
 use Rattle.theory.proofs.Mean.{Ctx}
-use Rattle.engine.specs.Certain.{sure-any, certain, certain-any}
 use Rattle.engine.specs.Placed.{Placed, place, Places, stop, _also_, Options, no-more, option, strip, strip-all, strip-any, names, names-all, names-any, Apart, Distinct, DistinctAll, DistinctAny}
 use Rattle.engine.specs.Marks.{keep, keep-all, keep-any, Marking, drop, kept-of, all-kept, left-by}
+use Rattle.engine.specs.Certain.{sure-any, certain, certain-any}
 use Rattle.engine.specs.Quickly.{State, settle-at, try-at, narrow-at, any-at, inside-at, sift-at, passes-at, quick-at}
 use Rattle.engine.proofs.Dropping.{Left, settle, try, narrow, narrow-any, inside, sift, passes}
+use Rattle.engine.proofs.Marks.{keep-true, keep-false, drop-self, drop-other, kept-alts, keep-all-marked, keep-same, keep-all-same, keep-any-same}
 
 -- n differs from m only at these numbers
 abbrev pub Only : List ℕ → Marking → Marking → Type 0
@@ -29,36 +28,11 @@ only-trans ns k m n p q y h = q y h ∙ p y h
 only-more : (ns ms : List ℕ) (m n : Marking) → ((y : ℕ) → List·Memᴰ y ns → List·Memᴰ y ms) → Only ns m n → Only ms m n
 only-more ns ms m n w p y h = p y (λ i. h (w y i))
 
--- marks elsewhere do not count
-or-same : (m n : Marking) (x : ℕ) (d : Placed) (a : Options) → m x ≡ n x → keep m d ≡ keep n d → keep-any m a ≡ keep-any n a →
-    keep-any m (option x d a) ≡ keep-any n (option x d a)
-or-same m n x d a e f g = ap₂ {C = Options} (λ (t : Bool) (z : Options). elim t [ true ↦ option x (keep m d) z | false ↦ z ]) e g ∙ ap (λ (z : Placed). elim (n x) [ true ↦ option x z (keep-any n a) | false ↦ keep-any n a ]) f
-
-mutual
-  pub keep-same : (d : Placed) (m n : Marking) → ((y : ℕ) → List·Memᴰ y (names d) → m y ≡ n y) → keep m d ≡ keep n d
-  keep-same (place g ds) m n h = ap (place g) (keep-all-same ds m n h)
-
-  pub keep-all-same : (ds : Places) (m n : Marking) → ((y : ℕ) → List·Memᴰ y (names-all ds) → m y ≡ n y) → keep-all m ds ≡ keep-all n ds
-  keep-all-same stop m n h = refl
-  keep-all-same (a also ds) m n h = ap₂ {C = Places} _also_ (keep-any-same a m n (λ y i. h y (Memᴰ·append-left (names-all ds) i))) (keep-all-same ds m n (λ y i. h y (Memᴰ·append-right (names-any a) i)))
-
-  pub keep-any-same : (a : Options) (m n : Marking) → ((y : ℕ) → List·Memᴰ y (names-any a) → m y ≡ n y) → keep-any m a ≡ keep-any n a
-  keep-any-same no-more m n h = refl
-  keep-any-same (option x d a) m n h = or-same m n x d a (h x (List·Memᴰ·head refl)) (keep-same d m n (λ y i. h y (List·Memᴰ·tail (Memᴰ·append-left (names-any a) i)))) (keep-any-same a m n (λ y i. h y (List·Memᴰ·tail (Memᴰ·append-right (names d) i))))
-
 apart-same : (ns ms : List ℕ) (m n : Marking) → Apart ns ms → Only ns m n → (y : ℕ) → List·Memᴰ y ms → n y ≡ m y
 apart-same ns ms m n w p y i = p y (λ j. w y j i)
 
 apart-back : (ns ms : List ℕ) (m n : Marking) → Apart ns ms → Only ms m n → (y : ℕ) → List·Memᴰ y ns → n y ≡ m y
 apart-back ns ms m n w p y i = p y (λ j. w y i j)
-
-pub kept-alts : (m : Marking) (a : Options) → kept-of m a ≡ alts (strip-any (keep-any m a))
-kept-alts m no-more = refl
-kept-alts m (option x d a) = go (m x) (kept-alts m a)
-  where
-    go : (t : Bool) → kept-of m a ≡ alts (strip-any (keep-any m a)) → elim t [ true ↦ suc (kept-of m a) | false ↦ kept-of m a ] ≡ alts (strip-any (elim t [ true ↦ option x (keep m d) (keep-any m a) | false ↦ keep-any m a ]))
-    go true e = ap suc e
-    go false e = e
 
 -- what the steps on marks say of the steps on descriptions
 abbrev TriedAt : Ctx → Marking → Placed → Option Marking → Type 0
@@ -117,18 +91,6 @@ narrow-at-more S m a ds w (some r) A q Q = go (q (r .stack) (r .marks)) (Q (r .s
           (only-more (names-any a) (names-any a ++ names-all ds) m (r .marks) (λ y i. Memᴰ·append-left (names-all ds) i) (A .1))
           (only-more (names-all ds) (names-any a ++ names-all ds) (r .marks) (u .marks) (λ y i. Memᴰ·append-right (names-any a) i) (N .1)),
     )
-
-keep-true : (m : Marking) (x : ℕ) (d : Placed) (a : Options) → m x ≡ true → keep-any m (option x d a) ≡ option x (keep m d) (keep-any m a)
-keep-true m x d a e = ap (λ (t : Bool). elim t [ true ↦ option x (keep m d) (keep-any m a) | false ↦ keep-any m a ]) e
-
-keep-false : (m : Marking) (x : ℕ) (d : Placed) (a : Options) → m x ≡ false → keep-any m (option x d a) ≡ keep-any m a
-keep-false m x d a e = ap (λ (t : Bool). elim t [ true ↦ option x (keep m d) (keep-any m a) | false ↦ keep-any m a ]) e
-
-drop-self : (x : ℕ) (m : Marking) → drop x m x ≡ false
-drop-self x m = ap (λ (t : Bool). elim t [ true ↦ false | false ↦ m x ]) (eqb-yes x x refl)
-
-drop-other : (x : ℕ) (m : Marking) (y : ℕ) → y ≢ x → drop x m y ≡ m y
-drop-other x m y h = ap (λ (t : Bool). elim t [ true ↦ false | false ↦ m y ]) (eqb-no y x h)
 
 -- one alternative tried, the later ones sifted
 module _ (S : Ctx) (x : ℕ) (d : Placed) (a : Options) (w : DistinctAny (option x d a)) (q : Marking → Marking) (Q : (n : Marking) → SiftedAt S n a (q n)) where
@@ -302,18 +264,6 @@ passes-at-ok (suc n) d w m = go (try-at [] m d) (try-at-ok d w [] m) (λ k. pass
         two : (t : Bool) → _≡_ {A = Option Desc} (elim t [ true ↦ some (strip (keep k d)) | false ↦ passes n (strip (keep k d)) ]) (left-by d (elim t [ true ↦ some k | false ↦ passes-at n k d ]))
         two true = refl
         two false = ih k
-
-mutual
-  pub keep-all-marked : (d : Placed) → keep all-kept d ≡ d
-  keep-all-marked (place g ds) = ap (place g) (keep-all-marked-all ds)
-
-  keep-all-marked-all : (ds : Places) → keep-all all-kept ds ≡ ds
-  keep-all-marked-all stop = refl
-  keep-all-marked-all (a also ds) = ap₂ {C = Places} _also_ (keep-all-marked-any a) (keep-all-marked-all ds)
-
-  keep-all-marked-any : (a : Options) → keep-any all-kept a ≡ a
-  keep-all-marked-any no-more = refl
-  keep-all-marked-any (option x d a) = ap₂ {C = Options} (option x) (keep-all-marked d) (keep-all-marked-any a)
 
 pub quick-at-ok : (d : Placed) → Distinct d → passes (size (strip d)) (strip d) ≡ left-by d (quick-at d)
 unfolding quick-at

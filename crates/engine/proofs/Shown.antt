@@ -4,8 +4,8 @@ use mathlib.Core.Path.{_≡_, refl, ap, ap₂, sym, _∙_}
 use Rattle.theory.specs.Descr.{Desc, desc, Disjs, end, _and_, Alts, fail, _or_, _then_}
 use Rattle.theory.specs.Modes.{Round, in-place, fold, fold-all, fold-any}
 use Rattle.theory.proofs.Mean.{Can, CanAll, CanAny}
-use Rattle.engine.proofs.Sane.{Sane, SaneAll, SaneAny, rest, shape, lone-in-place}
 use Rattle.engine.specs.Shown.{or-else, shown, shown-all, shown-any, shown-in, shown-then}
+use Rattle.engine.proofs.Sane.{Sane, SaneAll, SaneAny, rest, shape, lone-in-place}
 
 mutual
   unfolding shown fold

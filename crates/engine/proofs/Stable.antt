@@ -10,14 +10,14 @@ use Rattle.theory.specs.Net.{Graph, Canonical}
 use Rattle.theory.specs.Join.{join}
 use Rattle.theory.specs.Descr.{Desc, desc, Disjs, end, _and_, Alts, fail, _or_}
 use Rattle.theory.specs.Modes.{size, size-all, size-any}
+use Rattle.theory.proofs.Meaning.{canonical-some}
 use Rattle.theory.proofs.Instance.{AllCanonical}
 use Rattle.theory.proofs.Sets.{Within}
 use Rattle.theory.proofs.Mean.{Ctx, Fine, Can, CanAll, CanAny, canon-append, fine-append, within-both, in-l, in-r}
 use Rattle.theory.proofs.Fit.{same-node, fit-test}
-use Rattle.theory.proofs.Meaning.{canonical-some}
 use Rattle.theory.proofs.Live.{Agrees}
-use Rattle.engine.proofs.Entail.{SaysAll, w-self, w-left, w-right, w-cons, w-tail, same-set, fine-cons, canon-in, says-within, says-more, says-append, agrees-says}
 use Rattle.engine.specs.Certain.{flat, sure, sure-any}
+use Rattle.engine.proofs.Entail.{SaysAll, w-self, w-left, w-right, w-cons, w-tail, same-set, fine-cons, canon-in, says-within, says-more, says-append, agrees-says}
 
 -- Part d e: e is d with alternatives dropped
 abbrev mutual
@@ -98,18 +98,6 @@ mutual
   part-any-can (d or a) fail p c = tt
   part-any-can (d or a) (e or b) (inl p) c = (part-can d e (p .0) (c .0), part-any-can a b (p .1) (c .1))
   part-any-can (d or a) (e or b) (inr p) c = part-any-can a (e or b) p (c .1)
-
-mutual
-  pub part-self : (d : Desc) → Part d d
-  part-self (desc g ds) = (refl, part-all-self ds)
-
-  pub part-all-self : (ds : Disjs) → PartAll ds ds
-  part-all-self end = tt
-  part-all-self (a and ds) = (part-any-self a, part-all-self ds)
-
-  pub part-any-self : (a : Alts) → PartAny a a
-  part-any-self fail = tt
-  part-any-self (d or a) = inl (part-self d, part-any-self a)
 
 mutual
   pub part-trans : (d e f : Desc) → Part d e → Part e f → Part d f

@@ -25,9 +25,9 @@ use Rattle.engine.proofs.Sane.{Sane, stable-sane}
 use Rattle.engine.proofs.Passes.{Passed, passes-ok}
 use Rattle.engine.proofs.Proper.{Proper, Comes, joined-comes, quick-best}
 use Rattle.engine.proofs.QuickStep.{quick-at-ok}
+use Rattle.engine.proofs.Shown.{shown-ok}
 use Rattle.engine.proofs.FullStep.{full-of, full-joined, full-count, full-result, full-writes, hopeless-full}
 use Rattle.engine.proofs.Counting.{number-fold, count-left}
-use Rattle.engine.proofs.Shown.{shown-ok}
 use Rattle.engine.proofs.Beside.{strip-some, joined-strip, SomeDistinct, joined-distinct}
 
 module _ (a b : Placed) (ca : Can (strip a)) (cb : Can (strip b)) (pa : Proper (strip a)) (pb : Proper (strip b)) (wa : Distinct a) (wb : Distinct b) (w : Apart (names a) (names b)) where

@@ -1,7 +1,7 @@
 -- The two inputs placed side by side: mode 0 on placed descriptions.
 -- Assumes nothing: these are definitions.
 use mathlib.Core.Option.{Option, none, some}
-use mathlib.Core.List.{List, [], _∷_}
+use mathlib.Core.List.{[], _∷_}
 use Rattle.theory.specs.Join.{join}
 use Rattle.engine.specs.Placed.{Placed, place, Places, stop, _also_}
 

@@ -1,6 +1,6 @@
 -- The quick step by marks: "1, quick" with alternatives dropped and none folded. Of a stack of graphs one thing is asked, whether they agree.
 -- Assumes nothing: these are definitions.
-use mathlib.Core.Bool.{Bool, true, false}
+use mathlib.Core.Bool.{true, false}
 use mathlib.Core.Option.{Option, none, some}
 use mathlib.Core.List.{List, [], _∷_, _++_}
 use Prim.Native.Nat.{ℕ, zero, suc}

@@ -1,7 +1,7 @@
 -- What is left, as a writer puts it out: all that is certain is joined at once, and the disjunctions of an alternative that stands alone come in its place.
 -- Assumes nothing: these are definitions.
 use mathlib.Core.Option.{Option, none, some}
-use mathlib.Core.List.{List, [], _∷_}
+use mathlib.Core.List.{_∷_}
 use Rattle.theory.specs.Net.{Graph}
 use Rattle.theory.specs.Join.{join}
 use Rattle.theory.specs.Descr.{Desc, desc, Disjs, end, _and_, Alts, fail, _or_, _then_}
