@@ -10,6 +10,7 @@ pub mod Marks
 pub mod QuickStep
 pub mod Stack
 pub mod Standing
+pub mod Loop
 pub mod Finding
 pub mod Lit
 pub mod Pruned

@@ -1,6 +1,6 @@
--- The passes by marks come to the greatest stable part, which `tidy` folds: mode 1 by marks is mode 1, word for word.
+-- The passes come to the greatest stable part: each keeps it, and one that drops nothing has reached it.
 -- Assumes nothing.
-use mathlib.Core.Path.{_≡_, refl, _∙_, subst}
+use mathlib.Core.Path.{_≡_, refl, _∙_, subst, ap}
 use mathlib.Core.Logic.{inl, inr}
 use mathlib.Core.Bool.{Bool, true, false}
 use mathlib.Core.Option.{Option, none, some}
@@ -20,7 +20,7 @@ use Rattle.theory.proofs.Quick.{nil, nil-canonical, nil-holds}
 use Rattle.theory.proofs.Live.{Agrees, not-none}
 use Rattle.engine.specs.Certain.{flat, sure, sure-any}
 use Rattle.engine.proofs.Entail.{Says, SaysAll, w-self, w-right, w-cons, w-tail, w-trans, same-set, fine-cons, fine-before, canon-in, says-within, says-more, says-append, says-cons, agrees-says}
-use Rattle.engine.proofs.Stable.{Part, PartAll, PartAny, Stable, StableIn, StableAll, StableSome, StableEach, Best, Hopeless, flat-can, sure-can, part-can, part-all-can, part-any-can, part-trans, part-size, part-all-size, part-any-size, some-size, sure-part, sure-any-part, stable-all-less, stable-each}
+use Rattle.engine.proofs.Stable.{Part, PartAll, PartAny, Stable, StableIn, StableAll, StableSome, StableEach, Best, Hopeless, flat-can, sure-can, part-can, part-all-can, part-any-can, part-trans, part-size, part-all-size, part-any-size, some-size, sure-part, sure-any-part, stable-all-less, stable-each, best-one}
 use Rattle.engine.proofs.Greatest.{part-fail, drop-part}
 use Rattle.engine.proofs.Tidy.{with-part}
 use Rattle.engine.proofs.Dropping.{Left, settle, try, narrow, narrow-any, inside, sift, passes}
@@ -310,44 +310,63 @@ abbrev pub Passed : Desc → Option Desc → Type 0
 Passed d none = Hopeless (nil ∷ []) d
 Passed d (some e) = Best (nil ∷ []) d e
 
+-- there is one such outcome
+pub passed-one : (d : Desc) (o q : Option Desc) → Passed d o → Passed d q → o ≡ q
+passed-one d none none p q = refl
+passed-one d none (some f) p q = absurd (p f (q .part) (q .stable))
+passed-one d (some e) none p q = absurd (q e (p .part) (p .stable))
+passed-one d (some e) (some f) p q = ap some (best-one (nil ∷ []) d e f p q)
+
+fine-nil : Fine (nil ∷ [])
+fine-nil = fine-cons nil [] nil-canonical tt
+
+none-said : SaysAll (nil ∷ []) []
+none-said g m = absurd (List·Memᴰ·not-nil m)
+
+-- a pass that fails: no part is stable
+pub pass-fails : (d : Desc) → Can d → try [] d ≡ none → Passed d none
+pass-fails d c h f p s = tried f p (nil ∷ []) fine-nil none-said s
+  where
+    tried : Tries [] d none
+    tried = subst (Tries [] d) h (try-ok d c [] tt)
+
+-- a pass that leaves e
+module _ (d e : Desc) (c : Can d) (h : try [] d ≡ some e) where
+  tried : TrySome [] d e
+  tried = subst (Tries [] d) h (try-ok d c [] tt)
+
+  below : (f : Desc) → Part d f → Stable (nil ∷ []) f → Part e f
+  below f p s = tried .greatest f p (nil ∷ []) fine-nil none-said s
+
+  pub pass-can : Can e
+  pass-can = part-can d e (tried .part) c
+
+  -- it drops something exactly where the size falls
+  pub pass-size : (size e ≤ size d) × (size d ≤ size e → d ≡ e)
+  pass-size = part-size d e (tried .part)
+
+  -- the greatest stable part of what is left is that of the whole
+  pub pass-on : (o : Option Desc) → Passed e o → Passed d o
+  pass-on none k = λ f p s. k f (below f p s) s
+  pass-on (some x) k = record { part = part-trans d e x (tried .part) (k .part); stable = k .stable; greatest = λ f p s. k .greatest f (below f p s) s }
+
+  -- and what is left where nothing was dropped is that part
+  pub pass-last : size d ≤ size e → Passed d (some e)
+  pass-last l = record { part = tried .part; stable = subst (Stable (nil ∷ [])) (pass-size .1 l) (stable-nil d c (tried .still l)); greatest = below }
+
 -- as many passes as the size of the description are enough
 pub passes-ok : (n : ℕ) (d : Desc) → Can d → size d ≤ n → Passed d (passes n d)
 unfolding passes
 passes-ok zero d c l = absurd (omega (arith, some-size d))
-passes-ok (suc n) d c l = go (try [] d) (try-ok d c [] tt) (λ e. passes-ok n e)
+passes-ok (suc n) d c l = go (try [] d) refl (λ e. passes-ok n e)
   where
-    fn : Fine (nil ∷ [])
-    fn = fine-cons nil [] nil-canonical tt
-
-    none-said : SaysAll (nil ∷ []) []
-    none-said g m = absurd (List·Memᴰ·not-nil m)
-
-    go : (o : Option Desc) → Tries [] d o → ((e : Desc) → Can e → size e ≤ n → Passed e (passes n e)) → Passed d (elim o [ none ↦ none | some e ↦ elim (eqb (size e) (size d)) [ true ↦ some e | false ↦ passes n e ] ])
-    go none T ih = λ f p s. T f p (nil ∷ []) fn none-said s
-    go (some e) T ih = two (eqb (size e) (size d)) (test (size e) (size d))
+    go : (o : Option Desc) → try [] d ≡ o → ((e : Desc) → Can e → size e ≤ n → Passed e (passes n e)) → Passed d (elim o [ none ↦ none | some e ↦ elim (eqb (size e) (size d)) [ true ↦ some e | false ↦ passes n e ] ])
+    go none h ih = pass-fails d c h
+    go (some e) h ih = two (eqb (size e) (size d)) (test (size e) (size d))
       where
-        below : (f : Desc) → Part d f → Stable (nil ∷ []) f → Part e f
-        below f p s = T .greatest f p (nil ∷ []) fn none-said s
-
-        carry : (o : Option Desc) → Passed e o → Passed d o
-        carry none h = λ f p s. h f (below f p s) s
-        carry (some x) h = record { part = part-trans d e x (T .part) (h .part); stable = h .stable; greatest = λ f p s. h .greatest f (below f p s) s }
-
         two : (t : Bool) → Test (size e) (size d) t → Passed d (elim t [ true ↦ some e | false ↦ passes n e ])
-        two true (equal q) = record {
-          part = T .part;
-          stable = subst (Stable (nil ∷ [])) (part-size d e (T .part) .1 (omega arith)) (stable-nil d c (T .still (omega arith)));
-          greatest = below;
-        }
-        two false (differ q) = carry (passes n e) (ih e (part-can d e (T .part) c) (small (part-size d e (T .part) .0) (λ h. q h)))
+        two true (equal q) = pass-last d e c h (omega arith)
+        two false (differ q) = pass-on d e c h (passes n e) (ih e (pass-can d e c h) (small (pass-size d e c h .0) (λ h. q h)))
           where
             small : size e ≤ size d → (size e ≡ size d → ⊥) → size e ≤ n
             small a b = omega arith
-
--- a pass drops something exactly where the size falls
-pub pass-size : (S : Ctx) → AllCanonical S → (d e : Desc) → Can d → try S d ≡ some e → (size e ≤ size d) × (size d ≤ size e → d ≡ e)
-pass-size S cS d e c h = go (try S d) (try-ok d c S cS) h
-  where
-    go : (o : Option Desc) → Tries S d o → o ≡ some e → (size e ≤ size d) × (size d ≤ size e → d ≡ e)
-    go none t p = let z : _≡_ {A = ℕ} 0 1 = cc in absurd (omega arith)
-    go (some x) t p = let q : x ≡ e = cc in subst (λ (y : Desc). (size y ≤ size d) × (size d ≤ size y → d ≡ y)) q (part-size d x (t .part))

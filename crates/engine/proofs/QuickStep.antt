@@ -1,4 +1,4 @@
--- The quick step on marks does what the quick step on descriptions does, and so it is mode 1.
+-- The quick step on marks does what the quick step on descriptions does.
 -- Assumes nothing.
 use mathlib.Core.Path.{_≡_, refl, ap, ap₂, sym, _∙_, subst}
 use mathlib.Core.Bool.{Bool, true, false}
@@ -10,12 +10,13 @@ use lib.Dec.{eqb}
 use Rattle.theory.specs.Net.{Graph}
 use Rattle.theory.specs.Descr.{Desc, desc, Disjs, _and_, Alts, fail, _or_, alts, agree}
 use Rattle.theory.specs.Modes.{size}
-use Rattle.theory.proofs.Mean.{Ctx}
+use Rattle.theory.proofs.Mean.{Ctx, Can}
 use Rattle.engine.specs.Placed.{Placed, place, Places, stop, _also_, Options, no-more, option, strip, strip-all, strip-any, names, names-all, names-any, Apart, Distinct, DistinctAll, DistinctAny}
 use Rattle.engine.specs.Marks.{keep, keep-all, keep-any, Marking, drop, kept-of, all-kept, left-by}
 use Rattle.engine.specs.Certain.{sure-any, certain, certain-any}
 use Rattle.engine.specs.Quickly.{State, settle-at, try-at, narrow-at, any-at, inside-at, sift-at, passes-at, quick-at}
 use Rattle.engine.proofs.Dropping.{Left, settle, try, narrow, narrow-any, inside, sift, passes}
+use Rattle.engine.proofs.Passes.{Passed, passes-ok}
 use Rattle.engine.proofs.Marks.{keep-true, keep-false, drop-self, drop-other, kept-alts, keep-all-marked, keep-same, keep-all-same, keep-any-same}
 
 -- n differs from m only at these numbers
@@ -39,7 +40,7 @@ abbrev TriedAt : Ctx → Marking → Placed → Option Marking → Type 0
 TriedAt S m d none = try S (strip (keep m d)) ≡ none
 TriedAt S m d (some n) = (try S (strip (keep m d)) ≡ some (strip (keep n d))) × Only (names d) m n
 
-abbrev NarrowedAt : Ctx → Marking → Places → Option State → Type 0
+abbrev pub NarrowedAt : Ctx → Marking → Places → Option State → Type 0
 NarrowedAt S m ds none = narrow S (strip-all (keep-all m ds)) ≡ none
 NarrowedAt S m ds (some r) = (narrow S (strip-all (keep-all m ds)) ≡ some (record { stack = r .stack; left = strip-all (keep-all (r .marks) ds) })) × Only (names-all ds) m (r .marks)
 
@@ -268,3 +269,7 @@ passes-at-ok (suc n) d w m = go (try-at [] m d) (try-at-ok d w [] m) (λ k. pass
 pub quick-at-ok : (d : Placed) → Distinct d → passes (size (strip d)) (strip d) ≡ left-by d (quick-at d)
 unfolding quick-at
 quick-at-ok d w = ap (λ (z : Placed). passes (size (strip d)) (strip z)) (sym (keep-all-marked d)) ∙ passes-at-ok (size (strip d)) d w all-kept
+
+-- the marks of the quick step leave the greatest stable part, or there is none
+pub quick-passed : (d : Placed) → Can (strip d) → Distinct d → Passed (strip d) (left-by d (quick-at d))
+quick-passed d c w = subst (Passed (strip d)) (quick-at-ok d w) (passes-ok (size (strip d)) (strip d) c (omega arith))

@@ -1,6 +1,6 @@
 -- The passes with the stack of the whole description left standing: what a pass pushes at once is what the next pass would push first.
 -- Assumes nothing.
-use mathlib.Core.Path.{_≡_, refl, ap, sym, _∙_}
+use mathlib.Core.Path.{_≡_, refl, ap, sym, _∙_, subst}
 use mathlib.Core.Bool.{Bool, true, false}
 use mathlib.Core.Option.{Option, none, some}
 use mathlib.Core.List.{[], _∷_, _++_, List·Memᴰ·head, List·Memᴰ·not-nil}
@@ -145,6 +145,52 @@ mutual
   stack-in-ok : (d : Desc) → Can d → (S : Ctx) → Fine S → SaysAll S (flat d) → StackIn S d (inside S d)
   stack-in-ok (desc g ds) c S f s = stack-in S f g (c .0) ds (says-here S g (sure ds) s) (narrow S ds) (stack-ok ds (c .1) S f (says-there S g (sure ds) s))
 
+-- a pass on a stack that joins alike leaves the same, and a stack that joins alike with what is then certain
+module _ (g : Graph) (ds : Disjs) (c : Can (desc g ds)) (T : Ctx) (s : Same T (g ∷ sure ds)) (a : Agrees T) where
+  agreed : agree (g ∷ sure ds) ≡ true
+  agreed = sym (agree-same T (g ∷ sure ds) s) ∙ yes-agree (agree T) (agreeing-view T)
+    where
+      yes-agree : (t : Bool) → Agreeing T t → t ≡ true
+      yes-agree true v = refl
+      yes-agree false (cannot z) = absurd (not-none T a z)
+
+  pub standing-try : try [] (desc g ds) ≡ elim (narrow T ds) [ none ↦ none | some r ↦ some (desc g (r .left)) ]
+  unfolding try
+  standing-try =
+      ap {B = Option Desc} (λ (t : Bool). elim t [ false ↦ none | true ↦ elim (narrow (g ∷ sure ds) ds) [ none ↦ none | some r ↦ some (desc g (r .left)) ] ]) agreed
+      ∙ sym (go (narrow T ds) (narrow (g ∷ sure ds) ds) (narrow-same ds (c .1) T (g ∷ sure ds) s))
+    where
+      go : (o q : Option (Left Disjs)) → LeftSame Disjs o q → _≡_ {A = Option Desc} (elim o [ none ↦ none | some r ↦ some (desc g (r .left)) ]) (elim q [ none ↦ none | some r ↦ some (desc g (r .left)) ])
+      go none none l = refl
+      go none (some q) l = absurd l
+      go (some r) none l = absurd l
+      go (some r) (some q) l = ap (λ (z : Disjs). some (desc g z)) (l .0)
+
+  module _ (r : Left Disjs) (e : narrow T ds ≡ some r) where
+    k : StackOk T (sure ds) (sure (r .left)) (r .stack)
+    k = subst (StackAll T ds) e (stack-ok ds (c .1) T (s .fine₁) (says-there T g (sure ds) (s .to)))
+
+    pub standing-can : Can (desc g (r .left))
+    standing-can = (c .0, part-all-can ds (r .left) (subst (Narrows T ds) e (narrow-ok ds (c .1) T (s .fine₁)) .part) (c .1))
+
+    pub standing-agrees : Agrees (r .stack)
+    standing-agrees = k .agrees a
+
+    pub standing-same : Same (r .stack) (g ∷ sure (r .left))
+    standing-same =
+        let U : Ctx = r .stack in
+        let Y : Ctx = sure (r .left) in
+        let New : Ctx = g ∷ Y in
+        let fN : Fine New = fine-cons g Y (c .0) (sure-can (r .left) (standing-can .1)) in
+        let nt : SaysAll New T = says-trans New (g ∷ sure ds) T fN (s .fine₂) (s .fine₁ .1) (says-within New (g ∷ sure ds) fN (w-cons g (sure ds) New (List·Memᴰ·head refl) (w-tail g (sure ds) Y (k .grown)))) (s .from) in
+        let ut : SaysAll U T = says-first U T Y (k .says) in
+        record {
+          fine₁ = k .fine;
+          fine₂ = fN;
+          to = says-cons U g Y (says-here U g (sure ds) (says-trans U T (g ∷ sure ds) (k .fine) (s .fine₁) (s .fine₂ .1) ut (s .to))) (says-second U T Y (k .says));
+          from = says-trans New (T ++ Y) U fN (fine-append T Y (s .fine₁) (k .canon)) (k .fine .1) (says-append New T Y nt (says-within New Y fN (w-tail g Y Y (w-self Y)))) (k .said);
+        }
+
 -- the loop of an engine that leaves the stack standing
 unfoldable pub keep-on : ℕ → Ctx → Graph → Disjs → Option Desc
 keep-on zero T g ds = some (desc g ds)
@@ -152,9 +198,10 @@ keep-on (suc n) T g ds = elim (narrow T ds) [ none ↦ none | some r ↦ elim (e
 
 -- from n passes on: at least one
 pub keep-on-ok : (n : ℕ) (g : Graph) (ds : Disjs) → Can (desc g ds) → (T : Ctx) → Same T (g ∷ sure ds) → Agrees T → keep-on n T g ds ≡ passes n (desc g ds)
-unfolding keep-on passes try
+unfolding keep-on passes
 keep-on-ok zero g ds c T s a = refl
-keep-on-ok (suc n) g ds c T s a = go (narrow T ds) (narrow (g ∷ sure ds) ds) (narrow-same ds (c .1) T (g ∷ sure ds) s) (stack-ok ds (c .1) T (s .fine₁) (says-there T g (sure ds) (s .to))) (narrow-ok ds (c .1) T (s .fine₁)) (λ es. keep-on-ok n g es) ∙ sym asks
+keep-on-ok (suc n) g ds c T s a =
+    go (narrow T ds) (λ r e. keep-on-ok n g (r .left) (standing-can g ds c T s a r e) (r .stack) (standing-same g ds c T s a r e) (standing-agrees g ds c T s a r e)) ∙ ap after (sym (standing-try g ds c T s a))
   where
     now : ℕ
     now = size (desc g ds)
@@ -162,47 +209,8 @@ keep-on-ok (suc n) g ds c T s a = go (narrow T ds) (narrow (g ∷ sure ds) ds) (
     after : Option Desc → Option Desc
     after o = elim o [ none ↦ none | some e ↦ elim (eqb (size e) now) [ true ↦ some e | false ↦ passes n e ] ]
 
-    agreed : agree (g ∷ sure ds) ≡ true
-    agreed = sym (agree-same T (g ∷ sure ds) s) ∙ yes-agree (agree T) (agreeing-view T)
-      where
-        yes-agree : (t : Bool) → Agreeing T t → t ≡ true
-        yes-agree true v = refl
-        yes-agree false (cannot z) = absurd (not-none T a z)
-
-    asks : after (elim (agree (g ∷ sure ds)) [ false ↦ none | true ↦ elim (narrow (g ∷ sure ds) ds) [ none ↦ none | some r ↦ some (desc g (r .left)) ] ]) ≡ after (elim (narrow (g ∷ sure ds) ds) [ none ↦ none | some r ↦ some (desc g (r .left)) ])
-    asks = ap (λ (t : Bool). after (elim t [ false ↦ none | true ↦ elim (narrow (g ∷ sure ds) ds) [ none ↦ none | some r ↦ some (desc g (r .left)) ] ])) agreed
-
-    go : (o q : Option (Left Disjs)) → LeftSame Disjs o q → StackAll T ds o → Narrows T ds o → ((es : Disjs) → Can (desc g es) → (U : Ctx) → Same U (g ∷ sure es) → Agrees U → keep-on n U g es ≡ passes n (desc g es)) →
-        elim o [ none ↦ none | some r ↦ elim (eqb (size (desc g (r .left))) now) [ true ↦ some (desc g (r .left)) | false ↦ keep-on n (r .stack) g (r .left) ] ] ≡ after (elim q [ none ↦ none | some r ↦ some (desc g (r .left)) ])
-    go none none l k N ih = refl
-    go none (some q) l k N ih = absurd l
-    go (some r) none l k N ih = absurd l
-    go (some r) (some q) l k N ih =
-        ap (λ (z : Option Desc). elim (eqb (size (desc g (r .left))) now) [ true ↦ some (desc g (r .left)) | false ↦ z ]) (ih (r .left) (c .0, cn) (r .stack) same (k .agrees a))
-        ∙ ap (λ (z : Disjs). after (some (desc g z))) (l .0)
-      where
-        cn : CanAll (r .left)
-        cn = part-all-can ds (r .left) (N .part) (c .1)
-
-        Y : Ctx
-        Y = sure (r .left)
-
-        New : Ctx
-        New = g ∷ Y
-
-        fN : Fine New
-        fN = fine-cons g Y (c .0) (sure-can (r .left) cn)
-
-        vt : SaysAll New T
-        vt = says-trans New (g ∷ sure ds) T fN (s .fine₂) (s .fine₁ .1) (says-within New (g ∷ sure ds) fN (w-cons g (sure ds) New (List·Memᴰ·head refl) (w-tail g (sure ds) Y (k .grown)))) (s .from)
-
-        rt : SaysAll (r .stack) T
-        rt = says-first (r .stack) T Y (k .says)
-
-        same : Same (r .stack) New
-        same = record {
-          fine₁ = k .fine;
-          fine₂ = fN;
-          to = says-cons (r .stack) g Y (says-here (r .stack) g (sure ds) (says-trans (r .stack) T (g ∷ sure ds) (k .fine) (s .fine₁) (s .fine₂ .1) rt (s .to))) (says-second (r .stack) T Y (k .says));
-          from = says-trans New (T ++ Y) (r .stack) fN (fine-append T Y (s .fine₁) (k .canon)) (k .fine .1) (says-append New T Y vt (says-within New Y fN (w-tail g Y Y (w-self Y)))) (k .said);
-        }
+    go : (o : Option (Left Disjs)) → ((r : Left Disjs) → o ≡ some r → keep-on n (r .stack) g (r .left) ≡ passes n (desc g (r .left))) →
+        elim o [ none ↦ none | some r ↦ elim (eqb (size (desc g (r .left))) now) [ true ↦ some (desc g (r .left)) | false ↦ keep-on n (r .stack) g (r .left) ] ]
+        ≡ after (elim o [ none ↦ none | some r ↦ some (desc g (r .left)) ])
+    go none ih = refl
+    go (some r) ih = ap (λ (z : Option Desc). elim (eqb (size (desc g (r .left))) now) [ true ↦ some (desc g (r .left)) | false ↦ z ]) (ih r refl)

@@ -1,6 +1,6 @@
 -- The modes by marks, from the two placed inputs to the results of document 01.
 -- Assumes nothing.
-use mathlib.Core.Path.{_≡_, refl, ap, sym, _∙_, subst}
+use mathlib.Core.Path.{_≡_, ap, sym, _∙_, subst}
 use mathlib.Core.Option.{Option, none, some}
 use mathlib.Core.List.{[], _∷_}
 use Prim.Native.Nat.{ℕ, _≤_, min}
@@ -8,23 +8,23 @@ use native.Mathlib.Omega.{arith}
 use lib.Dec.{ltb}
 use Rattle.theory.specs.Limits.{choice-limit, choice-stop}
 use Rattle.theory.specs.Descr.{Desc, readings, number}
-use Rattle.theory.specs.Modes.{joined, size, quick, full, fold}
+use Rattle.theory.specs.Modes.{joined, quick, full, fold}
 use Rattle.theory.proofs.Mean.{Can}
 use Rattle.theory.proofs.Quick.{nil, nil-canonical}
 use Rattle.theory.proofs.Counting.{capped-number, over-limit}
 use Rattle.engine.specs.Placed.{Placed, strip, names, Apart, Distinct}
 use Rattle.engine.specs.Marks.{Marking, keep, left-by}
 use Rattle.engine.specs.Beside.{joined-placed}
-use Rattle.engine.specs.Quickly.{quick-at}
+use Rattle.engine.specs.Quickly.{quick-at, Leaves}
 use Rattle.engine.specs.Counting.{count-at}
 use Rattle.engine.specs.Search.{full-left, full-readings-by}
 use Rattle.engine.specs.Shown.{shown, fold-some, shown-some}
 use Rattle.engine.proofs.Entail.{fine-cons}
-use Rattle.engine.proofs.Stable.{part-can}
+use Rattle.engine.proofs.Stable.{part-can, Best}
 use Rattle.engine.proofs.Sane.{Sane, stable-sane}
-use Rattle.engine.proofs.Passes.{Passed, passes-ok}
+use Rattle.engine.proofs.Passes.{Passed}
 use Rattle.engine.proofs.Proper.{Proper, Comes, joined-comes, quick-best}
-use Rattle.engine.proofs.QuickStep.{quick-at-ok}
+use Rattle.engine.proofs.QuickStep.{quick-passed}
 use Rattle.engine.proofs.Shown.{shown-ok}
 use Rattle.engine.proofs.FullStep.{full-of, full-joined, full-count, full-result, full-writes, hopeless-full}
 use Rattle.engine.proofs.Counting.{number-fold, count-left}
@@ -41,41 +41,41 @@ module _ (a b : Placed) (ca : Can (strip a)) (cb : Can (strip b)) (pa : Proper (
     cd : Can (strip d) × Proper (strip d)
     cd = subst Comes j (joined-comes (strip a) (strip b) ca cb pa pb)
 
-    -- the marks of the quick step leave the greatest stable part
-    best : (o : Option Marking) → quick-at d ≡ o → Passed (strip d) (left-by d o)
-    best o q = subst (Passed (strip d)) (quick-at-ok d wd ∙ ap (left-by d) q) (passes-ok (size (strip d)) (strip d) (cd .0) (omega arith))
-
     -- mode 1
     pub quick-whole : quick (strip a) (strip b) ≡ fold-some (left-by d (quick-at d))
-    quick-whole = quick-best (strip a) (strip b) ca cb pa pb (strip d) j (left-by d (quick-at d)) (best (quick-at d) refl)
+    quick-whole = quick-best (strip a) (strip b) ca cb pa pb (strip d) j (left-by d (quick-at d)) (quick-passed d (cd .0) wd)
 
     full-is : full (strip a) (strip b) ≡ full-of (strip d)
     full-is = full-joined (strip a) (strip b) ∙ ap (λ (o : Option Desc). elim o [ none ↦ none | some e ↦ full-of e ]) j
 
-    -- mode 2
+    -- where it clashes, mode 2 does
     pub full-none : quick-at d ≡ none → full (strip a) (strip b) ≡ none
-    full-none q = full-is ∙ hopeless-full (strip d) (cd .0) (best none q)
+    full-none q = full-is ∙ hopeless-full (strip d) (cd .0) (subst (λ (o : Option Marking). Passed (strip d) (left-by d o)) q (quick-passed d (cd .0) wd))
 
-    module _ (m : Marking) (q : quick-at d ≡ some m) where
+    module _ (m : Marking) (q : Leaves d m) where
+      best : Best (nil ∷ []) (strip d) (strip (keep m d))
+      best = subst (Passed (strip d)) q (quick-passed d (cd .0) wd)
+
+      -- mode 2
       pub full-whole : full (strip a) (strip b) ≡ fold-some (full-left m d)
-      full-whole = full-is ∙ sym (full-result d (cd .0) (cd .1) wd m (best (some m) q))
+      full-whole = full-is ∙ sym (full-result d (cd .0) (cd .1) wd m best)
 
       -- its readings
       pub full-number : full-readings-by m d ≡ readings (strip d)
-      full-number = full-count d (cd .0) (cd .1) wd m (best (some m) q)
+      full-number = full-count d (cd .0) (cd .1) wd m best
 
       left-can : Can (strip (keep m d))
-      left-can = part-can (strip d) (strip (keep m d)) (best (some m) q .part) (cd .0)
+      left-can = part-can (strip d) (strip (keep m d)) (best .part) (cd .0)
 
       left-sane : Sane (strip (keep m d))
-      left-sane = stable-sane (strip (keep m d)) (nil ∷ []) left-can (fine-cons nil [] nil-canonical tt) (best (some m) q .stable)
+      left-sane = stable-sane (strip (keep m d)) (nil ∷ []) left-can (fine-cons nil [] nil-canonical tt) (best .stable)
 
       -- what a writer puts out for the marks of each mode
       pub quick-shown : quick (strip a) (strip b) ≡ some (shown (strip (keep m d)))
-      quick-shown = quick-whole ∙ ap (λ (o : Option Marking). fold-some (left-by d o)) q ∙ ap some (shown-ok (strip (keep m d)) left-can left-sane)
+      quick-shown = quick-whole ∙ ap fold-some q ∙ ap some (shown-ok (strip (keep m d)) left-can left-sane)
 
       pub full-shown : full (strip a) (strip b) ≡ shown-some (full-left m d)
-      full-shown = full-whole ∙ full-writes d (cd .0) (cd .1) wd m (best (some m) q)
+      full-shown = full-whole ∙ full-writes d (cd .0) (cd .1) wd m best
 
       -- "The counted choices, for the limit below, are those of the quick result."
       pub choices-number : (L : ℕ) → 1 ≤ L → count-at L m d ≡ min (number (fold (strip (keep m d)))) L
@@ -83,7 +83,7 @@ module _ (a b : Placed) (ca : Can (strip a)) (cb : Can (strip b)) (pa : Proper (
 
       module _ (r : Desc) (is : quick (strip a) (strip b) ≡ some r) where
         quick-is : fold (strip (keep m d)) ≡ r
-        quick-is = same (sym (quick-whole ∙ ap (λ (o : Option Marking). fold-some (left-by d o)) q) ∙ is)
+        quick-is = same (sym (quick-whole ∙ ap fold-some q) ∙ is)
           where
             same : some (fold (strip (keep m d))) ≡ some r → fold (strip (keep m d)) ≡ r
             same p = cc

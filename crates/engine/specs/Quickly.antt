@@ -1,5 +1,6 @@
 -- The quick step by marks: "1, quick" with alternatives dropped and none folded. Of a stack of graphs one thing is asked, whether they agree.
 -- Assumes nothing: these are definitions.
+use mathlib.Core.Path.{_≡_}
 use mathlib.Core.Bool.{true, false}
 use mathlib.Core.Option.{Option, none, some}
 use mathlib.Core.List.{List, [], _∷_, _++_}
@@ -9,7 +10,7 @@ use Rattle.theory.specs.Net.{Graph}
 use Rattle.theory.specs.Descr.{agree}
 use Rattle.theory.specs.Modes.{size}
 use Rattle.engine.specs.Placed.{Placed, place, Places, stop, _also_, Options, no-more, option, strip}
-use Rattle.engine.specs.Marks.{Marking, all-kept, drop, kept-of, keep}
+use Rattle.engine.specs.Marks.{Marking, all-kept, drop, kept-of, keep, left-by}
 use Rattle.engine.specs.Certain.{certain, certain-any}
 
 -- the graphs pushed, and the marks
@@ -62,3 +63,7 @@ passes-at (suc n) m d = elim (try-at [] m d) [ none ↦ none | some k ↦ elim (
 -- "Take the joined description and tidy it under the graph that says nothing": the marks that mode 1 leaves on it
 unfoldable pub quick-at : Placed → Option Marking
 quick-at d = passes-at (size (strip d)) all-kept d
+
+-- these marks leave what the quick step leaves; the marks inside a dropped alternative are free
+abbrev pub Leaves : Placed → Marking → Type 0
+Leaves d m = left-by d (quick-at d) ≡ some (strip (keep m d))
