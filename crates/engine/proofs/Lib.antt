@@ -18,6 +18,7 @@ pub mod Shown
 pub mod FullStep
 pub mod Counting
 pub mod Agenda
+pub mod SearchStack
 pub mod Beside
 pub mod Whole
 pub mod Cases

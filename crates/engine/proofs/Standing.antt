@@ -147,7 +147,7 @@ mutual
 
 -- a pass on a stack that joins alike leaves the same, and a stack that joins alike with what is then certain
 module _ (g : Graph) (ds : Disjs) (c : Can (desc g ds)) (T : Ctx) (s : Same T (g ∷ sure ds)) (a : Agrees T) where
-  agreed : agree (g ∷ sure ds) ≡ true
+  pub agreed : agree (g ∷ sure ds) ≡ true
   agreed = sym (agree-same T (g ∷ sure ds) s) ∙ yes-agree (agree T) (agreeing-view T)
     where
       yes-agree : (t : Bool) → Agreeing T t → t ≡ true

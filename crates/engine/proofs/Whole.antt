@@ -9,6 +9,7 @@ use lib.Dec.{ltb}
 use Rattle.theory.specs.Limits.{choice-limit, choice-stop}
 use Rattle.theory.specs.Descr.{Desc, readings, number}
 use Rattle.theory.specs.Modes.{joined, quick, full, fold}
+use Rattle.theory.specs.Answer.{consistent}
 use Rattle.theory.proofs.Mean.{Can}
 use Rattle.theory.proofs.Quick.{nil, nil-canonical}
 use Rattle.theory.proofs.Counting.{capped-number, over-limit}
@@ -45,6 +46,9 @@ module _ (a b : Placed) (ca : Can (strip a)) (cb : Can (strip b)) (pa : Proper (
     pub quick-whole : quick (strip a) (strip b) ≡ fold-some (left-by d (quick-at d))
     quick-whole = quick-best (strip a) (strip b) ca cb pa pb (strip d) j (left-by d (quick-at d)) (quick-passed d (cd .0) wd)
 
+    pub quick-none : quick-at d ≡ none → quick (strip a) (strip b) ≡ none
+    quick-none q = quick-whole ∙ ap (λ (o : Option Marking). fold-some (left-by d o)) q
+
     full-is : full (strip a) (strip b) ≡ full-of (strip d)
     full-is = full-joined (strip a) (strip b) ∙ ap (λ (o : Option Desc). elim o [ none ↦ none | some e ↦ full-of e ]) j
 
@@ -63,6 +67,10 @@ module _ (a b : Placed) (ca : Can (strip a)) (cb : Can (strip b)) (pa : Proper (
       -- its readings
       pub full-number : full-readings-by m d ≡ readings (strip d)
       full-number = full-count d (cd .0) (cd .1) wd m best
+
+      pub full-consistent : full-readings-by m d ≡ consistent (strip a) (strip b)
+      unfolding consistent
+      full-consistent = full-number ∙ sym (ap (λ (o : Option Desc). elim o [ none ↦ 0 | some e ↦ readings e ]) j)
 
       left-can : Can (strip (keep m d))
       left-can = part-can (strip d) (strip (keep m d)) (best .part) (cd .0)
