@@ -14,7 +14,7 @@ use Rattle.theory.proofs.Live.{Agrees}
 use Rattle.engine.specs.Placed.{Placed, place, Places, strip, strip-all, names, Distinct}
 use Rattle.engine.specs.Marks.{Marking, all-kept, keep, keep-all, left-by}
 use Rattle.engine.specs.Certain.{certain}
-use Rattle.engine.specs.Quickly.{State, narrow-at, quick-at, Leaves}
+use Rattle.engine.specs.Quickly.{fails, stands, narrow-at, quick-at, Leaves}
 use Rattle.engine.proofs.Entail.{fine-cons, says-cons, says-none, join-says, says-join}
 use Rattle.engine.proofs.Dropping.{Left, try, narrow}
 use Rattle.engine.proofs.Passes.{Passed, passed-one, pass-fails, pass-on, pass-last}
@@ -68,31 +68,31 @@ module _ (g : Graph) (ds : Places) (c : Can (strip (place g ds))) (w : Distinct 
     settled o p = passed-one (strip d) (left-by d (quick-at d)) o (quick-passed d c w) (l .toward o p)
 
     -- a pass that fails
-    pub loop-fails : narrow-at T m ds ≡ none → quick-at d ≡ none
-    loop-fails e = none-left d (quick-at d) (settled none (pass-fails (strip (keep m d)) (l .can) (tries none (subst (NarrowedAt T m ds) e (narrow-at-ok ds w T m)))))
+    pub loop-fails : (n : Marking) → narrow-at T m ds ≡ fails n → quick-at d ≡ none
+    loop-fails n e = none-left d (quick-at d) (settled none (pass-fails (strip (keep m d)) (l .can) (tries none (subst (NarrowedAt T m ds) e (narrow-at-ok ds w T m) .0))))
 
-    module _ (r : State) (e : narrow-at T m ds ≡ some r) where
+    module _ (U : Ctx) (n : Marking) (e : narrow-at T m ds ≡ stands U n) where
       abbrev next : Left Disjs
-      next = record { stack = r .stack; left = strip-all (keep-all (r .marks) ds) }
+      next = record { stack = U; left = strip-all (keep-all n ds) }
 
       narrowed : narrow T D ≡ some next
       narrowed = subst (NarrowedAt T m ds) e (narrow-at-ok ds w T m) .0
 
       -- a pass after which another follows
-      pub loop-pass : Loop (r .stack) (r .marks)
+      pub loop-pass : Loop U n
       loop-pass = record {
-        toward = λ o p. l .toward o (pass-on (strip (keep m d)) (strip (keep (r .marks) d)) (l .can) (tries (some next) narrowed) o p);
+        toward = λ o p. l .toward o (pass-on (strip (keep m d)) (strip (keep n d)) (l .can) (tries (some next) narrowed) o p);
         can = standing-can g D (l .can) T (l .same) (l .agrees) next narrowed;
         same = standing-same g D (l .can) T (l .same) (l .agrees) next narrowed;
         agrees = standing-agrees g D (l .can) T (l .same) (l .agrees) next narrowed;
       }
 
       -- a pass that drops nothing is the last
-      pub loop-last : size (strip (keep m d)) ≤ size (strip (keep (r .marks) d)) → Leaves d (r .marks)
-      loop-last h = settled (some (strip (keep (r .marks) d))) (pass-last (strip (keep m d)) (strip (keep (r .marks) d)) (l .can) (tries (some next) narrowed) h)
+      pub loop-last : size (strip (keep m d)) ≤ size (strip (keep n d)) → Leaves d n
+      loop-last h = settled (some (strip (keep n d))) (pass-last (strip (keep m d)) (strip (keep n d)) (l .can) (tries (some next) narrowed) h)
 
-      pub loop-still : ((y : ℕ) → List·Memᴰ y (names (place g ds)) → r .marks y ≡ m y) → Leaves d (r .marks)
-      loop-still h = loop-last (same-size (keep-same d (r .marks) m h))
+      pub loop-still : ((y : ℕ) → List·Memᴰ y (names (place g ds)) → n y ≡ m y) → Leaves d n
+      loop-still h = loop-last (same-size (keep-same d n m h))
         where
-          same-size : keep (r .marks) d ≡ keep m d → size (strip (keep m d)) ≤ size (strip (keep (r .marks) d))
-          same-size q = let z : size (strip (keep (r .marks) d)) ≡ size (strip (keep m d)) = ap (λ (x : Placed). size (strip x)) q in omega arith
+          same-size : keep n d ≡ keep m d → size (strip (keep m d)) ≤ size (strip (keep n d))
+          same-size q = let z : size (strip (keep n d)) ≡ size (strip (keep m d)) = ap (λ (x : Placed). size (strip x)) q in omega arith

@@ -14,7 +14,7 @@ use Rattle.theory.proofs.Mean.{Ctx, Can}
 use Rattle.engine.specs.Placed.{Placed, place, Places, stop, _also_, Options, no-more, option, strip, strip-all, strip-any, names, names-all, names-any, Apart, Distinct, DistinctAll, DistinctAny}
 use Rattle.engine.specs.Marks.{keep, keep-all, keep-any, Marking, drop, kept-of, all-kept, left-by}
 use Rattle.engine.specs.Certain.{sure-any, certain, certain-any}
-use Rattle.engine.specs.Quickly.{State, settle-at, try-at, narrow-at, any-at, inside-at, sift-at, passes-at, quick-at}
+use Rattle.engine.specs.Quickly.{Step, fails, stands, tried, settle-at, try-at, narrow-at, any-at, inside-at, sift-at, passes-at, quick-at}
 use Rattle.engine.proofs.Dropping.{Left, settle, try, narrow, narrow-any, inside, sift, passes}
 use Rattle.engine.proofs.Passes.{Passed, passes-ok}
 use Rattle.engine.proofs.Marks.{keep-true, keep-false, drop-self, drop-other, kept-alts, keep-all-marked, keep-same, keep-all-same, keep-any-same}
@@ -36,62 +36,83 @@ apart-back : (ns ms : List ℕ) (m n : Marking) → Apart ns ms → Only ms m n 
 apart-back ns ms m n w p y i = p y (λ j. w y i j)
 
 -- what the steps on marks say of the steps on descriptions
-abbrev TriedAt : Ctx → Marking → Placed → Option Marking → Type 0
-TriedAt S m d none = try S (strip (keep m d)) ≡ none
-TriedAt S m d (some n) = (try S (strip (keep m d)) ≡ some (strip (keep n d))) × Only (names d) m n
+abbrev TriedAt : Ctx → Marking → Placed → Step → Type 0
+TriedAt S m d (fails n) = (try S (strip (keep m d)) ≡ none) × Only (names d) m n
+TriedAt S m d (stands T n) = (try S (strip (keep m d)) ≡ some (strip (keep n d))) × Only (names d) m n
 
-abbrev pub NarrowedAt : Ctx → Marking → Places → Option State → Type 0
-NarrowedAt S m ds none = narrow S (strip-all (keep-all m ds)) ≡ none
-NarrowedAt S m ds (some r) = (narrow S (strip-all (keep-all m ds)) ≡ some (record { stack = r .stack; left = strip-all (keep-all (r .marks) ds) })) × Only (names-all ds) m (r .marks)
+abbrev pub NarrowedAt : Ctx → Marking → Places → Step → Type 0
+NarrowedAt S m ds (fails n) = (narrow S (strip-all (keep-all m ds)) ≡ none) × Only (names-all ds) m n
+NarrowedAt S m ds (stands T n) = (narrow S (strip-all (keep-all m ds)) ≡ some (record { stack = T; left = strip-all (keep-all n ds) })) × Only (names-all ds) m n
 
-abbrev AnyAt : Ctx → Marking → Options → Option State → Type 0
-AnyAt S m a none = narrow-any S (strip-any (keep-any m a)) ≡ none
-AnyAt S m a (some r) = (narrow-any S (strip-any (keep-any m a)) ≡ some (record { stack = r .stack; left = strip-any (keep-any (r .marks) a) })) × Only (names-any a) m (r .marks)
+abbrev AnyAt : Ctx → Marking → Options → Step → Type 0
+AnyAt S m a (fails n) = (narrow-any S (strip-any (keep-any m a)) ≡ none) × Only (names-any a) m n
+AnyAt S m a (stands T n) = (narrow-any S (strip-any (keep-any m a)) ≡ some (record { stack = T; left = strip-any (keep-any n a) })) × Only (names-any a) m n
 
-abbrev InAt : Ctx → Marking → Placed → Option State → Type 0
-InAt S m d none = inside S (strip (keep m d)) ≡ none
-InAt S m d (some r) = (inside S (strip (keep m d)) ≡ some (record { stack = r .stack; left = strip (keep (r .marks) d) })) × Only (names d) m (r .marks)
+abbrev InAt : Ctx → Marking → Placed → Step → Type 0
+InAt S m d (fails n) = (inside S (strip (keep m d)) ≡ none) × Only (names d) m n
+InAt S m d (stands T n) = (inside S (strip (keep m d)) ≡ some (record { stack = T; left = strip (keep n d) })) × Only (names d) m n
 
 abbrev SiftedAt : Ctx → Marking → Options → Marking → Type 0
 SiftedAt S m a n = (sift S (strip-any (keep-any m a)) ≡ strip-any (keep-any n a)) × Only (names-any a) m n
 
-try-at-desc : (S : Ctx) (m : Marking) (g : Graph) (ds : Places) (t : Bool) (o : Option State) → NarrowedAt (S ++ g ∷ certain m ds) m ds o → agree (S ++ g ∷ certain m ds) ≡ t →
-    TriedAt S m (place g ds) (elim t [ false ↦ none | true ↦ elim o [ none ↦ none | some r ↦ some (r .marks) ] ])
+try-at-desc : (S : Ctx) (m : Marking) (g : Graph) (ds : Places) (t : Bool) (o : Step) → NarrowedAt (S ++ g ∷ certain m ds) m ds o → agree (S ++ g ∷ certain m ds) ≡ t →
+    TriedAt S m (place g ds) (elim t [ false ↦ fails m | true ↦ o ])
 unfolding try
-try-at-desc S m g ds false o N e = ap (λ (t : Bool). elim t [ false ↦ none | true ↦ elim (narrow (S ++ g ∷ certain m ds) (strip-all (keep-all m ds))) [ none ↦ none | some r ↦ some (desc g (r .left)) ] ]) e
-try-at-desc S m g ds true none N e = ap₂ {C = Option Desc} (λ (t : Bool) (o : Option (Left Disjs)). elim t [ false ↦ none | true ↦ elim o [ none ↦ none | some r ↦ some (desc g (r .left)) ] ]) e N
-try-at-desc S m g ds true (some r) N e = (ap₂ {C = Option Desc} (λ (t : Bool) (o : Option (Left Disjs)). elim t [ false ↦ none | true ↦ elim o [ none ↦ none | some r ↦ some (desc g (r .left)) ] ]) e (N .0), N .1)
-
-in-at-desc : (S : Ctx) (m : Marking) (g : Graph) (ds : Places) (o : Option State) → NarrowedAt S m ds o → InAt S m (place g ds) o
-unfolding try
-in-at-desc S m g ds none N = ap (λ (o : Option (Left Disjs)). elim o [ none ↦ none | some r ↦ some (record { stack = r .stack; left = desc g (r .left) }) ]) N
-in-at-desc S m g ds (some r) N = (ap (λ (o : Option (Left Disjs)). elim o [ none ↦ none | some r ↦ some (record { stack = r .stack; left = desc g (r .left) }) ]) (N .0), N .1)
-
-narrow-at-more : (S : Ctx) (m : Marking) (a : Options) (ds : Places) → Apart (names-any a) (names-all ds) → (o : Option State) → AnyAt S m a o → (q : Ctx → Marking → Option State) → ((T : Ctx) (n : Marking) → NarrowedAt T n ds (q T n)) →
-    NarrowedAt S m (a also ds) (elim o [ none ↦ none | some r ↦ q (r .stack) (r .marks) ])
-unfolding try
-narrow-at-more S m a ds w none A q Q = ap (λ (o : Option (Left Alts)). elim o [ none ↦ none | some r ↦ elim (narrow (r .stack) (strip-all (keep-all m ds))) [ none ↦ none | some q ↦ some (record { stack = q .stack; left = r .left and q .left }) ] ]) A
-narrow-at-more S m a ds w (some r) A q Q = go (q (r .stack) (r .marks)) (Q (r .stack) (r .marks))
+try-at-desc S m g ds t o N e = go t o N e
   where
-    D : Disjs
-    D = strip-all (keep-all m ds)
+    ask : Bool → Option (Left Disjs) → Option Desc
+    ask t o = elim t [ false ↦ none | true ↦ elim o [ none ↦ none | some r ↦ some (desc g (r .left)) ] ]
 
-    D-same : strip-all (keep-all (r .marks) ds) ≡ D
-    D-same = ap strip-all (keep-all-same ds (r .marks) m (apart-same (names-any a) (names-all ds) m (r .marks) w (A .1)))
+    go : (t : Bool) (o : Step) → NarrowedAt (S ++ g ∷ certain m ds) m ds o → agree (S ++ g ∷ certain m ds) ≡ t → TriedAt S m (place g ds) (elim t [ false ↦ fails m | true ↦ o ])
+    go false o N e = (ap (λ (t : Bool). ask t (narrow (S ++ g ∷ certain m ds) (strip-all (keep-all m ds)))) e, λ y h. refl)
+    go true (fails n) N e = (ap₂ {C = Option Desc} ask e (N .0), N .1)
+    go true (stands T n) N e = (ap₂ {C = Option Desc} ask e (N .0), N .1)
 
-    first : narrow S (strip-any (keep-any m a) and D) ≡ elim (narrow (r .stack) (strip-all (keep-all (r .marks) ds))) [ none ↦ none | some q ↦ some (record { stack = q .stack; left = strip-any (keep-any (r .marks) a) and q .left }) ]
-    first = ap (λ (o : Option (Left Alts)). elim o [ none ↦ none | some r ↦ elim (narrow (r .stack) D) [ none ↦ none | some q ↦ some (record { stack = q .stack; left = r .left and q .left }) ] ]) (A .0)
-        ∙ ap (λ (z : Disjs). elim (narrow (r .stack) z) [ none ↦ none | some q ↦ some (record { stack = q .stack; left = strip-any (keep-any (r .marks) a) and q .left }) ]) (sym D-same)
+in-at-desc : (S : Ctx) (m : Marking) (g : Graph) (ds : Places) (o : Step) → NarrowedAt S m ds o → InAt S m (place g ds) o
+unfolding try
+in-at-desc S m g ds o N = go o N
+  where
+    put : Option (Left Disjs) → Option (Left Desc)
+    put o = elim o [ none ↦ none | some r ↦ some (record { stack = r .stack; left = desc g (r .left) }) ]
 
-    go : (o : Option State) → NarrowedAt (r .stack) (r .marks) ds o → NarrowedAt S m (a also ds) o
-    go none N = first ∙ ap (λ (o : Option (Left Disjs)). elim o [ none ↦ none | some q ↦ some (record { stack = q .stack; left = strip-any (keep-any (r .marks) a) and q .left }) ]) N
-    go (some u) N = (
-      first ∙ ap (λ (o : Option (Left Disjs)). elim o [ none ↦ none | some q ↦ some (record { stack = q .stack; left = strip-any (keep-any (r .marks) a) and q .left }) ]) (N .0)
-          ∙ ap (λ (z : Options). some (record { stack = u .stack; left = strip-any z and strip-all (keep-all (u .marks) ds) })) (keep-any-same a (r .marks) (u .marks) (λ y i. sym (apart-back (names-any a) (names-all ds) (r .marks) (u .marks) w (N .1) y i))),
-      only-trans (names-any a ++ names-all ds) m (r .marks) (u .marks)
-          (only-more (names-any a) (names-any a ++ names-all ds) m (r .marks) (λ y i. Memᴰ·append-left (names-all ds) i) (A .1))
-          (only-more (names-all ds) (names-any a ++ names-all ds) (r .marks) (u .marks) (λ y i. Memᴰ·append-right (names-any a) i) (N .1)),
-    )
+    go : (o : Step) → NarrowedAt S m ds o → InAt S m (place g ds) o
+    go (fails n) N = (ap put (N .0), N .1)
+    go (stands T n) N = (ap put (N .0), N .1)
+
+module _ (S : Ctx) (m : Marking) (a : Options) (ds : Places) (w : Apart (names-any a) (names-all ds)) where
+  here-first : (n : Marking) → Only (names-any a) m n → Only (names-any a ++ names-all ds) m n
+  here-first n u = only-more (names-any a) (names-any a ++ names-all ds) m n (λ y i. Memᴰ·append-left (names-all ds) i) u
+
+  narrow-at-more : (o : Step) → AnyAt S m a o → (q : Ctx → Marking → Step) → ((T : Ctx) (n : Marking) → NarrowedAt T n ds (q T n)) →
+      NarrowedAt S m (a also ds) (elim o [ fails n ↦ fails n | stands T n ↦ q T n ])
+  unfolding try
+  narrow-at-more (fails n) A q Q =
+      (ap (λ (o : Option (Left Alts)). elim o [ none ↦ none | some r ↦ elim (narrow (r .stack) (strip-all (keep-all m ds))) [ none ↦ none | some q ↦ some (record { stack = q .stack; left = r .left and q .left }) ] ]) (A .0), here-first n (A .1))
+  narrow-at-more (stands T n) A q Q = go (q T n) (Q T n)
+    where
+      D : Disjs
+      D = strip-all (keep-all m ds)
+
+      D-same : strip-all (keep-all n ds) ≡ D
+      D-same = ap strip-all (keep-all-same ds n m (apart-same (names-any a) (names-all ds) m n w (A .1)))
+
+      before : Option (Left Disjs) → Option (Left Disjs)
+      before o = elim o [ none ↦ none | some q ↦ some (record { stack = q .stack; left = strip-any (keep-any n a) and q .left }) ]
+
+      first : narrow S (strip-any (keep-any m a) and D) ≡ before (narrow T (strip-all (keep-all n ds)))
+      first = ap (λ (o : Option (Left Alts)). elim o [ none ↦ none | some r ↦ elim (narrow (r .stack) D) [ none ↦ none | some q ↦ some (record { stack = q .stack; left = r .left and q .left }) ] ]) (A .0)
+          ∙ ap (λ (z : Disjs). before (narrow T z)) (sym D-same)
+
+      only : (k : Marking) → Only (names-all ds) n k → Only (names-any a ++ names-all ds) m k
+      only k u = only-trans (names-any a ++ names-all ds) m n k (here-first n (A .1)) (only-more (names-all ds) (names-any a ++ names-all ds) n k (λ y i. Memᴰ·append-right (names-any a) i) u)
+
+      go : (o : Step) → NarrowedAt T n ds o → NarrowedAt S m (a also ds) o
+      go (fails k) N = (first ∙ ap before (N .0), only k (N .1))
+      go (stands U k) N = (
+        first ∙ ap before (N .0)
+            ∙ ap (λ (z : Options). some (record { stack = U; left = strip-any z and strip-all (keep-all k ds) })) (keep-any-same a n k (λ y i. sym (apart-back (names-any a) (names-all ds) n k w (N .1) y i))),
+        only k (N .1),
+      )
 
 -- one alternative tried, the later ones sifted
 module _ (S : Ctx) (x : ℕ) (d : Placed) (a : Options) (w : DistinctAny (option x d a)) (q : Marking → Marking) (Q : (n : Marking) → SiftedAt S n a (q n)) where
@@ -126,11 +147,11 @@ module _ (S : Ctx) (x : ℕ) (d : Placed) (a : Options) (w : DistinctAny (option
         only-trans here m n (q k) (in-here m n u) (only-trans here n k (q k) (λ y h. drop-other x n y (λ z. h (List·Memᴰ·head z))) (any-here k (q k) (Q k .1))),
       )
 
-  step-at : (m : Marking) → (o : Option Marking) → TriedAt S m d o → m x ≡ true →
-      (elim (try S (strip (keep m d))) [ none ↦ sift S (strip-any (keep-any m a)) | some f ↦ f or sift S (strip-any (keep-any m a)) ] ≡ strip-any (keep-any (q (elim o [ none ↦ drop x m | some n ↦ n ])) (option x d a)))
-      × Only here m (q (elim o [ none ↦ drop x m | some n ↦ n ]))
-  step-at m none T e = step-dropped m m T (λ y h. refl)
-  step-at m (some n) T e =
+  step-at : (m : Marking) → (o : Step) → TriedAt S m d o → m x ≡ true →
+      (elim (try S (strip (keep m d))) [ none ↦ sift S (strip-any (keep-any m a)) | some f ↦ f or sift S (strip-any (keep-any m a)) ] ≡ strip-any (keep-any (q (tried x o)) (option x d a)))
+      × Only here m (q (tried x o))
+  step-at m (fails n) T e = step-dropped m n (T .0) (T .1)
+  step-at m (stands U n) T e =
       let A : Alts = strip-any (keep-any m a) in
       let s : keep-any n a ≡ keep-any m a = keep-any-same a n m (apart-same (names d) (names-any a) m n (w .4) (T .1)) in
       let k : keep n d ≡ keep (q n) d = keep-same d n (q n) (λ y i. sym (apart-back (names d) (names-any a) n (q n) (w .4) (Q n .1) y i)) in (
@@ -140,7 +161,7 @@ module _ (S : Ctx) (x : ℕ) (d : Placed) (a : Options) (w : DistinctAny (option
         only-trans here m n (q n) (in-here m n (T .1)) (any-here n (q n) (Q n .1)),
       )
 
-  sift-at-more : (m : Marking) (o : Option Marking) → TriedAt S m d o → (t : Bool) → m x ≡ t → SiftedAt S m (option x d a) (elim t [ false ↦ q m | true ↦ q (elim o [ none ↦ drop x m | some n ↦ n ]) ])
+  sift-at-more : (m : Marking) (o : Step) → TriedAt S m d o → (t : Bool) → m x ≡ t → SiftedAt S m (option x d a) (elim t [ false ↦ q m | true ↦ q (tried x o) ])
   unfolding try
   sift-at-more m o T false e =
       (ap (λ (z : Options). sift S (strip-any z)) (keep-false m x d a e) ∙ Q m .0 ∙ ap strip-any (sym (keep-false (q m) x d a (Q m .1 x off-any ∙ e))), any-here m (q m) (Q m .1))
@@ -152,9 +173,9 @@ settle-by S fail = refl
 settle-by S (d or fail) = refl
 settle-by S (d or (e or b)) = refl
 
-abbrev SettledAt : Ctx → Marking → Options → Option State → Type 0
-SettledAt S n a none = settle S (strip-any (keep-any n a)) ≡ none
-SettledAt S n a (some r) = (settle S (strip-any (keep-any n a)) ≡ some (record { stack = r .stack; left = strip-any (keep-any (r .marks) a) })) × (r .marks ≡ n)
+abbrev SettledAt : Ctx → Marking → Options → Step → Type 0
+SettledAt S n a (fails k) = (settle S (strip-any (keep-any n a)) ≡ none) × (k ≡ n)
+SettledAt S n a (stands T k) = (settle S (strip-any (keep-any n a)) ≡ some (record { stack = T; left = strip-any (keep-any k a) })) × (k ≡ n)
 
 settle-at-ok : (S : Ctx) (n : Marking) (a : Options) → SettledAt S n a (settle-at S n a)
 settle-at-ok S n a = go (kept-of n a) (kept-alts n a) (agree (S ++ certain-any n a)) refl
@@ -165,10 +186,13 @@ settle-at-ok S n a = go (kept-of n a) (kept-alts n a) (agree (S ++ certain-any n
     by : (k : ℕ) → k ≡ alts B → settle S B ≡ elim k [ zero ↦ none | suc k ↦ elim k [ zero ↦ elim (agree (S ++ sure-any B)) [ false ↦ none | true ↦ some (record { stack = S ++ sure-any B; left = B }) ] | suc l ↦ some (record { stack = S; left = B }) ] ]
     by k e = settle-by S B ∙ ap (λ (k : ℕ). elim k [ zero ↦ none | suc k ↦ elim k [ zero ↦ elim (agree (S ++ sure-any B)) [ false ↦ none | true ↦ some (record { stack = S ++ sure-any B; left = B }) ] | suc l ↦ some (record { stack = S; left = B }) ] ]) (sym e)
 
-    go : (k : ℕ) → k ≡ alts B → (t : Bool) → agree (S ++ sure-any B) ≡ t → SettledAt S n a (elim k [ zero ↦ none | suc k ↦ elim k [ zero ↦ elim t [ false ↦ none | true ↦ some (record { stack = S ++ sure-any B; marks = n }) ] | suc l ↦ some (record { stack = S; marks = n }) ] ])
-    go zero e t h = by zero e
-    go (suc zero) e false h = by (suc zero) e ∙ ap (λ (t : Bool). elim t [ false ↦ none | true ↦ some (record { stack = S ++ sure-any B; left = B }) ]) h
-    go (suc zero) e true h = (by (suc zero) e ∙ ap (λ (t : Bool). elim t [ false ↦ none | true ↦ some (record { stack = S ++ sure-any B; left = B }) ]) h, refl)
+    ask : Bool → Option (Left Alts)
+    ask t = elim t [ false ↦ none | true ↦ some (record { stack = S ++ sure-any B; left = B }) ]
+
+    go : (k : ℕ) → k ≡ alts B → (t : Bool) → agree (S ++ sure-any B) ≡ t → SettledAt S n a (elim k [ zero ↦ fails n | suc k ↦ elim k [ zero ↦ elim t [ false ↦ fails n | true ↦ stands (S ++ sure-any B) n ] | suc l ↦ stands S n ] ])
+    go zero e t h = (by zero e, refl)
+    go (suc zero) e false h = (by (suc zero) e ∙ ap ask h, refl)
+    go (suc zero) e true h = (by (suc zero) e ∙ ap ask h, refl)
     go (suc (suc l)) e t h = (by (suc (suc l)) e, refl)
 
 no-alts : (b : Alts) → 0 ≡ alts b → b ≡ fail
@@ -180,18 +204,21 @@ unfolding try
 many-any S d fail k e = absurd (omega arith)
 many-any S d (f or b) k e = refl
 
-any-at-more : (S : Ctx) (x : ℕ) (d : Placed) (a : Options) → DistinctAny (option x d a) → (m : Marking) → (o : Option Marking) → TriedAt S m d o → (i : Option State) → InAt S m d i → (l : Option State) → AnyAt S m a l →
+any-at-more : (S : Ctx) (x : ℕ) (d : Placed) (a : Options) → DistinctAny (option x d a) → (m : Marking) → (o : Step) → TriedAt S m d o → (i : Step) → InAt S m d i → (l : Step) → AnyAt S m a l →
     (q : Marking → Marking) → ((n : Marking) → SiftedAt S n a (q n)) → (t : Bool) → m x ≡ t → (k : ℕ) → kept-of m a ≡ k →
-    AnyAt S m (option x d a) (elim t [ false ↦ l | true ↦ elim k [ zero ↦ i | suc k ↦ settle-at S (q (elim o [ none ↦ drop x m | some n ↦ n ])) (option x d a) ] ])
+    AnyAt S m (option x d a) (elim t [ false ↦ l | true ↦ elim k [ zero ↦ i | suc k ↦ settle-at S (q (tried x o)) (option x d a) ] ])
 unfolding try
 any-at-more S x d a w m o T i I l L q Q false e k h = go l L
   where
-    go : (l : Option State) → AnyAt S m a l → AnyAt S m (option x d a) l
-    go none z = ap (λ (y : Options). narrow-any S (strip-any y)) (keep-false m x d a e) ∙ z
-    go (some r) z = (
-      ap (λ (y : Options). narrow-any S (strip-any y)) (keep-false m x d a e) ∙ z .0 ∙ ap (λ (y : Options). some (record { stack = r .stack; left = strip-any y })) (sym (keep-false (r .marks) x d a (z .1 x (λ j. w .3 x (List·Memᴰ·head refl) j) ∙ e))),
-      only-more (names-any a) (x ∷ (names d ++ names-any a)) m (r .marks) (λ y j. List·Memᴰ·tail (Memᴰ·append-right (names d) j)) (z .1),
-    )
+    only : (n : Marking) → Only (names-any a) m n → Only (x ∷ (names d ++ names-any a)) m n
+    only n u = only-more (names-any a) (x ∷ (names d ++ names-any a)) m n (λ y j. List·Memᴰ·tail (Memᴰ·append-right (names d) j)) u
+
+    start : narrow-any S (strip-any (keep-any m (option x d a))) ≡ narrow-any S (strip-any (keep-any m a))
+    start = ap (λ (y : Options). narrow-any S (strip-any y)) (keep-false m x d a e)
+
+    go : (l : Step) → AnyAt S m a l → AnyAt S m (option x d a) l
+    go (fails n) z = (start ∙ z .0, only n (z .1))
+    go (stands U n) z = (start ∙ z .0 ∙ ap (λ (y : Options). some (record { stack = U; left = strip-any y })) (sym (keep-false n x d a (z .1 x (λ j. w .3 x (List·Memᴰ·head refl) j) ∙ e))), only n (z .1))
 any-at-more S x d a w m o T i I l L q Q true e zero h = go i I
   where
     A : Alts
@@ -200,21 +227,27 @@ any-at-more S x d a w m o T i I l L q Q true e zero h = go i I
     none-else : A ≡ fail
     none-else = no-alts A (sym h ∙ kept-alts m a)
 
-    start : narrow-any S (strip-any (keep-any m (option x d a))) ≡ elim (inside S (strip (keep m d))) [ none ↦ none | some r ↦ some (record { stack = r .stack; left = r .left or fail }) ]
+    lone : Option (Left Desc) → Option (Left Alts)
+    lone o = elim o [ none ↦ none | some r ↦ some (record { stack = r .stack; left = r .left or fail }) ]
+
+    start : narrow-any S (strip-any (keep-any m (option x d a))) ≡ lone (inside S (strip (keep m d)))
     start = ap (λ (y : Options). narrow-any S (strip-any y)) (keep-true m x d a e) ∙ ap (λ (y : Alts). narrow-any S (strip (keep m d) or y)) none-else
 
-    go : (i : Option State) → InAt S m d i → AnyAt S m (option x d a) i
-    go none z = start ∙ ap (λ (y : Option (Left Desc)). elim y [ none ↦ none | some r ↦ some (record { stack = r .stack; left = r .left or fail }) ]) z
-    go (some r) z = (
-      start ∙ ap (λ (y : Option (Left Desc)). elim y [ none ↦ none | some r ↦ some (record { stack = r .stack; left = r .left or fail }) ]) (z .0)
-          ∙ ap (λ (y : Alts). some (record { stack = r .stack; left = strip (keep (r .marks) d) or y })) (sym (ap strip-any (keep-any-same a (r .marks) m (apart-same (names d) (names-any a) m (r .marks) (w .4) (z .1))) ∙ none-else))
-          ∙ ap (λ (y : Options). some (record { stack = r .stack; left = strip-any y })) (sym (keep-true (r .marks) x d a (z .1 x (λ j. w .2 x (List·Memᴰ·head refl) j) ∙ e))),
-      only-more (names d) (x ∷ (names d ++ names-any a)) m (r .marks) (λ y j. List·Memᴰ·tail (Memᴰ·append-left (names-any a) j)) (z .1),
+    only : (n : Marking) → Only (names d) m n → Only (x ∷ (names d ++ names-any a)) m n
+    only n u = only-more (names d) (x ∷ (names d ++ names-any a)) m n (λ y j. List·Memᴰ·tail (Memᴰ·append-left (names-any a) j)) u
+
+    go : (i : Step) → InAt S m d i → AnyAt S m (option x d a) i
+    go (fails n) z = (start ∙ ap lone (z .0), only n (z .1))
+    go (stands U n) z = (
+      start ∙ ap lone (z .0)
+          ∙ ap (λ (y : Alts). some (record { stack = U; left = strip (keep n d) or y })) (sym (ap strip-any (keep-any-same a n m (apart-same (names d) (names-any a) m n (w .4) (z .1))) ∙ none-else))
+          ∙ ap (λ (y : Options). some (record { stack = U; left = strip-any y })) (sym (keep-true n x d a (z .1 x (λ j. w .2 x (List·Memᴰ·head refl) j) ∙ e))),
+      only n (z .1),
     )
 any-at-more S x d a w m o T i I l L q Q true e (suc k) h = go (settle-at S new (option x d a)) (settle-at-ok S new (option x d a))
   where
     new : Marking
-    new = q (elim o [ none ↦ drop x m | some n ↦ n ])
+    new = q (tried x o)
 
     st : (elim (try S (strip (keep m d))) [ none ↦ sift S (strip-any (keep-any m a)) | some f ↦ f or sift S (strip-any (keep-any m a)) ] ≡ strip-any (keep-any new (option x d a))) × Only (x ∷ (names d ++ names-any a)) m new
     st = step-at S x d a w q Q m o T e
@@ -222,9 +255,9 @@ any-at-more S x d a w m o T i I l L q Q true e (suc k) h = go (settle-at S new (
     start : narrow-any S (strip-any (keep-any m (option x d a))) ≡ settle S (strip-any (keep-any new (option x d a)))
     start = ap (λ (y : Options). narrow-any S (strip-any y)) (keep-true m x d a e) ∙ many-any S (strip (keep m d)) (strip-any (keep-any m a)) k (sym h ∙ kept-alts m a) ∙ ap (settle S) (st .0)
 
-    go : (r : Option State) → SettledAt S new (option x d a) r → AnyAt S m (option x d a) r
-    go none z = start ∙ z
-    go (some r) z = (start ∙ z .0, subst (Only (x ∷ (names d ++ names-any a)) m) (sym (z .1)) (st .1))
+    go : (r : Step) → SettledAt S new (option x d a) r → AnyAt S m (option x d a) r
+    go (fails n) z = (start ∙ z .0, subst (Only (x ∷ (names d ++ names-any a)) m) (sym (z .1)) (st .1))
+    go (stands U n) z = (start ∙ z .0, subst (Only (x ∷ (names d ++ names-any a)) m) (sym (z .1)) (st .1))
 
 mutual
   unfolding try-at try
@@ -237,7 +270,7 @@ mutual
   narrow-at-ok (a also ds) w S m = narrow-at-more S m a ds (w .2) (any-at S m a) (any-at-ok a (w .0) S m) (λ T n. narrow-at T n ds) (λ T n. narrow-at-ok ds (w .1) T n)
 
   pub any-at-ok : (a : Options) → DistinctAny a → (S : Ctx) (m : Marking) → AnyAt S m a (any-at S m a)
-  any-at-ok no-more w S m = refl
+  any-at-ok no-more w S m = (refl, λ y h. refl)
   any-at-ok (option x d a) w S m = any-at-more S x d a w m (try-at S m d) (try-at-ok d (w .0) S m) (inside-at S m d) (inside-at-ok d (w .0) S m) (any-at S m a) (any-at-ok a (w .1) S m) (λ n. sift-at S n a) (λ n. sift-at-ok a (w .1) S n) (m x) refl (kept-of m a) refl
 
   pub inside-at-ok : (d : Placed) → Distinct d → (S : Ctx) (m : Marking) → InAt S m d (inside-at S m d)
@@ -256,11 +289,11 @@ passes-at-ok (suc n) d w m = go (try-at [] m d) (try-at-ok d w [] m) (λ k. pass
     now : Desc
     now = strip (keep m d)
 
-    go : (o : Option Marking) → TriedAt [] m d o → ((k : Marking) → passes n (strip (keep k d)) ≡ left-by d (passes-at n k d)) →
+    go : (o : Step) → TriedAt [] m d o → ((k : Marking) → passes n (strip (keep k d)) ≡ left-by d (passes-at n k d)) →
         elim (try [] now) [ none ↦ none | some e ↦ elim (eqb (size e) (size now)) [ true ↦ some e | false ↦ passes n e ] ]
-        ≡ left-by d (elim o [ none ↦ none | some k ↦ elim (eqb (size (strip (keep k d))) (size now)) [ true ↦ some k | false ↦ passes-at n k d ] ])
-    go none T ih = ap (λ (o : Option Desc). elim o [ none ↦ none | some e ↦ elim (eqb (size e) (size now)) [ true ↦ some e | false ↦ passes n e ] ]) T
-    go (some k) T ih = ap (λ (o : Option Desc). elim o [ none ↦ none | some e ↦ elim (eqb (size e) (size now)) [ true ↦ some e | false ↦ passes n e ] ]) (T .0) ∙ two (eqb (size (strip (keep k d))) (size now))
+        ≡ left-by d (elim o [ fails k ↦ none | stands U k ↦ elim (eqb (size (strip (keep k d))) (size now)) [ true ↦ some k | false ↦ passes-at n k d ] ])
+    go (fails k) T ih = ap (λ (o : Option Desc). elim o [ none ↦ none | some e ↦ elim (eqb (size e) (size now)) [ true ↦ some e | false ↦ passes n e ] ]) (T .0)
+    go (stands U k) T ih = ap (λ (o : Option Desc). elim o [ none ↦ none | some e ↦ elim (eqb (size e) (size now)) [ true ↦ some e | false ↦ passes n e ] ]) (T .0) ∙ two (eqb (size (strip (keep k d))) (size now))
       where
         two : (t : Bool) → _≡_ {A = Option Desc} (elim t [ true ↦ some (strip (keep k d)) | false ↦ passes n (strip (keep k d)) ]) (left-by d (elim t [ true ↦ some k | false ↦ passes-at n k d ]))
         two true = refl

@@ -13,52 +13,51 @@ use Rattle.engine.specs.Placed.{Placed, place, Places, stop, _also_, Opt
 use Rattle.engine.specs.Marks.{Marking, all-kept, drop, kept-of, keep, left-by}
 use Rattle.engine.specs.Certain.{certain, certain-any}
 
--- the graphs pushed, and the marks
-pub record State : Type 0 where
-  pub stack : List Graph
-  pub marks : Marking
+-- what a step comes to: it fails, or it stands with these graphs pushed. The marks are as the step leaves them; those inside an alternative that failed are of no account
+pub data Step : Type 0 where
+  fails : Marking → Step
+  stands : List Graph → Marking → Step
+
+-- the marks after the alternative numbered x was tried and all that was pushed for it taken back: "drop those that fail, and keep the others in their tidied form"
+abbrev pub tried : ℕ → Step → Marking
+tried x (fails n) = drop x n
+tried x (stands T n) = n
 
 -- after the alternatives of a disjunction were tried. "A disjunction with none left fails the description. One with exactly one left is folded": all that is certain in it is pushed, and a clash fails
-abbrev pub settle-at : List Graph → Marking → Options → Option State
+abbrev pub settle-at : List Graph → Marking → Options → Step
 settle-at S m a = elim (kept-of m a) [
-  | zero ↦ none
-  | suc k ↦ elim k [
-    | zero ↦ elim (agree (S ++ certain-any m a)) [ false ↦ none | true ↦ some (record { stack = S ++ certain-any m a; marks = m }) ]
-    | suc l ↦ some (record { stack = S; marks = m })
-  ]
+  | zero ↦ fails m
+  | suc k ↦ elim k [ zero ↦ elim (agree (S ++ certain-any m a)) [ false ↦ fails m | true ↦ stands (S ++ certain-any m a) m ] | suc l ↦ stands S m ]
 ]
 
 unfoldable mutual
-  -- "To tidy a description under a condition: join condition and definite graph; a clash means it fails." The condition is the stack: push, go through, take back
-  pub try-at : List Graph → Marking → Placed → Option Marking
-  try-at S m (place g ds) = elim (agree (S ++ g ∷ certain m ds)) [ false ↦ none | true ↦ elim (narrow-at (S ++ g ∷ certain m ds) m ds) [ none ↦ none | some r ↦ some (r .marks) ] ]
+  -- "To tidy a description under a condition: join condition and definite graph; a clash means it fails." The condition is the stack
+  pub try-at : List Graph → Marking → Placed → Step
+  try-at S m (place g ds) = elim (agree (S ++ g ∷ certain m ds)) [ false ↦ fails m | true ↦ narrow-at (S ++ g ∷ certain m ds) m ds ]
 
   -- the disjunctions in order
-  pub narrow-at : List Graph → Marking → Places → Option State
-  narrow-at S m stop = some (record { stack = S; marks = m })
-  narrow-at S m (a also ds) = elim (any-at S m a) [ none ↦ none | some r ↦ narrow-at (r .stack) (r .marks) ds ]
+  pub narrow-at : List Graph → Marking → Places → Step
+  narrow-at S m stop = stands S m
+  narrow-at S m (a also ds) = elim (any-at S m a) [ fails n ↦ fails n | stands T n ↦ narrow-at T n ds ]
 
   -- one disjunction: an alternative that stands alone is on the stack already
-  pub any-at : List Graph → Marking → Options → Option State
-  any-at S m no-more = none
-  any-at S m (option x d a) = elim (m x) [
-    | false ↦ any-at S m a
-    | true ↦ elim (kept-of m a) [ zero ↦ inside-at S m d | suc k ↦ settle-at S (sift-at S (elim (try-at S m d) [ none ↦ drop x m | some n ↦ n ]) a) (option x d a) ]
-  ]
+  pub any-at : List Graph → Marking → Options → Step
+  any-at S m no-more = fails m
+  any-at S m (option x d a) = elim (m x) [ false ↦ any-at S m a | true ↦ elim (kept-of m a) [ zero ↦ inside-at S m d | suc k ↦ settle-at S (sift-at S (tried x (try-at S m d)) a) (option x d a) ] ]
 
   -- the disjunctions of the one that stands alone: they "take its place in the list"
-  pub inside-at : List Graph → Marking → Placed → Option State
+  pub inside-at : List Graph → Marking → Placed → Step
   inside-at S m (place g ds) = narrow-at S m ds
 
-  -- "tidy each alternative under that join …, drop those that fail"
+  -- "tidy each alternative under that join"
   pub sift-at : List Graph → Marking → Options → Marking
   sift-at S m no-more = m
-  sift-at S m (option x d a) = elim (m x) [ false ↦ sift-at S m a | true ↦ sift-at S (elim (try-at S m d) [ none ↦ drop x m | some n ↦ n ]) a ]
+  sift-at S m (option x d a) = elim (m x) [ false ↦ sift-at S m a | true ↦ sift-at S (tried x (try-at S m d)) a ]
 
 -- passes until nothing is dropped; the first argument bounds their number
 unfoldable pub passes-at : ℕ → Marking → Placed → Option Marking
 passes-at zero m d = some m
-passes-at (suc n) m d = elim (try-at [] m d) [ none ↦ none | some k ↦ elim (eqb (size (strip (keep k d))) (size (strip (keep m d)))) [ true ↦ some k | false ↦ passes-at n k d ] ]
+passes-at (suc n) m d = elim (try-at [] m d) [ fails k ↦ none | stands T k ↦ elim (eqb (size (strip (keep k d))) (size (strip (keep m d)))) [ true ↦ some k | false ↦ passes-at n k d ] ]
 
 -- "Take the joined description and tidy it under the graph that says nothing": the marks that mode 1 leaves on it
 unfoldable pub quick-at : Placed → Option Marking
