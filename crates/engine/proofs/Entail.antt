@@ -95,7 +95,7 @@ says-cut A B g fa fb c s t hs h =
 pub says-trans : (A B C : Ctx) → Fine A → Fine B → AllCanonical C → SaysAll A B → SaysAll B C → SaysAll A C
 says-trans A B C fa fb fc s t g m = says-cut A B g fa fb (canon-in C fc g m) s (t g m)
 
--- says-both: joined lists
+-- what A says of two lists, it says of both together
 pub says-append : (A B C : Ctx) → SaysAll A B → SaysAll A C → SaysAll A (B ++ C)
 says-append A B C s t g m = ⊎-elim (s g) (t g) (List·Memᴰ·append-cases B m)
 

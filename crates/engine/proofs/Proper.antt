@@ -1,4 +1,4 @@
--- Descriptions as they come in have two or more alternatives everywhere: they are folded already. Mode 1 by marks is mode 1.
+-- Descriptions as they come in have two or more alternatives everywhere, so they are folded already, and mode 1 is the greatest stable part of the joined description, folded.
 -- Assumes nothing.
 use mathlib.Core.Path.{_≡_, refl, ap, ap₂, sym, _∙_, subst}
 use mathlib.Core.Option.{Option, none, some}
@@ -113,7 +113,7 @@ tidies-passed d none (some e) t p = absurd (t e (p .part) (p .stable))
 tidies-passed d (some x) none t p = absurd (p (t .0) (t .1 .part) (t .1 .stable))
 tidies-passed d (some x) (some e) t p = ap {B = Option Desc} some (t .2 ∙ ap fold (best-one (nil ∷ []) d (t .0) e (t .1) p))
 
--- so any engine that comes to the greatest stable part, in whatever order it drops, has the result of mode 1
+-- whatever comes to the greatest stable part, in whatever order it drops, has the result of mode 1
 pub quick-best : (a b : Desc) → Can a → Can b → Proper a → Proper b → (d : Desc) → joined a b ≡ some d → (o : Option Desc) → Passed d o → quick a b ≡ fold-some o
 unfolding quick
 quick-best a b c e p q d j o h =

@@ -82,7 +82,7 @@ abbrev mutual
   AliveAny others fail = Unit {0}
   AliveAny others (d or a) = Together others (choices d) × Alive others d × AliveAny others a
 
--- pruning keeps every live part
+-- pruning keeps every part whose alternatives all stand in a consistent choice
 or-keeps : (d e : Desc) (a b : Alts) (others : List Ctx) → Together others (choices d) → Part (prune others d) e → PartAny (prune-any others a) b → (t : Bool) → Some (pairs others (choices d)) t →
     PartAny (elim t [ true ↦ prune others d or prune-any others a | false ↦ prune-any others a ]) (e or b)
 or-keeps d e a b others l p q true v = inl (p, q)

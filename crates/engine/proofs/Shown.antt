@@ -1,4 +1,4 @@
--- What marks describe, as a writer puts it out: all that is certain is joined at once, and the disjunctions of an alternative that stands alone come in its place.
+-- Folding what is left gives the form that a writer puts out.
 -- Assumes nothing.
 use mathlib.Core.Path.{_≡_, refl, ap, ap₂, sym, _∙_}
 use Rattle.theory.specs.Descr.{Desc, desc, Disjs, end, _and_, Alts, fail, _or_, _then_}

@@ -196,7 +196,7 @@ unfoldable pub keep-on : ℕ → Ctx → Graph → Disjs → Option Desc
 keep-on zero T g ds = some (desc g ds)
 keep-on (suc n) T g ds = elim (narrow T ds) [ none ↦ none | some r ↦ elim (eqb (size (desc g (r .left))) (size (desc g ds))) [ true ↦ some (desc g (r .left)) | false ↦ keep-on n (r .stack) g (r .left) ] ]
 
--- from n passes on: at least one
+-- it comes to what the passes come to
 pub keep-on-ok : (n : ℕ) (g : Graph) (ds : Disjs) → Can (desc g ds) → (T : Ctx) → Same T (g ∷ sure ds) → Agrees T → keep-on n T g ds ≡ passes n (desc g ds)
 unfolding keep-on passes
 keep-on-ok zero g ds c T s a = refl
