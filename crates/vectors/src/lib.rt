@@ -1,0 +1,68 @@
+// Stored vectors: runs of little-endian 32-bit words on a file descriptor.
+// No contract can say which bytes a read brings; what is proved is that each function is safe and ends.
+ghost use Prim.Native.Nat.{_<_};
+
+// A word of the run, or the end of it.
+pub enum Word {
+    Is(u32),
+    End,
+}
+
+fn wide(x: u8) -> u32
+    ensures { λ r. ⌜ r < 256 ⌝ }
+{
+    x as u32
+}
+
+// The word whose four bytes these are, the least first.
+fn joined(a: u8, b: u8, c: u8, d: u8) -> u32 {
+    let low = wide(a) + wide(b) * 256;
+    let high = wide(c) + wide(d) * 256;
+    low + high * 65536
+}
+
+// The next word.
+pub fn next(fd: i32) -> Word {
+    let mut bytes: [u8; 4] = [0; 4];
+    let got = io::read_full(fd, &mut bytes);
+    if got < 4 {
+        return Word::End;
+    }
+    Word::Is(joined(bytes[0], bytes[1], bytes[2], bytes[3]))
+}
+
+// The word whose bytes stand from p on, or 0 where they do not.
+fn word_at(bytes: &[u8], p: usize) -> u32 {
+    if bytes.len() < 4 {
+        return 0;
+    }
+    if bytes.len() - 4 < p {
+        return 0;
+    }
+    joined(bytes[p], bytes[p + 1], bytes[p + 2], bytes[p + 3])
+}
+
+// Turns the bytes into words of dst, at most 4,096 of them.
+fn decode(bytes: &[u8], dst: &mut [u32]) {
+    let mut i: usize = 0;
+    while i < dst.len() {
+        if 4096 <= i {
+            return;
+        }
+        dst[i] = word_at(bytes, i * 4);
+        i += 1;
+    }
+}
+
+// Fills dst, which has at most 4,096 words, with the next words: false where the run ends before or dst is longer.
+pub fn fill(fd: i32, dst: &mut [u32]) -> bool {
+    if 4096 < dst.len() {
+        return false;
+    }
+    let n = dst.len() * 4;
+    let mut space = io::large_buffer();
+    let bytes: &mut [u8] = &mut space;
+    let got = io::read_full(fd, &mut bytes[..n]);
+    decode(bytes, dst);
+    got == n
+}
