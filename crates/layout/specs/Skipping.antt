@@ -36,5 +36,5 @@ unfoldable pub nestedEnd : ℕ → List ℕ → ℕ → ℕ
 nestedEnd left ws p = descriptionEndOf (disjunctionEnd left ws) ws p
 
 -- a description of any depth that the layout allows
-unfoldable pub descriptionEnd : List ℕ → ℕ → ℕ
+abbrev pub descriptionEnd : List ℕ → ℕ → ℕ
 descriptionEnd ws p = nestedEnd depth-limit ws p
