@@ -45,7 +45,7 @@ module _ (n low met f t : ℕ) where
     unfolding arcAt
     arc-next h k l = simp (le-leb _ _ rises, lt-ltb _ _ feature, le-ltb _ _ h, le-leb _ _ k, lt-ltb _ _ l)
 
-misplaced : {m : ℕ} → Misplaced ≡ Meets m → ⊥
+pub misplaced : {m : ℕ} → Misplaced ≡ Meets m → ⊥
 misplaced e = let z : _≡_ {A = ℕ} 0 1 = cc in omega arith
 
 pub pick-meets : (b : Bool) (x : Arc) {m : ℕ} → pick b x Misplaced ≡ Meets m → (b ≡ true) × (x ≡ Meets m)
