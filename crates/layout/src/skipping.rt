@@ -2,7 +2,6 @@
 use crate::limits::CODE_LIMIT;
 use crate::limits::DEPTH_LIMIT;
 use crate::width::wide;
-
 ghost use mathlib.Core.Path.{_≡_};
 ghost use Rattle.layout.specs.Skipping.{nodeEnd, graphEnd, disjunctionEnd, nestedEnd, descriptionEnd};
 
