@@ -1,8 +1,7 @@
 -- Case 11 of document 01 from the reader's contract: "`1 0 1 1` A is malformed; `1 65536 0` is not; `1 131072 0` is."
 -- Assumes nothing.
-use Prim.Native.Nat.{ℕ}
 use mathlib.Core.Path.{_≡_, refl}
-use mathlib.Core.List.{List, [], _∷_}
+use mathlib.Core.List.{[], _∷_}
 use Rattle.theory.specs.Reading.{decode}
 use Rattle.theory.specs.Known.{A}
 use Rattle.layout.specs.declared.reading.Judgement.{Judgement}

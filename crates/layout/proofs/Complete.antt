@@ -1,24 +1,21 @@
 -- The words of a well-formed description are read as one, to their end.
 -- Assumes nothing.
-use Prim.Native.Nat.{ℕ, zero, suc, _+_, _-_, _≤_, _<_, max}
+use Prim.Native.Nat.{ℕ, zero, suc, _+_, _≤_, _<_, max}
 use native.Mathlib.Omega.{arith}
 use native.Mathlib.Decide.{decLt}
 use native.Mathlib.Numerals.{sub-one, add-one}
-use mathlib.Core.Path.{_≡_, refl, sym, ap, _∙_}
-use mathlib.Core.List.{List, [], _∷_, _++_}
+use mathlib.Core.Path.{_≡_, sym, ap, _∙_}
+use mathlib.Core.List.{List, [], _∷_}
 use lib.ListN.{length, getD}
 use Rattle.theory.specs.Limits.{code-limit}
 use Rattle.theory.specs.Net.{Node, atom, arcs, Graph, arcsOf, met, Rising, InOrder, Numbered, Canonical}
 use Rattle.theory.specs.Descr.{Desc, desc, Disjs, end, _and_, Alts, fail, _or_, disjs, alts}
 use Rattle.theory.specs.Layout.{arc-words, node-words, nodes-words, words, disjs-words, alts-words, ArcsFit, NodeFits, GraphFits, WellFormed, WellAll, WellAny}
-use Rattle.layout.specs.declared.reading.Arc.{Arc}
-use Rattle.layout.specs.declared.reading.Arc.the-variants.{Meets, Misplaced}
-use Rattle.layout.specs.declared.reading.Walk.{Walk}
-use Rattle.layout.specs.declared.reading.Walk.the-variants.{Went, Stopped}
-use Rattle.layout.specs.declared.reading.Read.{Read}
-use Rattle.layout.specs.declared.reading.Read.the-variants.{Fine, Wrong}
-use Rattle.layout.specs.Reading.{times, arcAt, arcsFrom, arcsAt, nodeAt, nodesAt, graphAt, disjunctionAt, descriptionAt}
-use Rattle.layout.specs.Standing.{Stands, graph-words, disjunction-words}
+use Rattle.layout.specs.declared.reading.Arc.the-variants.{Meets}
+use Rattle.layout.specs.declared.reading.Walk.the-variants.{Went}
+use Rattle.layout.specs.declared.reading.Read.the-variants.{Fine}
+use Rattle.layout.specs.Reading.{times, arcAt, arcsFrom, nodeAt, nodesAt, graphAt, disjunctionAt, descriptionAt}
+use Rattle.layout.specs.Standing.{Stands, graph-words}
 use Rattle.layout.proofs.Laws.{arc-met, arc-next, arcs-there, node-arcs, node-atom, graph-nodes, description-times, disjunction-times}
 use Rattle.layout.proofs.Sound.{met-keeps}
 use Rattle.layout.proofs.Standing.{stands-nil, stands-atom, stands-node, stands-arc, stands-arcs, stands-within, stands-graph, stands-nodes, stands-description, stands-disjunctions, stands-disjunction, stands-alternatives}

@@ -3,14 +3,14 @@
 use Prim.Native.Nat.{ℕ, zero, suc, _+_, _-_, _≤_, _<_}
 use native.Mathlib.Omega.{arith}
 use native.Mathlib.Numerals.{sub-one}
-use mathlib.Core.Path.{_≡_, refl, sym, ap, _∙_}
-use mathlib.Core.List.{List, [], _∷_, _++_}
-use lib.ListN.{length, getD}
-use Rattle.theory.specs.Limits.{code-limit, depth-limit}
+use mathlib.Core.Path.{_≡_, sym, _∙_}
+use mathlib.Core.List.{List, [], _∷_}
+use lib.ListN.{length}
+use Rattle.theory.specs.Limits.{depth-limit}
 use Rattle.theory.specs.Net.{Node, atom, arcs, Graph}
 use Rattle.theory.specs.Descr.{Desc, desc, Disjs, end, _and_, Alts, fail, _or_, disjs, alts}
 use Rattle.theory.specs.Layout.{arc-words, node-words, nodes-words, words, disjs-words, alts-words, NodeFits, GraphFits, WellFormed, WellAll, WellAny}
-use Rattle.layout.specs.Standing.{Stands, graph-words, disjunction-words}
+use Rattle.layout.specs.Standing.{Stands, graph-words}
 use Rattle.layout.specs.Skipping.{ends, nodeEnd, graphEnd, disjunctionEnd, nestedEnd, descriptionEnd}
 use Rattle.layout.proofs.Skips.{node-end-atom, node-end-arcs, ends-step, graph-end-nodes, nested-end-disjunctions, disjunction-end-alternatives}
 use Rattle.layout.proofs.Standing.{stands-nil, stands-atom, stands-node, stands-arcs, stands-within, stands-graph, stands-nodes, stands-description, stands-disjunctions, stands-disjunction, stands-alternatives}

@@ -13,11 +13,10 @@ use native.Mathlib.Omega.{arith}
 use Rattle.theory.specs.Limits.{code-limit}
 use Rattle.layout.specs.declared.reading.Arc.{Arc}
 use Rattle.layout.specs.declared.reading.Arc.the-variants.{Meets, Misplaced}
-use Rattle.layout.specs.declared.reading.Walk.{Walk}
 use Rattle.layout.specs.declared.reading.Walk.the-variants.{Went, Stopped}
 use Rattle.layout.specs.declared.reading.Read.{Read}
 use Rattle.layout.specs.declared.reading.Read.the-variants.{Fine, Wrong}
-use Rattle.layout.specs.Reading.{pick, then, walk, word, past, times, arcAt, arcsFrom, arcsAt, nodeAt, nodesAt, graphAt, disjunctionOf, descriptionOf, disjunctionAt, descriptionAt}
+use Rattle.layout.specs.Reading.{pick, times, arcAt, arcsFrom, arcsAt, nodeAt, nodesAt, graphAt, disjunctionOf, descriptionOf, disjunctionAt, descriptionAt}
 
 module _ (n low met f t : ℕ) where
   pub arc-low : f < low → Misplaced ≡ arcAt n low met f t

@@ -4,7 +4,7 @@ use Prim.Native.Nat.{ℕ, zero, suc, _+_, _-_, _≤_, _<_, max}
 use native.Mathlib.Omega.{arith}
 use native.Mathlib.Numerals.{add-one}
 use mathlib.Core.Path.{_≡_, refl, sym, subst, ap}
-use mathlib.Core.List.{List, [], _∷_, _++_}
+use mathlib.Core.List.{List, [], _∷_}
 use mathlib.Core.Bool.{Bool, true, false}
 use lib.ListN.{length, getD}
 use lib.Dec.{ltb, leb}
@@ -19,9 +19,9 @@ use Rattle.layout.specs.declared.reading.Walk.{Walk}
 use Rattle.layout.specs.declared.reading.Walk.the-variants.{Went, Stopped}
 use Rattle.layout.specs.declared.reading.Read.{Read}
 use Rattle.layout.specs.declared.reading.Read.the-variants.{Fine, Wrong}
-use Rattle.layout.specs.Reading.{pick, past, walk, then, word, times, arcAt, arcsFrom, arcsAt, nodeAt, nodesAt, graphAt, disjunctionOf, descriptionOf, disjunctionAt, descriptionAt}
+use Rattle.layout.specs.Reading.{pick, past, walk, then, times, arcAt, arcsFrom, arcsAt, nodeAt, nodesAt, graphAt, disjunctionOf, descriptionOf, disjunctionAt, descriptionAt}
 use Rattle.layout.specs.Standing.{Stands, graph-words, disjunction-words}
-use Rattle.layout.proofs.Laws.{pick-meets, misplaced}
+use Rattle.layout.proofs.Laws.{pick-meets}
 use Rattle.layout.proofs.Standing.{stands-nil, stands-cons, stands-arc, stands-nodes, stands-description, stands-disjunctions, stands-alternatives}
 
 -- a reading that went well took the good way at each test

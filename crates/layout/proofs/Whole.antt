@@ -11,8 +11,7 @@ use Rattle.theory.specs.Limits.{depth-limit}
 use Rattle.theory.specs.Descr.{Desc}
 use Rattle.theory.specs.Layout.{words, WellFormed, Image}
 use Rattle.theory.specs.Reading.{decode}
-use Rattle.theory.proofs.Decode.{Decoded, is, malformed, decoded, decode-iff, one-image}
-use Rattle.layout.specs.declared.reading.Read.{Read}
+use Rattle.theory.proofs.Decode.{Decoded, is, decoded, decode-iff, one-image}
 use Rattle.layout.specs.declared.reading.Read.the-variants.{Fine, Wrong}
 use Rattle.layout.specs.declared.reading.Judgement.{Judgement}
 use Rattle.layout.specs.declared.reading.Judgement.the-variants.{Accepted, Malformed}

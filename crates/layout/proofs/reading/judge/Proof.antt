@@ -1,11 +1,9 @@
+-- `layout::reading::judge` meets its contract: the reading is sound and complete.
+-- Assumes nothing.
 use borrow.Author.Needs.{needs}
-use mathlib.Core.Path.{sym, _∙_}
 use Rattle.layout.proofs.Whole.{judged-accepted, judged-wrong, judged-short}
 use Rattle.layout.proofs.reading.judge.Statement.{statement}
 use Rattle.layout.proofs.reading.judge.Tie as tie
-use Rattle.layout.proofs.reading.judge.Reads as reads
-use Rattle.layout.proofs.reading.judge.Lts as lts
-use Rattle.layout.proofs.reading.read_description.Reads as read-description-reads
 
 read-description-requires : tie.Need-read-description-requires
 read-description-requires c κs = search needs

@@ -1,3 +1,5 @@
+-- `layout::reading::read_arc` meets its contract: one law for each answer.
+-- Assumes nothing.
 use borrow.Author.Needs.{needs}
 use native.Mathlib.Omega.{arith}
 use Rattle.layout.proofs.Laws.{arc-low, arc-high, arc-met, arc-far, arc-no-node, arc-next}

@@ -1,3 +1,5 @@
+-- `layout::reading::read_arcs` meets its contract: what is left of the arcs reads as all of them do, and their words are there.
+-- Assumes nothing.
 use borrow.Author.Needs.{needs}
 use native.Mathlib.Omega.{arith}
 use mathlib.Core.Path.{_≡_, sym, _∙_}
@@ -7,10 +9,6 @@ use Rattle.layout.specs.Reading.{arcsFrom, arcsAt}
 use Rattle.layout.proofs.Laws.{arc-feature, arcs-short, arcs-there, arcs-done, arcs-stop, arcs-step}
 use Rattle.layout.proofs.reading.read_arcs.Statement.{statement}
 use Rattle.layout.proofs.reading.read_arcs.Tie as tie
-use Rattle.layout.proofs.reading.read_arcs.Reads as reads
-use Rattle.layout.proofs.reading.read_arcs.Lts as lts
-use Rattle.layout.proofs.reading.read_arc.Reads as read-arc-reads
-use Rattle.layout.proofs.width.wide.Reads as wide-reads
 
 abbrev Inv-loop : tie.InvT-loop
 Inv-loop ws p count nodes first at₀ left₀ low₀ met₀ at left low met = (at + (left + left) ≤ length ws) × (arcsAt ws nodes count first p ≡ arcsFrom ws nodes left low met at)

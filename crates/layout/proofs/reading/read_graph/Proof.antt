@@ -1,12 +1,11 @@
+-- `layout::reading::read_graph` meets its contract: one law for each answer.
+-- Assumes nothing.
 use borrow.Author.Needs.{needs}
 use native.Mathlib.Omega.{arith}
 use mathlib.Core.Path.{_∙_}
 use Rattle.layout.proofs.Laws.{graph-none, graph-empty, graph-nodes}
 use Rattle.layout.proofs.reading.read_graph.Statement.{statement}
 use Rattle.layout.proofs.reading.read_graph.Tie as tie
-use Rattle.layout.proofs.reading.read_graph.Reads as reads
-use Rattle.layout.proofs.reading.read_graph.Lts as lts
-use Rattle.layout.proofs.reading.read_nodes.Reads as read-nodes-reads
 
 returns : tie.Need-returns
 returns c = graph-none _ _ (omega arith)

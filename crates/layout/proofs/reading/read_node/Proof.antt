@@ -1,12 +1,11 @@
+-- `layout::reading::read_node` meets its contract: one law for each answer.
+-- Assumes nothing.
 use borrow.Author.Needs.{needs}
 use native.Mathlib.Omega.{arith}
 use mathlib.Core.Path.{_∙_}
 use Rattle.layout.proofs.Laws.{node-unmet, node-none, node-arcs, node-bad, node-atom}
 use Rattle.layout.proofs.reading.read_node.Statement.{statement}
 use Rattle.layout.proofs.reading.read_node.Tie as tie
-use Rattle.layout.proofs.reading.read_node.Reads as reads
-use Rattle.layout.proofs.reading.read_node.Lts as lts
-use Rattle.layout.proofs.reading.read_arcs.Reads as read-arcs-reads
 
 returns : tie.Need-returns
 returns c = node-unmet _ _ _ _ _ (omega arith)

@@ -1,15 +1,14 @@
+-- `layout::reading::read_nodes` meets its contract: what is left of the nodes reads as all of them do.
+-- Assumes nothing.
 use borrow.Author.Needs.{needs}
 use native.Mathlib.Omega.{arith}
 use native.Mathlib.Nat.{sub-zero}
-use mathlib.Core.Path.{_≡_, refl, sym, _∙_}
+use mathlib.Core.Path.{_≡_, sym, _∙_}
 use Prim.Native.Nat.{_≤_, _-_}
 use Rattle.layout.specs.Reading.{nodesAt}
 use Rattle.layout.proofs.Laws.{nodes-done, nodes-stop, nodes-step}
 use Rattle.layout.proofs.reading.read_nodes.Statement.{statement}
 use Rattle.layout.proofs.reading.read_nodes.Tie as tie
-use Rattle.layout.proofs.reading.read_nodes.Reads as reads
-use Rattle.layout.proofs.reading.read_nodes.Lts as lts
-use Rattle.layout.proofs.reading.read_node.Reads as read-node-reads
 
 abbrev Inv-loop : tie.InvT-loop
 Inv-loop ws p nodes at₀ i₀ met₀ at i met = (i ≤ nodes) × (nodesAt ws nodes nodes 0 1 p ≡ nodesAt ws nodes (nodes - i) i met at)

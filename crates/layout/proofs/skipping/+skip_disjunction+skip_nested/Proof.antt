@@ -1,10 +1,11 @@
+-- `layout::skipping::skip_disjunction` and `layout::skipping::skip_nested`, which call each other, meet their contracts: what is left of a list ends where the whole does, and the depth falls.
+-- Assumes nothing.
 use borrow.Author.Needs.{needs}
 use native.Mathlib.Omega.{arith}
 use mathlib.Core.Path.{_≡_, sym, _∙_}
 use Prim.Native.Nat.{ℕ, _<_, _+_, _*_, _-_}
 use Rattle.layout.specs.Skipping.{ends, disjunctionEnd, nestedEnd}
 use Rattle.layout.proofs.Skips.{ends-done, ends-out, ends-step, nested-end-none, nested-end-disjunctions, disjunction-end-deep, disjunction-end-none, disjunction-end-alternatives}
-use Prim.Native.Nat.{ℕ, _<_}
 use borrow.Fn.Kinds.{In}
 use borrow.Fn.PlainCycle.{Measures, is, falls, and}
 use Rattle.layout.proofs.skipping.skip_disjunction.Reads as skip-disjunction

@@ -1,3 +1,5 @@
+-- `layout::skipping::skip_graph` meets its contract: what is left of the nodes ends where all of them do.
+-- Assumes nothing.
 use borrow.Author.Needs.{needs}
 use native.Mathlib.Omega.{arith}
 use mathlib.Core.Path.{_≡_, sym, _∙_}
@@ -5,9 +7,6 @@ use Rattle.layout.specs.Skipping.{ends, nodeEnd, graphEnd}
 use Rattle.layout.proofs.Skips.{graph-end-none, graph-end-nodes, ends-done, ends-out, ends-step}
 use Rattle.layout.proofs.skipping.skip_graph.Statement.{statement}
 use Rattle.layout.proofs.skipping.skip_graph.Tie as tie
-use Rattle.layout.proofs.skipping.skip_graph.Reads as reads
-use Rattle.layout.proofs.skipping.skip_graph.Lts as lts
-use Rattle.layout.proofs.skipping.skip_node.Reads as skip-node-reads
 
 abbrev Inv-loop : tie.InvT-loop
 Inv-loop ws p count₀ at₀ count at = graphEnd ws p ≡ ends ws (nodeEnd ws) count at

@@ -1,12 +1,11 @@
+-- `layout::skipping::skip_node` meets its contract: one law for each answer.
+-- Assumes nothing.
 use borrow.Author.Needs.{needs}
 use native.Mathlib.Omega.{arith}
 use mathlib.Core.Path.{_∙_}
 use Rattle.layout.proofs.Skips.{node-end-none, node-end-atom, node-end-short, node-end-arcs}
 use Rattle.layout.proofs.skipping.skip_node.Statement.{statement}
 use Rattle.layout.proofs.skipping.skip_node.Tie as tie
-use Rattle.layout.proofs.skipping.skip_node.Reads as reads
-use Rattle.layout.proofs.skipping.skip_node.Lts as lts
-use Rattle.layout.proofs.width.wide.Reads as wide-reads
 
 returns : tie.Need-returns
 returns c = node-end-none _ _ (omega arith)
