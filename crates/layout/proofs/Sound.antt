@@ -19,7 +19,7 @@ use Rattle.layout.specs.declared.reading.Walk.{Walk}
 use Rattle.layout.specs.declared.reading.Walk.the-variants.{Went, Stopped}
 use Rattle.layout.specs.declared.reading.Read.{Read}
 use Rattle.layout.specs.declared.reading.Read.the-variants.{Fine, Wrong}
-use Rattle.layout.specs.Reading.{pick, past, walk, then, times, arcAt, arcsFrom, arcsAt, nodeAt, nodesAt, graphAt, disjunctionOf, descriptionOf, disjunctionAt, descriptionAt}
+use Rattle.layout.specs.Reading.{pick, past, walk, then, times, readArc, arcsFrom, readArcs, readNode, readNodes, readGraph, disjunctionOf, descriptionOf, readDisjunction, readDescription}
 use Rattle.layout.specs.Standing.{Stands, graph-words, disjunction-words}
 use Rattle.layout.proofs.Laws.{pick-meets}
 use Rattle.layout.proofs.Standing.{stands-nil, stands-cons, stands-arc, stands-nodes, stands-description, stands-disjunctions, stands-alternatives}
@@ -51,8 +51,8 @@ then-fine : (r : Read) (f : ℕ → Read) {q : ℕ} → then r f ≡ Fine q → 
 then-fine (Fine p) f e = (p, refl)
 then-fine Wrong f e = absurd (wrong e)
 
-arc-sound : (n low m f t after : ℕ) → arcAt n low m f t ≡ Meets after → (low ≤ f) × (f < code-limit) × (t ≤ m) × (after ≡ max m (suc t)) × (m ≤ n → after ≤ n)
-unfolding arcAt
+arc-sound : (n low m f t after : ℕ) → readArc n low m f t ≡ Meets after → (low ≤ f) × (f < code-limit) × (t ≤ m) × (after ≡ max m (suc t)) × (m ≤ n → after ≤ n)
+unfolding readArc
 arc-sound n low m f t after e =
     let a = pick-meets (leb low f) _ e in
     let b = pick-meets (ltb f code-limit) _ (a .1) in
@@ -84,7 +84,7 @@ module _ (ws : List ℕ) where
   arcs-sound n (suc k) low m p q after h room e =
       let f = getD ws p 0 in
       let t = getD ws (p + 1) 0 in
-      let a = past-went (arcAt n low m f t) _ e in
+      let a = past-went (readArc n low m f t) _ e in
       let b = arc-sound n low m f t (a .0) (a .1) in
       let i = arcs-sound n k (f + 1) (max m (suc t)) (p + 2) q after (rw (b .3) at (b .4 h)) (omega arith) (rw (← b .3) (rw (a .1) at e)) in (
         (f, t) ∷ i .0,
@@ -101,8 +101,8 @@ module _ (ws : List ℕ) where
   NodeSound n m p q after = (v : Node) × NodeFits v × Rising 0 (arcsOf v) × InOrder m (arcsOf v) × (after ≡ met m (arcsOf v)) × (after ≤ n) × Stands ws p (node-words v) q
 
   node-head : (n m p q after : ℕ) (b : Bool) → ltb (getD ws p 0) code-limit ≡ b → m ≤ n → p < length ws
-      → pick b (arcsAt ws n (getD ws p 0) m (p + 1)) (pick (ltb (getD ws p 0 - code-limit) code-limit) (Went (p + 1) m) Stopped) ≡ Went q after → NodeSound n m p q after
-  unfolding NodeSound arcsAt
+      → pick b (readArcs ws n (getD ws p 0) m (p + 1)) (pick (ltb (getD ws p 0 - code-limit) code-limit) (Went (p + 1) m) Stopped) ≡ Went q after → NodeSound n m p q after
+  unfolding NodeSound readArcs
   node-head n m p q after true h g there e =
       let a = pick-went (leb (p + 1 + (getD ws p 0 + getD ws p 0)) (length ws)) _ e in
       let l = arcs-sound n (getD ws p 0) 0 m (p + 1) q after g (leb-true _ _ (a .0)) (a .1) in
@@ -116,19 +116,19 @@ module _ (ws : List ℕ) where
       let k : m ≡ after = cc in
       (atom (getD ws p 0 - code-limit), small, tt, tt, sym k, omega arith, stands-cons ws (code-limit + (getD ws p 0 - code-limit)) [] p q .1 (there, omega arith, stands-nil ws (p + 1) q .1 (cc)))
 
-  node-sound : (n i m p q after : ℕ) → m ≤ n → nodeAt ws n i m p ≡ Went q after → (i < m) × NodeSound n m p q after
-  unfolding nodeAt
+  node-sound : (n i m p q after : ℕ) → m ≤ n → readNode ws n i m p ≡ Went q after → (i < m) × NodeSound n m p q after
+  unfolding readNode
   node-sound n i m p q after g e =
       let a = pick-went (ltb i m) _ e in
       let b = pick-went (ltb p (length ws)) _ (a .1) in
       (ltb-true _ _ (a .0), node-head n m p q after (ltb (getD ws p 0) code-limit) refl g (ltb-true _ _ (b .0)) (b .1))
 
-  nodes-sound : (n k i m p q : ℕ) → m ≤ n → i ≤ m → i + k ≡ n → nodesAt ws n k i m p ≡ Fine q
+  nodes-sound : (n k i m p q : ℕ) → m ≤ n → i ≤ m → i + k ≡ n → readNodes ws n k i m p ≡ Fine q
       → (g : Graph) × (length g ≡ k) × Numbered i m g × GraphFits g × Stands ws p (nodes-words g) q
-  unfolding nodesAt NodeSound
+  unfolding readNodes NodeSound
   nodes-sound n zero i m p q h l c e = ([], refl, omega arith, tt, stands-nil ws p q .1 (cc))
   nodes-sound n (suc k) i m p q h l c e =
-      let a = walk-fine (nodeAt ws n i m p) _ e in
+      let a = walk-fine (readNode ws n i m p) _ e in
       let s = node-sound n i m p (a .0) (a .1) h (a .2) in
       let v = s .1 .0 in
       let less = s .0 in
@@ -137,8 +137,8 @@ module _ (ws : List ℕ) where
       let r = nodes-sound n k (i + 1) (met m (arcsOf v)) (a .0) q (omega arith) (omega (arith, met-keeps m (arcsOf v))) (omega arith) (rw (← x) (rw (a .2) at e)) in
       (v ∷ r .0, ap suc (r .1), (less, s .1 .2, s .1 .3, subst (λ (k : ℕ). Numbered k (met m (arcsOf v)) (r .0)) (add-one i) (r .2)), (s .1 .1, r .3), stands-nodes ws v (r .0) p q .1 (a .0, s .1 .6, r .4))
 
-  graph-sound : (p q : ℕ) → graphAt ws p ≡ Fine q → (g : Graph) × Canonical g × GraphFits g × Stands ws p (graph-words g) q
-  unfolding graphAt
+  graph-sound : (p q : ℕ) → readGraph ws p ≡ Fine q → (g : Graph) × Canonical g × GraphFits g × Stands ws p (graph-words g) q
+  unfolding readGraph
   graph-sound p q e =
       let a = pick-fine (ltb p (length ws)) _ e in
       let b = pick-fine (leb 1 (getD ws p 0)) _ (a .1) in
@@ -147,46 +147,46 @@ module _ (ws : List ℕ) where
       (x .0, x .2, x .3, stands-cons ws (length (x .0)) (nodes-words (x .0)) p q .1 (ltb-true _ _ (a .0), sym (x .1), x .4))
 
   abbrev DisjunctionSound : ℕ → Type 0
-  DisjunctionSound left = (p q : ℕ) → disjunctionAt left ws p ≡ Fine q → (a : Alts) × WellAll (a and end) left × Stands ws p (disjunction-words a) q
+  DisjunctionSound left = (p q : ℕ) → readDisjunction left ws p ≡ Fine q → (a : Alts) × WellAll (a and end) left × Stands ws p (disjunction-words a) q
 
   abbrev DescriptionSound : ℕ → Type 0
-  DescriptionSound left = (p q : ℕ) → descriptionAt left ws p ≡ Fine q → (d : Desc) × WellFormed d left × Stands ws p (words d) q
+  DescriptionSound left = (p q : ℕ) → readDescription left ws p ≡ Fine q → (d : Desc) × WellFormed d left × Stands ws p (words d) q
 
   well-and : (a : Alts) (ds : Disjs) (left : ℕ) → WellAll (a and end) left → WellAll ds left → WellAll (a and ds) left
   well-and a ds zero h k = h
   well-and a ds (suc left) h k = (h .0, h .1, k)
 
-  disjunctions-sound : (left : ℕ) → DisjunctionSound left → (k p q : ℕ) → times (disjunctionAt left ws) k p ≡ Fine q
+  disjunctions-sound : (left : ℕ) → DisjunctionSound left → (k p q : ℕ) → times (readDisjunction left ws) k p ≡ Fine q
       → (ds : Disjs) × (disjs ds ≡ k) × WellAll ds left × Stands ws p (disjs-words ds) q
   unfolding times
   disjunctions-sound left S zero p q e = (end, refl, tt, stands-nil ws p q .1 (cc))
   disjunctions-sound left S (suc k) p q e =
-      let a = then-fine (disjunctionAt left ws p) _ e in
+      let a = then-fine (readDisjunction left ws p) _ e in
       let x = S p (a .0) (a .1) in
       let r = disjunctions-sound left S k (a .0) q (rw (a .1) at e) in
       (x .0 and r .0, ap suc (r .1), well-and (x .0) (r .0) left (x .1) (r .2), stands-disjunctions ws (x .0) (r .0) p q .1 (a .0, x .2, r .3))
 
-  alternatives-sound : (left : ℕ) → DescriptionSound left → (k p q : ℕ) → times (descriptionAt left ws) k p ≡ Fine q
+  alternatives-sound : (left : ℕ) → DescriptionSound left → (k p q : ℕ) → times (readDescription left ws) k p ≡ Fine q
       → (a : Alts) × (alts a ≡ k) × WellAny a left × Stands ws p (alts-words a) q
   unfolding times
   alternatives-sound left S zero p q e = (fail, refl, tt, stands-nil ws p q .1 (cc))
   alternatives-sound left S (suc k) p q e =
-      let a = then-fine (descriptionAt left ws p) _ e in
+      let a = then-fine (readDescription left ws p) _ e in
       let x = S p (a .0) (a .1) in
       let r = alternatives-sound left S k (a .0) q (rw (a .1) at e) in
       (x .0 or r .0, ap suc (r .1), (x .1, r .2), stands-alternatives ws (x .0) (r .0) p q .1 (a .0, x .2, r .3))
 
   description-sound : (left : ℕ) → DisjunctionSound left → DescriptionSound left
-  unfolding descriptionAt descriptionOf
+  unfolding readDescription descriptionOf
   description-sound left S p q e =
-      let a = then-fine (graphAt ws p) _ e in
+      let a = then-fine (readGraph ws p) _ e in
       let g = graph-sound p (a .0) (a .1) in
       let b = pick-fine (ltb (a .0) (length ws)) _ (rw (a .1) at e) in
       let ds = disjunctions-sound left S (getD ws (a .0) 0) (a .0 + 1) q (b .1) in
       (desc (g .0) (ds .0), (g .1, g .2, ds .2), stands-description ws (g .0) (ds .0) p q .1 (a .0, g .3, ltb-true _ _ (b .0), sym (ds .1), ds .3))
 
   disjunction-sound : (left : ℕ) → DisjunctionSound left
-  unfolding disjunctionAt disjunctionOf descriptionAt
+  unfolding readDisjunction disjunctionOf readDescription
   disjunction-sound zero p q e = absurd (wrong e)
   disjunction-sound (suc left) p q e =
       let a = pick-fine (ltb p (length ws)) _ e in

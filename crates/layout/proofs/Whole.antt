@@ -15,7 +15,7 @@ use Rattle.theory.proofs.Decode.{Decoded, is, decoded, decode-iff, one-image}
 use Rattle.layout.specs.declared.reading.Read.the-variants.{Fine, Wrong}
 use Rattle.layout.specs.declared.reading.Judgement.{Judgement}
 use Rattle.layout.specs.declared.reading.Judgement.the-variants.{Accepted, Malformed}
-use Rattle.layout.specs.Reading.{descriptionAt}
+use Rattle.layout.specs.Reading.{readDescription}
 use Rattle.layout.specs.Judged.{Judged}
 use Rattle.layout.proofs.Standing.{stands-whole}
 use Rattle.layout.proofs.Sound.{sound, wrong}
@@ -28,29 +28,29 @@ same : {p q : ℕ} → Fine p ≡ Fine q → p ≡ q
 same e = cc
 
 module _ (ws : List ℕ) where
-  pub read-iff : (descriptionAt depth-limit ws 0 ≡ Fine (length ws)) ↔ Image ws
+  pub read-iff : (readDescription depth-limit ws 0 ≡ Fine (length ws)) ↔ Image ws
   read-iff = (
     λ e. let d = sound ws depth-limit 0 (length ws) e in (d .0, d .1, stands-whole ws (words (d .0)) .1 (d .2)),
     λ i. complete ws (i .0) depth-limit 0 (length ws) (i .1) (stands-whole ws (words (i .0)) .0 (i .2)),
   )
 
-  pub judged-accepted : Fine (length ws) ≡ descriptionAt depth-limit ws 0 → Judged ws Accepted
+  pub judged-accepted : Fine (length ws) ≡ readDescription depth-limit ws 0 → Judged ws Accepted
   judged-accepted e = record { sound = λ _. read-iff .0 (sym e); complete = λ _. refl }
 
   refused : ¬ (Image ws) → Judged ws Malformed
   refused n = record { sound = λ e. absurd (apart e); complete = λ i. absurd (n i) }
 
-  pub judged-wrong : Wrong ≡ descriptionAt depth-limit ws 0 → Judged ws Malformed
+  pub judged-wrong : Wrong ≡ readDescription depth-limit ws 0 → Judged ws Malformed
   judged-wrong e = refused (λ i. wrong (e ∙ read-iff .1 i))
 
-  pub judged-short : (q : ℕ) → Fine q ≡ descriptionAt depth-limit ws 0 → (q ≡ length ws → ⊥) → Judged ws Malformed
+  pub judged-short : (q : ℕ) → Fine q ≡ readDescription depth-limit ws 0 → (q ≡ length ws → ⊥) → Judged ws Malformed
   judged-short q e h = refused (λ i. h (same (e ∙ read-iff .1 i)))
 
   image-decodes : Image ws ↔ ((d : Desc) × (decode ws ≡ some d))
   image-decodes = (λ i. (i .0, decode-iff ws (i .0) .1 (i .1, i .2)), λ d. let p = decode-iff ws (d .0) .0 (d .1) in (d .0, p .0, p .1))
 
   -- the reading and the theory's `decode` accept the same words
-  pub read-decodes : (descriptionAt depth-limit ws 0 ≡ Fine (length ws)) ↔ ((d : Desc) × (decode ws ≡ some d))
+  pub read-decodes : (readDescription depth-limit ws 0 ≡ Fine (length ws)) ↔ ((d : Desc) × (decode ws ≡ some d))
   read-decodes = (λ e. image-decodes .0 (read-iff .0 e), λ d. read-iff .1 (image-decodes .1 d))
 
   module _ (r : Judgement) (j : Judged ws r) where

@@ -14,7 +14,7 @@ use Rattle.layout.specs.declared.reading.Read.{Read}
 use Rattle.layout.specs.declared.reading.Read.the-variants.{Fine, Wrong}
 
 -- a choice by a test
-abbrev pub pick {ℓ} : {A : Type ℓ} → Bool → A → A → A
+abbrev pub pick : {A : Type 0} → Bool → A → A → A
 pick true a b = a
 pick false a b = b
 
@@ -43,32 +43,32 @@ times f zero p = Fine p
 times f (suc k) p = then (f p) (times f k)
 
 -- "feature 0..65,535", "Features rise strictly within a node": here from low on. "a target is either a number already met or the next unused one (0 counts as met), and below the node count" n
-unfoldable pub arcAt : ℕ → ℕ → ℕ → ℕ → ℕ → Arc
-arcAt n low met f t =
+unfoldable pub readArc : ℕ → ℕ → ℕ → ℕ → ℕ → Arc
+readArc n low met f t =
     pick (leb low f) (pick (ltb f code-limit) (pick (ltb t met) (Meets met) (pick (leb t met) (pick (ltb t n) (Meets (t + 1)) Misplaced) Misplaced)) Misplaced) Misplaced
 
 -- k arcs whose words are there
 unfoldable pub arcsFrom : List ℕ → ℕ → ℕ → ℕ → ℕ → ℕ → Walk
 arcsFrom ws n zero low met p = Went p met
-arcsFrom ws n (suc k) low met p = past (arcAt n low met (getD ws p 0) (getD ws (p + 1) 0)) (λ after. arcsFrom ws n k (getD ws p 0 + 1) after (p + 2))
+arcsFrom ws n (suc k) low met p = past (readArc n low met (getD ws p 0) (getD ws (p + 1) 0)) (λ after. arcsFrom ws n k (getD ws p 0 + 1) after (p + 2))
 
 -- "An arc is two words": the k arcs of a node
-unfoldable pub arcsAt : List ℕ → ℕ → ℕ → ℕ → ℕ → Walk
-arcsAt ws n k met p = pick (leb (p + (k + k)) (length ws)) (arcsFrom ws n k 0 met p) Stopped
+unfoldable pub readArcs : List ℕ → ℕ → ℕ → ℕ → ℕ → Walk
+readArcs ws n k met p = pick (leb (p + (k + k)) (length ws)) (arcsFrom ws n k 0 met p) Stopped
 
 -- "each node has been met before its own head is read". "Head 0..65,535 is the number of arcs; head 65,536..131,071 is the atom numbered head - 65,536, with no arcs": node i
-unfoldable pub nodeAt : List ℕ → ℕ → ℕ → ℕ → ℕ → Walk
-nodeAt ws n i met p =
-    pick (ltb i met) (word ws p Stopped (λ h q. pick (ltb h code-limit) (arcsAt ws n h met q) (pick (ltb (h - code-limit) code-limit) (Went q met) Stopped))) Stopped
+unfoldable pub readNode : List ℕ → ℕ → ℕ → ℕ → ℕ → Walk
+readNode ws n i met p =
+    pick (ltb i met) (word ws p Stopped (λ h q. pick (ltb h code-limit) (readArcs ws n h met q) (pick (ltb (h - code-limit) code-limit) (Went q met) Stopped))) Stopped
 
 -- k nodes from node i on
-unfoldable pub nodesAt : List ℕ → ℕ → ℕ → ℕ → ℕ → ℕ → Read
-nodesAt ws n zero i met p = Fine p
-nodesAt ws n (suc k) i met p = walk (nodeAt ws n i met p) (λ q after. nodesAt ws n k (i + 1) after q)
+unfoldable pub readNodes : List ℕ → ℕ → ℕ → ℕ → ℕ → ℕ → Read
+readNodes ws n zero i met p = Fine p
+readNodes ws n (suc k) i met p = walk (readNode ws n i met p) (λ q after. readNodes ws n k (i + 1) after q)
 
 -- "graph: node count (at least 1), then each node in order"
-unfoldable pub graphAt : List ℕ → ℕ → Read
-graphAt ws p = word ws p Wrong (λ n q. pick (leb 1 n) (nodesAt ws n n 0 1 q) Wrong)
+unfoldable pub readGraph : List ℕ → ℕ → Read
+readGraph ws p = word ws p Wrong (λ n q. pick (leb 1 n) (readNodes ws n n 0 1 q) Wrong)
 
 -- "each disjunction: number of alternatives (at least 2), then each alternative as a description"
 unfoldable pub disjunctionOf : (ℕ → Read) → List ℕ → ℕ → Read
@@ -76,13 +76,13 @@ disjunctionOf alternative ws p = word ws p Wrong (λ m q. pick (leb 2 m) (times 
 
 -- a graph, "then the number of disjunctions, and each disjunction"
 unfoldable pub descriptionOf : (ℕ → Read) → List ℕ → ℕ → Read
-descriptionOf disjunction ws p = then (graphAt ws p) (λ q. word ws q Wrong (λ k r. times disjunction k r))
+descriptionOf disjunction ws p = then (readGraph ws p) (λ q. word ws q Wrong (λ k r. times disjunction k r))
 
 -- "reading goes back and forth between the two, down to that depth": a disjunction under which alternatives nest at most `left` deep, so its own take one of them
-unfoldable pub disjunctionAt : ℕ → List ℕ → ℕ → Read
-disjunctionAt zero ws p = Wrong
-disjunctionAt (suc left) ws p = disjunctionOf (descriptionOf (disjunctionAt left ws) ws) ws p
+unfoldable pub readDisjunction : ℕ → List ℕ → ℕ → Read
+readDisjunction zero ws p = Wrong
+readDisjunction (suc left) ws p = disjunctionOf (descriptionOf (readDisjunction left ws) ws) ws p
 
 -- a description under which alternatives nest at most `left` deep
-unfoldable pub descriptionAt : ℕ → List ℕ → ℕ → Read
-descriptionAt left ws p = descriptionOf (disjunctionAt left ws) ws p
+unfoldable pub readDescription : ℕ → List ℕ → ℕ → Read
+readDescription left ws p = descriptionOf (readDisjunction left ws) ws p

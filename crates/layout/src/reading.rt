@@ -3,7 +3,7 @@ use crate::limits::CODE_LIMIT;
 use crate::limits::DEPTH_LIMIT;
 use crate::width::wide;
 ghost use mathlib.Core.Path.{_≡_};
-ghost use Rattle.layout.specs.Reading.{arcAt, arcsAt, nodeAt, nodesAt, graphAt, disjunctionAt, descriptionAt};
+ghost use Rattle.layout.specs.Reading.{readArc, readArcs, readNode, readNodes, readGraph, readDisjunction, readDescription};
 ghost use Rattle.layout.specs.Judged.{Judged};
 
 // What an arc leads to: so many nodes are met after it, or it may not stand here.
@@ -32,7 +32,7 @@ pub enum Judgement {
 
 // Judges an arc, where features from `low` on may stand and the nodes below `met`, of `nodes`, are met.
 fn read_arc(feature: u32, target: u32, low: u32, nodes: u32, met: u32) -> Arc
-    ensures { λ r. ⌜ r ≡ arcAt nodes low met feature target ⌝ }
+    ensures { λ r. ⌜ r ≡ readArc nodes low met feature target ⌝ }
 {
     if feature < low {
         return Arc::Misplaced;
@@ -54,7 +54,7 @@ fn read_arc(feature: u32, target: u32, low: u32, nodes: u32, met: u32) -> Arc
 
 // Reads the `count` arcs of a node; that their words are there is tested once, for all.
 fn read_arcs(ws: &[u32], p: usize, count: u32, nodes: u32, first: u32) -> Walk
-    ensures { λ r. ⌜ r ≡ arcsAt (now (ws .entry)) nodes count first p ⌝ }
+    ensures { λ r. ⌜ r ≡ readArcs (now (ws .entry)) nodes count first p ⌝ }
 {
     if ws.len() < p {
         return Walk::Stopped;
@@ -83,7 +83,7 @@ fn read_arcs(ws: &[u32], p: usize, count: u32, nodes: u32, first: u32) -> Walk
 
 // Reads node i: its head, and its arcs.
 fn read_node(ws: &[u32], p: usize, i: u32, nodes: u32, met: u32) -> Walk
-    ensures { λ r. ⌜ r ≡ nodeAt (now (ws .entry)) nodes i met p ⌝ }
+    ensures { λ r. ⌜ r ≡ readNode (now (ws .entry)) nodes i met p ⌝ }
 {
     if met <= i {
         return Walk::Stopped;
@@ -103,7 +103,7 @@ fn read_node(ws: &[u32], p: usize, i: u32, nodes: u32, met: u32) -> Walk
 
 // Reads all nodes of a graph of so many nodes.
 fn read_nodes(ws: &[u32], p: usize, nodes: u32) -> Read
-    ensures { λ r. ⌜ r ≡ nodesAt (now (ws .entry)) nodes nodes 0 1 p ⌝ }
+    ensures { λ r. ⌜ r ≡ readNodes (now (ws .entry)) nodes nodes 0 1 p ⌝ }
 {
     let mut at = p;
     let mut i: u32 = 0;
@@ -125,7 +125,7 @@ fn read_nodes(ws: &[u32], p: usize, nodes: u32) -> Read
 }
 
 fn read_graph(ws: &[u32], p: usize) -> Read
-    ensures { λ r. ⌜ r ≡ graphAt (now (ws .entry)) p ⌝ }
+    ensures { λ r. ⌜ r ≡ readGraph (now (ws .entry)) p ⌝ }
 {
     if ws.len() <= p {
         return Read::Wrong;
@@ -139,7 +139,7 @@ fn read_graph(ws: &[u32], p: usize) -> Read
 
 // Reads a description whose alternatives may nest `left` deep: a graph, and its disjunctions.
 fn read_description(ws: &[u32], p: usize, left: u32) -> Read
-    ensures { λ r. ⌜ r ≡ descriptionAt left (now (ws .entry)) p ⌝ }
+    ensures { λ r. ⌜ r ≡ readDescription left (now (ws .entry)) p ⌝ }
 {
     let graph = read_graph(ws, p);
     let Read::Fine(q) = graph else {
@@ -167,7 +167,7 @@ fn read_description(ws: &[u32], p: usize, left: u32) -> Read
 
 // Reads a disjunction whose own alternatives are one of the `left` levels: their number, and each as a description.
 fn read_disjunction(ws: &[u32], p: usize, left: u32) -> Read
-    ensures { λ r. ⌜ r ≡ disjunctionAt left (now (ws .entry)) p ⌝ }
+    ensures { λ r. ⌜ r ≡ readDisjunction left (now (ws .entry)) p ⌝ }
 {
     if left == 0 {
         return Read::Wrong;

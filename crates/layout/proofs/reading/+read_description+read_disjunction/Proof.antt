@@ -4,7 +4,7 @@ use borrow.Author.Needs.{needs}
 use native.Mathlib.Omega.{arith}
 use mathlib.Core.Path.{_≡_, sym, _∙_}
 use Prim.Native.Nat.{ℕ, _<_, _+_, _*_, _-_}
-use Rattle.layout.specs.Reading.{times, disjunctionAt, descriptionAt}
+use Rattle.layout.specs.Reading.{times, readDisjunction, readDescription}
 use Rattle.layout.proofs.Laws.{times-done, times-stop, times-step, description-no-graph, description-none, description-times, disjunction-deep, disjunction-none, disjunction-few, disjunction-times}
 use borrow.Fn.Kinds.{In}
 use borrow.Fn.PlainCycle.{Measures, is, falls, and}
@@ -57,7 +57,7 @@ read-disjunction-below t =
     read-disjunction.Pre
 
 abbrev read-description-Inv-loop : read-description-lts.InvT-loop
-read-description-Inv-loop ws p left q count₀ at₀ count at = descriptionAt left ws p ≡ times (disjunctionAt left ws) count at
+read-description-Inv-loop ws p left q count₀ at₀ count at = readDescription left ws p ≡ times (readDisjunction left ws) count at
 
 abbrev read-description-μ-loop : read-description-lts.MeasureT-loop
 read-description-μ-loop ws p left q count₀ at₀ count at = count
@@ -214,7 +214,7 @@ read-description-returns-4 : (t : ℕ) → read-description-lts.Need-returns-4 (
 read-description-returns-4 t c = times-done _ _ _ (omega arith) ∙ sym (c .before .loop .inv)
 
 abbrev read-disjunction-Inv-loop : read-disjunction-lts.InvT-loop
-read-disjunction-Inv-loop ws p left count₀ at₀ count at = disjunctionAt left ws p ≡ times (descriptionAt (left - 1) ws) count at
+read-disjunction-Inv-loop ws p left count₀ at₀ count at = readDisjunction left ws p ≡ times (readDescription (left - 1) ws) count at
 
 abbrev read-disjunction-μ-loop : read-disjunction-lts.MeasureT-loop
 read-disjunction-μ-loop ws p left count₀ at₀ count at = count
