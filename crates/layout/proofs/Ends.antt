@@ -13,7 +13,7 @@ use Rattle.theory.specs.Layout.{arc-words, node-words, nodes-words, words, disj
 use Rattle.layout.specs.Standing.{Stands, graph-words}
 use Rattle.layout.specs.Skipping.{ends, nodeEnd, graphEnd, disjunctionEnd, nestedEnd, descriptionEnd}
 use Rattle.layout.proofs.Skips.{node-end-atom, node-end-arcs, ends-step, graph-end-nodes, nested-end-disjunctions, disjunction-end-alternatives}
-use Rattle.layout.proofs.Standing.{stands-nil, stands-atom, stands-node, stands-arcs, stands-within, stands-graph, stands-nodes, stands-description, stands-disjunctions, stands-disjunction, stands-alternatives}
+use Rattle.layout.proofs.Standing.{stands-nil, stands-atom, stands-node, stands-arcs, stands-within, stands-described, stands-graph, stands-nodes, stands-description, stands-disjunctions, stands-disjunction, stands-alternatives}
 
 module _ (ws : List ℕ) where
   -- one thing and then others
@@ -50,9 +50,6 @@ module _ (ws : List ℕ) where
       let e = t .1 in
       graph-end-nodes ws p (t .0) ∙ rw e (nodes-end g (p + 1) q f (t .2))
 
-  words-there : (d : Desc) (p q : ℕ) → Stands ws p (words d) q → p < length ws
-  words-there (desc g ds) p q s = let t = stands-description ws g ds p q .0 s in stands-graph ws g p (t .0) .0 (t .1) .0
-
   mutual
     unfolding ends
 
@@ -77,7 +74,8 @@ module _ (ws : List ℕ) where
     alternatives-end fail n left p q h k s = stands-nil ws p q .0 s
     alternatives-end (d or a) n left p q h k s =
         let t = stands-alternatives ws d a p q .0 s in
-        more (nestedEnd left ws) (alts a) p (t .0) q (words-there d p (t .0) (t .1)) (nested-ends d n left p (t .0) h (k .0) (t .1)) (alternatives-end a n left (t .0) q h (k .1) (t .2))
+        let there = stands-described ws d p (t .0) (t .1) in
+        more (nestedEnd left ws) (alts a) p (t .0) q (omega arith) (nested-ends d n left p (t .0) h (k .0) (t .1)) (alternatives-end a n left (t .0) q h (k .1) (t .2))
 
   pub description-ends : (d : Desc) (n p q : ℕ) → n ≤ depth-limit → WellFormed d n → Stands ws p (words d) q → descriptionEnd ws p ≡ q
   description-ends d n p q h k s = nested-ends d n depth-limit p q h k s

@@ -52,6 +52,15 @@ module _ (ws : List ℕ) where
   stands-within [] p q h s = omega arith
   stands-within (x ∷ xs) p q h s = stands-within xs (p + 1) q (let l = s .0 in omega arith) (s .2)
 
+  -- words that are some
+  pub stands-bounds : (x : ℕ) (xs : List ℕ) (p q : ℕ) → Stands ws p (x ∷ xs) q → (p < q) × (q ≤ length ws)
+  stands-bounds x xs p q s =
+      let there = stands-cons x xs p q .0 s .0 in
+      (omega (arith, stands-length (x ∷ xs) p q s), stands-within (x ∷ xs) p q (omega arith) s)
+
+  pub stands-described : (d : Desc) (p q : ℕ) → Stands ws p (words d) q → (p < q) × (q ≤ length ws)
+  stands-described (desc g ds) p q s = stands-bounds (length g) (nodes-words g ++ disjs ds ∷ disjs-words ds) p q s
+
   stands-drop : (xs : List ℕ) (p q : ℕ) → Stands ws p xs q → drop p ws ≡ xs ++ drop q ws
   unfolding Stands
   stands-drop [] p q s = ap (λ (k : ℕ). drop k ws) s

@@ -21,8 +21,8 @@ use Rattle.layout.proofs.Standing.{stands-whole}
 use Rattle.layout.proofs.Sound.{sound, wrong}
 use Rattle.layout.proofs.Complete.{complete}
 
-apart : Malformed ≡ Accepted → ⊥
-apart e = let z : _≡_ {A = ℕ} 0 1 = cc in omega arith
+pub malformed-apart : Malformed ≡ Accepted → ⊥
+malformed-apart e = let z : _≡_ {A = ℕ} 0 1 = cc in omega arith
 
 same : {p q : ℕ} → Fine p ≡ Fine q → p ≡ q
 same e = cc
@@ -38,7 +38,7 @@ module _ (ws : List ℕ) where
   judged-accepted e = record { sound = λ _. read-iff .0 (sym e); complete = λ _. refl }
 
   refused : ¬ (Image ws) → Judged ws Malformed
-  refused n = record { sound = λ e. absurd (apart e); complete = λ i. absurd (n i) }
+  refused n = record { sound = λ e. absurd (malformed-apart e); complete = λ i. absurd (n i) }
 
   pub judged-wrong : Wrong ≡ readDescription depth-limit ws 0 → Judged ws Malformed
   judged-wrong e = refused (λ i. wrong (e ∙ read-iff .1 i))
@@ -76,4 +76,4 @@ malformed-answer Malformed n = refl
 -- the contract allows one answer
 pub one-answer : (ws : List ℕ) (r s : Judgement) → Judged ws r → Judged ws s → r ≡ s
 one-answer ws Accepted s j k = sym (k .complete (j .sound refl))
-one-answer ws Malformed s j k = sym (malformed-answer s (λ e. apart (j .complete (k .sound e))))
+one-answer ws Malformed s j k = sym (malformed-answer s (λ e. malformed-apart (j .complete (k .sound e))))
