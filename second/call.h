@@ -1,0 +1,35 @@
+// A call of one of the two entries, its answer, and the ways to run a program on calls.
+#ifndef CALL_H
+#define CALL_H
+
+#include "unify.h"
+
+#include <stdio.h>
+
+typedef struct {
+    bool is_fit;
+    uint32_t mode; // this and the next two are 0 for the fit test
+    uint32_t room;
+    uint32_t work;
+    Words first;
+    Words second;
+} Call;
+
+void call_free(Call *call);
+
+// Makes the call; the outcome of a fit test has a number alone.
+Outcome call_run(const Call *call);
+
+// Prints the call as one line of the batch format.
+void call_print(const Call *call, FILE *to);
+
+// Prints words parted by single spaces.
+void words_print(const Words *words, FILE *to);
+
+// The text interface of `meet`: one call from standard input, answered on standard output.
+int run_meet(void);
+
+// One call a line from standard input, one answer a line.
+int run_batch(void);
+
+#endif
