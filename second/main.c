@@ -1,10 +1,45 @@
-// The program `second`: chooses the way to run by the first argument.
+// The program `second`: chooses the way to run by its arguments.
 #include "call.h"
+#include "generate.h"
+
+#include <inttypes.h>
+#include <string.h>
+
+static int usage(void) {
+    fputs("usage: second\n"
+          "       second batch\n"
+          "       second generate SEED COUNT\n"
+          "       second vectors SEED COUNT calls|reading|joins\n",
+          stderr);
+    return 2;
+}
+
+static bool number_of(const char *text, uint64_t *number) {
+    char surplus;
+    return sscanf(text, "%" SCNu64 "%c", number, &surplus) == 1;
+}
+
+static int run_seeded(int argument_count, char **arguments) {
+    uint64_t seed;
+    uint64_t count;
+    if (argument_count < 4 || !number_of(arguments[2], &seed) || !number_of(arguments[3], &count)) {
+        return usage();
+    }
+    if (strcmp(arguments[1], "generate") == 0 && argument_count == 4) {
+        return run_generate(seed, count);
+    }
+    if (strcmp(arguments[1], "vectors") == 0 && argument_count == 5) {
+        return run_vectors(seed, count, arguments[4]);
+    }
+    return usage();
+}
 
 int main(int argument_count, char **arguments) {
-    (void)arguments;
     if (argument_count == 1) {
         return run_meet();
     }
-    return run_batch();
+    if (argument_count == 2 && strcmp(arguments[1], "batch") == 0) {
+        return run_batch();
+    }
+    return run_seeded(argument_count, arguments);
 }

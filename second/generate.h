@@ -1,0 +1,17 @@
+// Seeded calls, and stored vectors of their answers.
+#ifndef GENERATE_H
+#define GENERATE_H
+
+#include "call.h"
+#include "random.h"
+
+// A random call; the same for the same state of the source on every machine.
+Call random_call(Random *random);
+
+// Prints so many calls in the batch format.
+int run_generate(uint64_t seed, uint64_t count);
+
+// Writes so many stored vectors of the kind `calls`, `reading` or `joins`.
+int run_vectors(uint64_t seed, uint64_t count, const char *kind);
+
+#endif

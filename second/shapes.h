@@ -1,0 +1,46 @@
+// Random descriptions of every shape, as trees that the caller frees.
+#ifndef SHAPES_H
+#define SHAPES_H
+
+#include "description.h"
+#include "random.h"
+
+// A small stock of features and atoms, so that clashes and agreements both are common.
+typedef struct {
+    uint32_t first_feature;
+    uint32_t feature_count;
+    uint32_t first_atom;
+    uint32_t atom_count;
+} Vocabulary;
+
+// How large a random description may be.
+typedef struct {
+    uint32_t most_nodes;
+    uint32_t most_disjunctions;
+    uint32_t most_alternatives;
+    int deepest;
+} Size;
+
+typedef struct {
+    Description first;
+    Description second;
+} Pair;
+
+Vocabulary random_vocabulary(Random *random);
+
+// A random canonical graph, with cycles and shared values.
+Graph random_graph(Random *random, Vocabulary vocabulary, uint32_t most_nodes);
+
+// A random description.
+Description random_description(Random *random, Vocabulary vocabulary, Size size);
+
+// Two descriptions of one of the special shapes or of a random one.
+Pair random_pair(Random *random);
+
+// Two descriptions with about or over 4,096 choices.
+Pair random_many_choices(Random *random);
+
+// A description of exactly so many words, at least 20.
+Description random_of_length(Random *random, uint32_t length);
+
+#endif

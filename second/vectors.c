@@ -1,0 +1,115 @@
+// Stored vectors: a stream of little-endian 32-bit words, ended by 0xFFFFFFFF.
+#include "generate.h"
+
+#include "faults.h"
+#include "shapes.h"
+
+#include <string.h>
+
+static void put_word(uint32_t word) {
+    for (int shift = 0; shift < 32; shift += 8) {
+        putchar((int)(word >> shift & 0xFF));
+    }
+}
+
+static void put_words(const Words *words) {
+    for (size_t index = 0; index < words->count; index++) {
+        put_word(words->at[index]);
+    }
+}
+
+static void put_counted(const Words *words) {
+    put_word((uint32_t)words->count);
+    put_words(words);
+}
+
+// op, mode, room, work, both inputs, number, length, readings, and the words of a result.
+static void put_call(const Call *call) {
+    Outcome outcome = call_run(call);
+    put_word(call->is_fit);
+    put_word(call->mode);
+    put_word(call->room);
+    put_word(call->work);
+    put_counted(&call->first);
+    put_counted(&call->second);
+    put_word(outcome.number);
+    put_word(outcome.length);
+    put_word(outcome.readings);
+    put_words(&outcome.result);
+    words_free(&outcome.result);
+}
+
+static void put_random_call(Random *random) {
+    Call call = random_call(random);
+    put_call(&call);
+    call_free(&call);
+}
+
+static Words random_graph_words(Random *random, Vocabulary vocabulary, uint32_t most_nodes) {
+    Description description = {.graph = random_graph(random, vocabulary, most_nodes)};
+    Words words = {0};
+    description_write(&description, &words);
+    description_free(&description);
+    return words;
+}
+
+// Two canonical graphs without disjunctions, to be joined.
+static void put_random_join(Random *random) {
+    Vocabulary vocabulary = random_vocabulary(random);
+    uint32_t most_nodes = 1 + random_below(random, random_one_in(random, 10) ? 60 : 8);
+    Call call = {.mode = MODE_JOIN, .room = 2048, .work = WORKING_NEEDED};
+    call.first = random_graph_words(random, vocabulary, most_nodes);
+    call.second = random_graph_words(random, vocabulary, most_nodes);
+    put_call(&call);
+    call_free(&call);
+}
+
+static Words random_words_to_read(Random *random) {
+    Pair pair = random_pair(random);
+    Words words = {0};
+    uint32_t kind = random_below(random, 6);
+    if (kind < 3) {
+        words = malformed_words(random, &pair.first);
+    } else if (kind == 3) {
+        words = arbitrary_words(random, &pair.first);
+    } else {
+        description_write(&pair.first, &words);
+    }
+    description_free(&pair.first);
+    description_free(&pair.second);
+    return words;
+}
+
+// At most 1,024 words, and the verdict of the word layout: 1 is well formed, 0 malformed.
+static void put_random_reading(Random *random) {
+    Words words = random_words_to_read(random);
+    while (words.count > LONGEST_INPUT) {
+        words_free(&words);
+        words = random_words_to_read(random);
+    }
+    Description description;
+    bool well_formed = description_read(words.at, words.count, &description);
+    if (well_formed) {
+        description_free(&description);
+    }
+    put_counted(&words);
+    put_word(well_formed);
+    words_free(&words);
+}
+
+int run_vectors(uint64_t seed, uint64_t count, const char *kind) {
+    Random random = {seed};
+    void (*put)(Random *) = strcmp(kind, "calls") == 0     ? put_random_call
+                            : strcmp(kind, "reading") == 0 ? put_random_reading
+                            : strcmp(kind, "joins") == 0   ? put_random_join
+                                                           : NULL;
+    if (put == NULL) {
+        fputs("second: the kind is calls, reading or joins\n", stderr);
+        return 2;
+    }
+    for (uint64_t index = 0; index < count; index++) {
+        put(&random);
+    }
+    put_word(UINT32_MAX);
+    return 0;
+}
