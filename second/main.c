@@ -1,5 +1,6 @@
 // The program `second`: chooses the way to run by its arguments.
 #include "call.h"
+#include "check.h"
 #include "generate.h"
 
 #include <inttypes.h>
@@ -8,6 +9,8 @@
 static int usage(void) {
     fputs("usage: second\n"
           "       second batch\n"
+          "       second known\n"
+          "       second check SEED COUNT\n"
           "       second generate SEED COUNT\n"
           "       second vectors SEED COUNT calls|reading|joins\n",
           stderr);
@@ -19,16 +22,20 @@ static bool number_of(const char *text, uint64_t *number) {
     return sscanf(text, "%" SCNu64 "%c", number, &surplus) == 1;
 }
 
+// The ways with a seed and a count.
 static int run_seeded(int argument_count, char **arguments) {
     uint64_t seed;
     uint64_t count;
     if (argument_count < 4 || !number_of(arguments[2], &seed) || !number_of(arguments[3], &count)) {
         return usage();
     }
-    if (strcmp(arguments[1], "generate") == 0 && argument_count == 4) {
+    if (argument_count == 4 && strcmp(arguments[1], "check") == 0) {
+        return run_check(seed, count);
+    }
+    if (argument_count == 4 && strcmp(arguments[1], "generate") == 0) {
         return run_generate(seed, count);
     }
-    if (strcmp(arguments[1], "vectors") == 0 && argument_count == 5) {
+    if (argument_count == 5 && strcmp(arguments[1], "vectors") == 0) {
         return run_vectors(seed, count, arguments[4]);
     }
     return usage();
@@ -40,6 +47,9 @@ int main(int argument_count, char **arguments) {
     }
     if (argument_count == 2 && strcmp(arguments[1], "batch") == 0) {
         return run_batch();
+    }
+    if (argument_count == 2 && strcmp(arguments[1], "known") == 0) {
+        return run_known();
     }
     return run_seeded(argument_count, arguments);
 }

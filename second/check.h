@@ -1,0 +1,13 @@
+// The self-check by plain enumeration, and the known inputs.
+#ifndef CHECK_H
+#define CHECK_H
+
+#include <stdint.h>
+
+// Checks so many random cases; 0 when all hold.
+int run_check(uint64_t seed, uint64_t count);
+
+// Checks the known inputs of document 01; 0 when all hold.
+int run_known(void);
+
+#endif
