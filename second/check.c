@@ -23,6 +23,7 @@ enum {
 typedef struct {
     Random random;
     Structures structures;
+    bool *satisfying; // by structure: whether it satisfies both inputs
     Sheet sheet;
     const char *failure; // what went wrong first, or null
     uint64_t successes;
@@ -84,18 +85,22 @@ static size_t ways_of(Check *check, const Picks *lists, size_t count) {
     return ways;
 }
 
-// Demand 2 on every small structure.
-static void check_structures(Check *check, const Words *first, const Words *second,
-                             const Outcome *outcome) {
+static void find_satisfying(Check *check, const Words *first, const Words *second) {
     for (size_t index = 0; index < check->structures.count; index++) {
         const Sheet *structure = &check->structures.sheets[index];
-        bool both = sheet_satisfies(structure, first->at) && sheet_satisfies(structure, second->at);
-        if (outcome->number == CLASH) {
-            demand(check, !both, "a structure satisfies both inputs, but they clash");
-        } else {
-            demand(check, both == sheet_satisfies(structure, outcome->result.at),
-                   "a structure satisfies the result and not the inputs, or not the result");
-        }
+        check->satisfying[index] =
+            sheet_satisfies(structure, first->at) && sheet_satisfies(structure, second->at);
+    }
+}
+
+// Demand 2 on every small structure: it satisfies the result exactly when it satisfies both
+// inputs, and not both on a clash.
+static void check_structures(Check *check, const Outcome *outcome) {
+    for (size_t index = 0; index < check->structures.count; index++) {
+        bool satisfied = outcome->number == SUCCESS &&
+                         sheet_satisfies(&check->structures.sheets[index], outcome->result.at);
+        demand(check, satisfied == check->satisfying[index],
+               "a structure satisfies the result and not both inputs, or both and not the result");
     }
 }
 
@@ -206,7 +211,7 @@ static void check_mode(Check *check, uint32_t mode, const Words *first, const Wo
     } else {
         check_full(check, joined, ways, &outcome);
     }
-    check_structures(check, first, second, &outcome);
+    check_structures(check, &outcome);
     words_free(&outcome.result);
 }
 
@@ -216,7 +221,7 @@ static void check_clash(Check *check, const Words *first, const Words *second) {
         Outcome outcome = run(mode, first, second);
         demand(check, outcome.number == CLASH, "definite graphs clash, but the inputs do not");
         demand(check, outcome.length == 0 && outcome.readings == 0, "a clash with a length");
-        check_structures(check, first, second, &outcome);
+        check_structures(check, &outcome);
         words_free(&outcome.result);
         check->clashes++;
     }
@@ -230,6 +235,7 @@ static bool check_pair(Check *check, const Words *first, const Words *second) {
     if (small) {
         Words joined = {0};
         size_t ways = ways_of(check, lists, 2);
+        find_satisfying(check, first, second);
         if (expect_joined(&check->sheet, first, second, &joined)) {
             for (uint32_t mode = MODE_JOIN; mode <= MODE_FULL; mode++) {
                 check_mode(check, mode, first, second, &joined, ways);
@@ -358,6 +364,7 @@ static void check_case(Check *check) {
 
 int run_check(uint64_t seed, uint64_t count) {
     Check check = {.random = {seed}, .structures = all_structures()};
+    check.satisfying = zeroed(check.structures.count, sizeof(bool));
     sheet_open(&check.sheet, MOST_CELLS);
     uint64_t cases = 0;
     while (cases < count && check.failure == NULL) {
@@ -373,6 +380,7 @@ int run_check(uint64_t seed, uint64_t count) {
         printf("difference: %s\n", check.failure);
     }
     sheet_free(&check.sheet);
+    free(check.satisfying);
     structures_free(&check.structures);
     return check.failure == NULL ? 0 : 1;
 }
