@@ -3,6 +3,7 @@
 
 #include "call.h"
 #include "expect.h"
+#include "faults.h"
 #include "full.h"
 #include "random.h"
 #include "shapes.h"
@@ -262,8 +263,11 @@ static Words words_of(Description description) {
 static Words random_small(Check *check) {
     Random *random = &check->random;
     Vocabulary vocabulary = {STRUCTURE_FEATURE, 2 + random_one_in(random, 6), STRUCTURE_ATOM, 2};
-    Size size = {1 + random_below(random, 4), 1 + random_below(random, 3),
-                 2 + random_below(random, 2), (int)random_below(random, DEEPEST + 1)};
+    Size size;
+    size.most_nodes = 1 + random_below(random, 4);
+    size.most_disjunctions = 1 + random_below(random, 3);
+    size.most_alternatives = 2 + random_below(random, 2);
+    size.deepest = (int)random_below(random, DEEPEST + 1);
     return words_of(random_description(random, vocabulary, size));
 }
 
@@ -328,6 +332,27 @@ static void check_random_list(Check *check) {
     }
 }
 
+// Words with one rule broken are refused in both places by both entries.
+static void check_malformed(Check *check) {
+    Pair pair = random_pair(&check->random);
+    Words broken = malformed_words(&check->random, &pair.first);
+    Words sound = random_small(check);
+    if (broken.count <= LONGEST_INPUT && sound.count <= LONGEST_INPUT) {
+        Outcome first = run(MODE_JOIN, &broken, &sound);
+        Outcome second = run(MODE_JOIN, &sound, &broken);
+        demand(check, first.number == FIRST_MALFORMED && second.number == SECOND_MALFORMED &&
+                          fit(broken.at, broken.count, sound.at, sound.count) == FIRST_MALFORMED &&
+                          fit(sound.at, sound.count, broken.at, broken.count) == SECOND_MALFORMED,
+               "malformed words are not refused");
+        words_free(&first.result);
+        words_free(&second.result);
+    }
+    words_free(&broken);
+    words_free(&sound);
+    description_free(&pair.first);
+    description_free(&pair.second);
+}
+
 static void random_inputs(Check *check, Words *first, Words *second) {
     if (random_below(&check->random, 3) > 0) {
         *first = random_small(check);
@@ -339,7 +364,7 @@ static void random_inputs(Check *check, Words *first, Words *second) {
     *second = words_of(pair.second);
 }
 
-// One case: a pair small enough to enumerate, and a list.
+// One case: a pair small enough to enumerate, a list, and malformed words.
 static void check_case(Check *check) {
     bool checked = false;
     while (!checked) {
@@ -359,6 +384,7 @@ static void check_case(Check *check) {
     }
     if (check->failure == NULL) {
         check_random_list(check);
+        check_malformed(check);
     }
 }
 

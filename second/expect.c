@@ -1,8 +1,6 @@
 // What modes 0 and 2 must deliver, written straight from words.
 #include "expect.h"
 
-#include <stdlib.h>
-
 bool expect_joined(Sheet *sheet, const Words *first, const Words *second, Words *expected) {
     Pick both = {0};
     pick_add(&both, first->at);
@@ -41,14 +39,19 @@ static void draft_write(Sheet *sheet, const Draft *draft, Words *words) {
     words_add_all(words, draft->disjunctions.at, draft->disjunctions.count);
 }
 
+static bool pick_holds(const Pick *pick, const uint32_t *graph) {
+    bool found = false;
+    for (size_t index = 0; !found && index < pick->count; index++) {
+        found = pick->graphs[index] == graph;
+    }
+    return found;
+}
+
 // Whether the alternative that starts at the graph stands in a consistent choice.
 static bool stands(const Picks *consistent, const uint32_t *graph) {
     bool found = false;
     for (size_t index = 0; !found && index < consistent->count; index++) {
-        const Pick *pick = &consistent->picks[index];
-        for (size_t place = 0; !found && place < pick->count; place++) {
-            found = pick->graphs[place] == graph;
-        }
+        found = pick_holds(&consistent->picks[index], graph);
     }
     return found;
 }

@@ -273,7 +273,8 @@ Words arbitrary_words(Random *random, const Description *description) {
     Words words = {0};
     if (random_one_in(random, 2)) {
         description_write(description, &words);
-        words.at[random_below(random, (uint32_t)words.count)] = arbitrary_word(random);
+        uint32_t drawn = random_below(random, (uint32_t)words.count);
+        words.at[drawn] = arbitrary_word(random);
         return words;
     }
     uint32_t count = random_below(random, 16);

@@ -235,13 +235,19 @@ static Description keep_standing(const Description *description) {
     return result;
 }
 
+static void let_the_rest_stand(Description *description);
+
+static void let_alternatives_stand(Disjunction *disjunction) {
+    for (uint32_t index = 0; index < disjunction->alternative_count; index++) {
+        let_the_rest_stand(&disjunction->alternatives[index]);
+    }
+}
+
+// Marks as standing whatever is not excluded.
 static void let_the_rest_stand(Description *description) {
     description->stands = !description->excluded;
     for (uint32_t index = 0; index < description->disjunction_count; index++) {
-        Disjunction *disjunction = &description->disjunctions[index];
-        for (uint32_t inner = 0; inner < disjunction->alternative_count; inner++) {
-            let_the_rest_stand(&disjunction->alternatives[inner]);
-        }
+        let_alternatives_stand(&description->disjunctions[index]);
     }
 }
 

@@ -67,7 +67,9 @@ static uint32_t random_room(Random *random, Call *call) {
 static Call random_unify(Random *random) {
     bool many = random_one_in(random, 25);
     Pair pair = many ? random_many_choices(random) : random_pair(random);
-    Call call = {.mode = random_mode(random), .work = random_work(random)};
+    Call call = {0};
+    call.mode = random_mode(random);
+    call.work = random_work(random);
     if (many && random_below(random, 4) > 0) {
         call.mode = MODE_FULL;
     }
@@ -83,8 +85,8 @@ static Call random_unify(Random *random) {
     return call;
 }
 
-// Takes one choice of a description at random; its graphs are added to the list of words-free
-// joins step by step, and a clash leaves the structure as it is.
+// Joins the graphs of a random choice of a description to the structure, one after another; a
+// graph that clashes is left out.
 static void grow_structure(Random *random, const Description *description, Graph *structure) {
     Graph joined;
     if (graphs_join_two(structure, &description->graph, &joined)) {
@@ -124,12 +126,12 @@ static Description random_structure(Random *random, const Description *descripti
 // The structure, now and then with the disjunctions that a structure must not have.
 static Call random_fit(Random *random) {
     Pair pair = random_pair(random);
-    Description structure = random_one_in(random, 8)
+    Description structure = random_one_in(random, 3)
                                 ? description_copy(&pair.first)
                                 : random_structure(random, &pair.second);
-    Call call = {.is_fit = true,
-                 .first = perhaps_spoilt(random, &structure, 20),
-                 .second = perhaps_spoilt(random, &pair.second, 20)};
+    Call call = {.is_fit = true};
+    call.first = perhaps_spoilt(random, &structure, 20);
+    call.second = perhaps_spoilt(random, &pair.second, 20);
     if (random_one_in(random, 20)) {
         make_long(random, random_one_in(random, 2) ? &call.first : &call.second);
     }

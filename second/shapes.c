@@ -1,4 +1,6 @@
 // Random descriptions: plain random ones, and the shapes that errors of this trade fall for.
+// Each draw is a statement of its own, or the only one of its expression, because the language
+// leaves the order within an expression to the compiler.
 #include "shapes.h"
 
 #include "join.h"
@@ -6,8 +8,11 @@
 enum { GOOD = 10, BAD = 11 };
 
 Vocabulary random_vocabulary(Random *random) {
-    Vocabulary vocabulary = {random_below(random, 3), 1 + random_below(random, 4),
-                             random_below(random, 3), 1 + random_below(random, 3)};
+    Vocabulary vocabulary;
+    vocabulary.first_feature = random_below(random, 3);
+    vocabulary.feature_count = 1 + random_below(random, 4);
+    vocabulary.first_atom = random_below(random, 3);
+    vocabulary.atom_count = 1 + random_below(random, 3);
     if (random_one_in(random, 20)) {
         vocabulary.first_feature = FEATURE_END - vocabulary.feature_count;
         vocabulary.first_atom = FEATURE_END - vocabulary.atom_count;
@@ -207,8 +212,8 @@ static Description folds_at_depths(Random *random, uint32_t depth) {
 }
 
 static Description wrapped_ring(Random *random) {
-    return wrapped(random, three_in_a_ring(random, random_below(random, 4)),
-                   random_below(random, 4));
+    Description ring = three_in_a_ring(random, random_below(random, 4));
+    return wrapped(random, ring, random_below(random, DEEPEST));
 }
 
 // Many disjunctions of small graphs over a few features.
@@ -276,29 +281,48 @@ static Pair deal(Random *random, Description whole) {
     return pair;
 }
 
+static Pair pair_of_size(Random *random, Vocabulary vocabulary, Size size) {
+    Pair pair;
+    pair.first = random_description(random, vocabulary, size);
+    pair.second = random_description(random, vocabulary, size);
+    return pair;
+}
+
 static Pair plain_pair(Random *random) {
     Vocabulary vocabulary = random_vocabulary(random);
-    Size size = {1 + random_below(random, 6), random_below(random, 4),
-                 2 + random_below(random, 2), 1 + (int)random_below(random, DEEPEST)};
-    Pair pair = {random_description(random, vocabulary, size),
-                 random_description(random, vocabulary, size)};
-    return pair;
+    Size size;
+    size.most_nodes = 1 + random_below(random, 6);
+    size.most_disjunctions = random_below(random, 4);
+    size.most_alternatives = 2 + random_below(random, 2);
+    size.deepest = 1 + (int)random_below(random, DEEPEST);
+    return pair_of_size(random, vocabulary, size);
 }
 
 // Large graphs without disjunctions.
 static Pair large_graphs(Random *random) {
-    Vocabulary vocabulary = {random_below(random, 5), 1 + random_below(random, 6), GOOD, 2};
+    Vocabulary vocabulary = random_vocabulary(random);
     Size size = {10 + random_below(random, 80), 0, 2, 0};
-    Pair pair = {random_description(random, vocabulary, size),
-                 random_description(random, vocabulary, size)};
+    return pair_of_size(random, vocabulary, size);
+}
+
+// Two long descriptions.
+static Pair long_pair(Random *random) {
+    Pair pair;
+    pair.first = random_of_length(random, 1000 + random_below(random, 25));
+    pair.second = random_of_length(random, 20 + random_below(random, 1005));
     return pair;
 }
 
-// A description of exact length with a plain one, to reach the longest inputs and results.
-static Pair long_pair(Random *random) {
-    Pair pair = {random_of_length(random, 1000 + random_below(random, 25)),
-                 random_of_length(random, 20 + random_below(random, 1005))};
+// One disjunction each, of up to 1,024 words together, for the longest results.
+static Pair long_disjunctions(Random *random) {
+    Pair pair = {nothing(), nothing()};
+    description_add(&pair.first, idle(340 - random_below(random, 2)));
+    description_add(&pair.second, idle(340 - random_below(random, 2)));
     return pair;
+}
+
+static Pair some_long_pair(Random *random) {
+    return random_one_in(random, 3) ? long_disjunctions(random) : long_pair(random);
 }
 
 Pair random_pair(Random *random) {
@@ -324,7 +348,7 @@ Pair random_pair(Random *random) {
     case 10:
         return deal(random, free_binary(random, 1 + random_below(random, 8)));
     case 11:
-        return random_one_in(random, 3) ? long_pair(random) : plain_pair(random);
+        return random_one_in(random, 3) ? some_long_pair(random) : plain_pair(random);
     default:
         return plain_pair(random);
     }
@@ -339,7 +363,7 @@ static Description free_and_ring(Random *random) {
 }
 
 Pair random_many_choices(Random *random) {
-    switch (random_below(random, 12)) {
+    switch (random_below(random, 11)) {
     case 0:
         return deal(random, free_binary(random, 12));
     case 1:
@@ -353,8 +377,6 @@ Pair random_many_choices(Random *random) {
         return deal(random, idle_product(65, 64));
     case 6:
         return deal(random, free_binary(random, 14 + random_below(random, 30)));
-    case 7:
-        return (Pair){random_of_length(random, 1024), free_binary(random, 13)};
     default:
         return deal(random, free_binary(random, 13));
     }

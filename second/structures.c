@@ -59,12 +59,16 @@ static Sheet combination(uint32_t number, uint32_t count) {
     return sheet;
 }
 
-static void add_structures(Structures *structures, uint32_t count) {
+static uint32_t combination_count(uint32_t count) {
     uint32_t combinations = 1;
     for (uint32_t place = 0; place < count; place++) {
         combinations *= node_kinds(count);
     }
-    for (uint32_t number = 0; number < combinations; number++) {
+    return combinations;
+}
+
+static void add_structures(Structures *structures, uint32_t count) {
+    for (uint32_t number = 0; number < combination_count(count); number++) {
         Sheet sheet = combination(number, count);
         if (!numbered_by_arrival(&sheet)) {
             sheet_free(&sheet);
