@@ -29,7 +29,7 @@ typedef struct {
     const char *failure; // what went wrong first, or null
     uint64_t successes;
     uint64_t clashes;
-    uint64_t dropped; // quick results with a consistent choice that lost an alternative
+    uint64_t dropped; // quick results that differ in length from the joined description
     uint64_t readings;
 } Check;
 
@@ -163,7 +163,8 @@ static void check_quick(Check *check, const Words *joined, const Outcome *outcom
     Words expected = {0};
     description_read(joined->at, joined->count, &whole);
     bool alive = look_ahead(&whole);
-    demand(check, alive == (outcome->number == SUCCESS), "quick fails where looking ahead does not");
+    demand(check, alive == (outcome->number == SUCCESS),
+           "quick and looking ahead do not fail together");
     if (alive) {
         Description kept = keep_what_is_left(&whole);
         description_write(&kept, &expected);
@@ -398,8 +399,8 @@ int run_check(uint64_t seed, uint64_t count) {
         cases += check.failure == NULL;
     }
     printf("self-check seed %" PRIu64 ": %" PRIu64 " cases over %zu structures, %" PRIu64
-           " successes, %" PRIu64 " clashes, %" PRIu64 " quick results shorter than joined, %" PRIu64
-           " readings in full mode\n",
+           " successes, %" PRIu64 " clashes, %" PRIu64 " quick results shorter than joined, "
+           "%" PRIu64 " readings in full mode\n",
            seed, cases, check.structures.count, check.successes, check.clashes, check.dropped,
            check.readings);
     if (check.failure != NULL) {

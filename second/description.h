@@ -83,8 +83,7 @@ void description_add(Description *description, Disjunction disjunction);
 // Reads words into a tree; false when they are malformed, and then nothing is left to free.
 bool description_read(const uint32_t *words, size_t length, Description *description);
 
-// Adds the words of a graph, or of a whole description.
-void graph_write(const Graph *graph, Words *words);
+// Adds the words of a description.
 void description_write(const Description *description, Words *words);
 
 #endif

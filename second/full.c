@@ -93,7 +93,8 @@ static bool exclude_alternative(Description *alternative, GraphList *around) {
         return false;
     }
     size_t before = around->count;
-    bool alive = add_unavoidable(alternative, around) && graphs_agree(around->graphs, around->count);
+    bool alive =
+        add_unavoidable(alternative, around) && graphs_agree(around->graphs, around->count);
     bool changed = !alive;
     alternative->excluded = !alive;
     if (alive) {

@@ -142,7 +142,7 @@ static void write_node(const Node *node, Words *words) {
     }
 }
 
-void graph_write(const Graph *graph, Words *words) {
+static void write_graph(const Graph *graph, Words *words) {
     words_add(words, graph->node_count);
     for (uint32_t node = 0; node < graph->node_count; node++) {
         write_node(&graph->nodes[node], words);
@@ -157,7 +157,7 @@ static void write_disjunction(const Disjunction *disjunction, Words *words) {
 }
 
 void description_write(const Description *description, Words *words) {
-    graph_write(&description->graph, words);
+    write_graph(&description->graph, words);
     words_add(words, description->disjunction_count);
     for (uint32_t index = 0; index < description->disjunction_count; index++) {
         write_disjunction(&description->disjunctions[index], words);

@@ -3,6 +3,9 @@
 
 #include "join.h"
 
+// Tidies a description under a condition; false when it fails, and then nothing is to be freed.
+static bool tidy(const Description *description, const Graph *condition, Description *tidied);
+
 // The alternatives that do not fail under the condition, in their tidied form.
 static Disjunction tidy_alternatives(const Disjunction *disjunction, const Graph *condition) {
     Disjunction kept = {0};
@@ -47,7 +50,7 @@ static bool tidy_round(const Description *current, const Graph *start, Descripti
     return true;
 }
 
-bool tidy(const Description *description, const Graph *condition, Description *tidied) {
+static bool tidy(const Description *description, const Graph *condition, Description *tidied) {
     Description current = description_copy(description);
     for (;;) {
         Graph start;

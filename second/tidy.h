@@ -4,10 +4,8 @@
 
 #include "description.h"
 
-// Tidies a description under a condition; false when it fails, and then nothing is to be freed.
-bool tidy(const Description *description, const Graph *condition, Description *tidied);
-
-// Tidies a description under the graph that says nothing.
+// Tidies a description under the graph that says nothing; false when it fails, and then nothing
+// is to be freed.
 bool tidy_whole(const Description *description, Description *tidied);
 
 #endif

@@ -11,7 +11,9 @@ static void add_disjunctions(Description *description, const Description *from) 
     }
 }
 
-bool join_descriptions(const Description *first, const Description *second, Description *joined) {
+// The joined description of mode 0; false on a clash, and then nothing is to be freed.
+static bool join_descriptions(const Description *first, const Description *second,
+                              Description *joined) {
     *joined = (Description){0};
     if (!graphs_join_two(&first->graph, &second->graph, &joined->graph)) {
         return false;

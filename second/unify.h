@@ -37,9 +37,6 @@ Outcome unify(uint32_t mode, const uint32_t *first, size_t first_length, const u
 uint32_t fit(const uint32_t *structure, size_t structure_length, const uint32_t *description,
              size_t description_length);
 
-// The joined description of mode 0; false on a clash, and then nothing is to be freed.
-bool join_descriptions(const Description *first, const Description *second, Description *joined);
-
 // Whether a structure satisfies a description.
 bool satisfies(const Graph *structure, const Description *description);
 
