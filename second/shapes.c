@@ -404,3 +404,15 @@ Description random_of_length(Random *random, uint32_t length) {
     }
     return description;
 }
+
+// A level is a graph that says nothing, the counts of its one disjunction, and an alternative that
+// says nothing: seven words.
+Description random_nested_of_length(Random *random, uint32_t length, uint32_t levels) {
+    Description description = random_of_length(random, length - 7 * levels);
+    for (uint32_t level = 0; level < levels; level++) {
+        Description outer = nothing();
+        description_add(&outer, either(random, description, nothing()));
+        description = outer;
+    }
+    return description;
+}

@@ -43,4 +43,7 @@ Pair random_many_choices(Random *random);
 // A description of exactly so many words, at least 20.
 Description random_of_length(Random *random, uint32_t length);
 
+// The same, inside so many levels of alternatives; it may have one level more of its own.
+Description random_nested_of_length(Random *random, uint32_t length, uint32_t levels);
+
 #endif

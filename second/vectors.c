@@ -64,7 +64,19 @@ static void put_random_join(Random *random) {
     call_free(&call);
 }
 
+// The longest input, nested as deep as is allowed or one level deeper.
+static Words deepest_words(Random *random) {
+    Description description = random_nested_of_length(random, LONGEST_INPUT, DEEPEST);
+    Words words = {0};
+    description_write(&description, &words);
+    description_free(&description);
+    return words;
+}
+
 static Words random_words_to_read(Random *random) {
+    if (random_one_in(random, 100)) {
+        return deepest_words(random);
+    }
     Pair pair = random_pair(random);
     Words words = {0};
     uint32_t kind = random_below(random, 6);
