@@ -1,0 +1,111 @@
+-- How long what is loaded is, and what its length bounds.
+-- Assumes nothing.
+use Prim.Native.Nat.{ℕ, suc, _+_, _*_, _≤_, _<_, max}
+use native.Mathlib.Omega.{arith}
+use mathlib.Core.Path.{_≡_, refl, sym, ap, _∙_}
+use mathlib.Core.List.{List, [], _∷_, _++_}
+use lib.ListN.{length, length-append}
+use Rattle.theory.specs.Net.{Node, atom, arcs, Graph, arcsOf, InOrder, met, Numbered}
+use Rattle.theory.specs.Descr.{Desc, desc, Disjs, end, _and_, Alts, fail, _or_, disjs, alts}
+use Rattle.theory.specs.Layout.{arc-words, node-words, nodes-words, words, disjs-words, alts-words}
+use Rattle.theory.proofs.Mean.{Can, CanAll, CanAny}
+use Rattle.theory.proofs.Weight.{weight, weights, weights-append}
+use Rattle.loading.specs.Loaded.{extent, located-arcs, located-node, located, nodes-in, nodes-all, nodes-any, loaded, loaded-all, loaded-any}
+
+-- lists as long as each other, one after the other
+both-length : (xs xs′ ys ys′ : List ℕ) → length xs ≡ length xs′ → length ys ≡ length ys′ → length (xs ++ ys) ≡ length (xs′ ++ ys′)
+both-length xs xs′ ys ys′ e f = length-append xs ys ∙ rw (e, f) (sym (length-append xs′ ys′))
+
+arcs-length : (n : ℕ) (l : List (ℕ × ℕ)) → length (located-arcs n l) ≡ length (arc-words l)
+arcs-length n [] = refl
+arcs-length n (e ∷ l) = let h = arcs-length n l in omega arith
+
+node-length : (n : ℕ) (v : Node) → length (located-node n v) ≡ length (node-words v)
+node-length n (atom a) = refl
+node-length n (arcs l) = let h = arcs-length n l in omega arith
+
+pub located-length : (n : ℕ) (g : Graph) → length (located n g) ≡ length (nodes-words g)
+located-length n [] = refl
+located-length n (v ∷ vs) = both-length (located-node n v) (node-words v) (located n vs) (nodes-words vs) (node-length n v) (located-length n vs)
+
+mutual
+  pub loaded-length : (p n : ℕ) (d : Desc) → length (loaded p n d) ≡ length (words d)
+  loaded-length p n (desc g ds) = ap suc (both-length (located n g) (nodes-words g) _ (disjs ds ∷ disjs-words ds) (located-length n g) (ap suc (all-length (p + extent g + 1) (n + length g) ds)))
+
+  pub all-length : (p n : ℕ) (ds : Disjs) → length (loaded-all p n ds) ≡ length (disjs-words ds)
+  all-length p n end = refl
+  all-length p n (a and ds) = ap suc (both-length (loaded-any (p + 1) n a) (alts-words a) _ (disjs-words ds) (any-length (p + 1) n a) (all-length (p + suc (length (alts-words a))) (n + nodes-any a) ds))
+
+  pub any-length : (p n : ℕ) (a : Alts) → length (loaded-any p n a) ≡ length (alts-words a)
+  any-length p n fail = refl
+  any-length p n (d or a) = both-length (loaded p n d) (words d) _ (alts-words a) (loaded-length p n d) (any-length (p + length (words d)) (n + nodes-in d) a)
+
+-- each node has a word at least
+pub graph-extent : (g : Graph) → length g < extent g
+graph-extent [] = omega arith
+graph-extent (v ∷ vs) = let h = graph-extent vs in let k = node-some v in omega (arith, length-append (node-words v) (nodes-words vs))
+  where
+    node-some : (v : Node) → 0 < length (node-words v)
+    node-some (atom a) = omega arith
+    node-some (arcs l) = omega arith
+
+arcs-twice : (l : List (ℕ × ℕ)) → length (arc-words l) ≡ 2 * length l
+arcs-twice [] = refl
+arcs-twice (e ∷ l) = let h = arcs-twice l in omega arith
+
+node-twice : (v : Node) → length (node-words v) ≡ 1 + 2 * length (arcsOf v)
+node-twice (atom a) = refl
+node-twice (arcs l) = let h = arcs-twice l in omega arith
+
+-- an arc meets one node at most
+met-few : (m : ℕ) (l : List (ℕ × ℕ)) → InOrder m l → met m l ≤ m + length l
+met-few m [] o = omega arith
+met-few m (e ∷ l) o = let h = met-few (max m (suc (e .1))) l (o .1) in let k = o .0 in omega arith
+
+numbered-few : (k m : ℕ) (g : Graph) → Numbered k m g → 2 * k + 3 * length g ≤ 2 * m + length (nodes-words g)
+numbered-few k m [] c = omega arith
+numbered-few k m (v ∷ vs) c =
+    omega (arith, numbered-few (suc k) (met m (arcsOf v)) vs (c .3), met-few m (arcsOf v) (c .2), node-twice v, length-append (node-words v) (nodes-words vs))
+
+mutual
+  -- a node has its head, and but for a root the arc that meets it; a root has the counts of nodes and of disjunctions
+  pub nodes-few : (d : Desc) → Can d → 3 * nodes-in d ≤ length (words d)
+  nodes-few (desc g ds) c = omega (arith, numbered-few 0 1 g (c .0), nodes-few-all ds (c .1), length-append (nodes-words g) (disjs ds ∷ disjs-words ds))
+
+  nodes-few-all : (ds : Disjs) → CanAll ds → 3 * nodes-all ds ≤ length (disjs-words ds)
+  nodes-few-all end c = omega arith
+  nodes-few-all (a and ds) c = omega (arith, nodes-few-any a (c .0), nodes-few-all ds (c .1), length-append (alts-words a) (disjs-words ds))
+
+  nodes-few-any : (a : Alts) → CanAny a → 3 * nodes-any a ≤ length (alts-words a)
+  nodes-few-any fail c = omega arith
+  nodes-few-any (d or a) c = omega (arith, nodes-few d (c .0), nodes-few-any a (c .1), length-append (words d) (alts-words a))
+
+-- all graphs of a description, at every depth
+abbrev mutual
+  pub graphs : Desc → List Graph
+  graphs (desc g ds) = g ∷ graphs-all ds
+
+  pub graphs-all : Disjs → List Graph
+  graphs-all end = []
+  graphs-all (a and ds) = graphs-any a ++ graphs-all ds
+
+  pub graphs-any : Alts → List Graph
+  graphs-any fail = []
+  graphs-any (d or a) = graphs d ++ graphs-any a
+
+mutual
+  unfolding weight
+
+  -- the graphs of a description have two words more each than their nodes: their counts of nodes and of disjunctions
+  pub weights-fit : (d : Desc) → weights (graphs d) + 2 * length (graphs d) ≤ length (words d)
+  weights-fit (desc g ds) = omega (arith, weights-fit-all ds, length-append (nodes-words g) (disjs ds ∷ disjs-words ds))
+
+  weights-fit-all : (ds : Disjs) → weights (graphs-all ds) + 2 * length (graphs-all ds) + disjs ds ≤ length (disjs-words ds)
+  weights-fit-all end = omega arith
+  weights-fit-all (a and ds) =
+      omega (arith, weights-fit-any a, weights-fit-all ds, weights-append (graphs-any a) (graphs-all ds), length-append (graphs-any a) (graphs-all ds), length-append (alts-words a) (disjs-words ds))
+
+  weights-fit-any : (a : Alts) → weights (graphs-any a) + 2 * length (graphs-any a) ≤ length (alts-words a)
+  weights-fit-any fail = omega arith
+  weights-fit-any (d or a) =
+      omega (arith, weights-fit d, weights-fit-any a, weights-append (graphs d) (graphs-any a), length-append (graphs d) (graphs-any a), length-append (words d) (alts-words a))

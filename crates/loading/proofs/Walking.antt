@@ -1,0 +1,133 @@
+-- What follows from a placed description's standing loaded: the order of positions and numbers, where its names lie, and what it depends on.
+-- Assumes nothing.
+use Prim.Native.Nat.{ℕ, _+_, _≤_, _<_}
+use native.Mathlib.Omega.{arith}
+use mathlib.Core.Path.{_≡_, _∙_}
+use mathlib.Core.List.{List, [], _∷_, _++_}
+use lib.ListN.{length, getD}
+use Rattle.theory.specs.Net.{Graph}
+use Rattle.engine.specs.Placed.{Placed, place, Places, stop, _also_, Options, no-more, option, names, names-all, names-any}
+use Rattle.layout.specs.Standing.{Stands}
+use Rattle.layout.proofs.Standing.{stands-nil, stands-cons, stands-order}
+use Rattle.loading.specs.Loaded.{extent, located}
+use Rattle.loading.specs.Numbered.{places, options}
+use Rattle.loading.specs.At.{At, AtAll, AtAny}
+use Rattle.loading.proofs.Sizes.{graph-extent}
+use Rattle.loading.proofs.Names.{Between, between-append, between-wide, between-none, between-one}
+
+module _ (t : List ℕ) where
+  mutual
+    pub at-bounds : (d : Placed) (p n q m : ℕ) → At t p n d q m → (p < q) × (q ≤ length t) × (n < m)
+    at-bounds (place g ds) p n q m w =
+        let some = w .0 in
+        let room = w .4 in
+        let r = all-bounds ds (p + extent g + 1) (n + length g) q m (omega arith) (w .6) in
+        let far = r .0 in
+        let more = r .2 in
+        (omega arith, r .1, omega arith)
+
+    pub all-bounds : (ds : Places) (p n q m : ℕ) → p ≤ length t → AtAll t p n ds q m → (p ≤ q) × (q ≤ length t) × (n ≤ m)
+    all-bounds stop p n q m h w = let e = w .0 in let f = w .1 in (omega arith, omega arith, omega arith)
+    all-bounds (a also ds) p n q m h w =
+        let there = w .2 in
+        let first = any-bounds a (p + 1) n (w .0) (w .1) (omega arith) (w .4) in
+        let rest = all-bounds ds (w .0) (w .1) q m (first .1) (w .5) in
+        let x = first .0 in
+        let y = first .2 in
+        let z = rest .0 in
+        let u = rest .2 in
+        (omega arith, rest .1, omega arith)
+
+    pub any-bounds : (a : Options) (p n q m : ℕ) → p ≤ length t → AtAny t p n a q m → (p ≤ q) × (q ≤ length t) × (n ≤ m)
+    any-bounds no-more p n q m h w = let e = w .0 in let f = w .1 in (omega arith, omega arith, omega arith)
+    any-bounds (option k d a) p n q m h w =
+        let first = at-bounds d p n (w .0) (w .1) (w .3) in
+        let rest = any-bounds a (w .0) (w .1) q m (first .1) (w .4) in
+        let x = first .0 in
+        let y = first .2 in
+        let z = rest .0 in
+        let u = rest .2 in
+        (omega arith, rest .1, omega arith)
+
+  mutual
+    -- the names of alternatives are numbers of their nodes
+    pub at-names : (d : Placed) (p n q m : ℕ) → At t p n d q m → Between (n + 1) m (names d)
+    at-names (place g ds) p n q m w =
+        let some = w .0 in
+        between-wide (n + length g) (n + 1) m m (names-all ds) (omega arith) (omega arith) (all-names ds (p + extent g + 1) (n + length g) q m (let room = w .4 in omega arith) (w .6))
+
+    pub all-names : (ds : Places) (p n q m : ℕ) → p ≤ length t → AtAll t p n ds q m → Between n m (names-all ds)
+    all-names stop p n q m h w = between-none n m
+    all-names (a also ds) p n q m h w =
+        let there = w .2 in
+        let first = any-bounds a (p + 1) n (w .0) (w .1) (omega arith) (w .4) in
+        let rest = all-bounds ds (w .0) (w .1) q m (first .1) (w .5) in
+        between-append n (w .1) m (names-any a) (names-all ds) (first .2) (rest .2) (any-names a (p + 1) n (w .0) (w .1) (omega arith) (w .4)) (all-names ds (w .0) (w .1) q m (first .1) (w .5))
+
+    pub any-names : (a : Options) (p n q m : ℕ) → p ≤ length t → AtAny t p n a q m → Between n m (names-any a)
+    any-names no-more p n q m h w = between-none n m
+    any-names (option k d a) p n q m h w =
+        let own = w .2 in
+        let first = at-bounds d p n (w .0) (w .1) (w .3) in
+        let rest = any-bounds a (w .0) (w .1) q m (first .1) (w .4) in
+        let more = first .2 in
+        let last = rest .2 in
+        between-append n (n + 1) m (k ∷ []) (names d ++ names-any a) (omega arith) (omega arith) (rw own (between-one n (n + 1) (omega arith)))
+        (between-append (n + 1) (w .1) m (names d) (names-any a) (omega arith) (omega arith) (at-names d p n (w .0) (w .1) (w .3)) (any-names a (w .0) (w .1) q m (first .1) (w .4)))
+
+  pub all-counts : (ds : Places) (p n q m : ℕ) → p ≤ length t → AtAll t p n ds q m → p + places ds ≤ q
+  all-counts stop p n q m h w = let e = w .0 in omega arith
+  all-counts (a also ds) p n q m h w =
+      let there = w .2 in
+      let first = any-bounds a (p + 1) n (w .0) (w .1) (omega arith) (w .4) in
+      omega (arith, first .0, all-counts ds (w .0) (w .1) q m (first .1) (w .5))
+
+  pub any-counts : (a : Options) (p n q m : ℕ) → p ≤ length t → AtAny t p n a q m → p + options a ≤ q
+  any-counts no-more p n q m h w = let e = w .0 in omega arith
+  any-counts (option k d a) p n q m h w =
+      let first = at-bounds d p n (w .0) (w .1) (w .3) in
+      omega (arith, first .0, any-counts a (w .0) (w .1) q m (first .1) (w .4))
+
+  -- the counts are no more than the words
+  pub at-counts : (g : Graph) (ds : Places) (p n q m : ℕ) → At t p n (place g ds) q m → (length g < extent g) × (p + extent g + places ds < q)
+  at-counts g ds p n q m w = let room = w .4 in (graph-extent g, omega (arith, all-counts ds (p + extent g + 1) (n + length g) q m (omega arith) (w .6)))
+
+-- t′ has the words of t from p up to q
+abbrev pub Agrees : List ℕ → List ℕ → ℕ → ℕ → Type 0
+Agrees t t′ p q = (j : ℕ) → p ≤ j → j < q → getD t′ j 0 ≡ getD t j 0
+
+-- what stands from p up to q depends on the words there alone
+module _ (t t′ : List ℕ) where
+  part : (p r s q : ℕ) → p ≤ r → s ≤ q → Agrees t t′ p q → Agrees t t′ r s
+  part p r s q h k same j l u = same j (omega arith) (omega arith)
+
+  pub stands-frame : (xs : List ℕ) (p q : ℕ) → q ≤ length t′ → Agrees t t′ p q → Stands t p xs q → Stands t′ p xs q
+  stands-frame [] p q h same s = stands-nil t′ p q .1 (stands-nil t p q .0 s)
+  stands-frame (x ∷ xs) p q h same s =
+      let parts = stands-cons t x xs p q .0 s in
+      let far = stands-order t xs (p + 1) q (parts .2) in
+      stands-cons t′ x xs p q .1 (omega arith, same p (omega arith) (omega arith) ∙ parts .1, stands-frame xs (p + 1) q h (part p (p + 1) q q (omega arith) (omega arith) same) (parts .2))
+
+  mutual
+    pub at-frame : (d : Placed) (p n q m : ℕ) → q ≤ length t′ → Agrees t t′ p q → At t p n d q m → At t′ p n d q m
+    at-frame (place g ds) p n q m h same w =
+        let room = w .4 in
+        let far = all-bounds t ds (p + extent g + 1) (n + length g) q m (omega arith) (w .6) .0 in
+        (w .0, omega arith, same p (omega arith) (omega arith) ∙ w .2, stands-frame (located n g) (p + 1) (p + extent g) (omega arith) (part p (p + 1) (p + extent g) q (omega arith) (omega arith) same) (w .3), omega arith, same (p + extent g) (omega arith) (omega arith) ∙ w .5, all-frame ds (p + extent g + 1) (n + length g) q m (omega arith) h (part p (p + extent g + 1) q q (omega arith) (omega arith) same) (w .6))
+
+    pub all-frame : (ds : Places) (p n q m : ℕ) → p ≤ length t → q ≤ length t′ → Agrees t t′ p q → AtAll t p n ds q m → AtAll t′ p n ds q m
+    all-frame stop p n q m k h same w = w
+    all-frame (a also ds) p n q m k h same w =
+        let there = w .2 in
+        let first = any-bounds t a (p + 1) n (w .0) (w .1) (omega arith) (w .4) in
+        let near = first .0 in
+        let far = all-bounds t ds (w .0) (w .1) q m (first .1) (w .5) .0 in
+        (w .0, w .1, omega arith, same p (omega arith) (omega arith) ∙ w .3, any-frame a (p + 1) n (w .0) (w .1) (omega arith) (omega arith) (part p (p + 1) (w .0) q (omega arith) (omega arith) same) (w .4), all-frame ds (w .0) (w .1) q m (first .1) h (part p (w .0) q q (omega arith) (omega arith) same) (w .5))
+
+    pub any-frame : (a : Options) (p n q m : ℕ) → p ≤ length t → q ≤ length t′ → Agrees t t′ p q → AtAny t p n a q m → AtAny t′ p n a q m
+    any-frame no-more p n q m k h same w = w
+    any-frame (option x d a) p n q m k h same w =
+        let first = at-bounds t d p n (w .0) (w .1) (w .3) in
+        let near = first .0 in
+        let far = any-bounds t a (w .0) (w .1) q m (first .1) (w .4) .0 in
+        (w .0, w .1, w .2, at-frame d p n (w .0) (w .1) (omega arith) (part p p (w .0) q (omega arith) (omega arith) same) (w .3), any-frame a (w .0) (w .1) q m (first .1) h (part p (w .0) q q (omega arith) (omega arith) same) (w .4))

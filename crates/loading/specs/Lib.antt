@@ -1,0 +1,4 @@
+-- `Loaded` says what words a description is loaded as, `Numbered` what numbers its alternatives bear, `At` what code finds where it walks.
+pub mod Loaded
+pub mod Numbered
+pub mod At

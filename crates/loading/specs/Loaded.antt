@@ -1,0 +1,61 @@
+-- The words that a description is loaded as: those of the word layout, with targets by numbers that run through all graphs, and with what saves walking.
+-- Assumes nothing: these are definitions.
+use Prim.Native.Nat.{ℕ, suc, _+_, _*_}
+use mathlib.Core.List.{List, [], _∷_, _++_}
+use lib.ListN.{length}
+use Rattle.theory.specs.Limits.{code-limit}
+use Rattle.theory.specs.Net.{Node, atom, arcs, Graph}
+use Rattle.theory.specs.Descr.{Desc, desc, Disjs, end, _and_, Alts, fail, _or_, disjs, alts}
+use Rattle.theory.specs.Layout.{nodes-words, words, alts-words}
+
+-- the words of a graph: "node count (at least 1), then each node in order"
+abbrev pub extent : Graph → ℕ
+extent g = suc (length (nodes-words g))
+
+-- the first word of a loaded graph: its node count, the number of its node 0, and its extent
+unfoldable pub header : ℕ → Graph → ℕ
+header n g = length g + 1024 * n + 1048576 * extent g
+
+-- the word after a loaded graph: "the number of disjunctions", here c, and the position q where the description ends
+unfoldable pub closing : ℕ → ℕ → ℕ
+closing c q = c + 4096 * q
+
+-- "An arc is two words: feature 0..65,535, target node.": the target by its number, where node 0 has the number n
+abbrev pub located-arcs : ℕ → List (ℕ × ℕ) → List ℕ
+located-arcs n [] = []
+located-arcs n (e ∷ l) = e .0 ∷ (n + e .1) ∷ located-arcs n l
+
+abbrev pub located-node : ℕ → Node → List ℕ
+located-node n (atom a) = (code-limit + a) ∷ []
+located-node n (arcs l) = length l ∷ located-arcs n l
+
+-- the nodes of a graph whose node 0 has the number n
+abbrev pub located : ℕ → Graph → List ℕ
+located n [] = []
+located n (v ∷ vs) = located-node n v ++ located n vs
+
+-- "Put the nodes of all graphs side by side.": how many they are, at every depth
+abbrev mutual
+  pub nodes-in : Desc → ℕ
+  nodes-in (desc g ds) = length g + nodes-all ds
+
+  pub nodes-all : Disjs → ℕ
+  nodes-all end = 0
+  nodes-all (a and ds) = nodes-any a + nodes-all ds
+
+  pub nodes-any : Alts → ℕ
+  nodes-any fail = 0
+  nodes-any (d or a) = nodes-in d + nodes-any a
+
+-- a description loaded at position p, its nodes numbered from n on in the order of the words
+abbrev mutual
+  pub loaded : ℕ → ℕ → Desc → List ℕ
+  loaded p n (desc g ds) = (header n g ∷ located n g) ++ closing (disjs ds) (p + length (words (desc g ds))) ∷ loaded-all (p + extent g + 1) (n + length g) ds
+
+  pub loaded-all : ℕ → ℕ → Disjs → List ℕ
+  loaded-all p n end = []
+  loaded-all p n (a and ds) = (alts a ∷ loaded-any (p + 1) n a) ++ loaded-all (p + suc (length (alts-words a))) (n + nodes-any a) ds
+
+  pub loaded-any : ℕ → ℕ → Alts → List ℕ
+  loaded-any p n fail = []
+  loaded-any p n (d or a) = loaded p n d ++ loaded-any (p + length (words d)) (n + nodes-in d) a
