@@ -5,12 +5,14 @@ use native.Mathlib.Omega.{arith}
 use mathlib.Core.Path.{_≡_, refl, sym, ap, _∙_}
 use mathlib.Core.List.{List, [], _∷_, _++_}
 use lib.ListN.{length, length-append}
+use Rattle.theory.specs.Limits.{input-limit}
 use Rattle.theory.specs.Net.{Node, atom, arcs, Graph, arcsOf, InOrder, met, Numbered}
 use Rattle.theory.specs.Descr.{Desc, desc, Disjs, end, _and_, Alts, fail, _or_, disjs, alts}
 use Rattle.theory.specs.Layout.{arc-words, node-words, nodes-words, words, disjs-words, alts-words}
 use Rattle.theory.proofs.Mean.{Can, CanAll, CanAny}
 use Rattle.theory.proofs.Weight.{weight, weights, weights-append}
 use Rattle.loading.specs.Loaded.{extent, located-arcs, located-node, located, nodes-in, nodes-all, nodes-any, loaded, loaded-all, loaded-any}
+use Rattle.loading.specs.Loading.{Low, AllLow}
 
 -- lists as long as each other, one after the other
 both-length : (xs xs′ ys ys′ : List ℕ) → length xs ≡ length xs′ → length ys ≡ length ys′ → length (xs ++ ys) ≡ length (xs′ ++ ys′)
@@ -67,6 +69,25 @@ numbered-few k m [] c = omega arith
 numbered-few k m (v ∷ vs) c =
     omega (arith, numbered-few (suc k) (met m (arcsOf v)) vs (c .3), met-few m (arcsOf v) (c .2), node-twice v, length-append (node-words v) (nodes-words vs))
 
+met-grows : (m : ℕ) (l : List (ℕ × ℕ)) → m ≤ met m l
+met-grows m [] = omega arith
+met-grows m (e ∷ l) = let h = met-grows (max m (suc (e .1))) l in omega arith
+
+met-low : (m : ℕ) (l : List (ℕ × ℕ)) → met m l ≤ input-limit → Low l
+met-low m [] h = tt
+met-low m (e ∷ l) h = let k = met-grows (max m (suc (e .1))) l in (omega arith, met-low (max m (suc (e .1))) l h)
+
+numbered-all-met : (k m : ℕ) (g : Graph) → Numbered k m g → m ≤ k + length g
+numbered-all-met k m [] c = omega arith
+numbered-all-met k m (v ∷ vs) c = omega (arith, met-grows m (arcsOf v), numbered-all-met (suc k) (met m (arcsOf v)) vs (c .3))
+
+-- the targets of a graph are below its node count
+pub numbered-low : (k m : ℕ) (g : Graph) → Numbered k m g → k + length g ≤ input-limit → AllLow g
+numbered-low k m [] c h = tt
+numbered-low k m (v ∷ vs) c h =
+    let after = met m (arcsOf v) in
+    (met-low m (arcsOf v) (omega (arith, numbered-all-met (suc k) after vs (c .3))), numbered-low (suc k) after vs (c .3) (omega arith))
+
 mutual
   -- a node has its head, and but for a root the arc that meets it; a root has the counts of nodes and of disjunctions
   pub nodes-few : (d : Desc) → Can d → 3 * nodes-in d ≤ length (words d)
@@ -100,7 +121,7 @@ mutual
   pub weights-fit : (d : Desc) → weights (graphs d) + 2 * length (graphs d) ≤ length (words d)
   weights-fit (desc g ds) = omega (arith, weights-fit-all ds, length-append (nodes-words g) (disjs ds ∷ disjs-words ds))
 
-  weights-fit-all : (ds : Disjs) → weights (graphs-all ds) + 2 * length (graphs-all ds) + disjs ds ≤ length (disjs-words ds)
+  pub weights-fit-all : (ds : Disjs) → weights (graphs-all ds) + 2 * length (graphs-all ds) + disjs ds ≤ length (disjs-words ds)
   weights-fit-all end = omega arith
   weights-fit-all (a and ds) =
       omega (arith, weights-fit-any a, weights-fit-all ds, weights-append (graphs-any a) (graphs-all ds), length-append (graphs-any a) (graphs-all ds), length-append (alts-words a) (disjs-words ds))

@@ -4,14 +4,13 @@ use Prim.Native.Nat.{ℕ, _+_, _≤_, _<_}
 use native.Mathlib.Omega.{arith}
 use mathlib.Core.Path.{_≡_, _∙_}
 use mathlib.Core.List.{List, [], _∷_, _++_}
-use lib.ListN.{length, getD}
+use lib.ListN.{length}
 use Rattle.theory.specs.Net.{Graph}
 use Rattle.engine.specs.Placed.{Placed, place, Places, stop, _also_, Options, no-more, option, names, names-all, names-any}
-use Rattle.layout.specs.Standing.{Stands}
-use Rattle.layout.proofs.Standing.{stands-nil, stands-cons, stands-order}
 use Rattle.loading.specs.Loaded.{extent, located}
 use Rattle.loading.specs.Numbered.{places, options}
 use Rattle.loading.specs.At.{At, AtAll, AtAny}
+use Rattle.loading.proofs.Putting.{Agrees, agrees-part, stands-frame}
 use Rattle.loading.proofs.Sizes.{graph-extent}
 use Rattle.loading.proofs.Names.{Between, between-append, between-wide, between-none, between-one}
 
@@ -92,42 +91,31 @@ module _ (t : List ℕ) where
   pub at-counts : (g : Graph) (ds : Places) (p n q m : ℕ) → At t p n (place g ds) q m → (length g < extent g) × (p + extent g + places ds < q)
   at-counts g ds p n q m w = let room = w .4 in (graph-extent g, omega (arith, all-counts ds (p + extent g + 1) (n + length g) q m (omega arith) (w .6)))
 
--- t′ has the words of t from p up to q
-abbrev pub Agrees : List ℕ → List ℕ → ℕ → ℕ → Type 0
-Agrees t t′ p q = (j : ℕ) → p ≤ j → j < q → getD t′ j 0 ≡ getD t j 0
-
 -- what stands from p up to q depends on the words there alone
 module _ (t t′ : List ℕ) where
-  part : (p r s q : ℕ) → p ≤ r → s ≤ q → Agrees t t′ p q → Agrees t t′ r s
-  part p r s q h k same j l u = same j (omega arith) (omega arith)
-
-  pub stands-frame : (xs : List ℕ) (p q : ℕ) → q ≤ length t′ → Agrees t t′ p q → Stands t p xs q → Stands t′ p xs q
-  stands-frame [] p q h same s = stands-nil t′ p q .1 (stands-nil t p q .0 s)
-  stands-frame (x ∷ xs) p q h same s =
-      let parts = stands-cons t x xs p q .0 s in
-      let far = stands-order t xs (p + 1) q (parts .2) in
-      stands-cons t′ x xs p q .1 (omega arith, same p (omega arith) (omega arith) ∙ parts .1, stands-frame xs (p + 1) q h (part p (p + 1) q q (omega arith) (omega arith) same) (parts .2))
-
   mutual
-    pub at-frame : (d : Placed) (p n q m : ℕ) → q ≤ length t′ → Agrees t t′ p q → At t p n d q m → At t′ p n d q m
-    at-frame (place g ds) p n q m h same w =
+    pub at-frame : (d : Placed) (p n q m : ℕ) → Agrees t t′ p q → At t p n d q m → At t′ p n d q m
+    at-frame (place g ds) p n q m same w =
         let room = w .4 in
         let far = all-bounds t ds (p + extent g + 1) (n + length g) q m (omega arith) (w .6) .0 in
-        (w .0, omega arith, same p (omega arith) (omega arith) ∙ w .2, stands-frame (located n g) (p + 1) (p + extent g) (omega arith) (part p (p + 1) (p + extent g) q (omega arith) (omega arith) same) (w .3), omega arith, same (p + extent g) (omega arith) (omega arith) ∙ w .5, all-frame ds (p + extent g + 1) (n + length g) q m (omega arith) h (part p (p + extent g + 1) q q (omega arith) (omega arith) same) (w .6))
+        let first = same p (omega arith) (omega arith) (w .1) in
+        let last = same (p + extent g) (omega arith) (omega arith) (w .4) in
+        (w .0, first .0, first .1 ∙ w .2, stands-frame t t′ (located n g) (p + 1) (p + extent g) (agrees-part t t′ p (p + 1) (p + extent g) q (omega arith) (omega arith) same) (w .3), last .0, last .1 ∙ w .5, all-frame ds (p + extent g + 1) (n + length g) q m (omega arith) (agrees-part t t′ p (p + extent g + 1) q q (omega arith) (omega arith) same) (w .6))
 
-    pub all-frame : (ds : Places) (p n q m : ℕ) → p ≤ length t → q ≤ length t′ → Agrees t t′ p q → AtAll t p n ds q m → AtAll t′ p n ds q m
-    all-frame stop p n q m k h same w = w
-    all-frame (a also ds) p n q m k h same w =
+    pub all-frame : (ds : Places) (p n q m : ℕ) → p ≤ length t → Agrees t t′ p q → AtAll t p n ds q m → AtAll t′ p n ds q m
+    all-frame stop p n q m h same w = w
+    all-frame (a also ds) p n q m h same w =
         let there = w .2 in
         let first = any-bounds t a (p + 1) n (w .0) (w .1) (omega arith) (w .4) in
         let near = first .0 in
         let far = all-bounds t ds (w .0) (w .1) q m (first .1) (w .5) .0 in
-        (w .0, w .1, omega arith, same p (omega arith) (omega arith) ∙ w .3, any-frame a (p + 1) n (w .0) (w .1) (omega arith) (omega arith) (part p (p + 1) (w .0) q (omega arith) (omega arith) same) (w .4), all-frame ds (w .0) (w .1) q m (first .1) h (part p (w .0) q q (omega arith) (omega arith) same) (w .5))
+        let count = same p (omega arith) (omega arith) there in
+        (w .0, w .1, count .0, count .1 ∙ w .3, any-frame a (p + 1) n (w .0) (w .1) (omega arith) (agrees-part t t′ p (p + 1) (w .0) q (omega arith) (omega arith) same) (w .4), all-frame ds (w .0) (w .1) q m (first .1) (agrees-part t t′ p (w .0) q q (omega arith) (omega arith) same) (w .5))
 
-    pub any-frame : (a : Options) (p n q m : ℕ) → p ≤ length t → q ≤ length t′ → Agrees t t′ p q → AtAny t p n a q m → AtAny t′ p n a q m
-    any-frame no-more p n q m k h same w = w
-    any-frame (option x d a) p n q m k h same w =
+    pub any-frame : (a : Options) (p n q m : ℕ) → p ≤ length t → Agrees t t′ p q → AtAny t p n a q m → AtAny t′ p n a q m
+    any-frame no-more p n q m h same w = w
+    any-frame (option x d a) p n q m h same w =
         let first = at-bounds t d p n (w .0) (w .1) (w .3) in
         let near = first .0 in
         let far = any-bounds t a (w .0) (w .1) q m (first .1) (w .4) .0 in
-        (w .0, w .1, w .2, at-frame d p n (w .0) (w .1) (omega arith) (part p p (w .0) q (omega arith) (omega arith) same) (w .3), any-frame a (w .0) (w .1) q m (first .1) h (part p (w .0) q q (omega arith) (omega arith) same) (w .4))
+        (w .0, w .1, w .2, at-frame d p n (w .0) (w .1) (agrees-part t t′ p p (w .0) q (omega arith) (omega arith) same) (w .3), any-frame a (w .0) (w .1) q m (first .1) (agrees-part t t′ p (w .0) q q (omega arith) (omega arith) same) (w .4))

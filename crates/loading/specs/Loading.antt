@@ -1,0 +1,96 @@
+-- What the functions that load ask of the words, and what they promise: one promise for each kind of thing that words stand for.
+-- Assumes nothing: these are definitions.
+use Prim.Native.Nat.{ℕ, _+_, _-_, _*_, _≤_, _<_}
+use mathlib.Core.Path.{_≡_}
+use mathlib.Core.Logic.{_⊎_}
+use mathlib.Core.List.{List, [], _∷_}
+use lib.ListN.{length, getD}
+use Rattle.theory.specs.Limits.{input-limit, depth-limit}
+use Rattle.theory.specs.Net.{Node, Graph, arcsOf}
+use Rattle.theory.specs.Descr.{Desc, Disjs, Alts, disjs, alts}
+use Rattle.theory.specs.Layout.{arc-words, node-words, nodes-words, words, disjs-words, alts-words, NodeFits, GraphFits, WellFormed, WellAll, WellAny, Image}
+use Rattle.layout.specs.Standing.{Stands, graph-words, disjunction-words}
+use Rattle.loading.specs.Loaded.{header, located-arcs, located-node, located, nodes-in, nodes-all, nodes-any, loaded, loaded-all, loaded-any}
+
+-- t′ is t with the words xs put from p up to q, and no other word changed
+pub record Put (t t′ : List ℕ) (p : ℕ) (xs : List ℕ) (q : ℕ) : Type 0 where
+  pub same : length t′ ≡ length t
+  pub stands : Stands t′ p xs q
+  pub rest : (j : ℕ) → (j < p) ⊎ (q ≤ j) → getD t′ j 0 ≡ getD t j 0
+
+-- a kind of thing: when it may come, its words, what they are loaded as at a position and from a number on, and how many nodes it has
+pub record Kind : Type 1 where
+  pub Thing : Type 0
+  pub Fine : Thing → Type 0
+  pub text : Thing → List ℕ
+  pub image : ℕ → ℕ → Thing → List ℕ
+  pub nodes : Thing → ℕ
+
+-- targets are below the node count, which words of an input keep below this
+abbrev pub Low : List (ℕ × ℕ) → Type 0
+Low [] = Unit {0}
+Low (e ∷ l) = (e .1 < input-limit) × Low l
+
+abbrev pub AllLow : Graph → Type 0
+AllLow [] = Unit {0}
+AllLow (v ∷ vs) = Low (arcsOf v) × AllLow vs
+
+abbrev pub an-arc : Kind
+an-arc = record { Thing = ℕ × ℕ; Fine = λ e. e .1 < input-limit; text = λ e. e .0 ∷ e .1 ∷ []; image = λ p n e. e .0 ∷ (n + e .1) ∷ []; nodes = λ e. 0 }
+
+-- k arcs
+abbrev pub its-arcs : ℕ → Kind
+its-arcs k = record { Thing = List (ℕ × ℕ); Fine = λ l. (length l ≡ k) × Low l; text = arc-words; image = λ p. located-arcs; nodes = λ l. 0 }
+
+abbrev pub a-node : Kind
+a-node = record { Thing = Node; Fine = λ v. NodeFits v × Low (arcsOf v); text = node-words; image = λ p. located-node; nodes = λ v. 0 }
+
+-- k nodes
+abbrev pub its-nodes : ℕ → Kind
+its-nodes k = record { Thing = Graph; Fine = λ g. (length g ≡ k) × GraphFits g × AllLow g; text = nodes-words; image = λ p. located; nodes = λ g. 0 }
+
+abbrev pub a-graph : Kind
+a-graph = record { Thing = Graph; Fine = λ g. GraphFits g × AllLow g; text = graph-words; image = λ p n g. header n g ∷ located n g; nodes = length }
+
+-- k disjunctions under which alternatives nest at most `left` deep
+abbrev pub its-disjunctions : ℕ → ℕ → Kind
+its-disjunctions left k = record { Thing = Disjs; Fine = λ ds. (disjs ds ≡ k) × WellAll ds left; text = disjs-words; image = loaded-all; nodes = nodes-all }
+
+-- a disjunction whose own alternatives are one of the `left` levels
+abbrev pub a-disjunction : ℕ → Kind
+a-disjunction left = record { Thing = Alts; Fine = λ a. (0 < left) × WellAny a (left - 1); text = disjunction-words; image = λ p n a. alts a ∷ loaded-any (p + 1) n a; nodes = nodes-any }
+
+-- k alternatives
+abbrev pub its-alternatives : ℕ → ℕ → Kind
+its-alternatives left k = record { Thing = Alts; Fine = λ a. (alts a ≡ k) × WellAny a left; text = alts-words; image = loaded-any; nodes = nodes-any }
+
+-- a description under which alternatives nest at most `left` deep
+abbrev pub a-description : ℕ → Kind
+a-description left = record { Thing = Desc; Fine = λ d. WellFormed d left; text = words; image = loaded; nodes = nodes-in }
+
+-- the words have room at the shift, and are no more than an input may have
+pub record Room (t ws : List ℕ) (shift : ℕ) : Type 0 where
+  pub few : length ws ≤ input-limit
+  pub near : shift ≤ input-limit
+  pub room : shift + length ws ≤ length t
+
+-- a thing of the kind stands at p, and its nodes have numbers from n on
+abbrev pub Asked : Kind → List ℕ → ℕ → ℕ → Type 0
+Asked K ws p n = (x : K .Thing) × (q : ℕ) × K .Fine x × Stands ws p (K .text x) q × (n + K .nodes x ≤ input-limit)
+
+-- whatever thing of the kind stands at p: it ends at r, the next number is m, and it is loaded
+abbrev pub Loads : Kind → List ℕ → ℕ → ℕ → ℕ → List ℕ → List ℕ → ℕ → ℕ → Type 0
+Loads K ws p shift n t t′ r m =
+    (x : K .Thing) (q : ℕ) → K .Fine x → Stands ws p (K .text x) q → (r ≡ q) × (m ≡ n + K .nodes x) × Put t t′ (shift + p) (K .image (shift + p) n x) (shift + q)
+
+-- what loading an input asks: it is the image of a description, and there is room for its words and its numbers
+pub record Loadable (t ws : List ℕ) (shift n : ℕ) : Type 0 where
+  pub image : Image ws
+  pub few : length ws ≤ input-limit
+  pub near : shift ≤ input-limit
+  pub room : 2 * input-limit ≤ length t
+  pub numbers : 3 * n ≤ input-limit
+
+-- and what it promises: the description is loaded at the shift with numbers from n up to m, and no other word has changed
+abbrev pub LoadedAt : List ℕ → ℕ → ℕ → List ℕ → List ℕ → ℕ → Type 0
+LoadedAt ws shift n t t′ m = (d : Desc) → WellFormed d depth-limit → ws ≡ words d → (m ≡ n + nodes-in d) × Put t t′ shift (loaded shift n d) (shift + length ws)

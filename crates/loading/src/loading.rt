@@ -1,0 +1,139 @@
+// Loading the words of a description, from the first to the last, once.
+use crate::width::wide;
+use layout::limits::CODE_LIMIT;
+use layout::limits::DEPTH_LIMIT;
+ghost use mathlib.Core.Path.{_≡_};
+ghost use Rattle.loading.specs.Loading.{its-arcs, a-node, its-nodes, a-graph, a-disjunction, a-description, Room, Asked, Loads, Loadable, LoadedAt};
+
+// Where a thing ends, and the number of the next node.
+pub struct Reach {
+    pub at: usize,
+    pub number: u32,
+}
+
+// Loads the `count` arcs of a node.
+fn load_arcs(t: &mut [u32], ws: &[u32], p: usize, shift: usize, count: u32, number: u32) -> usize
+    requires { ⌜ Room (now t) (now ws) shift ⌝ }
+    requires { ⌜ Asked (its-arcs count) (now ws) p number ⌝ }
+    ensures { λ r. ⌜ Loads (its-arcs count) (now (ws .entry)) p shift number (now (t .entry)) (now (t .exit)) r number ⌝ }
+{
+    let mut at = p;
+    let mut left = count;
+    while 0 < left {
+        t[shift + at] = ws[at];
+        t[shift + at + 1] = ws[at + 1] + number;
+        at += 2;
+        left -= 1;
+    }
+    at
+}
+
+// Loads a node: its head as it is, and its arcs.
+fn load_node(t: &mut [u32], ws: &[u32], p: usize, shift: usize, number: u32) -> usize
+    requires { ⌜ Room (now t) (now ws) shift ⌝ }
+    requires { ⌜ Asked a-node (now ws) p number ⌝ }
+    ensures { λ r. ⌜ Loads a-node (now (ws .entry)) p shift number (now (t .entry)) (now (t .exit)) r number ⌝ }
+{
+    let head = ws[p];
+    t[shift + p] = head;
+    if CODE_LIMIT <= head {
+        return p + 1;
+    }
+    load_arcs(t, ws, p + 1, shift, head, number)
+}
+
+// Loads the `count` nodes of a graph.
+fn load_nodes(t: &mut [u32], ws: &[u32], p: usize, shift: usize, count: u32, number: u32) -> usize
+    requires { ⌜ Room (now t) (now ws) shift ⌝ }
+    requires { ⌜ Asked (its-nodes count) (now ws) p number ⌝ }
+    ensures { λ r. ⌜ Loads (its-nodes count) (now (ws .entry)) p shift number (now (t .entry)) (now (t .exit)) r number ⌝ }
+{
+    let mut at = p;
+    let mut left = count;
+    while 0 < left {
+        at = load_node(t, ws, at, shift, number);
+        left -= 1;
+    }
+    at
+}
+
+// Loads a graph; its header is written once its end is known.
+fn load_graph(t: &mut [u32], ws: &[u32], p: usize, shift: usize, number: u32) -> Reach
+    requires { ⌜ Room (now t) (now ws) shift ⌝ }
+    requires { ⌜ Asked a-graph (now ws) p number ⌝ }
+    ensures { λ r. ⌜ Loads a-graph (now (ws .entry)) p shift number (now (t .entry)) (now (t .exit)) (r .at) (r .number) ⌝ }
+{
+    let count = ws[p];
+    let at = load_nodes(t, ws, p + 1, shift, count, number);
+    let extent = (at - p) as u32;
+    t[shift + p] = count + 1024 * number + 1048576 * extent;
+    Reach {
+        at,
+        number: number + count,
+    }
+}
+
+// Loads a description whose alternatives nest at most `left` deep; the word after its graph is written once its end is known.
+fn load_description(
+    t: &mut [u32],
+    ws: &[u32],
+    p: usize,
+    shift: usize,
+    number: u32,
+    left: u32,
+) -> Reach
+    requires { ⌜ Room (now t) (now ws) shift ⌝ }
+    requires { ⌜ Asked (a-description left) (now ws) p number ⌝ }
+    ensures { λ r. ⌜ Loads (a-description left) (now (ws .entry)) p shift number (now (t .entry)) (now (t .exit)) (r .at) (r .number) ⌝ }
+{
+    let graph = load_graph(t, ws, p, shift, number);
+    let q = graph.at;
+    let count = ws[q];
+    let mut more = count;
+    let mut at = q + 1;
+    let mut next = graph.number;
+    while 0 < more {
+        let reach = load_disjunction(t, ws, at, shift, next, left);
+        at = reach.at;
+        next = reach.number;
+        more -= 1;
+    }
+    let end = (shift + at) as u32;
+    t[shift + q] = count + 4096 * end;
+    Reach { at, number: next }
+}
+
+// Loads a disjunction whose own alternatives are one of the `left` levels: their number, and each as a description.
+fn load_disjunction(
+    t: &mut [u32],
+    ws: &[u32],
+    p: usize,
+    shift: usize,
+    number: u32,
+    left: u32,
+) -> Reach
+    requires { ⌜ Room (now t) (now ws) shift ⌝ }
+    requires { ⌜ Asked (a-disjunction left) (now ws) p number ⌝ }
+    ensures { λ r. ⌜ Loads (a-disjunction left) (now (ws .entry)) p shift number (now (t .entry)) (now (t .exit)) (r .at) (r .number) ⌝ }
+{
+    let mut count = ws[p];
+    t[shift + p] = count;
+    let mut at = p + 1;
+    let mut next = number;
+    while 0 < count {
+        let reach = load_description(t, ws, at, shift, next, left - 1);
+        at = reach.at;
+        next = reach.number;
+        count -= 1;
+    }
+    Reach { at, number: next }
+}
+
+// Loads the words of an input at the shift, its nodes numbered from `number` on. The number of the next node.
+pub fn load(t: &mut [u32], ws: &[u32], shift: usize, number: usize) -> usize
+    requires { ⌜ Loadable (now t) (now ws) shift number ⌝ }
+    ensures { λ r. ⌜ LoadedAt (now (ws .entry)) shift number (now (t .entry)) (now (t .exit)) r ⌝ }
+{
+    let reach = load_description(t, ws, 0, shift, number as u32, DEPTH_LIMIT);
+    wide(reach.number)
+}
