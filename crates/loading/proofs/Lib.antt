@@ -1,4 +1,4 @@
--- `Sizes` has lengths and bounds, `Packed` takes packed words apart, `Names` has the laws of the names, `Walking` those of what stands loaded, `Loads` says that what is loaded stands so.
+-- `Sizes` has lengths and bounds, `Packed` takes packed words apart, `Names` has the laws of the names, `Walking` those of what stands loaded, `Loads` says that what is loaded stands so, `Entries` lists its graphs.
 -- `Putting` has the laws of words put somewhere, `Series` those of things loaded one after the other, `Sequels` says which things come so, `Parts` what their functions ask and promise.
 pub mod Sizes
 pub mod Packed
@@ -6,6 +6,7 @@ pub mod Names
 pub mod Putting
 pub mod Walking
 pub mod Loads
+pub mod Entries
 mod Series
 mod Sequels
 mod Parts

@@ -1,16 +1,17 @@
 -- What follows from a placed description's standing loaded: the order of positions and numbers, where its names lie, and what it depends on.
 -- Assumes nothing.
-use Prim.Native.Nat.{ℕ, _+_, _≤_, _<_}
+use Prim.Native.Nat.{ℕ, _+_, _≤_, _<_, _/_, _%_}
 use native.Mathlib.Omega.{arith}
 use mathlib.Core.Path.{_≡_, _∙_}
 use mathlib.Core.List.{List, [], _∷_, _++_}
-use lib.ListN.{length}
+use lib.ListN.{length, getD}
 use Rattle.theory.specs.Net.{Graph}
 use Rattle.engine.specs.Placed.{Placed, place, Places, stop, _also_, Options, no-more, option, names, names-all, names-any}
 use Rattle.loading.specs.Loaded.{extent, located}
 use Rattle.loading.specs.Numbered.{places, options}
 use Rattle.loading.specs.At.{At, AtAll, AtAny}
 use Rattle.loading.proofs.Putting.{Agrees, agrees-part, stands-frame}
+use Rattle.loading.proofs.Packed.{header-nodes, header-number, header-extent, closing-count, closing-end}
 use Rattle.loading.proofs.Sizes.{graph-extent}
 use Rattle.loading.proofs.Names.{Between, between-append, between-wide, between-none, between-one}
 
@@ -87,9 +88,28 @@ module _ (t : List ℕ) where
       let first = at-bounds d p n (w .0) (w .1) (w .3) in
       omega (arith, first .0, any-counts a (w .0) (w .1) q m (first .1) (w .4))
 
-  -- the counts are no more than the words
-  pub at-counts : (g : Graph) (ds : Places) (p n q m : ℕ) → At t p n (place g ds) q m → (length g < extent g) × (p + extent g + places ds < q)
-  at-counts g ds p n q m w = let room = w .4 in (graph-extent g, omega (arith, all-counts ds (p + extent g + 1) (n + length g) q m (omega arith) (w .6)))
+  module _ (g : Graph) (ds : Places) (p n q m : ℕ) (at : At t p n (place g ds) q m) where
+    -- the counts are no more than the words, and the nodes no more than the numbers
+    pub at-counts : (length g < extent g) × (p + extent g + places ds < q) × (n + length g ≤ m)
+    at-counts =
+        let room = at .4 in
+        let last = all-bounds ds (p + extent g + 1) (n + length g) q m (omega arith) (at .6) .2 in
+        (graph-extent g, omega (arith, all-counts ds (p + extent g + 1) (n + length g) q m (omega arith) (at .6)), last)
+
+    -- what code reads at a graph, where numbers and positions are as small as the working area keeps them
+    pub at-header : m < 1024 → (getD t p 0 % 1024 ≡ length g) × (getD t p 0 / 1024 % 1024 ≡ n) × (getD t p 0 / 1048576 ≡ extent g)
+    at-header h =
+        let few : length g < 1024 = omega (arith, at-counts .2) in
+        let low : n < 1024 = omega (arith, at-counts .2) in
+        let e = at .2 in
+        (rw e (header-nodes n g few), rw e (header-number n g few low), rw e (header-extent n g few low))
+
+    -- and after it
+    pub at-closing : q < 4096 → (getD t (p + extent g) 0 % 4096 ≡ places ds) × (getD t (p + extent g) 0 / 4096 ≡ q)
+    at-closing h =
+        let few : places ds < 4096 = omega (arith, at-counts .1) in
+        let e = at .5 in
+        (rw e (closing-count (places ds) q few), rw e (closing-end (places ds) q few))
 
 -- what stands from p up to q depends on the words there alone
 module _ (t t′ : List ℕ) where
