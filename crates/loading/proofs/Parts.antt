@@ -1,21 +1,21 @@
 -- What each function that loads asks of its callees, and what follows from what they promise.
 -- Assumes nothing.
-use Prim.Native.Nat.{ℕ, suc, _+_, _-_, _*_, _≤_, _<_}
+use Prim.Native.Nat.{ℕ, _+_, _-_, _*_, _≤_, _<_}
 use native.Mathlib.Omega.{arith}
 use native.Mathlib.Nat.{add-zero, add-assoc}
-use mathlib.Core.Path.{_≡_, refl, sym, subst, ap, ap₂, _∙_}
+use mathlib.Core.Path.{_≡_, sym, subst, ap, ap₂, _∙_}
 use mathlib.Core.List.{List, [], _∷_, _++_}
 use lib.ListN.{length, getD, set, length-set}
 use Rattle.theory.specs.Limits.{code-limit, input-limit, depth-limit}
-use Rattle.theory.specs.Net.{Node, atom, arcs, Graph, Canonical}
-use Rattle.theory.specs.Descr.{Desc, desc, Disjs, Alts, disjs, alts}
-use Rattle.theory.specs.Layout.{arc-words, nodes-words, words, disjs-words, alts-words}
+use Rattle.theory.specs.Net.{atom, arcs, Graph, Canonical}
+use Rattle.theory.specs.Descr.{desc, disjs, alts}
+use Rattle.theory.specs.Layout.{arc-words, nodes-words, words, disjs-words}
 use Rattle.theory.proofs.Kept.{well-can}
 use Rattle.layout.specs.Standing.{Stands, graph-words}
 use Rattle.layout.proofs.Standing.{stands-nil, stands-length, stands-order, stands-within, stands-whole, stands-atom, stands-node, stands-arc, stands-graph, stands-disjunction, stands-description}
-use Rattle.loading.specs.Loaded.{extent, header, closing, located-arcs, located, nodes-in, loaded, loaded-all, loaded-any}
+use Rattle.loading.specs.Loaded.{extent, number-step, extent-step, end-step, header, closing, moved-arcs, located, loaded, loaded-all, loaded-any}
 use Rattle.loading.specs.Loading.{Put, Kind, AllLow, an-arc, its-arcs, a-node, its-nodes, a-graph, its-disjunctions, a-disjunction, its-alternatives, a-description, Room, Asked, Loads, Loadable, LoadedAt}
-use Rattle.loading.proofs.Sizes.{graph-extent, numbered-low, nodes-few, weights-fit-all}
+use Rattle.loading.proofs.Sizes.{moved-length, graph-extent, numbered-low, nodes-few, weights-fit-all}
 use Rattle.loading.proofs.Putting.{put-append, put-one, put-before, put-then}
 
 -- a position after another, moved by a shift
@@ -101,9 +101,9 @@ module _ (t ws : List ℕ) (shift p n : ℕ) (room : shift + length ws ≤ lengt
   node-loads u r k loads (arcs l) q f s =
       let parts = stands-node ws l p q .0 s in
       let done = loads l q (sym (parts .1), f .1) (parts .2) in
-      (done .0, done .1, word-then u (length l) (located-arcs n l) (shift + q) (parts .0) (parts .1) (done .2))
+      (done .0, done .1, word-then u (length (moved-arcs n l)) (arc-words (moved-arcs n l)) (shift + q) (parts .0) (parts .1 ∙ sym (moved-length n l)) (done .2))
 
-  pub graph-loads : (u : List ℕ) (r w : ℕ) → Loads (its-nodes (getD ws p 0)) ws (p + 1) shift n t u r n → w ≡ getD ws p 0 + 1024 * n + 1048576 * (r - p) → Loads a-graph ws p shift n t (set u (shift + p) w) r (n + getD ws p 0)
+  pub graph-loads : (u : List ℕ) (r w : ℕ) → Loads (its-nodes (getD ws p 0)) ws (p + 1) shift n t u r n → w ≡ getD ws p 0 + number-step * n + extent-step * (r - p) → Loads a-graph ws p shift n t (set u (shift + p) w) r (n + getD ws p 0)
   unfolding header
   graph-loads u r w loads e g q f s =
       let parts = stands-graph ws g p q .0 s in
@@ -156,7 +156,7 @@ module _ (ws : List ℕ) (few : length ws ≤ input-limit) where
         let far = reach .1 in
         (far, omega (arith, weights-fit-all ds, stands-length ws (disjs-words ds) (r + 1) (ask .1) (ask .3)), there)
 
-    pub description-loads : (v : List ℕ) (e m w : ℕ) → shift + length ws ≤ length t → Loads (its-disjunctions left (getD ws r 0)) ws (r + 1) shift k u v e m → w ≡ getD ws r 0 + 4096 * (shift + e) → Loads (a-description left) ws p shift n t (set v (shift + r) w) e m
+    pub description-loads : (v : List ℕ) (e m w : ℕ) → shift + length ws ≤ length t → Loads (its-disjunctions left (getD ws r 0)) ws (r + 1) shift k u v e m → w ≡ getD ws r 0 + end-step * (shift + e) → Loads (a-description left) ws p shift n t (set v (shift + r) w) e m
     unfolding closing
     description-loads v e m w room others value (desc g ds) q f s =
         let parts = stands-description ws g ds p q .0 s in
@@ -195,7 +195,7 @@ module _ (t ws : List ℕ) (shift n : ℕ) where
       let size = ap length (image .2) in
       (d, length ws, image .1, stands-whole ws (words d) .0 (image .2), omega (arith, nodes-few d (well-can d (image .1))))
 
-  pub load-loads : (u : List ℕ) (r m k : ℕ) → Loads (a-description depth-limit) ws 0 shift n t u r m → k ≡ m → LoadedAt ws shift n t u k
-  load-loads u r m k loads same d f e =
+  pub load-loads : (u : List ℕ) (r m : ℕ) → Loads (a-description depth-limit) ws 0 shift n t u r m → LoadedAt ws shift n t u m
+  load-loads u r m loads d f e =
       let done = loads d (length ws) f (stands-whole ws (words d) .0 e) in
-      (same ∙ done .1, subst (λ (j : ℕ). Put t u j (loaded j n d) (shift + length ws)) (add-zero shift) (done .2))
+      (done .1, subst (λ (j : ℕ). Put t u j (loaded j n d) (shift + length ws)) (add-zero shift) (done .2))

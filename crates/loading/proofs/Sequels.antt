@@ -1,14 +1,12 @@
 -- The series of each kind: a first thing and others, or none.
 -- Assumes nothing.
-use Prim.Native.Nat.{ℕ, zero, suc, _+_, _-_, _≤_, _<_}
+use Prim.Native.Nat.{ℕ, zero, suc, _-_, _≤_, _<_}
 use native.Mathlib.Omega.{arith}
 use native.Mathlib.Nat.{add-zero}
 use native.Mathlib.Numerals.{sub-one}
-use mathlib.Core.Path.{_≡_, refl, ap, subst}
-use mathlib.Core.List.{List, [], _∷_, _++_}
-use lib.ListN.{length}
+use mathlib.Core.Path.{refl}
+use mathlib.Core.List.{[], _∷_}
 use Rattle.theory.specs.Descr.{end, _and_, fail, _or_}
-use Rattle.theory.specs.Layout.{WellAny}
 use Rattle.loading.specs.Loading.{an-arc, its-arcs, a-node, its-nodes, a-disjunction, its-disjunctions, a-description, its-alternatives}
 use Rattle.loading.proofs.Series.{Steps, Ends}
 

@@ -1,11 +1,10 @@
 -- Things that are loaded one after the other: what is left of them goes on to load them all.
 -- Assumes nothing.
-use Prim.Native.Nat.{ℕ, _+_, _≤_}
+use Prim.Native.Nat.{ℕ, _+_}
 use native.Mathlib.Omega.{arith}
-use mathlib.Core.Path.{_≡_, refl, sym, subst, ap, ap₂, _∙_}
-use mathlib.Core.List.{List, [], _∷_, _++_}
+use mathlib.Core.Path.{_≡_, refl, sym, subst, ap₂}
+use mathlib.Core.List.{List, [], _++_}
 use lib.ListN.{length}
-use Rattle.theory.specs.Limits.{input-limit}
 use Rattle.layout.specs.Standing.{Stands}
 use Rattle.layout.proofs.Standing.{stands-append, stands-nil, stands-length}
 use Rattle.loading.specs.Loading.{Put, Kind, Asked, Loads}

@@ -7,28 +7,36 @@ use mathlib.Core.List.{List, [], _∷_, _++_}
 use lib.ListN.{length, length-append}
 use Rattle.theory.specs.Limits.{input-limit}
 use Rattle.theory.specs.Net.{Node, atom, arcs, Graph, arcsOf, InOrder, met, Numbered}
-use Rattle.theory.specs.Descr.{Desc, desc, Disjs, end, _and_, Alts, fail, _or_, disjs, alts}
+use Rattle.theory.specs.Descr.{Desc, desc, Disjs, end, _and_, Alts, fail, _or_, disjs}
 use Rattle.theory.specs.Layout.{arc-words, node-words, nodes-words, words, disjs-words, alts-words}
 use Rattle.theory.proofs.Mean.{Can, CanAll, CanAny}
 use Rattle.theory.proofs.Weight.{weight, weights, weights-append}
-use Rattle.loading.specs.Loaded.{extent, located-arcs, located-node, located, nodes-in, nodes-all, nodes-any, loaded, loaded-all, loaded-any}
+use Rattle.loading.specs.Loaded.{extent, moved-arcs, moved-node, located, nodes-in, nodes-all, nodes-any, loaded, loaded-all, loaded-any}
 use Rattle.loading.specs.Loading.{Low, AllLow}
 
 -- lists as long as each other, one after the other
 both-length : (xs xs′ ys ys′ : List ℕ) → length xs ≡ length xs′ → length ys ≡ length ys′ → length (xs ++ ys) ≡ length (xs′ ++ ys′)
 both-length xs xs′ ys ys′ e f = length-append xs ys ∙ rw (e, f) (sym (length-append xs′ ys′))
 
-arcs-length : (n : ℕ) (l : List (ℕ × ℕ)) → length (located-arcs n l) ≡ length (arc-words l)
-arcs-length n [] = refl
-arcs-length n (e ∷ l) = let h = arcs-length n l in omega arith
+pub moved-length : (n : ℕ) (l : List (ℕ × ℕ)) → length (moved-arcs n l) ≡ length l
+moved-length n [] = refl
+moved-length n (e ∷ l) = ap suc (moved-length n l)
 
-node-length : (n : ℕ) (v : Node) → length (located-node n v) ≡ length (node-words v)
+arcs-twice : (l : List (ℕ × ℕ)) → length (arc-words l) ≡ 2 * length l
+arcs-twice [] = refl
+arcs-twice (e ∷ l) = let h = arcs-twice l in omega arith
+
+node-twice : (v : Node) → length (node-words v) ≡ 1 + 2 * length (arcsOf v)
+node-twice (atom a) = refl
+node-twice (arcs l) = let h = arcs-twice l in omega arith
+
+node-length : (n : ℕ) (v : Node) → length (node-words (moved-node n v)) ≡ length (node-words v)
 node-length n (atom a) = refl
-node-length n (arcs l) = let h = arcs-length n l in omega arith
+node-length n (arcs l) = omega (arith, arcs-twice l, arcs-twice (moved-arcs n l), moved-length n l)
 
 pub located-length : (n : ℕ) (g : Graph) → length (located n g) ≡ length (nodes-words g)
 located-length n [] = refl
-located-length n (v ∷ vs) = both-length (located-node n v) (node-words v) (located n vs) (nodes-words vs) (node-length n v) (located-length n vs)
+located-length n (v ∷ vs) = both-length (node-words (moved-node n v)) (node-words v) (located n vs) (nodes-words vs) (node-length n v) (located-length n vs)
 
 mutual
   pub loaded-length : (p n : ℕ) (d : Desc) → length (loaded p n d) ≡ length (words d)
@@ -50,14 +58,6 @@ graph-extent (v ∷ vs) = let h = graph-extent vs in let k = node-some v in omeg
     node-some : (v : Node) → 0 < length (node-words v)
     node-some (atom a) = omega arith
     node-some (arcs l) = omega arith
-
-arcs-twice : (l : List (ℕ × ℕ)) → length (arc-words l) ≡ 2 * length l
-arcs-twice [] = refl
-arcs-twice (e ∷ l) = let h = arcs-twice l in omega arith
-
-node-twice : (v : Node) → length (node-words v) ≡ 1 + 2 * length (arcsOf v)
-node-twice (atom a) = refl
-node-twice (arcs l) = let h = arcs-twice l in omega arith
 
 -- an arc meets one node at most
 met-few : (m : ℕ) (l : List (ℕ × ℕ)) → InOrder m l → met m l ≤ m + length l

@@ -7,7 +7,7 @@ use mathlib.Core.List.{List, [], _∷_, _++_}
 use lib.ListN.{length, getD}
 use Rattle.theory.specs.Net.{Graph}
 use Rattle.engine.specs.Placed.{Placed, place, Places, stop, _also_, Options, no-more, option, names, names-all, names-any}
-use Rattle.loading.specs.Loaded.{extent, located}
+use Rattle.loading.specs.Loaded.{extent, number-step, extent-step, end-step, located}
 use Rattle.loading.specs.Numbered.{places, options}
 use Rattle.loading.specs.At.{At, AtAll, AtAny}
 use Rattle.loading.proofs.Putting.{Agrees, agrees-part, stands-frame}
@@ -97,17 +97,17 @@ module _ (t : List ℕ) where
         (graph-extent g, omega (arith, all-counts ds (p + extent g + 1) (n + length g) q m (omega arith) (at .6)), last)
 
     -- what code reads at a graph, where numbers and positions are as small as the working area keeps them
-    pub at-header : m < 1024 → (getD t p 0 % 1024 ≡ length g) × (getD t p 0 / 1024 % 1024 ≡ n) × (getD t p 0 / 1048576 ≡ extent g)
+    pub at-header : m < number-step → (getD t p 0 % number-step ≡ length g) × (getD t p 0 / number-step % number-step ≡ n) × (getD t p 0 / extent-step ≡ extent g)
     at-header h =
-        let few : length g < 1024 = omega (arith, at-counts .2) in
-        let low : n < 1024 = omega (arith, at-counts .2) in
+        let few : length g < number-step = omega (arith, at-counts .2) in
+        let low : n < number-step = omega (arith, at-counts .2) in
         let e = at .2 in
         (rw e (header-nodes n g few), rw e (header-number n g few low), rw e (header-extent n g few low))
 
     -- and after it
-    pub at-closing : q < 4096 → (getD t (p + extent g) 0 % 4096 ≡ places ds) × (getD t (p + extent g) 0 / 4096 ≡ q)
+    pub at-closing : q < end-step → (getD t (p + extent g) 0 % end-step ≡ places ds) × (getD t (p + extent g) 0 / end-step ≡ q)
     at-closing h =
-        let few : places ds < 4096 = omega (arith, at-counts .1) in
+        let few : places ds < end-step = omega (arith, at-counts .1) in
         let e = at .5 in
         (rw e (closing-count (places ds) q few), rw e (closing-end (places ds) q few))
 

@@ -3,7 +3,6 @@
 use Prim.Native.Nat.{ℕ, suc, _+_, _*_}
 use mathlib.Core.List.{List, [], _∷_, _++_}
 use lib.ListN.{length}
-use Rattle.theory.specs.Limits.{code-limit}
 use Rattle.theory.specs.Net.{Node, atom, arcs, Graph}
 use Rattle.theory.specs.Descr.{Desc, desc, Disjs, end, _and_, Alts, fail, _or_, disjs, alts}
 use Rattle.theory.specs.Layout.{nodes-words, words, alts-words}
@@ -12,27 +11,41 @@ use Rattle.theory.specs.Layout.{nodes-words, words, alts-words}
 abbrev pub extent : Graph → ℕ
 extent g = suc (length (nodes-words g))
 
+-- the factors of the packed words
+abbrev pub number-step : ℕ
+number-step = 1024
+
+abbrev pub extent-step : ℕ
+extent-step = 1048576
+
+abbrev pub end-step : ℕ
+end-step = 4096
+
 -- the first word of a loaded graph: its node count, the number of its node 0, and its extent
 unfoldable pub header : ℕ → Graph → ℕ
-header n g = length g + 1024 * n + 1048576 * extent g
+header n g = length g + number-step * n + extent-step * extent g
 
 -- the word after a loaded graph: "the number of disjunctions", here c, and the position q where the description ends
 unfoldable pub closing : ℕ → ℕ → ℕ
-closing c q = c + 4096 * q
+closing c q = c + end-step * q
 
 -- "An arc is two words: feature 0..65,535, target node.": the target by its number, where node 0 has the number n
-abbrev pub located-arcs : ℕ → List (ℕ × ℕ) → List ℕ
-located-arcs n [] = []
-located-arcs n (e ∷ l) = e .0 ∷ (n + e .1) ∷ located-arcs n l
+abbrev pub moved-arcs : ℕ → List (ℕ × ℕ) → List (ℕ × ℕ)
+moved-arcs n [] = []
+moved-arcs n (e ∷ l) = (e .0, n + e .1) ∷ moved-arcs n l
 
-abbrev pub located-node : ℕ → Node → List ℕ
-located-node n (atom a) = (code-limit + a) ∷ []
-located-node n (arcs l) = length l ∷ located-arcs n l
+abbrev pub moved-node : ℕ → Node → Node
+moved-node n (atom a) = atom a
+moved-node n (arcs l) = arcs (moved-arcs n l)
 
 -- the nodes of a graph whose node 0 has the number n
+abbrev pub moved : ℕ → Graph → Graph
+moved n [] = []
+moved n (v ∷ vs) = moved-node n v ∷ moved n vs
+
+-- their words: "each node in order: a head, then its arcs"
 abbrev pub located : ℕ → Graph → List ℕ
-located n [] = []
-located n (v ∷ vs) = located-node n v ++ located n vs
+located n g = nodes-words (moved n g)
 
 -- "Put the nodes of all graphs side by side.": how many they are, at every depth
 abbrev mutual

@@ -10,7 +10,7 @@ use Rattle.theory.specs.Net.{Node, Graph, arcsOf}
 use Rattle.theory.specs.Descr.{Desc, Disjs, Alts, disjs, alts}
 use Rattle.theory.specs.Layout.{arc-words, node-words, nodes-words, words, disjs-words, alts-words, NodeFits, GraphFits, WellFormed, WellAll, WellAny, Image}
 use Rattle.layout.specs.Standing.{Stands, graph-words, disjunction-words}
-use Rattle.loading.specs.Loaded.{header, located-arcs, located-node, located, nodes-in, nodes-all, nodes-any, loaded, loaded-all, loaded-any}
+use Rattle.loading.specs.Loaded.{header, moved-arcs, moved-node, located, nodes-in, nodes-all, nodes-any, loaded, loaded-all, loaded-any}
 
 -- t′ is t with the words xs put from p up to q, and no other word changed
 pub record Put (t t′ : List ℕ) (p : ℕ) (xs : List ℕ) (q : ℕ) : Type 0 where
@@ -40,10 +40,10 @@ an-arc = record { Thing = ℕ × ℕ; Fine = λ e. e .1 < input-limit; text = λ
 
 -- k arcs
 abbrev pub its-arcs : ℕ → Kind
-its-arcs k = record { Thing = List (ℕ × ℕ); Fine = λ l. (length l ≡ k) × Low l; text = arc-words; image = λ p. located-arcs; nodes = λ l. 0 }
+its-arcs k = record { Thing = List (ℕ × ℕ); Fine = λ l. (length l ≡ k) × Low l; text = arc-words; image = λ p n l. arc-words (moved-arcs n l); nodes = λ l. 0 }
 
 abbrev pub a-node : Kind
-a-node = record { Thing = Node; Fine = λ v. NodeFits v × Low (arcsOf v); text = node-words; image = λ p. located-node; nodes = λ v. 0 }
+a-node = record { Thing = Node; Fine = λ v. NodeFits v × Low (arcsOf v); text = node-words; image = λ p n v. node-words (moved-node n v); nodes = λ v. 0 }
 
 -- k nodes
 abbrev pub its-nodes : ℕ → Kind

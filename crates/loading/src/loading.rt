@@ -1,8 +1,9 @@
 // Loading the words of a description, from the first to the last, once.
-use crate::width::wide;
+use crate::packing::END_STEP;
+use crate::packing::EXTENT_STEP;
+use crate::packing::NUMBER_STEP;
 use layout::limits::CODE_LIMIT;
 use layout::limits::DEPTH_LIMIT;
-ghost use mathlib.Core.Path.{_≡_};
 ghost use Rattle.loading.specs.Loading.{its-arcs, a-node, its-nodes, a-graph, a-disjunction, a-description, Room, Asked, Loads, Loadable, LoadedAt};
 
 // Where a thing ends, and the number of the next node.
@@ -66,7 +67,7 @@ fn load_graph(t: &mut [u32], ws: &[u32], p: usize, shift: usize, number: u32) ->
     let count = ws[p];
     let at = load_nodes(t, ws, p + 1, shift, count, number);
     let extent = (at - p) as u32;
-    t[shift + p] = count + 1024 * number + 1048576 * extent;
+    t[shift + p] = count + NUMBER_STEP * number + EXTENT_STEP * extent;
     Reach {
         at,
         number: number + count,
@@ -99,7 +100,7 @@ fn load_description(
         more -= 1;
     }
     let end = (shift + at) as u32;
-    t[shift + q] = count + 4096 * end;
+    t[shift + q] = count + END_STEP * end;
     Reach { at, number: next }
 }
 
@@ -135,5 +136,5 @@ pub fn load(t: &mut [u32], ws: &[u32], shift: usize, number: usize) -> usize
     ensures { λ r. ⌜ LoadedAt (now (ws .entry)) shift number (now (t .entry)) (now (t .exit)) r ⌝ }
 {
     let reach = load_description(t, ws, 0, shift, number as u32, DEPTH_LIMIT);
-    wide(reach.number)
+    reach.number as usize
 }

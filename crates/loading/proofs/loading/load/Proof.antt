@@ -11,16 +11,16 @@ cast-load-description c = search needs
 load-description-requires : tie.Need-load-description-requires
 load-description-requires c κs = (load-room _ _ _ _ (c .before .before .before .pre), load-asks _ _ _ _ (c .before .before .before .pre))
 
-wide-requires : tie.Need-wide-requires
-wide-requires c κs = search needs
+cast-result : tie.Need-cast-result
+cast-result c = search needs
 
 same-length : tie.Need-same-length
 same-length c = search needs
 
 returns : tie.Need-returns
-returns c = load-loads _ _ _ _ _ _ _ _ (c .before .before .before .load-description .ensures) (c .wide .ensures)
+returns c = load-loads _ _ _ _ _ _ _ (c .before .before .before .load-description .ensures)
 
 pub load-spec : {M : Type 1} → statement M
 load-spec =
     tie.close
-    (tie.spec cast-load-description load-description-requires wide-requires same-length returns)
+    (tie.spec cast-load-description load-description-requires cast-result same-length returns)

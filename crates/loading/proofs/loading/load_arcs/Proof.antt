@@ -2,10 +2,11 @@
 -- Assumes nothing.
 use borrow.Author.Needs.{needs}
 use native.Mathlib.Omega.{arith}
-use mathlib.Core.Path.{_≡_, refl, _∙_}
-use Prim.Native.Nat.{ℕ, _+_, _<_, _≤_}
+use mathlib.Core.Path.{_≡_, refl}
+use Prim.Native.Nat.{_+_, _<_, _≤_}
 use lib.ListN.{length, getD, length-set}
-use Rattle.loading.specs.Loading.{an-arc, its-arcs}
+use Rattle.theory.specs.Limits.{input-limit}
+use Rattle.loading.specs.Loading.{its-arcs}
 use Rattle.loading.proofs.Series.{Onward, begin, asks, asks-first, go-on, finish}
 use Rattle.loading.proofs.Sequels.{arcs-step, arcs-end}
 use Rattle.loading.proofs.Parts.{arc-there, arc-loads}
@@ -22,7 +23,7 @@ loop-holds : tie.Need-loop-holds Inv-loop μ-loop
 loop-holds c = (refl, begin _ _ _ _ _ _)
 
 -- an arc stands there
-there : (c : tie.In-loop Inv-loop μ-loop) → (c .before .loop .at + 1 < length (c .before .before .args .ws .now)) × (getD (c .before .before .args .ws .now) (c .before .loop .at + 1) 0 < 1024) × (c .before .before .args .number ≤ 1024)
+there : (c : tie.In-loop Inv-loop μ-loop) → (c .before .loop .at + 1 < length (c .before .before .args .ws .now)) × (getD (c .before .before .args .ws .now) (c .before .loop .at + 1) 0 < input-limit) × (c .before .before .args .number ≤ input-limit)
 there c =
     arc-there _ _ _ (asks-first _ _ _ _ _ _ (arcs-step _ (omega arith)) (asks _ _ _ _ _ _ _ _ _ _ (c .before .loop .inv .1) (c .before .before .pre .1)))
 

@@ -1,8 +1,7 @@
 -- `loading::loading::load_graph` meets its contract: the header comes before what `load_nodes` loads, and what it packs fits a word.
 -- Assumes nothing.
 use native.Mathlib.Omega.{arith}
-use mathlib.Core.Path.{refl, _∙_}
-use Prim.Native.Nat.{_+_, _<_, _≤_}
+use Prim.Native.Nat.{_+_, _≤_}
 use lib.ListN.{length}
 use Rattle.loading.specs.Loading.{its-nodes}
 use Rattle.loading.proofs.Parts.{loads-reach, loads-keeps, graph-there, graph-asks, graph-loads}
