@@ -7,7 +7,7 @@ use layout::limits::DEPTH_LIMIT;
 ghost use Rattle.loading.specs.Loading.{its-arcs, a-node, its-nodes, a-graph, a-disjunction, a-description, Room, Asked, Loads, Loadable, LoadedAt};
 
 // Where a thing ends, and the number of the next node.
-pub struct Reach {
+struct Reach {
     pub at: usize,
     pub number: u32,
 }
