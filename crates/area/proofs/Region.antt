@@ -1,0 +1,35 @@
+-- The laws of a region of the working area. Assumes nothing.
+use mathlib.Core.Path.{_≡_, refl, sym, ap, _∙_}
+use mathlib.Core.List.{List, [], _∷_}
+use Prim.Native.Nat.{ℕ, zero, suc, _+_, _-_, _≤_, _<_, min}
+use native.Mathlib.Omega.{arith}
+use lib.ListN.{length, take, drop, set, getD, length-take, length-drop}
+use lib.Seq.{ext-getD, drop-set-add, take-set-lt, take-take, getD-take, getD-drop}
+use Rattle.area.specs.Region.{region}
+
+pub length-region : (a n : ℕ) (w : List ℕ) → a + n ≤ length w → length (region a n w) ≡ n
+unfolding region
+length-region a n w h = simp (length-take, length-drop) (omega arith)
+
+pub getD-region : (a n : ℕ) (w : List ℕ) (j : ℕ) → j < n → getD (region a n w) j 0 ≡ getD w (a + j) 0
+unfolding region
+getD-region a n w j h = rw (getD-take, getD-drop) refl
+
+-- a store, and a region that it falls into or not
+pub region-set-same : (a n j : ℕ) (w : List ℕ) (v : ℕ) → j < n → region a n (set w (a + j) v) ≡ set (region a n w) j v
+unfolding region
+region-set-same a n j w v h = ap (take n) (drop-set-add a w j v) ∙ take-set-lt n (drop a w) j v h
+
+pub region-take : (a n base : ℕ) (w : List ℕ) → a + n ≤ base → region a n (take base w) ≡ region a n w
+unfolding region
+region-take zero n base w h = take-take n base w (omega arith)
+region-take (suc a) n zero w h = absurd (omega arith)
+region-take (suc a) n (suc base) [] h = refl
+region-take (suc a) n (suc base) (x ∷ w) h = region-take a n base w (omega arith)
+
+-- two areas that agree on a region, word by word
+pub region-ext : (a n : ℕ) (u w : List ℕ) → a + n ≤ length u → length u ≡ length w → ((j : ℕ) → j < n → getD u (a + j) 0 ≡ getD w (a + j) 0) → region a n u ≡ region a n w
+region-ext a n u w h e f =
+    let p : length (region a n u) ≡ n = length-region a n u h in
+    let q : length (region a n w) ≡ n = length-region a n w (omega arith) in
+    ext-getD 0 (region a n u) (region a n w) (p ∙ sym q) (λ j l. let m : j < n = omega arith in getD-region a n u j m ∙ f j m ∙ sym (getD-region a n w j m))

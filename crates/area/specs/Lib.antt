@@ -1,0 +1,3 @@
+pub mod Map
+pub mod Region
+pub mod Log

@@ -1,0 +1,24 @@
+-- The map of the working area, as `src/map.rt` shows it. Assumes nothing.
+use Prim.Native.Nat.{ℕ}
+
+abbrev pub PARENT : ℕ
+PARENT = 1024
+
+abbrev pub NEXT : ℕ
+NEXT = 2048
+
+-- the body, which the log covers, is all before it
+abbrev pub LOG : ℕ
+LOG = 4096
+
+abbrev pub STACK : ℕ
+STACK = 8192
+
+abbrev pub WORDS : ℕ
+WORDS = 9216
+
+abbrev pub MARKS : ℕ
+MARKS = 11264
+
+abbrev pub RESULT : ℕ
+RESULT = 12288

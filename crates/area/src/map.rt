@@ -1,0 +1,24 @@
+// The map of the working area, 16,384 words:
+//   from    words  holds
+//        0  1,024  what each class holds: 0, the first arc of its chain counted from 1, or an atom's head
+//    1,024  1,024  PARENT: the parents of the union forest
+//    2,048  2,048  NEXT: what follows an arc on its chain
+//    4,096  4,096  LOG: the undo log, a word an entry: address + 4,096 * old value
+//    8,192  1,024  STACK: pending comparisons, a word each: from + 4,096 * to
+//    9,216  2,048  WORDS: both inputs as loaded
+//   11,264  1,024  MARKS
+//   12,288  2,048  RESULT
+//   14,336  2,048  unused
+pub const PARENT: usize = 1024;
+
+pub const NEXT: usize = 2048;
+
+pub const LOG: usize = 4096;
+
+pub const STACK: usize = 8192;
+
+pub const WORDS: usize = 9216;
+
+pub const MARKS: usize = 11264;
+
+pub const RESULT: usize = 12288;
