@@ -1,0 +1,11 @@
+pub mod Kernel
+pub mod Wood
+pub mod Words
+pub mod Links
+pub mod Walks
+pub mod Fuse
+pub mod Cases
+pub mod Turns
+pub mod Drain
+pub mod Visit
+pub mod Result

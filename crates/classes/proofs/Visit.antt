@@ -1,0 +1,403 @@
+-- An arc, or an atom, meets its class. Assumes nothing.
+use mathlib.Core.Path.{_≡_, refl, sym, ap, _∙_, subst}
+use mathlib.Core.Bool.{Bool, true, false}
+use mathlib.Core.List.{List, [], _∷_, _++_, List·Memᴰ, List·Memᴰ·head, List·Memᴰ·tail, List·Memᴰ·not-nil, List·Memᴰ·cases-cons}
+use mathlib.Core.Logic.{_⊎_, inl, inr, ⊎-elim}
+use Prim.Native.Nat.{ℕ, zero, suc, _+_, _*_, _-_, _≤_, _<_}
+use native.Mathlib.Numerals.{add-one}
+use native.Mathlib.Omega.{arith}
+use native.Mathlib.Decide.{ℕ-discrete, decLt}
+use lib.ListN.{length, set, getD, length-set}
+use lib.Seq.{getD-set-same, getD-set-other}
+use Rattle.area.specs.Map.{PARENT, NEXT, LOG}
+use Rattle.area.specs.Region.{region}
+use Rattle.classes.specs.Labels.{Eq}
+use Rattle.area.specs.Log.{Logged, Later, Put}
+use Rattle.classes.specs.Forest.{Shape, Forest, Root, tops}
+use Rattle.classes.specs.State.{Pushed, Done, Same, Clashes, Chain, First, None, Near, Framed, Bears, State, Runs, Looked, total, withPair, withArc, withNode, Asked, Fresh, Coming, Visited, United, Bearing, Marking, Marked}
+use Rattle.area.proofs.Region.{length-region, region-ext}
+use Rattle.area.proofs.Undo.{later-refl, later-trans, put-at, put-off}
+use Rattle.classes.proofs.Links.{chain-same, chain-zero, first-mem, first-feature, none-first, total-set}
+use Rattle.classes.proofs.Fuse.{low, top, short}
+use Rattle.classes.proofs.Turns.{hold-pair}
+
+-- where no frame is left, near is in one class
+pub near-none : (F T M w : List ℕ) → {i j : ℕ} → Near F T M w [] i j → Eq M i j
+near-none F T M w (Near.old e) = e
+near-none F T M w (Near.owe {x} {y} {q} q' zs js m sg mq wy) = absurd (List·Memᴰ·not-nil m)
+near-none F T M w (Near.sym r) = sym (near-none F T M w r)
+near-none F T M w (Near.trans r t) = near-none F T M w r ∙ near-none F T M w t
+
+-- ---- the class c of the node x
+module _ (F T : List ℕ) (n k : ℕ) (w : List ℕ) (hn : n ≤ 1024) (hw : 16384 ≤ length w) (x : ℕ) (hx : x < n) (c : ℕ) (root : Root (region PARENT n w) x c) where
+  length-P : length (region PARENT n w) ≡ n
+  length-P = length-region PARENT n w (omega arith)
+
+  c-in : c < n
+  c-in = omega (arith, root .low)
+
+  module _ (G : Pushed) (H : Done) (u : State G H F T n k 0 [] w) where
+    Mx : getD (u .M) x 0 ≡ c
+    Mx = root .is (u .M) (u .forest)
+
+    Mc : getD (u .M) c 0 ≡ c
+    Mc = let l = length-P in let h = c-in in u .forest .tops c (omega arith) (root .top)
+
+    chain-c : getD w c 0 ≤ 2048 → Chain w (getD w c 0) (getD (u .C) c [])
+    chain-c l = u .chain c c-in Mc l
+
+    pub class-runs : getD w c 0 ≤ 2048 → Runs w (getD w c 0)
+    class-runs l = record { xs = getD (u .C) c []; chain = chain-c l; short = short G H F T n k 0 [] w (omega arith) hw u c }
+
+    -- an arc of the class
+    arc-of : (i : ℕ) → List·Memᴰ i (getD (u .C) c []) → List·Memᴰ i (G .B) × (Same G F T x ((G .S) i) × ((getD T i 0 < n) × (i < 2047)))
+    arc-of i m =
+        let h = u .home c i c-in m in
+        let b = u .known i (h .0) in
+        let a = u .arcs i b in
+        (b, (u .sound x ((G .S) i) hx (a .1 .0) (Mx ∙ sym (h .1)), (a .1 .1, a .0)))
+
+    -- the first arc of the class
+    head-of : (l : List ℕ) → (getD w c 0 ≡ 0 → ⊥) → Chain w (getD w c 0) l → (i : ℕ) × List·Memᴰ i l
+    head-of [] d e = absurd (d e)
+    head-of (j ∷ l) d e = (j, List·Memᴰ·head refl)
+
+    bearer : (g : 2048 < getD w c 0) → Same G F T (u .bare c c-in Mc g .1 .i) x
+    bearer g = let r = u .bare c c-in Mc g .1 in u .sound (r .i) x (r .small) hx (r .class ∙ sym Mx)
+
+  -- ---- an arc and an atom
+  pub visit-clash : (t : ℕ) → Logged k w → 2048 < getD w c 0 → Visited F T n k w x t k true w
+  visit-clash t g h = record {
+    later = later-refl k w g;
+    fine = λ z. let y : _≡_ {A = ℕ} 0 1 = cc in absurd (omega arith);
+    clash = λ z G H u f.
+        let r = u .bare c c-in (Mc G H u) h .1 in
+        Clashes.mixed (r .node) (λ e. let d : (G .A) (r .i) ≡ getD w c 0 = r .is in omega arith) (f .arc) (subst (λ (v : ℕ). Same G F T (r .i) v) (sym (f .is)) (bearer G H u h));
+  }
+
+  -- ---- the feature is there: the targets are equal
+  module _ (t r i : ℕ) (lc : getD w c 0 ≤ 2048) (look : Looked F w (getD F t 0) (getD w c 0) r) (ri : r ≡ suc i) where
+    found : (G : Pushed) (H : Done) (u : State G H F T n k 0 [] w) → First F (getD F t 0) (getD (u .C) c []) i
+    found G H u = look .hit i ri (getD (u .C) c []) (chain-c G H u lc)
+
+    pub found-arc : (G : Pushed) (H : Done) (u : State G H F T n k 0 [] w) → (getD T i 0 < n) × (i < 2047)
+    found-arc G H u = arc-of G H u i (first-mem F (getD F t 0) (getD (u .C) c []) i (found G H u)) .1 .1
+
+    pub found-same : (G : Pushed) (H : Done) (u : State G H F T n k 0 [] w) → Fresh G H n x t → Same G F T (getD T t 0) (getD T i 0)
+    found-same G H u f =
+        let p = found G H u in
+        let a = arc-of G H u i (first-mem F (getD F t 0) (getD (u .C) c []) i p) in
+        Same.along (f .arc) (a .0) (sym (first-feature F (getD F t 0) (getD (u .C) c []) i p)) (subst (λ (v : ℕ). Same G F T v ((G .S) i)) (sym (f .is)) (a .1 .0))
+
+    pub visit-found : (k' : ℕ) (bad : Bool) (w' : List ℕ) → United F T n k w (getD T t 0) (getD T i 0) k' bad w' → Visited F T n k w x t k' bad w'
+    visit-found k' bad w' m = record {
+      later = m .later;
+      fine = λ z G H u f.
+          let p = found G H u in
+          let mi = first-mem F (getD F t 0) (getD (u .C) c []) i p in
+          let e : Eq (u .M) ((G .S) i) ((G .S) t) = u .home c i c-in mi .1 ∙ sym (Mx G H u) ∙ ap (λ (v : ℕ). getD (u .M) v 0) (sym (f .is)) in
+          let H1 = withPair H ((G .S) i) ((G .S) t) in
+          covered G H f (first-feature F (getD F t 0) (getD (u .C) c []) i p) (u .home c i c-in mi .0)
+          (m .fine z G H1 (hold-pair G H F T n k 0 [] w u ((G .S) i) ((G .S) t) e) (found-same G H u f));
+      clash = λ z G H u f. m .clash z G H u (found-same G H u f);
+    }
+      where
+        covered : (G : Pushed) (H : Done) → Fresh G H n x t → getD F i 0 ≡ getD F t 0 → List·Memᴰ i (H .K) → State G (withPair (withPair H ((G .S) i) ((G .S) t)) (getD T t 0) (getD T i 0)) F T n k' 0 [] w' → State G (withArc H t) F T n k' 0 [] w'
+        covered G H f ef mk v =
+            let r1 = v .room in let r2 = v .all in let r3 = f .room in
+            record {
+              logged = v .logged;
+              shape = v .shape;
+              room = omega arith;
+              few = f .room;
+              stack = v .stack;
+              arcs = v .arcs;
+              atoms = v .atoms;
+              M = v .M;
+              forest = v .forest;
+              C = v .C;
+              wide = v .wide;
+              all = omega arith;
+              chain = v .chain;
+              bare = v .bare;
+              home = λ d q h m. let o = v .home d q h m in (List·Memᴰ·tail (o .0), o .1);
+              known = λ j m. ⊎-elim (λ e. subst (λ (a : ℕ). List·Memᴰ a (G .B)) (sym e) (f .arc)) (λ a. v .known j a) (List·Memᴰ·cases-cons m);
+              cover = λ j m. ⊎-elim (λ e. subst (λ (a : ℕ). (b : ℕ) × (First F (getD F a 0) (getD (v .C) (getD (v .M) ((G .S) a) 0) []) b × Near F T (v .M) w' [] (getD T b 0) (getD T a 0))) (sym e) here) (λ a. v .cover j a) (List·Memᴰ·cases-cons m);
+              nodes = v .nodes;
+              met = v .met;
+              held = λ a b m. v .held a b (List·Memᴰ·tail (List·Memᴰ·tail m));
+              sound = v .sound;
+              frame = v .frame;
+            }
+          where
+            here : (b : ℕ) × (First F (getD F t 0) (getD (v .C) (getD (v .M) ((G .S) t) 0) []) b × Near F T (v .M) w' [] (getD T b 0) (getD T t 0))
+            here =
+                let o = v .cover i mk in
+                let e : Eq (v .M) ((G .S) i) ((G .S) t) = v .held ((G .S) i) ((G .S) t) (List·Memᴰ·tail (List·Memᴰ·head refl)) in
+                let d : Eq (v .M) (getD T t 0) (getD T i 0) = v .held (getD T t 0) (getD T i 0) (List·Memᴰ·head refl) in
+                (o .0, (subst (λ (a : ℕ). First F (getD F t 0) (getD (v .C) a []) (o .0)) e (subst (λ (a : ℕ). First F a (getD (v .C) (getD (v .M) ((G .S) i) 0) []) (o .0)) ef (o .1 .0)), Near.trans (o .1 .1) (Near.old (sym d))))
+
+  -- ---- the feature is not there: the arc goes onto the chain
+  module _ (t : ℕ) (ht : t < 2048) (lc : getD w c 0 ≤ 2048) (h : ℕ) (eh : h ≡ getD w c 0) (miss : Looked F w (getD F t 0) (getD w c 0) 0) (hk : k + 2 ≤ 4096)
+      (k1 k2 : ℕ) (w1 w2 : List ℕ) (p1 : Put k w (NEXT + t) h k1 w1) (p2 : Put k1 w1 c (t + 1) k2 w2) where
+    off : (j : ℕ) → (j ≡ NEXT + t → ⊥) → (j ≡ c → ⊥) → j < LOG → getD w2 j 0 ≡ getD w j 0
+    off j a b l = let e = p1 .next in put-off k1 w1 c (t + 1) k2 w2 p2 (omega arith) j b (inl l) ∙ put-off k w (NEXT + t) h k1 w1 p1 (omega arith) j a (inl l)
+
+    len : length w2 ≡ length w
+    len = p2 .later .len ∙ p1 .later .len
+
+    at-c : getD w2 c 0 ≡ suc t
+    at-c = let l = c-in in put-at k1 w1 c (t + 1) k2 w2 p2 (omega arith) (omega (arith, p1 .later .len)) ∙ add-one t
+
+    at-t : getD w2 (NEXT + t) 0 ≡ getD w c 0
+    at-t = let l = c-in in let e = p1 .next in put-off k1 w1 c (t + 1) k2 w2 p2 (omega arith) (NEXT + t) (λ z. omega arith) (inl (omega arith)) ∙ put-at k w (NEXT + t) h k1 w1 p1 (omega arith) (omega arith) ∙ eh
+
+    par : region PARENT n w2 ≡ region PARENT n w
+    par = let l = c-in in region-ext PARENT n w2 w (omega (arith, len)) len (λ j b. off (PARENT + j) (λ e. omega arith) (λ e. omega arith) (omega arith))
+
+    hung : (G : Pushed) (H : Done) → State G H F T n k 0 [] w → Fresh G H n x t → State G (withArc H t) F T n k2 0 [] w2
+    hung G H u f =
+        let l = u .wide in let ci = c-in in
+        let ts = total-set (u .C) c (t ∷ getD (u .C) c []) (omega arith) in
+        let ua = u .all in let ur = u .room in let n1 = p1 .next in let n2 = p2 .next in
+        record {
+          logged = p2 .later .logged;
+          shape = rw par (u .shape);
+          room = rw par (omega arith);
+          few = f .room;
+          stack = rw par (u .stack);
+          arcs = u .arcs;
+          atoms = u .atoms;
+          M = u .M;
+          forest = rw par (u .forest);
+          C = set (u .C) c (t ∷ getD (u .C) c []);
+          wide = simp length-set (u .wide);
+          all = omega arith;
+          chain = λ d a b e. chains d a b e (ℕ-discrete d c);
+          bare = λ d a b e. bares d a b e (ℕ-discrete d c);
+          home = λ d q a m. homes d q a m (ℕ-discrete d c);
+          known = λ j m. ⊎-elim (λ e. subst (λ (a : ℕ). List·Memᴰ a (G .B)) (sym e) (f .arc)) (λ a. u .known j a) (List·Memᴰ·cases-cons m);
+          cover = λ j m. ⊎-elim (λ e. subst (λ (a : ℕ). (b : ℕ) × (First F (getD F a 0) (getD (set (u .C) c (t ∷ getD (u .C) c [])) (getD (u .M) ((G .S) a) 0) []) b × Near F T (u .M) w2 [] (getD T b 0) (getD T a 0))) (sym e) here) (λ a. covers j a (ℕ-discrete (getD (u .M) ((G .S) j) 0) c)) (List·Memᴰ·cases-cons m);
+          nodes = u .nodes;
+          met = λ i m a. off (getD (u .M) i 0) (λ e. let b = low G H F T n k 0 [] w (omega arith) hw u i (u .nodes i m .0) in omega arith) (λ e. let b : getD w (getD (u .M) i 0) 0 ≡ (G .A) i = u .met i m a in let d : getD w (getD (u .M) i 0) 0 ≡ getD w c 0 = ap (λ (v : ℕ). getD w v 0) e in let g = u .atoms i (u .nodes i m .1) a in omega arith) (let b = low G H F T n k 0 [] w (omega arith) hw u i (u .nodes i m .0) in omega arith) ∙ u .met i m a;
+          held = u .held;
+          sound = u .sound;
+          frame = λ a b m. absurd (List·Memᴰ·not-nil m);
+        }
+      where
+        C' : getD (set (u .C) c (t ∷ getD (u .C) c [])) c [] ≡ t ∷ getD (u .C) c []
+        C' = let l = u .wide in let ci = c-in in getD-set-same (u .C) c (t ∷ getD (u .C) c []) [] (omega arith)
+
+        Co : (d : ℕ) → (d ≡ c → ⊥) → getD (set (u .C) c (t ∷ getD (u .C) c [])) d [] ≡ getD (u .C) d []
+        Co d a = getD-set-other (u .C) c d (t ∷ getD (u .C) c []) [] a
+
+        keeps : (d q : ℕ) → d < n → List·Memᴰ q (getD (u .C) d []) → getD w2 (NEXT + q) 0 ≡ getD w (NEXT + q) 0
+        keeps d q a m =
+            let o = u .home d q a m .0 in
+            let b = u .arcs q (u .known q o) .0 in
+            let ci = c-in in
+            off (NEXT + q) (λ e. let z : t ≡ q = omega arith in f .new (subst (λ (v : ℕ). List·Memᴰ v (H .K)) (sym z) o)) (λ e. omega arith) (omega arith)
+
+        chains : (d : ℕ) → d < n → getD (u .M) d 0 ≡ d → getD w2 d 0 ≤ 2048 → Dec (d ≡ c) → Chain w2 (getD w2 d 0) (getD (set (u .C) c (t ∷ getD (u .C) c [])) d [])
+        chains d a b e (yes z) =
+            subst (λ (v : ℕ). Chain w2 (getD w2 v 0) (getD (set (u .C) c (t ∷ getD (u .C) c [])) v [])) (sym z)
+            (subst (Chain w2 (getD w2 c 0)) (sym C') (at-c, (ht, subst (λ (v : ℕ). Chain w2 v (getD (u .C) c [])) (sym at-t) (chain-same w w2 (getD w c 0) (getD (u .C) c []) (λ q m. keeps c q c-in m) (chain-c G H u lc)))))
+        chains d a b e (no z) =
+            let o : getD w2 d 0 ≡ getD w d 0 = off d (λ i. omega arith) z (omega arith) in
+            subst (Chain w2 (getD w2 d 0)) (sym (Co d z)) (subst (λ (v : ℕ). Chain w2 v (getD (u .C) d [])) (sym o) (chain-same w w2 (getD w d 0) (getD (u .C) d []) (λ q m. keeps d q a m) (u .chain d a b (omega arith))))
+
+        bares : (d : ℕ) → d < n → getD (u .M) d 0 ≡ d → 2048 < getD w2 d 0 → Dec (d ≡ c) → (getD (set (u .C) c (t ∷ getD (u .C) c [])) d [] ≡ []) × Bears G n (u .M) d (getD w2 d 0)
+        bares d a b e (yes z) = let o : getD w2 d 0 ≡ suc t = ap (λ (v : ℕ). getD w2 v 0) z ∙ at-c in absurd (omega arith)
+        bares d a b e (no z) =
+            let o : getD w2 d 0 ≡ getD w d 0 = off d (λ i. omega arith) z (omega arith) in
+            let r = u .bare d a b (omega arith) in
+            (Co d z ∙ r .0, subst (λ (v : ℕ). Bears G n (u .M) d v) (sym o) (r .1))
+
+        homes : (d q : ℕ) → d < n → List·Memᴰ q (getD (set (u .C) c (t ∷ getD (u .C) c [])) d []) → Dec (d ≡ c) → List·Memᴰ q (t ∷ H .K) × (getD (u .M) ((G .S) q) 0 ≡ d)
+        homes d q a m (yes z) = ⊎-elim
+            (λ e. (List·Memᴰ·head e, ap (λ (v : ℕ). getD (u .M) ((G .S) v) 0) e ∙ ap (λ (v : ℕ). getD (u .M) v 0) (f .is) ∙ Mx G H u ∙ sym z))
+            (λ b. let o = u .home c q c-in b in (List·Memᴰ·tail (o .0), o .1 ∙ sym z))
+            (List·Memᴰ·cases-cons (subst (List·Memᴰ q) (ap (λ (v : ℕ). getD (set (u .C) c (t ∷ getD (u .C) c [])) v []) z ∙ C') m))
+        homes d q a m (no z) = let o = u .home d q a (subst (List·Memᴰ q) (Co d z) m) in (List·Memᴰ·tail (o .0), o .1)
+
+        none : None F (getD F t 0) (getD (u .C) c [])
+        none = miss .miss refl (getD (u .C) c []) (chain-c G H u lc)
+
+        here : (b : ℕ) × (First F (getD F t 0) (getD (set (u .C) c (t ∷ getD (u .C) c [])) (getD (u .M) ((G .S) t) 0) []) b × Near F T (u .M) w2 [] (getD T b 0) (getD T t 0))
+        here = (t, (subst (λ (v : ℕ). First F (getD F t 0) (getD (set (u .C) c (t ∷ getD (u .C) c [])) v []) t) (sym (ap (λ (v : ℕ). getD (u .M) v 0) (f .is) ∙ Mx G H u)) (subst (λ (l : List ℕ). First F (getD F t 0) l t) (sym C') (inl (refl, refl))), Near.old refl))
+
+        covers : (j : ℕ) → List·Memᴰ j (H .K) → Dec (getD (u .M) ((G .S) j) 0 ≡ c) → (b : ℕ) × (First F (getD F j 0) (getD (set (u .C) c (t ∷ getD (u .C) c [])) (getD (u .M) ((G .S) j) 0) []) b × Near F T (u .M) w2 [] (getD T b 0) (getD T j 0))
+        covers j m (yes z) =
+            let o = u .cover j m in
+            let p : First F (getD F j 0) (getD (u .C) c []) (o .0) = subst (λ (v : ℕ). First F (getD F j 0) (getD (u .C) v []) (o .0)) z (o .1 .0) in (
+              o .0,
+              (
+                subst (λ (v : ℕ). First F (getD F j 0) (getD (set (u .C) c (t ∷ getD (u .C) c [])) v []) (o .0)) (sym z) (subst (λ (l : List ℕ). First F (getD F j 0) l (o .0)) (sym C')
+                    (inr ((λ e. none-first F (getD F t 0) (getD (u .C) c []) (o .0) none (subst (λ (v : ℕ). First F v (getD (u .C) c []) (o .0)) (sym e) p)), p))),
+                Near.old (near-none F T (u .M) w (o .1 .1)),
+              ),
+            )
+        covers j m (no z) =
+            let o = u .cover j m in
+            (o .0, (subst (λ (l : List ℕ). First F (getD F j 0) l (o .0)) (sym (Co (getD (u .M) ((G .S) j) 0) z)) (o .1 .0), Near.old (near-none F T (u .M) w (o .1 .1))))
+
+    pub visit-hung : Visited F T n k w x t k2 false w2
+    visit-hung = record {
+      later = later-trans k w k1 w1 k2 w2 (p1 .later) (p2 .later);
+      fine = λ z G H u f. hung G H u f;
+      clash = λ z. let y : _≡_ {A = ℕ} 0 1 = cc in absurd (omega arith);
+    }
+
+  -- ---- an atom
+  module _ (v : ℕ) (hv : 2048 < v) where
+    pub mark-clash : Logged k w → (getD w c 0 ≡ 0 → ⊥) → (getD w c 0 ≡ v → ⊥) → Marked F T n k w x v k true w
+    mark-clash g d e = record {
+      later = later-refl k w g;
+      fine = λ z. let y : _≡_ {A = ℕ} 0 1 = cc in absurd (omega arith);
+      clash = λ z G H u b. go G H u b (decLt 2048 (getD w c 0));
+    }
+      where
+        go : (G : Pushed) (H : Done) (u : State G H F T n k 0 [] w) → Bearing G H n x v → Dec (2048 < getD w c 0) → Clashes G F T
+        go G H u b (yes l) =
+            let r = u .bare c c-in (Mc G H u) l .1 in
+            let q : (G .A) (r .i) ≡ getD w c 0 = r .is in
+            let q' : (G .A) x ≡ v = b .is in
+            Clashes.atoms (r .node) (b .node) (bearer G H u l) (λ o. omega arith) (λ o. omega arith) (λ o. e (sym q ∙ o ∙ q'))
+        go G H u b (no l) =
+            let t = head-of G H u (getD (u .C) c []) d (chain-c G H u (omega arith)) in
+            let a = arc-of G H u (t .0) (t .1) in
+            let q' : (G .A) x ≡ v = b .is in
+            Clashes.mixed (b .node) (λ o. omega arith) (a .0) (a .1 .0)
+
+    pub mark-same : Logged k w → getD w c 0 ≡ v → Marked F T n k w x v k false w
+    mark-same g e = record {
+      later = later-refl k w g;
+      fine = λ z G H u b.
+          let ur = u .room in
+          record {
+            logged = u .logged;
+            shape = u .shape;
+            room = omega arith;
+            few = b .room;
+            stack = u .stack;
+            arcs = u .arcs;
+            atoms = u .atoms;
+            M = u .M;
+            forest = u .forest;
+            C = u .C;
+            wide = u .wide;
+            all = u .all;
+            chain = u .chain;
+            bare = u .bare;
+            home = u .home;
+            known = u .known;
+            cover = u .cover;
+            nodes = λ i m. ⊎-elim (λ o. subst (λ (a : ℕ). (a < n) × List·Memᴰ a (G .N)) (sym o) (b .small, b .node)) (λ o. u .nodes i o) (List·Memᴰ·cases-cons m);
+            met = λ i m a. ⊎-elim (λ o. subst (λ (j : ℕ). getD w (getD (u .M) j 0) 0 ≡ (G .A) j) (sym o) (ap (λ (j : ℕ). getD w j 0) (Mx G H u) ∙ e ∙ sym (b .is))) (λ o. u .met i o a) (List·Memᴰ·cases-cons m);
+            held = u .held;
+            sound = u .sound;
+            frame = u .frame;
+          };
+      clash = λ z. let y : _≡_ {A = ℕ} 0 1 = cc in absurd (omega arith);
+    }
+
+    module _ (e0 : getD w c 0 ≡ 0) (hk : k + 1 ≤ 4096) (k1 : ℕ) (w1 : List ℕ) (p1 : Put k w c v k1 w1) where
+      off1 : (j : ℕ) → (j ≡ c → ⊥) → j < LOG → getD w1 j 0 ≡ getD w j 0
+      off1 j a l = put-off k w c v k1 w1 p1 (omega arith) j a (inl l)
+
+      at1 : getD w1 c 0 ≡ v
+      at1 = let l = c-in in put-at k w c v k1 w1 p1 (omega arith) (omega arith)
+
+      par1 : region PARENT n w1 ≡ region PARENT n w
+      par1 = let l = c-in in region-ext PARENT n w1 w (omega (arith, p1 .later .len)) (p1 .later .len) (λ j b. off1 (PARENT + j) (λ e. omega arith) (omega arith))
+
+      next1 : (q : ℕ) → q < 2048 → getD w1 (NEXT + q) 0 ≡ getD w (NEXT + q) 0
+      next1 q h = let l = c-in in off1 (NEXT + q) (λ e. omega arith) (omega arith)
+
+      noted : (G : Pushed) (H : Done) → State G H F T n k 0 [] w → Bearing G H n x v → State G (withNode H x) F T n k1 0 [] w1
+      noted G H u b =
+          let ur = u .room in let n1 = p1 .next in
+          record {
+            logged = p1 .later .logged;
+            shape = rw par1 (u .shape);
+            room = rw par1 (omega arith);
+            few = b .room;
+            stack = rw par1 (u .stack);
+            arcs = u .arcs;
+            atoms = u .atoms;
+            M = u .M;
+            forest = rw par1 (u .forest);
+            C = u .C;
+            wide = u .wide;
+            all = u .all;
+            chain = λ d a m l. chains d a m l (ℕ-discrete d c);
+            bare = λ d a m l. bares d a m l (ℕ-discrete d c);
+            home = u .home;
+            known = u .known;
+            cover = λ j m. let o = u .cover j m in (o .0, (o .1 .0, Near.old (near-none F T (u .M) w (o .1 .1))));
+            nodes = λ i m. ⊎-elim (λ o. subst (λ (a : ℕ). (a < n) × List·Memᴰ a (G .N)) (sym o) (b .small, b .node)) (λ o. u .nodes i o) (List·Memᴰ·cases-cons m);
+            met = λ i m a. ⊎-elim (λ o. subst (λ (j : ℕ). getD w1 (getD (u .M) j 0) 0 ≡ (G .A) j) (sym o) (ap (λ (j : ℕ). getD w1 j 0) (Mx G H u) ∙ at1 ∙ sym (b .is))) (λ o. old i o a) (List·Memᴰ·cases-cons m);
+            held = u .held;
+            sound = u .sound;
+            frame = λ a d m. absurd (List·Memᴰ·not-nil m);
+          }
+        where
+          old : (i : ℕ) → List·Memᴰ i (H .U) → ((G .A) i ≡ 0 → ⊥) → getD w1 (getD (u .M) i 0) 0 ≡ (G .A) i
+          old i m a =
+              let l = low G H F T n k 0 [] w (omega arith) hw u i (u .nodes i m .0) in
+              off1 (getD (u .M) i 0) (λ e. a (sym (u .met i m a) ∙ ap (λ (j : ℕ). getD w j 0) e ∙ e0)) (omega arith) ∙ u .met i m a
+
+          chains : (d : ℕ) → d < n → getD (u .M) d 0 ≡ d → getD w1 d 0 ≤ 2048 → Dec (d ≡ c) → Chain w1 (getD w1 d 0) (getD (u .C) d [])
+          chains d a m l (yes z) = let o : getD w1 d 0 ≡ v = ap (λ (j : ℕ). getD w1 j 0) z ∙ at1 in absurd (omega arith)
+          chains d a m l (no z) =
+              let o : getD w1 d 0 ≡ getD w d 0 = off1 d z (omega arith) in
+              subst (λ (j : ℕ). Chain w1 j (getD (u .C) d [])) (sym o) (chain-same w w1 (getD w d 0) (getD (u .C) d []) (λ q r. let b = u .arcs q (u .known q (u .home d q a r .0)) .0 in next1 q (omega arith)) (u .chain d a m (omega arith)))
+
+          bares : (d : ℕ) → d < n → getD (u .M) d 0 ≡ d → 2048 < getD w1 d 0 → Dec (d ≡ c) → (getD (u .C) d [] ≡ []) × Bears G n (u .M) d (getD w1 d 0)
+          bares d a m l (yes z) =
+              subst (λ (j : ℕ). (getD (u .C) j [] ≡ []) × Bears G n (u .M) j (getD w1 j 0)) (sym z)
+              (chain-zero w (getD w c 0) (getD (u .C) c []) e0 (chain-c G H u (omega arith)), record { i = x; small = hx; node = b .node; is = b .is ∙ sym at1; class = Mx G H u })
+          bares d a m l (no z) =
+              let o : getD w1 d 0 ≡ getD w d 0 = off1 d z (omega arith) in
+              let r = u .bare d a m (omega arith) in
+              (r .0, subst (λ (j : ℕ). Bears G n (u .M) d j) (sym o) (r .1))
+
+      pub mark-new : Marked F T n k w x v k1 false w1
+      mark-new = record {
+        later = p1 .later;
+        fine = λ z G H u b. noted G H u b;
+        clash = λ z. let y : _≡_ {A = ℕ} 0 1 = cc in absurd (omega arith);
+      }
+
+-- ---- no atom
+pub mark-none : (F T : List ℕ) (n k : ℕ) (w : List ℕ) (x v : ℕ) → Logged k w → v ≡ 0 → Marked F T n k w x v k false w
+mark-none F T n k w x v g e = record {
+  later = later-refl k w g;
+  fine = λ z G H u b.
+      let ur = u .room in
+      record {
+        logged = u .logged;
+        shape = u .shape;
+        room = omega arith;
+        few = b .room;
+        stack = u .stack;
+        arcs = u .arcs;
+        atoms = u .atoms;
+        M = u .M;
+        forest = u .forest;
+        C = u .C;
+        wide = u .wide;
+        all = u .all;
+        chain = u .chain;
+        bare = u .bare;
+        home = u .home;
+        known = u .known;
+        cover = u .cover;
+        nodes = λ i m. ⊎-elim (λ o. subst (λ (a : ℕ). (a < n) × List·Memᴰ a (G .N)) (sym o) (b .small, b .node)) (λ o. u .nodes i o) (List·Memᴰ·cases-cons m);
+        met = λ i m a. ⊎-elim (λ o. absurd (a (ap (λ (j : ℕ). (G .A) j) o ∙ b .is ∙ e))) (λ o. u .met i o a) (List·Memᴰ·cases-cons m);
+        held = u .held;
+        sound = u .sound;
+        frame = u .frame;
+      };
+  clash = λ z. let y : _≡_ {A = ℕ} 0 1 = cc in absurd (omega arith);
+}

@@ -1,0 +1,3 @@
+pub mod Labels
+pub mod Forest
+pub mod State

@@ -1,0 +1,5 @@
+// Joining graphs by classes of nodes, in the lent working area.
+pub mod chain;
+pub mod forest;
+pub mod merge;
+pub mod settle;
