@@ -14,7 +14,7 @@ use Rattle.area.specs.Region.{region}
 use Rattle.classes.specs.Labels.{Eq, relabelled}
 use Rattle.area.specs.Log.{body, Logged, Later, Put}
 use Rattle.classes.specs.Forest.{Shape, Forest, Root, tops}
-use Rattle.classes.specs.State.{Pushed, Done, Same, Clashes, Chain, Seg, First, None, Way, Near, Framed, Bears, State, Ready, Met, Grow, Last, Runs, total, frames, withPair}
+use Rattle.classes.specs.State.{Pile, Done, Same, Clashes, Chain, Seg, First, None, Way, Near, Framed, Bears, State, Ready, Met, Grow, Last, Runs, total, frames, withPair}
 use Rattle.area.proofs.Region.{length-region, region-ext}
 use Rattle.area.proofs.Undo.{later-refl, later-trans, later-scratch, put-at, put-off, put-region}
 use Rattle.classes.proofs.Wood.{tops-link, tops-pos}
@@ -64,7 +64,7 @@ module _ (n k s : ℕ) (w : List ℕ) (a b : ℕ) (lt : a < b) (hb : b < n) (hn 
     grow1 : Grow w w1
     grow1 j h x = next1 j h
 
-    below : {G : Pushed} {H : Done} {F T : List ℕ} {fs : List (ℕ × ℕ)} (u : State G H F T n k s fs w) (c q : ℕ) → c < n → List·Memᴰ q (getD (u .C) c []) → q < 2048
+    below : {G : Pile} {H : Done} {F T : List ℕ} {fs : List (ℕ × ℕ)} (u : State G H F T n k s fs w) (c q : ℕ) → c < n → List·Memᴰ q (getD (u .C) c []) → q < 2048
     below u c q h m = let b = u .arcs q (u .known q (u .home c q h m .0)) .0 in omega arith
 
     pub plain : (getD w b 0 ≡ 0) ⊎ ((2048 < getD w b 0) × (getD w b 0 ≡ getD w a 0)) → Met n k s w a b r s false w1
@@ -78,7 +78,7 @@ module _ (n k s : ℕ) (w : List ℕ) (a b : ℕ) (lt : a < b) (hb : b < n) (hn 
       clash = λ z. let y : _≡_ {A = ℕ} 0 1 = cc in absurd (omega arith);
     }
       where
-        fuses : (G : Pushed) (H : Done) (F T : List ℕ) (fs : List (ℕ × ℕ)) (u : State G H F T n k s fs w) → Fuses G H F T n k s fs w (omega arith) hw u a b lt hb ra rb r s [] w1
+        fuses : (G : Pile) (H : Done) (F T : List ℕ) (fs : List (ℕ × ℕ)) (u : State G H F T n k s fs w) → Fuses G H F T n k s fs w (omega arith) hw u a b lt hb ra rb r s [] w1
         fuses G H F T fs u = record {
           len = p .later .len;
           logged = p .later .logged;
@@ -130,7 +130,7 @@ module _ (n k s : ℕ) (w : List ℕ) (a b : ℕ) (lt : a < b) (hb : b < n) (hn 
         clash = λ z. let y : _≡_ {A = ℕ} 0 1 = cc in absurd (omega arith);
       }
         where
-          fuses : (G : Pushed) (H : Done) (F T : List ℕ) (fs : List (ℕ × ℕ)) (u : State G H F T n k s fs w) → Fuses G H F T n k s fs w (omega arith) hw u a b lt hb ra rb t s [] w2
+          fuses : (G : Pile) (H : Done) (F T : List ℕ) (fs : List (ℕ × ℕ)) (u : State G H F T n k s fs w) → Fuses G H F T n k s fs w (omega arith) hw u a b lt hb ra rb t s [] w2
           fuses G H F T fs u = record {
             len = p2 .later .len ∙ p .later .len;
             logged = p2 .later .logged;
@@ -234,7 +234,7 @@ module _ (n k s : ℕ) (w : List ℕ) (a b : ℕ) (lt : a < b) (hb : b < n) (hn 
         clash = λ q. let y : _≡_ {A = ℕ} 0 1 = cc in absurd (omega arith);
       }
         where
-          fuses : (G : Pushed) (H : Done) (F T : List ℕ) (fs : List (ℕ × ℕ)) (u : State G H F T n k s fs w) → Fuses G H F T n k s fs w (omega arith) hw u a b lt hb ra rb r3 (s + 1) ((x, y) ∷ []) w4
+          fuses : (G : Pile) (H : Done) (F T : List ℕ) (fs : List (ℕ × ℕ)) (u : State G H F T n k s fs w) → Fuses G H F T n k s fs w (omega arith) hw u a b lt hb ra rb r3 (s + 1) ((x, y) ∷ []) w4
           fuses G H F T fs u = record {
             len = len4;
             logged = later4 .logged;
@@ -326,7 +326,7 @@ module _ (n k s : ℕ) (w : List ℕ) (a b : ℕ) (lt : a < b) (hb : b < n) (hn 
     clash = λ z G H F T fs u same. told G H F T fs u same (decLt 2048 (getD w b 0)) (decLt 2048 (getD w a 0));
   }
     where
-      told : (G : Pushed) (H : Done) (F T : List ℕ) (fs : List (ℕ × ℕ)) (u : State G H F T n k s fs w) → Same G F T a b → Dec (2048 < getD w b 0) → Dec (2048 < getD w a 0) → Clashes G F T
+      told : (G : Pile) (H : Done) (F T : List ℕ) (fs : List (ℕ × ℕ)) (u : State G H F T n k s fs w) → Same G F T a b → Dec (2048 < getD w b 0) → Dec (2048 < getD w a 0) → Clashes G F T
       told G H F T fs u same db da = go db da
         where
           ma : getD (u .M) a 0 ≡ a

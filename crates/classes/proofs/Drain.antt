@@ -13,7 +13,7 @@ use Rattle.area.specs.Region.{region}
 use Rattle.classes.specs.Labels.{Eq}
 use Rattle.area.specs.Log.{Logged, Later}
 use Rattle.classes.specs.Forest.{tops}
-use Rattle.classes.specs.State.{Pushed, Done, Same, Clashes, Seg, Way, Near, Framed, State, Ready, Met, frames, withPair, Walk, Working, Told, Turned, Drained, Stacked, Settled, Calm, United}
+use Rattle.classes.specs.State.{Pile, Done, Same, Clashes, Seg, Way, Near, Framed, State, Ready, Met, frames, withPair, Walk, Working, Told, Turned, Drained, Stacked, Settled, Calm, United}
 use Rattle.area.proofs.Undo.{later-refl, later-trans}
 
 pub walk-refl : (F T : List ℕ) (n k s : ℕ) (w : List ℕ) (x to : ℕ) → Logged k w → Walk F T n k s w x to k s w x
@@ -53,7 +53,7 @@ drained-end F T n k s w x to k1 s1 w1 x1 p e = record {
 }
 
 -- ---- a frame that is worked off goes
-finish : (G : Pushed) (H : Done) (F T : List ℕ) (n k s to : ℕ) (fs : List (ℕ × ℕ)) (w : List ℕ) → State G H F T n k s ((to, to) ∷ fs) w → State G H F T n k s fs w
+finish : (G : Pile) (H : Done) (F T : List ℕ) (n k s to : ℕ) (fs : List (ℕ × ℕ)) (w : List ℕ) → State G H F T n k s ((to, to) ∷ fs) w → State G H F T n k s fs w
 finish G H F T n k s to fs w u = record {
   logged = u .logged;
   shape = u .shape;
@@ -90,7 +90,7 @@ finish G H F T n k s to fs w u = record {
     near (Near.trans r t) = Near.trans (near r) (near t)
 
 -- fewer frames are counted
-lower : (G : Pushed) (H : Done) (F T : List ℕ) (n k s s' : ℕ) (fs : List (ℕ × ℕ)) (w : List ℕ) → s' ≤ s → State G H F T n k s fs w → State G H F T n k s' fs w
+lower : (G : Pile) (H : Done) (F T : List ℕ) (n k s s' : ℕ) (fs : List (ℕ × ℕ)) (w : List ℕ) → s' ≤ s → State G H F T n k s fs w → State G H F T n k s' fs w
 lower G H F T n k s s' fs w h u = record {
   logged = u .logged;
   shape = u .shape;
@@ -120,13 +120,13 @@ lower G H F T n k s s' fs w h u = record {
 pub record Settling (F T : List ℕ) (n k s : ℕ) (w : List ℕ) (e h : ℕ) (w' : List ℕ) : Type 0 where
   pub later : Later k w e w'
   pub count : h + tops 0 (region PARENT n w') ≤ s + tops 0 (region PARENT n w)
-  pub go : (G : Pushed) (H : Done) → State G H F T n k s (frames w s) w → State G H F T n e h (frames w' h) w'
+  pub go : (G : Pile) (H : Done) → State G H F T n k s (frames w s) w → State G H F T n e h (frames w' h) w'
 
 pub settle-start : (F T : List ℕ) (n k s : ℕ) (w : List ℕ) → Logged k w → Settling F T n k s w k s w
 settle-start F T n k s w g = record { later = later-refl k w g; count = omega arith; go = λ G H u. u }
 
 -- the frame on top
-pop : (G : Pushed) (H : Done) (F T : List ℕ) (n k h : ℕ) (w : List ℕ) (from to : ℕ) → 0 < h → from ≡ getD w (STACK + (h - 1)) 0 % 4096 → to ≡ getD w (STACK + (h - 1)) 0 / 4096 → State G H F T n k h (frames w h) w → State G H F T n k (h - 1) ((from, to) ∷ frames w (h - 1)) w
+pop : (G : Pile) (H : Done) (F T : List ℕ) (n k h : ℕ) (w : List ℕ) (from to : ℕ) → 0 < h → from ≡ getD w (STACK + (h - 1)) 0 % 4096 → to ≡ getD w (STACK + (h - 1)) 0 / 4096 → State G H F T n k h (frames w h) w → State G H F T n k (h - 1) ((from, to) ∷ frames w (h - 1)) w
 unfolding frames
 pop G H F T n k zero w from to p a b u = absurd (omega arith)
 pop G H F T n k (suc h) w from to p a b u =
@@ -181,7 +181,7 @@ united F T n k w x y k1 s1 b1 w1 k2 b2 w2 m z q = record {
   clash = λ v G H u r. q .clash v G (withPair H x y) (on G H u r);
 }
   where
-    on : (G : Pushed) (H : Done) → State G H F T n k 0 [] w → Same G F T x y → State G (withPair H x y) F T n k1 s1 (frames w1 s1) w1
+    on : (G : Pile) (H : Done) → State G H F T n k 0 [] w → Same G F T x y → State G (withPair H x y) F T n k1 s1 (frames w1 s1) w1
     on G H u r = subst (λ (f : List (ℕ × ℕ)). State G (withPair H x y) F T n k1 s1 f w1) (sym (m .stack)) (m .fine z G H F T [] u r)
 
 pub united-bad : (F T : List ℕ) (n k : ℕ) (w : List ℕ) (x y k1 s1 : ℕ) (b1 : Bool) (w1 : List ℕ) → Met n k 0 w x y k1 s1 b1 w1 → b1 ≡ true → United F T n k w x y k1 true w1
@@ -192,6 +192,6 @@ united-bad F T n k w x y k1 s1 b1 w1 m z = record {
 }
 
 -- what `settle` asks
-pub united-stacked : (F T : List ℕ) (n k : ℕ) (w : List ℕ) (x y k1 s1 : ℕ) (b1 : Bool) (w1 : List ℕ) (G : Pushed) (H : Done) → State G H F T n k 0 [] w → Same G F T x y → Met n k 0 w x y k1 s1 b1 w1 → b1 ≡ false → Stacked F T n k1 s1 w1
+pub united-stacked : (F T : List ℕ) (n k : ℕ) (w : List ℕ) (x y k1 s1 : ℕ) (b1 : Bool) (w1 : List ℕ) (G : Pile) (H : Done) → State G H F T n k 0 [] w → Same G F T x y → Met n k 0 w x y k1 s1 b1 w1 → b1 ≡ false → Stacked F T n k1 s1 w1
 unfolding frames
 united-stacked F T n k w x y k1 s1 b1 w1 G H u r m z = record { G = G; H = withPair H x y; state = subst (λ (f : List (ℕ × ℕ)). State G (withPair H x y) F T n k1 s1 f w1) (sym (m .stack)) (m .fine z G H F T [] u r) }

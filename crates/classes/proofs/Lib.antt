@@ -7,5 +7,6 @@ pub mod Fuse
 pub mod Cases
 pub mod Turns
 pub mod Drain
-pub mod Visit
+pub mod Visits
 pub mod Result
+pub mod Runs

@@ -13,14 +13,14 @@ use Rattle.area.specs.Region.{region}
 use Rattle.classes.specs.Labels.{Eq}
 use Rattle.area.specs.Log.{Logged, Later}
 use Rattle.classes.specs.Forest.{Shape, Forest, Root, tops}
-use Rattle.classes.specs.State.{Pushed, Done, Same, Clashes, Chain, Seg, First, None, Way, Near, Framed, Bears, State, Ready, Met, Grow, Looked, Runs, total, frames, hops, withPair, Walk, Working, Told, Turned, Drained, Stacked, Settled, Calm, United}
+use Rattle.classes.specs.State.{Pile, Done, Same, Clashes, Chain, Seg, First, None, Way, Near, Framed, Bears, State, Ready, Met, Grow, Looked, Runs, total, frames, hops, withPair, Walk, Working, Told, Turned, Drained, Stacked, Settled, Calm, United}
 use Rattle.area.proofs.Region.{length-region}
 use Rattle.area.proofs.Undo.{later-refl, later-trans}
 use Rattle.classes.proofs.Links.{chain-from, first-mem, first-feature, first-det, none-first, way-first, way-grow, seg-grow, hops-is, first-way}
 use Rattle.classes.proofs.Fuse.{low, top, chain-of, short}
 
 -- ---- the same state with other pairs
-pub hold : (G : Pushed) (H : Done) (F T : List ℕ) (n k s : ℕ) (fs : List (ℕ × ℕ)) (w : List ℕ) (u : State G H F T n k s fs w) (E : List (ℕ × ℕ)) → ((x y : ℕ) → List·Memᴰ (x, y) E → Eq (u .M) x y) → State G (record { K = H .K; U = H .U; E = E }) F T n k s fs w
+pub hold : (G : Pile) (H : Done) (F T : List ℕ) (n k s : ℕ) (fs : List (ℕ × ℕ)) (w : List ℕ) (u : State G H F T n k s fs w) (E : List (ℕ × ℕ)) → ((x y : ℕ) → List·Memᴰ (x, y) E → Eq (u .M) x y) → State G (record { K = H .K; U = H .U; E = E }) F T n k s fs w
 hold G H F T n k s fs w u E f = record {
   logged = u .logged;
   shape = u .shape;
@@ -47,13 +47,13 @@ hold G H F T n k s fs w u E f = record {
 }
 
 -- one pair more
-pub hold-pair : (G : Pushed) (H : Done) (F T : List ℕ) (n k s : ℕ) (fs : List (ℕ × ℕ)) (w : List ℕ) (u : State G H F T n k s fs w) (x y : ℕ) → Eq (u .M) x y → State G (withPair H x y) F T n k s fs w
+pub hold-pair : (G : Pile) (H : Done) (F T : List ℕ) (n k s : ℕ) (fs : List (ℕ × ℕ)) (w : List ℕ) (u : State G H F T n k s fs w) (x y : ℕ) → Eq (u .M) x y → State G (withPair H x y) F T n k s fs w
 hold-pair G H F T n k s fs w u x y e =
     hold G H F T n k s fs w u ((x, y) ∷ H .E)
     (λ i j m. ⊎-elim (λ p. ap (λ (v : ℕ × ℕ). getD (u .M) (v .0) 0) p ∙ e ∙ ap (λ (v : ℕ × ℕ). getD (u .M) (v .1) 0) (sym p)) (λ q. u .held i j q) (List·Memᴰ·cases-cons m))
 
 -- without the last
-pub forget : (G : Pushed) (H : Done) (F T : List ℕ) (n k s : ℕ) (fs : List (ℕ × ℕ)) (w : List ℕ) (x y : ℕ) → State G (withPair H x y) F T n k s fs w → State G H F T n k s fs w
+pub forget : (G : Pile) (H : Done) (F T : List ℕ) (n k s : ℕ) (fs : List (ℕ × ℕ)) (w : List ℕ) (x y : ℕ) → State G (withPair H x y) F T n k s fs w → State G H F T n k s fs w
 forget G H F T n k s fs w x y u = hold G (withPair H x y) F T n k s fs w u (H .E) (λ i j m. u .held i j (List·Memᴰ·tail m))
 
 -- ---- the same state with other frames
@@ -63,7 +63,7 @@ near-frames F T M w fs gs f (Near.owe {x} {y} {q} q' zs js m sg mq wy) = Near.ow
 near-frames F T M w fs gs f (Near.sym r) = Near.sym (near-frames F T M w fs gs f r)
 near-frames F T M w fs gs f (Near.trans r t) = Near.trans (near-frames F T M w fs gs f r) (near-frames F T M w fs gs f t)
 
-pub reframe : (G : Pushed) (H : Done) (F T : List ℕ) (n k s : ℕ) (fs gs : List (ℕ × ℕ)) (w : List ℕ) → ((p : ℕ × ℕ) → List·Memᴰ p fs → List·Memᴰ p gs) → ((p : ℕ × ℕ) → List·Memᴰ p gs → List·Memᴰ p fs) → State G H F T n k s fs w → State G H F T n k s gs w
+pub reframe : (G : Pile) (H : Done) (F T : List ℕ) (n k s : ℕ) (fs gs : List (ℕ × ℕ)) (w : List ℕ) → ((p : ℕ × ℕ) → List·Memᴰ p fs → List·Memᴰ p gs) → ((p : ℕ × ℕ) → List·Memᴰ p gs → List·Memᴰ p fs) → State G H F T n k s fs w → State G H F T n k s gs w
 reframe G H F T n k s fs gs w f g u = record {
   logged = u .logged;
   shape = u .shape;
@@ -90,7 +90,7 @@ reframe G H F T n k s fs gs w f g u = record {
 }
 
 -- a frame in the middle goes to the front
-pub front : (G : Pushed) (H : Done) (F T : List ℕ) (n k s : ℕ) (new fs : List (ℕ × ℕ)) (p : ℕ × ℕ) (w : List ℕ) → State G H F T n k s (new ++ (p ∷ fs)) w → State G H F T n k s (p ∷ (new ++ fs)) w
+pub front : (G : Pile) (H : Done) (F T : List ℕ) (n k s : ℕ) (new fs : List (ℕ × ℕ)) (p : ℕ × ℕ) (w : List ℕ) → State G H F T n k s (new ++ (p ∷ fs)) w → State G H F T n k s (p ∷ (new ++ fs)) w
 front G H F T n k s new fs p w = reframe G H F T n k s (new ++ (p ∷ fs)) (p ∷ (new ++ fs)) w
     (λ q m. ⊎-elim (λ a. List·Memᴰ·tail (Memᴰ·append-left fs a)) (λ a. ⊎-elim (λ e. List·Memᴰ·head e) (λ b. List·Memᴰ·tail (Memᴰ·append-right new b)) (List·Memᴰ·cases-cons a)) (List·Memᴰ·append-cases new m))
     (λ q m. ⊎-elim (λ e. Memᴰ·append-right new (List·Memᴰ·head e)) (λ a. ⊎-elim (λ b. Memᴰ·append-left (p ∷ fs) b) (λ b. Memᴰ·append-right new (List·Memᴰ·tail b)) (List·Memᴰ·append-cases new a)) (List·Memᴰ·cases-cons m))
@@ -100,7 +100,7 @@ module _ (n k s : ℕ) (w : List ℕ) (x y : ℕ) (hx : x < n) (hy : y < n) (hn 
   length-P : length (region PARENT n w) ≡ n
   length-P = length-region PARENT n w (omega arith)
 
-  module _ (G : Pushed) (H : Done) (F T : List ℕ) (fs : List (ℕ × ℕ)) (u : State G H F T n k s fs w) where
+  module _ (G : Pile) (H : Done) (F T : List ℕ) (fs : List (ℕ × ℕ)) (u : State G H F T n k s fs w) where
     x-a : Eq (u .M) x a
     x-a = let l = length-P in p .is (u .M) (u .forest) ∙ sym (u .forest .tops a (omega (arith, p .low)) (p .top))
 
@@ -130,7 +130,7 @@ module _ (n k s : ℕ) (w : List ℕ) (x y : ℕ) (hx : x < n) (hy : y < n) (hn 
 
   module _ (k' s' : ℕ) (bad : Bool) (w' : List ℕ) where
     -- from the pairs x a, y b, a b to the pair x y
-    drawn : (G : Pushed) (H : Done) (F T : List ℕ) (fs : List (ℕ × ℕ)) (c d : ℕ) → ((c ≡ a) × (d ≡ b)) ⊎ ((c ≡ b) × (d ≡ a)) → State G (withPair (withPair (withPair H x a) y b) c d) F T n k' s' fs w' → State G (withPair H x y) F T n k' s' fs w'
+    drawn : (G : Pile) (H : Done) (F T : List ℕ) (fs : List (ℕ × ℕ)) (c d : ℕ) → ((c ≡ a) × (d ≡ b)) ⊎ ((c ≡ b) × (d ≡ a)) → State G (withPair (withPair (withPair H x a) y b) c d) F T n k' s' fs w' → State G (withPair H x y) F T n k' s' fs w'
     drawn G H F T fs c d o v =
         let J = withPair (withPair (withPair H x a) y b) c d in
         let e1 : Eq (v .M) y b = v .held y b (List·Memᴰ·tail (List·Memᴰ·head refl)) in
@@ -171,7 +171,7 @@ part w to x (j ∷ zs) s n =
     let e : x - 1 ≡ j = let d = s .0 in omega arith in
     (zs, (ap (λ (i : ℕ). i ∷ zs) (sym e), (let d = s .0 in omega arith, (let d = s .1 .0 in omega arith, subst (λ (i : ℕ). Seg w to (getD w (NEXT + i) 0) zs) (sym e) (s .1 .1 .1)))))
 
-module _ (G : Pushed) (H : Done) (F T : List ℕ) (n k s x to : ℕ) (fs : List (ℕ × ℕ)) (w : List ℕ) (hn : n ≤ 1024) (hw : 16384 ≤ length w) (u : State G H F T n k s ((x, to) ∷ fs) w) where
+module _ (G : Pile) (H : Done) (F T : List ℕ) (n k s x to : ℕ) (fs : List (ℕ × ℕ)) (w : List ℕ) (hn : n ≤ 1024) (hw : 16384 ≤ length w) (u : State G H F T n k s ((x, to) ∷ fs) w) where
   abbrev fr : Framed n (u .M) (u .C) w x to
   fr = u .frame x to (List·Memᴰ·head refl)
 

@@ -1,3 +1,6 @@
 pub mod Labels
 pub mod Forest
 pub mod State
+pub mod Nodes
+pub mod Entry
+pub mod Holds

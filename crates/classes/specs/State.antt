@@ -21,7 +21,7 @@ targets w = region (WORDS + 1) 2047 w
 
 -- ---- the meaning
 -- what is pushed: the source S of each arc, the arcs B, the roots R, the nodes N, and the atom A of each node, as a code above 2048, or 0
-pub record Pushed : Type 0 where
+pub record Pile : Type 0 where
   pub S : ℕ → ℕ
   pub B : List ℕ
   pub R : List ℕ
@@ -29,7 +29,7 @@ pub record Pushed : Type 0 where
   pub A : ℕ → ℕ
 
 -- the least equivalence in which all roots are equal and equal nodes have equal targets under an equal feature
-pub data Same (G : Pushed) (F T : List ℕ) : ℕ → ℕ → Type 0 where
+pub data Same (G : Pile) (F T : List ℕ) : ℕ → ℕ → Type 0 where
   root : {x y : ℕ} → List·Memᴰ x (G .R) → List·Memᴰ y (G .R) → Same G F T x y
   self : (x : ℕ) → Same G F T x x
   back : {x y : ℕ} → Same G F T x y → Same G F T y x
@@ -37,7 +37,7 @@ pub data Same (G : Pushed) (F T : List ℕ) : ℕ → ℕ → Type 0 where
   along : {p q : ℕ} → List·Memᴰ p (G .B) → List·Memᴰ q (G .B) → getD F p 0 ≡ getD F q 0 → Same G F T ((G .S) p) ((G .S) q) → Same G F T (getD T p 0) (getD T q 0)
 
 -- a class holds two different atoms, or an atom and an arc
-pub data Clashes (G : Pushed) (F T : List ℕ) : Type 0 where
+pub data Clashes (G : Pile) (F T : List ℕ) : Type 0 where
   atoms : {x y : ℕ} → List·Memᴰ x (G .N) → List·Memᴰ y (G .N) → Same G F T x y → ((G .A) x ≡ 0 → ⊥) → ((G .A) y ≡ 0 → ⊥) → ((G .A) x ≡ (G .A) y → ⊥) → Clashes G F T
   mixed : {x q : ℕ} → List·Memᴰ x (G .N) → ((G .A) x ≡ 0 → ⊥) → List·Memᴰ q (G .B) → Same G F T x ((G .S) q) → Clashes G F T
 
@@ -120,14 +120,14 @@ pub record Framed (n : ℕ) (M : List ℕ) (C : List (List ℕ)) (w : List ℕ) 
   pub stop : List·Memᴰ e (getD C (getD M c 0) [])
 
 -- an atom's node
-pub record Bears (G : Pushed) (n : ℕ) (M : List ℕ) (c v : ℕ) : Type 0 where
+pub record Bears (G : Pile) (n : ℕ) (M : List ℕ) (c v : ℕ) : Type 0 where
   pub i : ℕ
   pub small : i < n
   pub node : List·Memᴰ i (G .N)
   pub is : (G .A) i ≡ v
   pub class : getD M i 0 ≡ c
 
-pub record State (G : Pushed) (H : Done) (F T : List ℕ) (n k s : ℕ) (fs : List (ℕ × ℕ)) (w : List ℕ) : Type 0 where
+pub record State (G : Pile) (H : Done) (F T : List ℕ) (n k s : ℕ) (fs : List (ℕ × ℕ)) (w : List ℕ) : Type 0 where
   pub logged : Logged k w
   pub shape : Shape (region PARENT n w)
   pub room : k + 3 * tops 0 (region PARENT n w) ≤ 3 * n + (2 * length (H .K) + length (H .U))
@@ -153,7 +153,7 @@ pub record State (G : Pushed) (H : Done) (F T : List ℕ) (n k s : ℕ) (fs : Li
 
 -- some state, whose part the code needs
 pub record Ready (n k s : ℕ) (w : List ℕ) : Type 0 where
-  pub G : Pushed
+  pub G : Pile
   pub H : Done
   pub F : List ℕ
   pub T : List ℕ
@@ -174,8 +174,8 @@ pub record Met (n k s : ℕ) (w : List ℕ) (x y k' s' : ℕ) (bad : Bool) (w' :
   pub stack : frames w' s' ≡ new ++ frames w s
   pub count : s' + tops 0 (region PARENT n w') ≤ s + tops 0 (region PARENT n w)
   pub grow : Grow w w'
-  pub fine : bad ≡ false → (G : Pushed) (H : Done) (F T : List ℕ) (fs : List (ℕ × ℕ)) → State G H F T n k s fs w → Same G F T x y → State G (withPair H x y) F T n k' s' (new ++ fs) w'
-  pub clash : bad ≡ true → (G : Pushed) (H : Done) (F T : List ℕ) (fs : List (ℕ × ℕ)) → State G H F T n k s fs w → Same G F T x y → Clashes G F T
+  pub fine : bad ≡ false → (G : Pile) (H : Done) (F T : List ℕ) (fs : List (ℕ × ℕ)) → State G H F T n k s fs w → Same G F T x y → State G (withPair H x y) F T n k' s' (new ++ fs) w'
+  pub clash : bad ≡ true → (G : Pile) (H : Done) (F T : List ℕ) (fs : List (ℕ × ℕ)) → State G H F T n k s fs w → Same G F T x y → Clashes G F T
 
 -- a walk along a frame's part, from x to x'
 pub record Walk (F T : List ℕ) (n k s : ℕ) (w : List ℕ) (x to k' s' : ℕ) (w' : List ℕ) (x' : ℕ) : Type 0 where
@@ -183,17 +183,17 @@ pub record Walk (F T : List ℕ) (n k s : ℕ) (w : List ℕ) (x to k' s' : ℕ)
   pub new : List (ℕ × ℕ)
   pub stack : frames w' s' ≡ new ++ frames w s
   pub count : s' + tops 0 (region PARENT n w') ≤ s + tops 0 (region PARENT n w)
-  pub go : (G : Pushed) (H : Done) (fs : List (ℕ × ℕ)) → State G H F T n k s ((x, to) ∷ fs) w → State G H F T n k' s' ((x', to) ∷ (new ++ fs)) w'
+  pub go : (G : Pile) (H : Done) (fs : List (ℕ × ℕ)) → State G H F T n k s ((x, to) ∷ fs) w → State G H F T n k' s' ((x', to) ∷ (new ++ fs)) w'
 
 -- a frame is being worked off
 pub record Working (F T : List ℕ) (n k s x to : ℕ) (w : List ℕ) : Type 0 where
-  pub G : Pushed
+  pub G : Pile
   pub H : Done
   pub fs : List (ℕ × ℕ)
   pub state : State G H F T n k s ((x, to) ∷ fs) w
 
 abbrev pub Told : (F T : List ℕ) (n k s : ℕ) (w : List ℕ) (x to : ℕ) → Type 0
-Told F T n k s w x to = (G : Pushed) (H : Done) (fs : List (ℕ × ℕ)) → State G H F T n k s ((x, to) ∷ fs) w → Clashes G F T
+Told F T n k s w x to = (G : Pile) (H : Done) (fs : List (ℕ × ℕ)) → State G H F T n k s ((x, to) ∷ fs) w → Clashes G F T
 
 pub record Turned (F T : List ℕ) (n k s : ℕ) (w : List ℕ) (x to k' s' : ℕ) (bad : Bool) (w' : List ℕ) : Type 0 where
   pub later : Later k w k' w'
@@ -208,25 +208,25 @@ pub record Drained (F T : List ℕ) (n k s : ℕ) (w : List ℕ) (x to k' s' : �
 
 -- the stack holds all that is owed
 pub record Stacked (F T : List ℕ) (n k s : ℕ) (w : List ℕ) : Type 0 where
-  pub G : Pushed
+  pub G : Pile
   pub H : Done
   pub state : State G H F T n k s (frames w s) w
 
 pub record Settled (F T : List ℕ) (n k s : ℕ) (w : List ℕ) (k' : ℕ) (bad : Bool) (w' : List ℕ) : Type 0 where
   pub later : Later k w k' w'
-  pub fine : bad ≡ false → (G : Pushed) (H : Done) → State G H F T n k s (frames w s) w → State G H F T n k' 0 [] w'
-  pub clash : bad ≡ true → (G : Pushed) (H : Done) → State G H F T n k s (frames w s) w → Clashes G F T
+  pub fine : bad ≡ false → (G : Pile) (H : Done) → State G H F T n k s (frames w s) w → State G H F T n k' 0 [] w'
+  pub clash : bad ≡ true → (G : Pile) (H : Done) → State G H F T n k s (frames w s) w → Clashes G F T
 
 -- nothing is owed
 pub record Calm (F T : List ℕ) (n k : ℕ) (w : List ℕ) : Type 0 where
-  pub G : Pushed
+  pub G : Pile
   pub H : Done
   pub state : State G H F T n k 0 [] w
 
 pub record United (F T : List ℕ) (n k : ℕ) (w : List ℕ) (x y k' : ℕ) (bad : Bool) (w' : List ℕ) : Type 0 where
   pub later : Later k w k' w'
-  pub fine : bad ≡ false → (G : Pushed) (H : Done) → State G H F T n k 0 [] w → Same G F T x y → State G (withPair H x y) F T n k' 0 [] w'
-  pub clash : bad ≡ true → (G : Pushed) (H : Done) → State G H F T n k 0 [] w → Same G F T x y → Clashes G F T
+  pub fine : bad ≡ false → (G : Pile) (H : Done) → State G H F T n k 0 [] w → Same G F T x y → State G (withPair H x y) F T n k' 0 [] w'
+  pub clash : bad ≡ true → (G : Pile) (H : Done) → State G H F T n k 0 [] w → Same G F T x y → Clashes G F T
 
 -- ---- chains, as the code walks them
 pub record Last (w : List ℕ) (x r : ℕ) : Type 0 where
@@ -240,7 +240,7 @@ pub record Looked (F w : List ℕ) (f x r : ℕ) : Type 0 where
 
 -- what is asked of a union: the two are equal
 pub record Asked (F T : List ℕ) (n k : ℕ) (w : List ℕ) (x y : ℕ) : Type 0 where
-  pub G : Pushed
+  pub G : Pile
   pub H : Done
   pub state : State G H F T n k 0 [] w
   pub same : Same G F T x y
@@ -250,46 +250,46 @@ abbrev pub withArc : Done → ℕ → Done
 withArc H t = record { K = t ∷ H .K; U = H .U; E = H .E }
 
 -- the arc t of the node x is pushed and has not been visited, and there is room for it
-pub record Fresh (G : Pushed) (H : Done) (n x t : ℕ) : Type 0 where
+pub record Fresh (G : Pile) (H : Done) (n x t : ℕ) : Type 0 where
   pub arc : List·Memᴰ t (G .B)
   pub new : List·Memᴰ t (H .K) → ⊥
   pub is : (G .S) t ≡ x
   pub room : 3 * n + (2 * suc (length (H .K)) + length (H .U)) ≤ 4096
 
 pub record Coming (F T : List ℕ) (n k : ℕ) (w : List ℕ) (x t : ℕ) : Type 0 where
-  pub G : Pushed
+  pub G : Pile
   pub H : Done
   pub state : State G H F T n k 0 [] w
   pub fresh : Fresh G H n x t
 
 pub record Visited (F T : List ℕ) (n k : ℕ) (w : List ℕ) (x t k' : ℕ) (bad : Bool) (w' : List ℕ) : Type 0 where
   pub later : Later k w k' w'
-  pub fine : bad ≡ false → (G : Pushed) (H : Done) → State G H F T n k 0 [] w → Fresh G H n x t → State G (withArc H t) F T n k' 0 [] w'
-  pub clash : bad ≡ true → (G : Pushed) (H : Done) → State G H F T n k 0 [] w → Fresh G H n x t → Clashes G F T
+  pub fine : bad ≡ false → (G : Pile) (H : Done) → State G H F T n k 0 [] w → Fresh G H n x t → State G (withArc H t) F T n k' 0 [] w'
+  pub clash : bad ≡ true → (G : Pile) (H : Done) → State G H F T n k 0 [] w → Fresh G H n x t → Clashes G F T
 
 -- ---- one atom
 abbrev pub withNode : Done → ℕ → Done
 withNode H x = record { K = H .K; U = x ∷ H .U; E = H .E }
 
-pub record Bearing (G : Pushed) (H : Done) (n x v : ℕ) : Type 0 where
+pub record Bearing (G : Pile) (H : Done) (n x v : ℕ) : Type 0 where
   pub node : List·Memᴰ x (G .N)
   pub small : x < n
   pub is : (G .A) x ≡ v
   pub room : 3 * n + (2 * length (H .K) + suc (length (H .U))) ≤ 4096
 
 pub record Marking (F T : List ℕ) (n k : ℕ) (w : List ℕ) (x v : ℕ) : Type 0 where
-  pub G : Pushed
+  pub G : Pile
   pub H : Done
   pub state : State G H F T n k 0 [] w
   pub bears : Bearing G H n x v
 
 pub record Marked (F T : List ℕ) (n k : ℕ) (w : List ℕ) (x v k' : ℕ) (bad : Bool) (w' : List ℕ) : Type 0 where
   pub later : Later k w k' w'
-  pub fine : bad ≡ false → (G : Pushed) (H : Done) → State G H F T n k 0 [] w → Bearing G H n x v → State G (withNode H x) F T n k' 0 [] w'
-  pub clash : bad ≡ true → (G : Pushed) (H : Done) → State G H F T n k 0 [] w → Bearing G H n x v → Clashes G F T
+  pub fine : bad ≡ false → (G : Pile) (H : Done) → State G H F T n k 0 [] w → Bearing G H n x v → State G (withNode H x) F T n k' 0 [] w'
+  pub clash : bad ≡ true → (G : Pile) (H : Done) → State G H F T n k 0 [] w → Bearing G H n x v → Clashes G F T
 
 -- ---- the result: the classes are the least equivalence, and nothing clashes
-pub record Least (G : Pushed) (F T : List ℕ) (n : ℕ) (w : List ℕ) : Type 0 where
+pub record Least (G : Pile) (F T : List ℕ) (n : ℕ) (w : List ℕ) : Type 0 where
   pub M : List ℕ
   pub forest : Forest (region PARENT n w) M
   pub sound : (i j : ℕ) → i < n → j < n → Eq M i j → Same G F T i j
@@ -297,7 +297,7 @@ pub record Least (G : Pushed) (F T : List ℕ) (n : ℕ) (w : List ℕ) : Type 0
   pub agree : Clashes G F T → ⊥
 
 -- all that is pushed is done
-pub record Full (G : Pushed) (H : Done) : Type 0 where
+pub record Full (G : Pile) (H : Done) : Type 0 where
   pub arcs : (q : ℕ) → List·Memᴰ q (G .B) → List·Memᴰ q (H .K)
   pub atoms : (i : ℕ) → List·Memᴰ i (G .N) → ((G .A) i ≡ 0 → ⊥) → List·Memᴰ i (H .U)
   pub root : ℕ

@@ -2,4 +2,6 @@
 pub mod chain;
 pub mod forest;
 pub mod merge;
+pub mod push;
 pub mod settle;
+pub mod visit;

@@ -1,5 +1,5 @@
 // Frames that are worked off, until none is left.
-use crate::chain::feature;
+use crate::chain::loaded;
 use crate::chain::look;
 use crate::chain::next;
 use crate::chain::target;
@@ -21,7 +21,7 @@ fn step(w: &mut [u32], k: usize, s: usize, n: usize, x: usize, to: usize) -> Mad
     ensures { λ r. ⌜ Turned (words (now (w .entry))) (targets (now (w .entry))) n k s (now (w .entry)) x to (r .k) (r .s) (r .bad) (now (w .exit)) ⌝ }
 {
     let j = x - 1;
-    let f = feature(w, j);
+    let f = loaded(w, j);
     let r = look(w, to, f);
     if r == 0 {
         return Made {

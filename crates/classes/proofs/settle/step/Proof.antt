@@ -13,8 +13,8 @@ use Rattle.classes.proofs.settle.step.Tie as tie
 sub-j : tie.Need-sub-j
 sub-j c = let s = (c .before) in let a = s .args in let wn = a .w .now in let F = words wn in let T = targets wn in let g = s .pre .1 .1 in let ps = arc-pos (g .G) (g .H) F T (a .n) (a .k) (a .s) (a .x) (a .to) (g .fs) wn (omega arith) (omega arith) (g .state) (s .pre .1 .0) in let lw = arc-low (g .G) (g .H) F T (a .n) (a .k) (a .s) (a .x) (a .to) (g .fs) wn (omega arith) (omega arith) (g .state) (s .pre .1 .0) in search needs
 
-feature-requires : tie.Need-feature-requires
-feature-requires c κs = let s = (c .before .before) in let a = s .args in let wn = a .w .now in let F = words wn in let T = targets wn in let g = s .pre .1 .1 in let ps = arc-pos (g .G) (g .H) F T (a .n) (a .k) (a .s) (a .x) (a .to) (g .fs) wn (omega arith) (omega arith) (g .state) (s .pre .1 .0) in let lw = arc-low (g .G) (g .H) F T (a .n) (a .k) (a .s) (a .x) (a .to) (g .fs) wn (omega arith) (omega arith) (g .state) (s .pre .1 .0) in (omega arith, omega arith)
+loaded-requires : tie.Need-loaded-requires
+loaded-requires c κs = let s = (c .before .before) in let a = s .args in let wn = a .w .now in let F = words wn in let T = targets wn in let g = s .pre .1 .1 in let ps = arc-pos (g .G) (g .H) F T (a .n) (a .k) (a .s) (a .x) (a .to) (g .fs) wn (omega arith) (omega arith) (g .state) (s .pre .1 .0) in let lw = arc-low (g .G) (g .H) F T (a .n) (a .k) (a .s) (a .x) (a .to) (g .fs) wn (omega arith) (omega arith) (g .state) (s .pre .1 .0) in (omega arith, omega arith)
 
 look-requires : tie.Need-look-requires
 look-requires c κs = let s = (c .before .before .before .before) in let a = s .args in let wn = a .w .now in let F = words wn in let T = targets wn in let g = s .pre .1 .1 in (omega arith, after-runs (g .G) (g .H) F T (a .n) (a .k) (a .s) (a .x) (a .to) (g .fs) wn (omega arith) (omega arith) (g .state))
@@ -23,7 +23,7 @@ same-length : tie.Need-same-length
 same-length c = search needs
 
 returns : tie.Need-returns
-returns c = let s = (c .before .before .before .before .before .before) in let a = s .args in let wn = a .w .now in let F = words wn in let T = targets wn in let g = s .pre .1 .1 in let lk : Looked F wn (getD F (a .x - 1) 0) (a .to) ((c .before .look) .result) = subst (λ (v : ℕ). Looked F wn v (a .to) ((c .before .look) .result)) ((c .before .before .before .feature) .ensures) ((c .before .look) .ensures) in turned-miss F T (a .n) (a .k) (a .s) (a .x) (a .to) wn (omega arith) (omega arith) (s .pre .1 .0) g (rw ((c .if1) .taken) at lk)
+returns c = let s = (c .before .before .before .before .before .before) in let a = s .args in let wn = a .w .now in let F = words wn in let T = targets wn in let g = s .pre .1 .1 in let lk : Looked F wn (getD F (a .x - 1) 0) (a .to) ((c .before .look) .result) = subst (λ (v : ℕ). Looked F wn v (a .to) ((c .before .look) .result)) ((c .before .before .before .loaded) .ensures) ((c .before .look) .ensures) in turned-miss F T (a .n) (a .k) (a .s) (a .x) (a .to) wn (omega arith) (omega arith) (s .pre .1 .0) g (rw ((c .if1) .taken) at lk)
 
 sub-i : tie.Need-sub-i
 sub-i c = let rp = some ((c .before .look) .result) ((c .if1) .left) in search needs
@@ -32,23 +32,23 @@ target-requires : tie.Need-target-requires
 target-requires c κs = let s = (c .before .before .before .before .before .before .before) in let a = s .args in let wn = a .w .now in let F = words wn in let T = targets wn in let g = s .pre .1 .1 in let ps = arc-pos (g .G) (g .H) F T (a .n) (a .k) (a .s) (a .x) (a .to) (g .fs) wn (omega arith) (omega arith) (g .state) (s .pre .1 .0) in let lw = arc-low (g .G) (g .H) F T (a .n) (a .k) (a .s) (a .x) (a .to) (g .fs) wn (omega arith) (omega arith) (g .state) (s .pre .1 .0) in (omega arith, omega arith)
 
 target-requires-2 : tie.Need-target-requires-2
-target-requires-2 c κs = let s = (c .before .before .before .before .before .before .before .before .before) in let a = s .args in let wn = a .w .now in let F = words wn in let T = targets wn in let g = s .pre .1 .1 in let lk : Looked F wn (getD F (a .x - 1) 0) (a .to) ((c .before .before .before .before .look) .result) = subst (λ (v : ℕ). Looked F wn v (a .to) ((c .before .before .before .before .look) .result)) ((c .before .before .before .before .before .before .feature) .ensures) ((c .before .before .before .before .look) .ensures) in let r = (c .before .before .before .before .look) .result in let rp = some r ((c .before .before .before .if1) .left) in let ri : r ≡ suc (r - 1) = omega arith in let mt = match-target (g .G) (g .H) F T (a .n) (a .k) (a .s) (a .x) (a .to) (g .fs) wn (omega arith) (omega arith) (g .state) (s .pre .1 .0) r (r - 1) lk ri in let mi : r - 1 < 2047 = mt .1 in (omega arith, omega arith)
+target-requires-2 c κs = let s = (c .before .before .before .before .before .before .before .before .before) in let a = s .args in let wn = a .w .now in let F = words wn in let T = targets wn in let g = s .pre .1 .1 in let lk : Looked F wn (getD F (a .x - 1) 0) (a .to) ((c .before .before .before .before .look) .result) = subst (λ (v : ℕ). Looked F wn v (a .to) ((c .before .before .before .before .look) .result)) ((c .before .before .before .before .before .before .loaded) .ensures) ((c .before .before .before .before .look) .ensures) in let r = (c .before .before .before .before .look) .result in let rp = some r ((c .before .before .before .if1) .left) in let ri : r ≡ suc (r - 1) = omega arith in let mt = match-target (g .G) (g .H) F T (a .n) (a .k) (a .s) (a .x) (a .to) (g .fs) wn (omega arith) (omega arith) (g .state) (s .pre .1 .0) r (r - 1) lk ri in let mi : r - 1 < 2047 = mt .1 in (omega arith, omega arith)
 
 join-requires : tie.Need-join-requires
-join-requires c κs = let s = (c .before .before .before .before .before .before .before .before .before .before .before) in let a = s .args in let wn = a .w .now in let F = words wn in let T = targets wn in let g = s .pre .1 .1 in let lk : Looked F wn (getD F (a .x - 1) 0) (a .to) ((c .before .before .before .before .before .before .look) .result) = subst (λ (v : ℕ). Looked F wn v (a .to) ((c .before .before .before .before .before .before .look) .result)) ((c .before .before .before .before .before .before .before .before .feature) .ensures) ((c .before .before .before .before .before .before .look) .ensures) in let r = (c .before .before .before .before .before .before .look) .result in let rp = some r ((c .before .before .before .before .before .if1) .left) in let ri : r ≡ suc (r - 1) = omega arith in let mt = match-target (g .G) (g .H) F T (a .n) (a .k) (a .s) (a .x) (a .to) (g .fs) wn (omega arith) (omega arith) (g .state) (s .pre .1 .0) r (r - 1) lk ri in let mi : r - 1 < 2047 = mt .1 in ((omega (arith, (c .before .before .before .target) .ensures, arc-target (g .G) (g .H) F T (a .n) (a .k) (a .s) (a .x) (a .to) (g .fs) wn (omega arith) (omega arith) (g .state) (s .pre .1 .0)), (omega (arith, (c .before .target2) .ensures, mt .0), (omega arith, omega arith))), record { G = g .G; H = g .H; F = F; T = T; fs = _; state = g .state })
+join-requires c κs = let s = (c .before .before .before .before .before .before .before .before .before .before .before) in let a = s .args in let wn = a .w .now in let F = words wn in let T = targets wn in let g = s .pre .1 .1 in let lk : Looked F wn (getD F (a .x - 1) 0) (a .to) ((c .before .before .before .before .before .before .look) .result) = subst (λ (v : ℕ). Looked F wn v (a .to) ((c .before .before .before .before .before .before .look) .result)) ((c .before .before .before .before .before .before .before .before .loaded) .ensures) ((c .before .before .before .before .before .before .look) .ensures) in let r = (c .before .before .before .before .before .before .look) .result in let rp = some r ((c .before .before .before .before .before .if1) .left) in let ri : r ≡ suc (r - 1) = omega arith in let mt = match-target (g .G) (g .H) F T (a .n) (a .k) (a .s) (a .x) (a .to) (g .fs) wn (omega arith) (omega arith) (g .state) (s .pre .1 .0) r (r - 1) lk ri in let mi : r - 1 < 2047 = mt .1 in ((omega (arith, (c .before .before .before .target) .ensures, arc-target (g .G) (g .H) F T (a .n) (a .k) (a .s) (a .x) (a .to) (g .fs) wn (omega arith) (omega arith) (g .state) (s .pre .1 .0)), (omega (arith, (c .before .target2) .ensures, mt .0), (omega arith, omega arith))), record { G = g .G; H = g .H; F = F; T = T; fs = _; state = g .state })
 
 same-length-2 : tie.Need-same-length-2
 same-length-2 c = search needs
 
 returns-2 : tie.Need-returns-2
-returns-2 c = let s = (c .before .before .before .before .before .before .before .before .before .before .before .before .before .before) in let a = s .args in let wn = a .w .now in let F = words wn in let T = targets wn in let g = s .pre .1 .1 in let lk : Looked F wn (getD F (a .x - 1) 0) (a .to) ((c .before .before .before .before .before .before .before .before .before .look) .result) = subst (λ (v : ℕ). Looked F wn v (a .to) ((c .before .before .before .before .before .before .before .before .before .look) .result)) ((c .before .before .before .before .before .before .before .before .before .before .before .feature) .ensures) ((c .before .before .before .before .before .before .before .before .before .look) .ensures) in let r = (c .before .before .before .before .before .before .before .before .before .look) .result in let rp = some r ((c .before .before .before .before .before .before .before .before .if1) .left) in let ri : r ≡ suc (r - 1) = omega arith in let mt = match-target (g .G) (g .H) F T (a .n) (a .k) (a .s) (a .x) (a .to) (g .fs) wn (omega arith) (omega arith) (g .state) (s .pre .1 .0) r (r - 1) lk ri in let mi : r - 1 < 2047 = mt .1 in turned-hit F T (a .n) (a .k) (a .s) (a .x) (a .to) wn (omega arith) (omega arith) (s .pre .1 .0) g r (r - 1) ((c .before .before .join) .result .k) ((c .before .before .join) .result .s) ((c .before .before .join) .result .bad) ((c .before .before .join) .last .0) lk ri (rw ((c .before .before .before .before .before .before .target) .ensures, (c .before .before .before .before .target2) .ensures) at ((c .before .before .join) .ensures))
+returns-2 c = let s = (c .before .before .before .before .before .before .before .before .before .before .before .before .before .before) in let a = s .args in let wn = a .w .now in let F = words wn in let T = targets wn in let g = s .pre .1 .1 in let lk : Looked F wn (getD F (a .x - 1) 0) (a .to) ((c .before .before .before .before .before .before .before .before .before .look) .result) = subst (λ (v : ℕ). Looked F wn v (a .to) ((c .before .before .before .before .before .before .before .before .before .look) .result)) ((c .before .before .before .before .before .before .before .before .before .before .before .loaded) .ensures) ((c .before .before .before .before .before .before .before .before .before .look) .ensures) in let r = (c .before .before .before .before .before .before .before .before .before .look) .result in let rp = some r ((c .before .before .before .before .before .before .before .before .if1) .left) in let ri : r ≡ suc (r - 1) = omega arith in let mt = match-target (g .G) (g .H) F T (a .n) (a .k) (a .s) (a .x) (a .to) (g .fs) wn (omega arith) (omega arith) (g .state) (s .pre .1 .0) r (r - 1) lk ri in let mi : r - 1 < 2047 = mt .1 in turned-hit F T (a .n) (a .k) (a .s) (a .x) (a .to) wn (omega arith) (omega arith) (s .pre .1 .0) g r (r - 1) ((c .before .before .join) .result .k) ((c .before .before .join) .result .s) ((c .before .before .join) .result .bad) ((c .before .before .join) .last .0) lk ri (rw ((c .before .before .before .before .before .before .target) .ensures, (c .before .before .before .before .target2) .ensures) at ((c .before .before .join) .ensures))
 
 pub step-spec : {M : Type 1} → statement M
 step-spec =
     tie.close
     (tie.spec
     sub-j
-    feature-requires
+    loaded-requires
     look-requires
     same-length
     returns

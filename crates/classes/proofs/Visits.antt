@@ -14,7 +14,7 @@ use Rattle.area.specs.Region.{region}
 use Rattle.classes.specs.Labels.{Eq}
 use Rattle.area.specs.Log.{Logged, Later, Put}
 use Rattle.classes.specs.Forest.{Shape, Forest, Root, tops}
-use Rattle.classes.specs.State.{Pushed, Done, Same, Clashes, Chain, First, None, Near, Framed, Bears, State, Runs, Looked, total, withPair, withArc, withNode, Asked, Fresh, Coming, Visited, United, Bearing, Marking, Marked}
+use Rattle.classes.specs.State.{Pile, Done, Same, Clashes, Chain, First, None, Near, Framed, Bears, State, Runs, Looked, total, withPair, withArc, withNode, Asked, Fresh, Coming, Visited, United, Bearing, Marking, Marked}
 use Rattle.area.proofs.Region.{length-region, region-ext}
 use Rattle.area.proofs.Undo.{later-refl, later-trans, put-at, put-off}
 use Rattle.classes.proofs.Links.{chain-same, chain-zero, first-mem, first-feature, none-first, total-set}
@@ -36,7 +36,7 @@ module _ (F T : List ℕ) (n k : ℕ) (w : List ℕ) (hn : n ≤ 1024) (hw : 163
   c-in : c < n
   c-in = omega (arith, root .low)
 
-  module _ (G : Pushed) (H : Done) (u : State G H F T n k 0 [] w) where
+  module _ (G : Pile) (H : Done) (u : State G H F T n k 0 [] w) where
     Mx : getD (u .M) x 0 ≡ c
     Mx = root .is (u .M) (u .forest)
 
@@ -77,13 +77,13 @@ module _ (F T : List ℕ) (n k : ℕ) (w : List ℕ) (hn : n ≤ 1024) (hw : 163
 
   -- ---- the feature is there: the targets are equal
   module _ (t r i : ℕ) (lc : getD w c 0 ≤ 2048) (look : Looked F w (getD F t 0) (getD w c 0) r) (ri : r ≡ suc i) where
-    found : (G : Pushed) (H : Done) (u : State G H F T n k 0 [] w) → First F (getD F t 0) (getD (u .C) c []) i
+    found : (G : Pile) (H : Done) (u : State G H F T n k 0 [] w) → First F (getD F t 0) (getD (u .C) c []) i
     found G H u = look .hit i ri (getD (u .C) c []) (chain-c G H u lc)
 
-    pub found-arc : (G : Pushed) (H : Done) (u : State G H F T n k 0 [] w) → (getD T i 0 < n) × (i < 2047)
+    pub found-arc : (G : Pile) (H : Done) (u : State G H F T n k 0 [] w) → (getD T i 0 < n) × (i < 2047)
     found-arc G H u = arc-of G H u i (first-mem F (getD F t 0) (getD (u .C) c []) i (found G H u)) .1 .1
 
-    pub found-same : (G : Pushed) (H : Done) (u : State G H F T n k 0 [] w) → Fresh G H n x t → Same G F T (getD T t 0) (getD T i 0)
+    pub found-same : (G : Pile) (H : Done) (u : State G H F T n k 0 [] w) → Fresh G H n x t → Same G F T (getD T t 0) (getD T i 0)
     found-same G H u f =
         let p = found G H u in
         let a = arc-of G H u i (first-mem F (getD F t 0) (getD (u .C) c []) i p) in
@@ -102,7 +102,7 @@ module _ (F T : List ℕ) (n k : ℕ) (w : List ℕ) (hn : n ≤ 1024) (hw : 163
       clash = λ z G H u f. m .clash z G H u (found-same G H u f);
     }
       where
-        covered : (G : Pushed) (H : Done) → Fresh G H n x t → getD F i 0 ≡ getD F t 0 → List·Memᴰ i (H .K) → State G (withPair (withPair H ((G .S) i) ((G .S) t)) (getD T t 0) (getD T i 0)) F T n k' 0 [] w' → State G (withArc H t) F T n k' 0 [] w'
+        covered : (G : Pile) (H : Done) → Fresh G H n x t → getD F i 0 ≡ getD F t 0 → List·Memᴰ i (H .K) → State G (withPair (withPair H ((G .S) i) ((G .S) t)) (getD T t 0) (getD T i 0)) F T n k' 0 [] w' → State G (withArc H t) F T n k' 0 [] w'
         covered G H f ef mk v =
             let r1 = v .room in let r2 = v .all in let r3 = f .room in
             record {
@@ -155,7 +155,7 @@ module _ (F T : List ℕ) (n k : ℕ) (w : List ℕ) (hn : n ≤ 1024) (hw : 163
     par : region PARENT n w2 ≡ region PARENT n w
     par = let l = c-in in region-ext PARENT n w2 w (omega (arith, len)) len (λ j b. off (PARENT + j) (λ e. omega arith) (λ e. omega arith) (omega arith))
 
-    hung : (G : Pushed) (H : Done) → State G H F T n k 0 [] w → Fresh G H n x t → State G (withArc H t) F T n k2 0 [] w2
+    hung : (G : Pile) (H : Done) → State G H F T n k 0 [] w → Fresh G H n x t → State G (withArc H t) F T n k2 0 [] w2
     hung G H u f =
         let l = u .wide in let ci = c-in in
         let ts = total-set (u .C) c (t ∷ getD (u .C) c []) (omega arith) in
@@ -257,7 +257,7 @@ module _ (F T : List ℕ) (n k : ℕ) (w : List ℕ) (hn : n ≤ 1024) (hw : 163
       clash = λ z G H u b. go G H u b (decLt 2048 (getD w c 0));
     }
       where
-        go : (G : Pushed) (H : Done) (u : State G H F T n k 0 [] w) → Bearing G H n x v → Dec (2048 < getD w c 0) → Clashes G F T
+        go : (G : Pile) (H : Done) (u : State G H F T n k 0 [] w) → Bearing G H n x v → Dec (2048 < getD w c 0) → Clashes G F T
         go G H u b (yes l) =
             let r = u .bare c c-in (Mc G H u) l .1 in
             let q : (G .A) (r .i) ≡ getD w c 0 = r .is in
@@ -314,7 +314,7 @@ module _ (F T : List ℕ) (n k : ℕ) (w : List ℕ) (hn : n ≤ 1024) (hw : 163
       next1 : (q : ℕ) → q < 2048 → getD w1 (NEXT + q) 0 ≡ getD w (NEXT + q) 0
       next1 q h = let l = c-in in off1 (NEXT + q) (λ e. omega arith) (omega arith)
 
-      noted : (G : Pushed) (H : Done) → State G H F T n k 0 [] w → Bearing G H n x v → State G (withNode H x) F T n k1 0 [] w1
+      noted : (G : Pile) (H : Done) → State G H F T n k 0 [] w → Bearing G H n x v → State G (withNode H x) F T n k1 0 [] w1
       noted G H u b =
           let ur = u .room in let n1 = p1 .next in
           record {
@@ -368,36 +368,3 @@ module _ (F T : List ℕ) (n k : ℕ) (w : List ℕ) (hn : n ≤ 1024) (hw : 163
         fine = λ z G H u b. noted G H u b;
         clash = λ z. let y : _≡_ {A = ℕ} 0 1 = cc in absurd (omega arith);
       }
-
--- ---- no atom
-pub mark-none : (F T : List ℕ) (n k : ℕ) (w : List ℕ) (x v : ℕ) → Logged k w → v ≡ 0 → Marked F T n k w x v k false w
-mark-none F T n k w x v g e = record {
-  later = later-refl k w g;
-  fine = λ z G H u b.
-      let ur = u .room in
-      record {
-        logged = u .logged;
-        shape = u .shape;
-        room = omega arith;
-        few = b .room;
-        stack = u .stack;
-        arcs = u .arcs;
-        atoms = u .atoms;
-        M = u .M;
-        forest = u .forest;
-        C = u .C;
-        wide = u .wide;
-        all = u .all;
-        chain = u .chain;
-        bare = u .bare;
-        home = u .home;
-        known = u .known;
-        cover = u .cover;
-        nodes = λ i m. ⊎-elim (λ o. subst (λ (a : ℕ). (a < n) × List·Memᴰ a (G .N)) (sym o) (b .small, b .node)) (λ o. u .nodes i o) (List·Memᴰ·cases-cons m);
-        met = λ i m a. ⊎-elim (λ o. absurd (a (ap (λ (j : ℕ). (G .A) j) o ∙ b .is ∙ e))) (λ o. u .met i o a) (List·Memᴰ·cases-cons m);
-        held = u .held;
-        sound = u .sound;
-        frame = u .frame;
-      };
-  clash = λ z. let y : _≡_ {A = ℕ} 0 1 = cc in absurd (omega arith);
-}

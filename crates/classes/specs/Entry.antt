@@ -1,0 +1,59 @@
+-- Graphs as they lie in the loaded words, and when one may be pushed on others. Assumes nothing.
+use mathlib.Core.Path.{_≡_}
+use mathlib.Core.Logic.{_⊎_}
+use mathlib.Core.List.{List, [], _∷_, _++_, List·Memᴰ}
+use Prim.Native.Nat.{ℕ, suc, _+_, _*_, _≤_, _<_}
+use lib.ListN.{length, getD}
+use Rattle.theory.specs.Limits.{code-limit}
+use Rattle.theory.specs.Net.{Node, atom, arcs, Graph, Canonical}
+use Rattle.theory.specs.Layout.{GraphFits}
+use Rattle.theory.proofs.Weight.{weight, weights}
+use Rattle.area.specs.Map.{WORDS}
+
+-- a graph in the loaded words: the position of its header, the number of its node 0, and the graph
+pub record Entry : Type 0 where
+  pub at : ℕ
+  pub number : ℕ
+  pub graph : Graph
+
+abbrev pub graphs : List Entry → List Graph
+graphs [] = []
+graphs (e ∷ es) = e .graph ∷ graphs es
+
+-- "An arc is two words: feature 0..65,535, target node": the target by its number, where n is that of node 0
+abbrev pub arcs-located : ℕ → List (ℕ × ℕ) → List ℕ
+arcs-located n [] = []
+arcs-located n (p ∷ l) = p .0 ∷ (n + p .1) ∷ arcs-located n l
+
+-- "Head 0..65,535 is the number of arcs; head 65,536..131,071 is the atom numbered head - 65,536, with no arcs."
+abbrev pub node-located : ℕ → Node → List ℕ
+node-located n (atom a) = (code-limit + a) ∷ []
+node-located n (arcs l) = length l ∷ arcs-located n l
+
+-- "then each node in order: a head, then its arcs"
+abbrev pub located : ℕ → Graph → List ℕ
+located n [] = []
+located n (v ∷ vs) = node-located n v ++ located n vs
+
+-- the graph K lies in the words of w: at g its header, after it its nodes, the first of which has the number n
+pub record Lies (w : List ℕ) (g n : ℕ) (K : Graph) : Type 0 where
+  pub fits : g + suc (weight K) ≤ 2048
+  pub few : length K < 1024
+  pub low : n < 1024
+  pub head : getD w (WORDS + g) 0 ≡ length K + 1024 * n + 1048576 * suc (weight K)
+  pub nodes : (j : ℕ) → j < weight K → getD w (WORDS + (suc g + j)) 0 ≡ getD (located n K) j 0
+
+-- two graphs that share no number and no word
+abbrev pub Aside : Entry → Entry → Type 0
+Aside e o =
+    ((e .number + length (e .graph) ≤ o .number) ⊎ (o .number + length (o .graph) ≤ e .number))
+    × ((e .at + suc (weight (e .graph)) ≤ o .at) ⊎ (o .at + suc (weight (o .graph)) ≤ e .at))
+
+-- e may be pushed where the graphs es are: there are n numbers
+pub record Comes (n : ℕ) (es : List Entry) (e : Entry) (w : List ℕ) : Type 0 where
+  pub lies : Lies w (e .at) (e .number) (e .graph)
+  pub canonical : Canonical (e .graph)
+  pub fits : GraphFits (e .graph)
+  pub inside : e .number + length (e .graph) ≤ n
+  pub aside : (o : Entry) → List·Memᴰ o es → Aside e o
+  pub room : 3 * n + weights (graphs es ++ e .graph ∷ []) ≤ 4096
