@@ -10,3 +10,7 @@ pub mod Drain
 pub mod Visits
 pub mod Result
 pub mod Runs
+pub mod Bridge
+pub mod Added
+pub mod Grown
+pub mod Comings

@@ -26,6 +26,7 @@ pub record ArcOf (es : List Entry) (q s f t : ℕ) : Type 0 where
   pub j : ℕ
   pub below : j < length (e .graph)
   pub to : ℕ
+  pub inner : to < length (e .graph)
   pub arc : List·Memᴰ (f, to) (arcsOf (nodeAt (e .graph) j))
   pub source : s ≡ e .number + j
   pub target : t ≡ e .number + to
@@ -42,6 +43,7 @@ pub record NodeIn (es : List Entry) (i : ℕ) : Type 0 where
 
 -- G is what the graphs es say, and 0 is a root
 pub record Tied (F T : List ℕ) (es : List Entry) (G : Pile) : Type 0 where
+  pub some : (e : Entry) → List·Memᴰ e es → 0 < length (e .graph)
   pub anchor : List·Memᴰ 0 (G .R)
   pub root : (e : Entry) → List·Memᴰ e es → List·Memᴰ (e .number) (G .R)
   pub roots : (x : ℕ) → List·Memᴰ x (G .R) → (x ≡ 0) ⊎ ((e : Entry) × (List·Memᴰ e es × (x ≡ e .number)))

@@ -122,7 +122,7 @@ arcs-distinct k j m (v ∷ vs) c = distinct-append (triples k (arcsOf v)) (arcs-
 unfoldable pub weight : Graph → ℕ
 weight g = length (nodes-words g)
 
-arc-length : (l : List (ℕ × ℕ)) → length (arc-words l) ≡ length l + length l
+pub arc-length : (l : List (ℕ × ℕ)) → length (arc-words l) ≡ length l + length l
 arc-length [] = refl
 arc-length (p ∷ l) = omega (arith, arc-length l)
 
