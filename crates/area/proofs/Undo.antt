@@ -160,26 +160,37 @@ later-trans a u b v c w p q = record {
   rest = λ j h. q .rest j h ∙ p .rest j h;
 }
 
-pub undone-is : (m : ℕ) (u : List ℕ) (n : ℕ) (v w : List ℕ) → Later m u n v → Undone m n v w → body w ≡ body u
-undone-is m u n v w p q = q .now ∙ p .keeps m (omega arith) ∙ past-now m u
+-- the same words before the log
+pub logged-same : (n : ℕ) (w w' : List ℕ) → Logged n w → length w' ≡ length w → ((j : ℕ) → j < LOG → getD w' j 0 ≡ getD w j 0) → Logged n w'
+logged-same n w w' g e f = record { room = rw e (g .room); small = λ i h. rw (f i h) (g .small i h) }
 
--- what a mark remembers is as it was
-pub undone-later : (k : ℕ) (w : List ℕ) (k' : ℕ) (w' w'' : List ℕ) → Logged k w → Later k w k' w' → Undone k k' w' w'' → Later k w k w''
-unfolding past
-undone-later k w k' w' w'' g p u = record {
-  len = u .len ∙ p .len;
-  more = omega arith;
-  logged = record {
-    room = let l = u .len in let l' = p .len in let r = g .room in omega arith;
-    small = λ i h. rw (word w w'' (undone-is k w k' w' w'' p u) i h) (g .small i h);
-  };
-  keeps = λ m l.
-      let mo = p .more in
+-- k entries of w are those of w', which has more; w'' is w' with the others taken back
+module _ (k : ℕ) (w : List ℕ) (k' : ℕ) (w' w'' : List ℕ) (more : k ≤ k') (keeps : (m : ℕ) → m ≤ k → past m k' w' ≡ past m k w) (u : Undone k k' w' w'') where
+  pub undone-is : body w'' ≡ body w
+  undone-is = u .now ∙ keeps k (omega arith) ∙ past-now k w
+
+  pub undone-logged : Logged k w → length w' ≡ length w → Logged k w''
+  undone-logged g len = logged-same k w w'' g (u .len ∙ len) (word w w'' undone-is)
+
+  pub undone-keeps : (m : ℕ) → m ≤ k → past m k w'' ≡ past m k w
+  unfolding past
+  undone-keeps m l =
       let q : k' - m ≡ (k - m) + (k' - k) = omega arith in
       let r : m + (k - m) ≡ k = omega arith in
       let t : back (entries w') m (k' - m) (body w') ≡ back (entries w') m (k - m) (back (entries w') k (k' - k) (body w')) = rw q (rw r at (back-on (entries w') m (k - m) (k' - k) (body w'))) in
-      rw (u .log, u .now) (sym t ∙ p .keeps m l);
-  rest = λ j h. let e : LOG + (j - LOG) ≡ j = omega arith in rw e at (log-word w' w'' (u .log) (j - LOG)) ∙ p .rest j h;
+      rw (u .log, u .now) (sym t ∙ keeps m l)
+
+  pub undone-rest : (j : ℕ) → LOG ≤ j → getD w'' j 0 ≡ getD w' j 0
+  undone-rest j h = let e : LOG + (j - LOG) ≡ j = omega arith in rw e at (log-word w' w'' (u .log) (j - LOG))
+
+-- what a mark remembers is as it was
+pub undone-later : (k : ℕ) (w : List ℕ) (k' : ℕ) (w' w'' : List ℕ) → Logged k w → Later k w k' w' → Undone k k' w' w'' → Later k w k w''
+undone-later k w k' w' w'' g p u = record {
+  len = u .len ∙ p .len;
+  more = omega arith;
+  logged = undone-logged k w k' w' w'' (p .more) (p .keeps) u g (p .len);
+  keeps = undone-keeps k w k' w' w'' (p .more) (p .keeps) u;
+  rest = λ j h. undone-rest k w k' w' w'' (p .more) (p .keeps) u j (omega arith) ∙ p .rest j h;
 }
 
 -- ---- stores above the log
@@ -189,9 +200,6 @@ past-agree m n w w' h e l f =
     let b : take LOG w' ≡ take LOG w = ext-getD 0 (take LOG w') (take LOG w) (simp length-take (rw e refl))
     (λ i p. let z = simp length-take at p in let q : i < LOG = omega arith in getD-take LOG w' i 0 q ∙ f i (omega arith) ∙ sym (getD-take LOG w i 0 q)) in
     rw b (back-agree (drop LOG w') (drop LOG w) m (n - m) (take LOG w) (λ k p. getD-drop LOG w' k 0 ∙ f (LOG + k) (omega arith) ∙ sym (getD-drop LOG w k 0)))
-
-pub logged-same : (n : ℕ) (w w' : List ℕ) → Logged n w → length w' ≡ length w → ((j : ℕ) → j < LOG → getD w' j 0 ≡ getD w j 0) → Logged n w'
-logged-same n w w' g e f = record { room = rw e (g .room); small = λ i h. rw (f i h) (g .small i h) }
 
 pub later-scratch : (a : ℕ) (u : List ℕ) (n : ℕ) (w w' : List ℕ) → Later a u n w → length w' ≡ length w → ((j : ℕ) → (j < LOG + n) ⊎ (WORDS ≤ j) → getD w' j 0 ≡ getD w j 0) → Later a u n w'
 later-scratch a u n w w' p e f = record {

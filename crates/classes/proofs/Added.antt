@@ -50,9 +50,10 @@ module _ (F T : List ℕ) (b : ℕ) (follows : (q : ℕ) → suc q < 2048 → ge
   arcs-lie [] p h f = tt
   arcs-lie (a ∷ l) p h f =
       let z : p + 0 ≡ p = omega arith in
-      let o : p + 1 ≡ suc p = omega arith in
-      ((rw z at (f 0 (omega arith)), follows p (omega arith) ∙ (rw o at (f 1 (omega arith)))),
-      arcs-lie l (p + 2) (omega arith) (λ r q. let e : p + suc (suc r) ≡ p + 2 + r = omega arith in rw e at (f (suc (suc r)) (omega arith))))
+      let o : p + 1 ≡ suc p = omega arith in (
+        (rw z at (f 0 (omega arith)), follows p (omega arith) ∙ (rw o at (f 1 (omega arith)))),
+        arcs-lie l (p + 2) (omega arith) (λ r q. let e : p + suc (suc r) ≡ p + 2 + r = omega arith in rw e at (f (suc (suc r)) (omega arith))),
+      )
 
   pub nodes-lie : (vs : Graph) (p : ℕ) → p + spans vs ≤ 2048 → ((r : ℕ) → r < spans vs → getD F (p + r) 0 ≡ getD (located b vs) r 0) → NodesLie F T b p vs
   nodes-lie [] p h f = tt

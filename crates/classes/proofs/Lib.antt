@@ -14,3 +14,6 @@ pub mod Bridge
 pub mod Added
 pub mod Grown
 pub mod Comings
+pub mod Laws
+pub mod Pushings
+pub mod Start

@@ -1,5 +1,6 @@
 -- What the area stands for: the graphs that are pushed, and what is remembered since a mark. Assumes nothing.
 use mathlib.Core.Path.{_≡_}
+use mathlib.Core.Bool.{Bool, true, false}
 use mathlib.Core.Logic.{_⊎_}
 use mathlib.Core.List.{List, [], _∷_, _++_, List·Memᴰ}
 use Prim.Native.Nat.{ℕ, suc, _+_, _*_, _≤_, _<_}
@@ -8,7 +9,7 @@ use Rattle.theory.specs.Limits.{code-limit}
 use Rattle.theory.specs.Net.{Node, atom, arcs, Graph, nodeAt, arcsOf, Clash}
 use Rattle.theory.proofs.Weight.{weight, weights}
 use Rattle.area.specs.Map.{WORDS, MARKS}
-use Rattle.area.specs.Log.{body, past, Logged}
+use Rattle.area.specs.Log.{body, past, Logged, Later}
 use Rattle.classes.specs.declared.push.Pushed.{Pushed}
 use Rattle.classes.specs.declared.push.Pushed.the-variants.{In, Clashed}
 use Rattle.classes.specs.State.{words, targets, Pile, Done, State, Full}
@@ -76,6 +77,7 @@ pub record Since (m : ℕ) (w₀ : List ℕ) (k : ℕ) (w : List ℕ) : Type 0 w
   pub len : length w ≡ length w₀
   pub more : m ≤ k
   pub few : k ≤ 4096
+  pub began : Logged m w₀
   pub logged : Logged k w
   pub keeps : (i : ℕ) → i ≤ m → past i k w ≡ past i m w₀
   pub same : (j : ℕ) → WORDS ≤ j → j < MARKS → getD w j 0 ≡ getD w₀ j 0
@@ -87,6 +89,21 @@ pub record Pushing (n k : ℕ) (w : List ℕ) (g : ℕ) : Type 0 where
   pub is : e .at ≡ g
   pub holds : Holds n es k w
   pub comes : Comes n es e w
+
+-- what `add` asks: the same, by the header's parts
+pub record Adding (n k : ℕ) (w : List ℕ) (g base c : ℕ) : Type 0 where
+  pub es : List Entry
+  pub e : Entry
+  pub is : e .at ≡ g
+  pub number : e .number ≡ base
+  pub many : length (e .graph) ≡ c
+  pub holds : Holds n es k w
+  pub comes : Comes n es e w
+
+pub record Adds (n k : ℕ) (w : List ℕ) (g base c k' : ℕ) (bad : Bool) (w' : List ℕ) : Type 0 where
+  pub later : Later k w k' w'
+  pub fine : bad ≡ false → (es : List Entry) (e : Entry) → e .at ≡ g → e .number ≡ base → length (e .graph) ≡ c → Holds n es k w → Comes n es e w → Holds n (es ++ e ∷ []) k' w'
+  pub clash : bad ≡ true → (es : List Entry) (e : Entry) → e .at ≡ g → e .number ≡ base → length (e .graph) ≡ c → Holds n es k w → Comes n es e w → Clash (graphs es ++ e .graph ∷ [])
 
 -- the graph is in, or it clashes with those that are there and all is as it was: told exactly
 pub record Pushes (n k : ℕ) (w : List ℕ) (g : ℕ) (r : Pushed) (w' : List ℕ) : Type 0 where
@@ -112,3 +129,16 @@ pub record Starts (w w' : List ℕ) : Type 0 where
   pub len : length w' ≡ length w
   pub rest : (j : ℕ) → WORDS ≤ j → getD w' j 0 ≡ getD w j 0
   pub holds : (n : ℕ) → n ≤ 1024 → Holds n [] 0 w'
+
+-- what `class_of` asks: some graphs are there
+pub record Labelled (n : ℕ) (w : List ℕ) : Type 0 where
+  pub k : ℕ
+  pub es : List Entry
+  pub holds : Holds n es k w
+
+-- the class of a number, where graphs are pushed
+abbrev pub class : {n : ℕ} {es : List Entry} {k : ℕ} {w : List ℕ} → Holds n es k w → ℕ → ℕ
+class h x = getD (h .state .M) x 0
+
+pub record Classed (n : ℕ) (w : List ℕ) (x r : ℕ) : Type 0 where
+  pub is : (es : List Entry) (k : ℕ) (h : Holds n es k w) → r ≡ class h x
