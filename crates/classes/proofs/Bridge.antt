@@ -11,19 +11,11 @@ use Rattle.theory.specs.Limits.{code-limit}
 use Rattle.theory.specs.Net.{Node, atom, arcs, Graph, nodeAt, arcsOf, NodeOf, beside, Same, seed, self, back, on, along, roots, ClashOf, atoms, atom-arc, Clash}
 use Rattle.classes.specs.State.{Pile, Clashes}
 use Rattle.classes.specs.State as pile
-use Rattle.classes.specs.Entry.{Entry, graphs, Aside}
+use Rattle.classes.specs.Entry.{Entry, graphs, Spots, number-of, Aside}
 use Rattle.classes.specs.Holds.{code, ArcOf, NodeIn, Tied, Apart}
 
-abbrev Spots : List Entry → Type 0
-Spots es = beside (graphs es) .Spot
-
--- the number of a spot
-abbrev pub number-of : (es : List Entry) → Spots es → ℕ
-number-of (e ∷ es) (inl x) = e .number + x .0
-number-of (e ∷ es) (inr y) = number-of es y
-
 -- the node of a spot
-spot-node : (es : List Entry) (s : Spots es) → NodeIn es (number-of es s)
+pub spot-node : (es : List Entry) (s : Spots es) → NodeIn es (number-of es s)
 spot-node (e ∷ es) (inl x) = record { e = e; one = List·Memᴰ·head refl; j = x .0; below = x .1; is = refl }
 spot-node (e ∷ es) (inr y) = let r = spot-node es y in record { e = r .e; one = List·Memᴰ·tail (r .one); j = r .j; below = r .below; is = r .is }
 
@@ -77,15 +69,15 @@ arched (o ∷ es) e j f t m h i a = ⊎-elim
 
 module _ (F T : List ℕ) (all : List Entry) (G : Pile) (tied : Tied F T all G) where
   -- ---- from spots to numbers: what the graphs es say, which are among all
-  root-down : (es : List Entry) → ((e : Entry) → List·Memᴰ e es → List·Memᴰ e all) → (s : Spots es) → beside (graphs es) .Root s → List·Memᴰ (number-of es s) (G .R)
+  pub root-down : (es : List Entry) → ((e : Entry) → List·Memᴰ e es → List·Memᴰ e all) → (s : Spots es) → beside (graphs es) .Root s → List·Memᴰ (number-of es s) (G .R)
   root-down (e ∷ es) i (inl x) r = let z : e .number + x .0 ≡ e .number = omega arith in rw z (tied .root e (i e (List·Memᴰ·head refl)))
   root-down (e ∷ es) i (inr y) r = root-down es (λ o m. i o (List·Memᴰ·tail m)) y r
 
-  atom-down : (es : List Entry) → ((e : Entry) → List·Memᴰ e es → List·Memᴰ e all) → (s : Spots es) (a : ℕ) → beside (graphs es) .Atom s a → List·Memᴰ (number-of es s) (G .N) × (G .A (number-of es s) ≡ code-limit + a)
+  pub atom-down : (es : List Entry) → ((e : Entry) → List·Memᴰ e es → List·Memᴰ e all) → (s : Spots es) (a : ℕ) → beside (graphs es) .Atom s a → List·Memᴰ (number-of es s) (G .N) × (G .A (number-of es s) ≡ code-limit + a)
   atom-down (e ∷ es) i (inl x) a q = let r = tied .node e (i e (List·Memᴰ·head refl)) (x .0) (x .1) in (r .0, r .1 ∙ ap code q)
   atom-down (e ∷ es) i (inr y) a q = atom-down es (λ o m. i o (List·Memᴰ·tail m)) y a q
 
-  arc-down : (es : List Entry) → ((e : Entry) → List·Memᴰ e es → List·Memᴰ e all) → (s : Spots es) (f : ℕ) (t : Spots es) → beside (graphs es) .Arc s f t
+  pub arc-down : (es : List Entry) → ((e : Entry) → List·Memᴰ e es → List·Memᴰ e all) → (s : Spots es) (f : ℕ) (t : Spots es) → beside (graphs es) .Arc s f t
       → (q : ℕ) × (List·Memᴰ q (G .B) × ((G .S q ≡ number-of es s) × ((getD F q 0 ≡ f) × (getD T q 0 ≡ number-of es t))))
   arc-down (e ∷ es) i (inl x) f (inl y) a = tied .arc e (i e (List·Memᴰ·head refl)) (x .0) f (y .0) (x .1) a
   arc-down (e ∷ es) i (inl x) f (inr y) a = absurd a
@@ -121,6 +113,26 @@ module _ (F T : List ℕ) (all : List Entry) (G : Pile) (tied : Tied F T all G) 
       Clashes.mixed (r .0) (λ z. omega arith) (q .1 .0) (subst (λ (n : ℕ). pile.Same G F T (num x) n) (sym (q .1 .1 .0)) (same-down p))
 
   -- ---- from numbers to spots
+  -- a node with an atom
+  atom-of : (v : Node) → (code v ≡ 0 → ⊥) → (a : ℕ) × (v ≡ atom a)
+  atom-of (atom a) n = (a, refl)
+  atom-of (arcs l) n = absurd (n refl)
+
+  pub atom-up : (x : ℕ) → List·Memᴰ x (G .N) → (G .A x ≡ 0 → ⊥) → (s : Spots all) × ((num s ≡ x) × ((a : ℕ) × (beside (graphs all) .Atom s a × (G .A x ≡ code-limit + a))))
+  atom-up x m n =
+      let o = tied .nodes x m in
+      let t = spotted all (o .e) (o .j) (o .one) (o .below) in
+      let c : G .A x ≡ code (nodeAt (o .e .graph) (o .j)) = ap (G .A) (o .is) ∙ tied .node (o .e) (o .one) (o .j) (o .below) .1 in
+      let a = atom-of (nodeAt (o .e .graph) (o .j)) (λ z. n (c ∙ z)) in
+      (t .spot, (t .is ∙ sym (o .is), (a .0, (t .atom-is (a .0) (a .1), c ∙ ap code (a .1)))))
+
+  -- the ends of an arc
+  pub ends : (q : ℕ) (m : List·Memᴰ q (G .B)) → (a : Spots all) × ((b : Spots all) × ((num a ≡ G .S q) × ((num b ≡ getD T q 0) × beside (graphs all) .Arc a (getD F q 0) b)))
+  ends q m =
+      let o = tied .arcs q m in
+      let r = arched all (o .e) (o .j) (getD F q 0) (o .to) (o .one) (o .below) (o .inner) (o .arc) in
+      (r .from, (r .to, (r .from-is ∙ sym (o .source), (r .to-is ∙ sym (o .target), r .arc))))
+
   module _ (apart : Apart all) (r₀ : Spots all) (root₀ : beside (graphs all) .Root r₀) where
     abbrev SameSpots : Spots all → Spots all → Type 0
     SameSpots = Same (beside (graphs all)) (roots (beside (graphs all)))
@@ -156,13 +168,6 @@ module _ (F T : List ℕ) (all : List Entry) (G : Pile) (tied : Tied F T all G) 
         (λ z. let t = spotted all (z .0) 0 (z .1 .0) (tied .some (z .0) (z .1 .0)) in let n = t .is in let n' = z .1 .1 in (t .spot, inl (omega arith)))
         (tied .roots x m)
 
-    -- the ends of an arc
-    ends : (q : ℕ) (m : List·Memᴰ q (G .B)) → (a : Spots all) × ((b : Spots all) × ((num a ≡ G .S q) × ((num b ≡ getD T q 0) × beside (graphs all) .Arc a (getD F q 0) b)))
-    ends q m =
-        let o = tied .arcs q m in
-        let r = arched all (o .e) (o .j) (getD F q 0) (o .to) (o .one) (o .below) (o .inner) (o .arc) in
-        (r .from, (r .to, (r .from-is ∙ sym (o .source), (r .to-is ∙ sym (o .target), r .arc))))
-
     good : {x y : ℕ} → pile.Same G F T x y → (x ≡ y) ⊎ (Good x × Good y)
     good (pile.Same.root {x} {y} a b) = inr (root-good x a, root-good y b)
     good (pile.Same.self x) = inl refl
@@ -187,19 +192,6 @@ module _ (F T : List ℕ) (all : List Entry) (G : Pile) (tied : Tied F T all G) 
         let m = same-up r (c .0) (d .0) (inl (c .1 .1 .0)) (inl (d .1 .1 .0)) in
         let n : SameSpots (c .1 .0) (d .1 .0) = along m (getD F p 0) (c .1 .1 .1 .1) (subst (λ (f : ℕ). beside (graphs all) .Arc (d .0) f (d .1 .0)) (sym e) (d .1 .1 .1 .1)) in
         on (one-spot (getD T p 0) s (c .1 .0) i (inl (c .1 .1 .1 .0))) (on n (one-spot (getD T q 0) (d .1 .0) t (inl (d .1 .1 .1 .0)) j))
-
-    -- a node with an atom
-    atom-of : (v : Node) → (code v ≡ 0 → ⊥) → (a : ℕ) × (v ≡ atom a)
-    atom-of (atom a) n = (a, refl)
-    atom-of (arcs l) n = absurd (n refl)
-
-    atom-up : (x : ℕ) → List·Memᴰ x (G .N) → (G .A x ≡ 0 → ⊥) → (s : Spots all) × ((num s ≡ x) × ((a : ℕ) × (beside (graphs all) .Atom s a × (G .A x ≡ code-limit + a))))
-    atom-up x m n =
-        let o = tied .nodes x m in
-        let t = spotted all (o .e) (o .j) (o .one) (o .below) in
-        let c : G .A x ≡ code (nodeAt (o .e .graph) (o .j)) = ap (G .A) (o .is) ∙ tied .node (o .e) (o .one) (o .j) (o .below) .1 in
-        let a = atom-of (nodeAt (o .e .graph) (o .j)) (λ z. n (c ∙ z)) in
-        (t .spot, (t .is ∙ sym (o .is), (a .0, (t .atom-is (a .0) (a .1), c ∙ ap code (a .1)))))
 
     pub clash-up : Clashes G F T → Clash (graphs all)
     clash-up (Clashes.atoms {x} {y} mx my p nx ny ne) =

@@ -10,15 +10,16 @@ use Rattle.theory.specs.Net.{Node, atom, arcs, Graph, nodeAt, arcsOf, beside, C
 use Rattle.theory.proofs.Weight.{weight, weights, weights-append}
 use Rattle.theory.proofs.Instance.{numbered-target}
 use Rattle.theory.proofs.Meaning.{canonical-some}
-use Rattle.area.specs.Map.{WORDS}
+use Rattle.area.specs.Map.{WORDS, MARKS}
 use Rattle.classes.specs.State.{words, targets, Pile, Done, Same, Clashes, State, Full, Asked, withPair}
 use Rattle.classes.specs.Nodes.{span, spans, NodesAt, Ahead, listed, Listing}
 use Rattle.classes.specs.Entry.{Entry, graphs, Aside, Comes, Lies}
-use Rattle.classes.specs.Holds.{code, ArcOf, NodeIn, Tied, Apart, Holds}
-use Rattle.classes.proofs.Words.{word-at, target-at}
+use Rattle.classes.specs.Holds.{code, ArcOf, NodeIn, Tied, Apart, Sits, Holds}
+use Rattle.classes.proofs.Words.{word-at, target-at, words-same, targets-same}
 use Rattle.classes.proofs.Added.{weight-spans, NodesLie, nodes-lie, numbers-old, numbers-new, numbers-cases, codes-new, codes-old, positions-old, positions-cases, positions-new, sources-old, sources-new, NewArc, added, nodes-at}
 use Rattle.classes.proofs.Grown.{Extends, state-extends, listed-pairs, listed-arcs, listed-atom, listed-atoms, listed-count}
 use Rattle.classes.proofs.Bridge.{spotted, clash-up}
+use Rattle.classes.proofs.Laws.{sits-frame}
 
 pub graphs-append : (a b : List Entry) → graphs (a ++ b) ≡ graphs a ++ graphs b
 graphs-append [] b = refl
@@ -222,20 +223,27 @@ module _ (n : ℕ) (es : List Entry) (k : ℕ) (w : List ℕ) (e : Entry) (h : H
   graphs' = graphs-append es (e ∷ [])
 
   -- the state at the end stands for all
-  pub holds' : (k' : ℕ) (w' : List ℕ) → length w' ≡ length w → words w' ≡ F → targets w' ≡ T → State pile done' F T n k' 0 [] w' → Holds n all k' w'
+  pub holds' : (k' : ℕ) (w' : List ℕ) → length w' ≡ length w → ((j : ℕ) → WORDS ≤ j → j < MARKS → getD w' j 0 ≡ getD w j 0) → State pile done' F T n k' 0 [] w' → Holds n all k' w'
   unfolding full'
-  holds' k' w' len ew et u = record {
-    long = let a = h .long in omega arith;
-    below = h .below;
-    G = pile;
-    H = done';
-    state = rw (ew, et) u;
-    full = full';
-    top = refl;
-    tied = rw (ew, et) tied';
-    apart = apart';
-    count = rw graphs' (let a = listed-count vs (withPair (h .H) 0 x) x p in let b = weigh in omega arith);
-  }
+  holds' k' w' len same u =
+      let ew = words-same w w' (h .long) len same in
+      let et = targets-same w w' (h .long) len same in
+      record {
+        long = let a = h .long in omega arith;
+        below = h .below;
+        G = pile;
+        H = done';
+        state = rw (ew, et) u;
+        full = full';
+        top = refl;
+        tied = rw (ew, et) tied';
+        apart = apart';
+        each = λ o m. ⊎-elim (λ i. sits-frame w w' n o same (h .each o i)) (λ q. subst (λ (z : Entry). Sits n w' z) (sym q) (sits-frame w w' n e same sits')) (which o m);
+        count = rw graphs' (let a = listed-count vs (withPair (h .H) 0 x) x p in let b = weigh in omega arith);
+      }
+    where
+      sits' : Sits n w e
+      sits' = record { lies = c .lies; canonical = c .canonical; fits = c .fits; inside = c .inside }
 
   -- a clash by numbers is one of the graphs
   pub clash' : Clashes pile F T → Clash (graphs es ++ e .graph ∷ [])

@@ -14,7 +14,7 @@ use Rattle.area.proofs.Region.{region-ext}
 use Rattle.area.proofs.Undo.{word, logged-same, past-agree, undone-is, undone-logged, undone-keeps, undone-rest}
 use Rattle.classes.specs.State.{words, targets, Pile, Done, Chain, Near, Bears, State}
 use Rattle.classes.specs.Entry.{Entry, graphs, Lies}
-use Rattle.classes.specs.Holds.{Tied, Holds, Since, Backs}
+use Rattle.classes.specs.Holds.{Sits, Holds, Since, Backs}
 use Rattle.classes.proofs.Words.{words-same, targets-same}
 use Rattle.classes.proofs.Links.{chain-same}
 use Rattle.classes.proofs.Fuse.{low}
@@ -57,6 +57,15 @@ state-again G H F T n k w w' hn hw u g word l = record {
     par : region PARENT n w' ≡ region PARENT n w
     par = region-ext PARENT n w' w (omega arith) l (λ j h. word (PARENT + j) (omega arith))
 
+-- what lies in the loaded words
+pub lies-frame : (w w' : List ℕ) (g n : ℕ) (K : Graph) → ((j : ℕ) → WORDS ≤ j → j < MARKS → getD w' j 0 ≡ getD w j 0) → Lies w g n K → Lies w' g n K
+lies-frame w w' g n K f l =
+    let a = l .fits in
+    record { fits = l .fits; few = l .few; low = l .low; head = f (WORDS + g) (omega arith) (omega arith) ∙ l .head; nodes = λ j h. f (WORDS + (suc g + j)) (omega arith) (omega arith) ∙ l .nodes j h }
+
+pub sits-frame : (w w' : List ℕ) (n : ℕ) (e : Entry) → ((j : ℕ) → WORDS ≤ j → j < MARKS → getD w' j 0 ≡ getD w j 0) → Sits n w e → Sits n w' e
+sits-frame w w' n e f s = record { lies = lies-frame w w' (e .at) (e .number) (e .graph) f (s .lies); canonical = s .canonical; fits = s .fits; inside = s .inside }
+
 module _ (n : ℕ) (es : List Entry) (k : ℕ) (w : List ℕ) (h : Holds n es k w) where
   -- ---- what the graphs that are pushed agree on
   pub holds-agree : Agree (graphs es)
@@ -84,6 +93,7 @@ module _ (n : ℕ) (es : List Entry) (k : ℕ) (w : List ℕ) (h : Holds n es k 
         top = h .top;
         tied = rw (ew, et) (h .tied);
         apart = h .apart;
+        each = λ e m. sits-frame w w' n e g (h .each e m);
         count = h .count;
       }
 
@@ -118,11 +128,6 @@ since-frame m w₀ k w w' len hw f p =
       keeps = λ i h. past-agree i k w w' (le-trans h (p .more)) len (omega arith) (λ j h. f j (omega arith)) ∙ p .keeps i h;
       same = λ j a b. f j b ∙ p .same j a b;
     }
-
-pub lies-frame : (w w' : List ℕ) (g n : ℕ) (K : Graph) → ((j : ℕ) → WORDS ≤ j → j < MARKS → getD w' j 0 ≡ getD w j 0) → Lies w g n K → Lies w' g n K
-lies-frame w w' g n K f l =
-    let a = l .fits in
-    record { fits = l .fits; few = l .few; low = l .low; head = f (WORDS + g) (omega arith) (omega arith) ∙ l .head; nodes = λ j h. f (WORDS + (suc g + j)) (omega arith) (omega arith) ∙ l .nodes j h }
 
 -- ---- back at the mark
 module _ (m k : ℕ) (w w' : List ℕ) (u : Undone m k w w') where

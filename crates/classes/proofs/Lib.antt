@@ -13,7 +13,8 @@ pub mod Runs
 pub mod Bridge
 pub mod Added
 pub mod Grown
-pub mod Comings
 pub mod Laws
+pub mod Comings
 pub mod Pushings
 pub mod Start
+pub mod Writer

@@ -13,7 +13,7 @@ use Rattle.classes.specs.State.{words, targets, State, Asked, United, wi
 use Rattle.classes.specs.Nodes.{Listing, Listed}
 use Rattle.classes.specs.Entry.{Entry, graphs, Comes}
 use Rattle.classes.specs.Holds.{Holds, Adding, Adds, Pushing, Pushes}
-use Rattle.classes.proofs.Words.{word-at, words-later, targets-later}
+use Rattle.classes.proofs.Words.{word-at}
 use Rattle.classes.proofs.Comings.{pile, done', state', same', some', nodes', ahead', holds', clash'}
 use Rattle.classes.proofs.Laws.{holds-few, holds-again, since-later}
 
@@ -61,7 +61,7 @@ module _ (n k : ℕ) (w : List ℕ) (g base c : ℕ) where
           let l : Later k w k2 w2 = later-trans k w k1 w1 k2 w2 (p1 .later) (p2 .later) in
           record {
             later = l;
-            fine = λ z es e i j m h d. holds' n es k w e h d k2 w2 (l .len) (words-later k w k2 w2 (h .long) l) (targets-later k w k2 w2 (h .long) l)
+            fine = λ z es e i j m h d. holds' n es k w e h d k2 w2 (l .len) (λ j x y. l .rest j x)
                 (listed es e i j m .fine z (pile n es k w e h d) (withPair (h .H) 0 (e .number)) (e .graph) refl (state1 es e j h d) (nodes' n es k w e h d) (ahead' n es k w e h d));
             clash = λ z es e i j m h d. clash' n es k w e h d
                 (listed es e i j m .clash z (pile n es k w e h d) (withPair (h .H) 0 (e .number)) (e .graph) refl (state1 es e j h d) (nodes' n es k w e h d) (ahead' n es k w e h d));

@@ -133,6 +133,7 @@ module _ (w₀ w : List ℕ) (hw : 16384 ≤ length w₀) (s : Started w₀ 1024
         arcs = λ q m. absurd (List·Memᴰ·not-nil m);
       };
       apart = tt;
+      each = λ e m. absurd (List·Memᴰ·not-nil m);
       count = omega arith;
     }
 

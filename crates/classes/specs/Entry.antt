@@ -1,11 +1,11 @@
 -- Graphs as they lie in the loaded words, and when one may be pushed on others. Assumes nothing.
 use mathlib.Core.Path.{_≡_}
-use mathlib.Core.Logic.{_⊎_}
+use mathlib.Core.Logic.{_⊎_, inl, inr}
 use mathlib.Core.List.{List, [], _∷_, _++_, List·Memᴰ}
 use Prim.Native.Nat.{ℕ, suc, _+_, _*_, _≤_, _<_}
 use lib.ListN.{length, getD}
 use Rattle.theory.specs.Limits.{code-limit}
-use Rattle.theory.specs.Net.{Node, atom, arcs, Graph, Canonical}
+use Rattle.theory.specs.Net.{Node, atom, arcs, Graph, beside, Canonical}
 use Rattle.theory.specs.Layout.{GraphFits}
 use Rattle.theory.proofs.Weight.{weight, weights}
 use Rattle.area.specs.Map.{WORDS}
@@ -19,6 +19,14 @@ pub record Entry : Type 0 where
 abbrev pub graphs : List Entry → List Graph
 graphs [] = []
 graphs (e ∷ es) = e .graph ∷ graphs es
+
+-- "Put the nodes of all graphs side by side.": a node of one of the graphs, and its number
+abbrev pub Spots : List Entry → Type 0
+Spots es = beside (graphs es) .Spot
+
+abbrev pub number-of : (es : List Entry) → Spots es → ℕ
+number-of (e ∷ es) (inl x) = e .number + x .0
+number-of (e ∷ es) (inr y) = number-of es y
 
 -- "An arc is two words: feature 0..65,535, target node": the target by its number, where n is that of node 0
 abbrev pub arcs-located : ℕ → List (ℕ × ℕ) → List ℕ

@@ -6,14 +6,15 @@ use mathlib.Core.List.{List, [], _∷_, _++_, List·Memᴰ}
 use Prim.Native.Nat.{ℕ, suc, _+_, _*_, _≤_, _<_}
 use lib.ListN.{length, getD}
 use Rattle.theory.specs.Limits.{code-limit}
-use Rattle.theory.specs.Net.{Node, atom, arcs, Graph, nodeAt, arcsOf, Clash}
+use Rattle.theory.specs.Net.{Node, atom, arcs, Graph, nodeAt, arcsOf, Canonical, Clash}
+use Rattle.theory.specs.Layout.{GraphFits}
 use Rattle.theory.proofs.Weight.{weight, weights}
 use Rattle.area.specs.Map.{WORDS, MARKS}
 use Rattle.area.specs.Log.{body, past, Logged, Later}
 use Rattle.classes.specs.declared.push.Pushed.{Pushed}
 use Rattle.classes.specs.declared.push.Pushed.the-variants.{In, Clashed}
 use Rattle.classes.specs.State.{words, targets, Pile, Done, State, Full}
-use Rattle.classes.specs.Entry.{Entry, graphs, Aside, Comes}
+use Rattle.classes.specs.Entry.{Entry, graphs, Lies, Aside, Comes}
 
 -- an atom's head, or 0
 abbrev pub code : Node → ℕ
@@ -59,6 +60,13 @@ abbrev pub Apart : List Entry → Type 0
 Apart [] = Unit {0}
 Apart (e ∷ es) = ((o : Entry) → List·Memᴰ o es → Aside e o) × Apart es
 
+-- the graph of e lies in the words of w as a graph does, and its numbers are below n
+pub record Sits (n : ℕ) (w : List ℕ) (e : Entry) : Type 0 where
+  pub lies : Lies w (e .at) (e .number) (e .graph)
+  pub canonical : Canonical (e .graph)
+  pub fits : GraphFits (e .graph)
+  pub inside : e .number + length (e .graph) ≤ n
+
 -- w, with k entries in its log, stands for the graphs es, whose numbers are below n
 pub record Holds (n : ℕ) (es : List Entry) (k : ℕ) (w : List ℕ) : Type 0 where
   pub long : 16384 ≤ length w
@@ -70,6 +78,7 @@ pub record Holds (n : ℕ) (es : List Entry) (k : ℕ) (w : List ℕ) : Type 0 w
   pub top : full .root ≡ 0
   pub tied : Tied (words w) (targets w) es G
   pub apart : Apart es
+  pub each : (e : Entry) → List·Memᴰ e es → Sits n w e
   pub count : 2 * length (H .K) + length (H .U) ≤ weights (graphs es)
 
 -- w with k entries remembers what w₀ with m entries was; what stands from MARKS on is free

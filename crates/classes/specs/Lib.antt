@@ -4,3 +4,4 @@ pub mod State
 pub mod Nodes
 pub mod Entry
 pub mod Holds
+pub mod Content
