@@ -1,7 +1,7 @@
 -- The laws of a region of the working area. Assumes nothing.
 use mathlib.Core.Path.{_≡_, refl, sym, ap, _∙_}
 use mathlib.Core.List.{List, [], _∷_}
-use Prim.Native.Nat.{ℕ, zero, suc, _+_, _-_, _≤_, _<_, min}
+use Prim.Native.Nat.{ℕ, zero, suc, _+_, _≤_, _<_}
 use native.Mathlib.Omega.{arith}
 use lib.ListN.{length, take, drop, set, getD, length-take, length-drop}
 use lib.Seq.{ext-getD, drop-set-add, take-set-lt, take-take, getD-take, getD-drop}

@@ -1,8 +1,7 @@
 -- An undo log: the words before LOG are the body, and each word from LOG on is an entry: an address in the body and 4,096 times what stood there. Assumes nothing.
-use Prim.Native.Nat.{ℕ, zero, suc, _+_, _*_, _-_, _/_, _%_, _≤_, _<_}
+use Prim.Native.Nat.{ℕ, zero, suc, _+_, _-_, _/_, _%_, _≤_, _<_}
 use mathlib.Core.Path.{_≡_}
-use mathlib.Core.Logic.{_⊎_}
-use mathlib.Core.List.{List, [], _∷_}
+use mathlib.Core.List.{List}
 use lib.ListN.{length, getD, take, drop, set}
 use Rattle.area.specs.Map.{LOG, WORDS}
 

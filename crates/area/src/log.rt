@@ -1,8 +1,8 @@
 // An undo log in the working area: the body is the words before LOG, and the log has an entry a word from LOG on, 4,096 of them at most.
 use crate::map::LOG;
 ghost use mathlib.Core.Path.{_≡_};
-ghost use Prim.Native.Nat.{ℕ, _+_, _*_, _-_, _≤_, _<_};
-ghost use lib.ListN.{length, getD, set};
+ghost use Prim.Native.Nat.{_+_, _*_, _≤_, _<_};
+ghost use lib.ListN.{length};
 ghost use Rattle.area.specs.Log.{Logged, Put, Undone};
 
 pub fn wide(x: u32) -> usize

@@ -1,9 +1,8 @@
 -- A graph is added to what is pushed. Assumes nothing.
-use mathlib.Core.Path.{_≡_, refl, sym, ap, _∙_, subst}
-use mathlib.Core.Bool.{Bool, true, false}
-use mathlib.Core.List.{List, [], _∷_, _++_, List·Memᴰ, List·Memᴰ·cases-cons, List·Memᴰ·head, List·Memᴰ·tail, List·Memᴰ·not-nil}
+use mathlib.Core.Path.{_≡_, refl, sym, ap, _∙_}
+use mathlib.Core.List.{List, [], _∷_, List·Memᴰ, List·Memᴰ·cases-cons, List·Memᴰ·head, List·Memᴰ·tail, List·Memᴰ·not-nil}
 use mathlib.Core.Logic.{_⊎_, inl, inr, ⊎-elim}
-use Prim.Native.Nat.{ℕ, zero, suc, _+_, _*_, _-_, _≤_, _<_}
+use Prim.Native.Nat.{ℕ, zero, suc, _+_, _*_, _≤_, _<_}
 use native.Mathlib.Omega.{arith}
 use lib.ListN.{length, length-append, getD, List·getD-append}
 use lib.Seq.{getD-append-add}
@@ -15,8 +14,8 @@ use Rattle.theory.specs.Layout.{node-words, nodes-words, GraphFits}
 use Rattle.theory.proofs.Weight.{weight, arc-length}
 use Rattle.classes.specs.Labels.{pick}
 use Rattle.classes.specs.State.{Pile}
-use Rattle.classes.specs.Nodes.{strung, span, spans, AtomAt, ArcsAt, NodeAt, NodesAt}
-use Rattle.classes.specs.Entry.{arcs-located, node-located, located}
+use Rattle.classes.specs.Nodes.{strung, span, spans, NodeAt, NodesAt}
+use Rattle.classes.specs.Entry.{arcs-located, located}
 use Rattle.classes.specs.Holds.{code}
 use Rattle.classes.proofs.Runs.{strung-cases, strung-old, strung-new}
 

@@ -3,16 +3,16 @@ use mathlib.Core.Path.{_≡_, refl, sym, ap, _∙_, subst}
 use mathlib.Core.HLevel.{Σ-prop-path}
 use mathlib.Core.List.{List, [], _∷_, List·Memᴰ, List·Memᴰ·cases-cons, List·Memᴰ·head, List·Memᴰ·tail, List·Memᴰ·not-nil}
 use mathlib.Core.Logic.{_⊎_, inl, inr, ⊎-elim}
-use Prim.Native.Nat.{ℕ, zero, suc, _+_, _≤_, _<_}
+use Prim.Native.Nat.{ℕ, _+_, _<_}
 use native.Mathlib.Bridge.{le-prop}
 use native.Mathlib.Omega.{arith}
 use lib.ListN.{length, getD}
 use Rattle.theory.specs.Limits.{code-limit}
-use Rattle.theory.specs.Net.{Node, atom, arcs, Graph, nodeAt, arcsOf, NodeOf, beside, Same, seed, self, back, on, along, roots, ClashOf, atoms, atom-arc, Clash}
+use Rattle.theory.specs.Net.{Node, atom, arcs, nodeAt, arcsOf, beside, Same, seed, self, back, on, along, roots, atoms, atom-arc, Clash}
 use Rattle.classes.specs.State.{Pile, Clashes}
 use Rattle.classes.specs.State as pile
-use Rattle.classes.specs.Entry.{Entry, graphs, Spots, number-of, Aside}
-use Rattle.classes.specs.Holds.{code, ArcOf, NodeIn, Tied, Apart}
+use Rattle.classes.specs.Entry.{Entry, graphs, Spots, number-of}
+use Rattle.classes.specs.Holds.{code, NodeIn, Tied, Apart}
 
 -- the node of a spot
 pub spot-node : (es : List Entry) (s : Spots es) → NodeIn es (number-of es s)

@@ -1,25 +1,25 @@
 -- The ends of a merge of the class b into the class a. Assumes nothing.
 use mathlib.Core.Path.{_≡_, refl, sym, ap, _∙_, subst}
-use mathlib.Core.Bool.{Bool, true, false}
-use mathlib.Core.List.{List, [], _∷_, _++_, append-nil, List·Memᴰ, List·Memᴰ·head, List·Memᴰ·tail, List·Memᴰ·not-nil, List·Memᴰ·cases-cons, List·Memᴰ·eq-of-singleton, Memᴰ·append-left, Memᴰ·append-right}
+use mathlib.Core.Bool.{true, false}
+use mathlib.Core.List.{List, [], _∷_, _++_, append-nil, List·Memᴰ, List·Memᴰ·head, List·Memᴰ·not-nil, List·Memᴰ·eq-of-singleton, Memᴰ·append-left, Memᴰ·append-right}
 use mathlib.Core.Logic.{_⊎_, inl, inr, ⊎-elim}
-use Prim.Native.Nat.{ℕ, zero, suc, _+_, _*_, _-_, _/_, _%_, _≤_, _<_}
+use Prim.Native.Nat.{ℕ, suc, _+_, _*_, _/_, _%_, _≤_, _<_}
 use native.Mathlib.Numerals.{add-one}
 use native.Mathlib.Omega.{arith}
-use native.Mathlib.Decide.{ℕ-discrete, decLt}
-use lib.ListN.{length, set, getD, take, length-set, length-take}
-use lib.Seq.{getD-set-same, getD-set-other, getD-take, length-take-le}
+use native.Mathlib.Decide.{decLt}
+use lib.ListN.{length, set, getD, length-set}
+use lib.Seq.{getD-set-same, getD-set-other}
 use Rattle.area.specs.Map.{PARENT, NEXT, LOG, STACK}
 use Rattle.area.specs.Region.{region}
-use Rattle.classes.specs.Labels.{Eq, relabelled}
-use Rattle.area.specs.Log.{body, Logged, Later, Put}
-use Rattle.classes.specs.Forest.{Shape, Forest, Root, tops}
-use Rattle.classes.specs.State.{Pile, Done, Same, Clashes, Chain, Seg, First, None, Way, Near, Framed, Bears, State, Ready, Met, Grow, Last, Runs, total, frames, withPair}
+use Rattle.classes.specs.Labels.{relabelled}
+use Rattle.area.specs.Log.{Logged, Later, Put}
+use Rattle.classes.specs.Forest.{tops}
+use Rattle.classes.specs.State.{Pile, Done, Same, Clashes, Chain, Seg, First, Near, Framed, Bears, State, Ready, Met, Grow, Last, Runs, frames}
 use Rattle.area.proofs.Region.{length-region, region-ext}
 use Rattle.area.proofs.Undo.{later-refl, later-trans, later-scratch, put-at, put-off, put-region}
 use Rattle.classes.proofs.Wood.{tops-link, tops-pos}
 use Rattle.classes.proofs.Links.{chain-same, chain-zero, seg-link, seg-chain, first-way, first-mem, first-feature, frames-same}
-use Rattle.classes.proofs.Fuse.{fused, length-P, chain-of, short, Fuses, Ma, Mb, Na, Ca, fuse-state}
+use Rattle.classes.proofs.Fuse.{fused, short, Fuses, Ma, Mb, Na, Ca, fuse-state}
 
 module _ (n k s : ℕ) (w : List ℕ) (a b : ℕ) (lt : a < b) (hb : b < n) (hn : n ≤ 1024) (hw : 16384 ≤ length w) (ra : getD (region PARENT n w) a 0 ≡ a) (rb : getD (region PARENT n w) b 0 ≡ b) (g : Ready n k s w) where
   pub room : k + 3 ≤ 4096
@@ -271,7 +271,7 @@ module _ (n k s : ℕ) (w : List ℕ) (a b : ℕ) (lt : a < b) (hb : b < n) (hn 
               z-on = la .on (getD (u .C) b []) chain-b
 
               away : (c q : ℕ) → c < n → (c ≡ b → ⊥) → List·Memᴰ q (getD (u .C) c []) → q ≡ z → ⊥
-              away c q h d m e = d (sym (u .home c q h m .1) ∙ ap (λ (i : ℕ). getD (u .M) ((G .S) i) 0) e ∙ u .home b z hb z-on .1)
+              away c q h d m e = d (sym (u .home c q h m .1) ∙ ap (λ (i : ℕ). getD (u .M) (G .S i) 0) e ∙ u .home b z hb z-on .1)
 
               tail : Chain w4 y (getD (u .C) a [])
               tail = chain-same w w4 y (getD (u .C) a []) (λ q m. next4 q (below u a q (omega arith) m) (away a q (omega arith) (λ e. omega arith) m)) chain-a
@@ -286,7 +286,7 @@ module _ (n k s : ℕ) (w : List ℕ) (a b : ℕ) (lt : a < b) (hb : b < n) (hn 
               apart : (q : ℕ) → List·Memᴰ q (getD (u .C) b []) → suc q ≡ y → ⊥
               apart q m e =
                   let d : q ≡ hd .0 = let f = hd .1 .0 in omega arith in
-                  let f : b ≡ a = sym (u .home b q hb m .1) ∙ ap (λ (i : ℕ). getD (u .M) ((G .S) i) 0) d ∙ u .home a (hd .0) (omega arith) (hd .1 .1) .1 in
+                  let f : b ≡ a = sym (u .home b q hb m .1) ∙ ap (λ (i : ℕ). getD (u .M) (G .S i) 0) d ∙ u .home a (hd .0) (omega arith) (hd .1 .1) .1 in
                   omega arith
 
               seg : Seg w4 y x (getD (u .C) b [])
@@ -342,11 +342,11 @@ module _ (n k s : ℕ) (w : List ℕ) (a b : ℕ) (lt : a < b) (hb : b < n) (hn 
           head-of c h d [] e = absurd (d e)
           head-of c h d (j ∷ l) e = (j, List·Memᴰ·head refl)
 
-          arc : (c : ℕ) → c < n → getD (u .M) c 0 ≡ c → (getD w c 0 ≡ 0 → ⊥) → (2048 < getD w c 0 → ⊥) → (e : ℕ) × (List·Memᴰ e (G .B) × Same G F T c ((G .S) e))
+          arc : (c : ℕ) → c < n → getD (u .M) c 0 ≡ c → (getD w c 0 ≡ 0 → ⊥) → (2048 < getD w c 0 → ⊥) → (e : ℕ) × (List·Memᴰ e (G .B) × Same G F T c (G .S e))
           arc c h e d l =
               let t = head-of c h d (getD (u .C) c []) (u .chain c h e (omega arith)) in
               let m = u .known (t .0) (u .home c (t .0) h (t .1) .0) in
-              (t .0, (m, u .sound c ((G .S) (t .0)) h (u .arcs (t .0) m .1 .0) (e ∙ sym (u .home c (t .0) h (t .1) .1))))
+              (t .0, (m, u .sound c (G .S (t .0)) h (u .arcs (t .0) m .1 .0) (e ∙ sym (u .home c (t .0) h (t .1) .1))))
 
           go : Dec (2048 < getD w b 0) → Dec (2048 < getD w a 0) → Clashes G F T
           go (yes p) (yes q) =

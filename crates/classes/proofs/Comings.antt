@@ -2,19 +2,18 @@
 use mathlib.Core.Path.{_≡_, refl, sym, ap, _∙_, subst}
 use mathlib.Core.List.{List, [], _∷_, _++_, List·Memᴰ, List·Memᴰ·cases-cons, List·Memᴰ·head, List·Memᴰ·tail, List·Memᴰ·not-nil, List·Memᴰ·append-cases, List·Memᴰ·eq-of-singleton, Memᴰ·append-left, Memᴰ·append-right}
 use mathlib.Core.Logic.{_⊎_, inl, inr, ⊎-elim}
-use Prim.Native.Nat.{ℕ, zero, suc, _+_, _*_, _-_, _≤_, _<_}
+use Prim.Native.Nat.{ℕ, suc, _+_, _*_, _≤_, _<_}
 use native.Mathlib.Omega.{arith}
 use lib.ListN.{length, getD}
-use Rattle.theory.specs.Limits.{code-limit}
-use Rattle.theory.specs.Net.{Node, atom, arcs, Graph, nodeAt, arcsOf, beside, Clash}
+use Rattle.theory.specs.Net.{Node, atom, arcs, Graph, nodeAt, arcsOf, Clash}
 use Rattle.theory.proofs.Weight.{weight, weights, weights-append}
 use Rattle.theory.proofs.Instance.{numbered-target}
 use Rattle.theory.proofs.Meaning.{canonical-some}
 use Rattle.area.specs.Map.{WORDS, MARKS}
-use Rattle.classes.specs.State.{words, targets, Pile, Done, Same, Clashes, State, Full, Asked, withPair}
-use Rattle.classes.specs.Nodes.{span, spans, NodesAt, Ahead, listed, Listing}
-use Rattle.classes.specs.Entry.{Entry, graphs, Aside, Comes, Lies}
-use Rattle.classes.specs.Holds.{code, ArcOf, NodeIn, Tied, Apart, Sits, Holds}
+use Rattle.classes.specs.State.{words, targets, Pile, Done, Same, Clashes, State, Full, withPair}
+use Rattle.classes.specs.Nodes.{spans, NodesAt, Ahead, listed}
+use Rattle.classes.specs.Entry.{Entry, graphs, Aside, Comes}
+use Rattle.classes.specs.Holds.{code, ArcOf, Tied, Apart, Sits, Holds}
 use Rattle.classes.proofs.Words.{word-at, target-at, words-same, targets-same}
 use Rattle.classes.proofs.Added.{weight-spans, NodesLie, nodes-lie, numbers-old, numbers-new, numbers-cases, codes-new, codes-old, positions-old, positions-cases, positions-new, sources-old, sources-new, NewArc, added, nodes-at}
 use Rattle.classes.proofs.Grown.{Extends, state-extends, listed-pairs, listed-arcs, listed-atom, listed-atoms, listed-count}

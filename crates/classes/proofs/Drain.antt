@@ -1,19 +1,17 @@
 -- Frames to their ends, and the stack to its bottom. Assumes nothing.
 use mathlib.Core.Path.{_≡_, refl, sym, ap, _∙_, subst}
 use mathlib.Core.Bool.{Bool, true, false}
-use mathlib.Core.List.{List, [], _∷_, _++_, append-nil, append-assoc, List·Memᴰ, List·Memᴰ·head, List·Memᴰ·tail, List·Memᴰ·not-nil, List·Memᴰ·cases-cons}
-use mathlib.Core.Logic.{_⊎_, inl, inr, ⊎-elim}
-use Prim.Native.Nat.{ℕ, zero, suc, _+_, _*_, _-_, _/_, _%_, _≤_, _<_}
-use native.Mathlib.Numerals.{add-one}
+use mathlib.Core.List.{List, [], _∷_, _++_, append-assoc, List·Memᴰ, List·Memᴰ·tail, List·Memᴰ·not-nil, List·Memᴰ·cases-cons}
+use mathlib.Core.Logic.{⊎-elim}
+use Prim.Native.Nat.{ℕ, zero, suc, _+_, _-_, _/_, _%_, _≤_, _<_}
 use native.Mathlib.Nat.{le-trans}
 use native.Mathlib.Omega.{arith}
-use lib.ListN.{length, set, getD}
+use lib.ListN.{getD}
 use Rattle.area.specs.Map.{PARENT, NEXT, STACK}
 use Rattle.area.specs.Region.{region}
-use Rattle.classes.specs.Labels.{Eq}
 use Rattle.area.specs.Log.{Logged, Later}
 use Rattle.classes.specs.Forest.{tops}
-use Rattle.classes.specs.State.{Pile, Done, Same, Clashes, Seg, Way, Near, Framed, State, Ready, Met, frames, withPair, Walk, Working, Told, Turned, Drained, Stacked, Settled, Calm, United}
+use Rattle.classes.specs.State.{Pile, Done, Same, Seg, Near, State, Met, frames, withPair, Walk, Working, Told, Turned, Drained, Stacked, Settled, United}
 use Rattle.area.proofs.Undo.{later-refl, later-trans}
 
 pub walk-refl : (F T : List ℕ) (n k s : ℕ) (w : List ℕ) (x to : ℕ) → Logged k w → Walk F T n k s w x to k s w x

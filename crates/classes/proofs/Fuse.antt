@@ -1,9 +1,8 @@
 -- A merge of two classes keeps the state. Assumes nothing.
 use mathlib.Core.Path.{_≡_, refl, sym, ap, _∙_, subst}
-use mathlib.Core.Bool.{Bool, true, false}
-use mathlib.Core.List.{List, [], _∷_, _++_, append-nil, List·Memᴰ, List·Memᴰ·head, List·Memᴰ·tail, List·Memᴰ·not-nil, List·Memᴰ·cases-cons, List·Memᴰ·append-cases, Memᴰ·append-left, Memᴰ·append-right}
+use mathlib.Core.List.{List, [], _++_, List·Memᴰ, List·Memᴰ·not-nil, List·Memᴰ·cases-cons, List·Memᴰ·append-cases, Memᴰ·append-left, Memᴰ·append-right}
 use mathlib.Core.Logic.{_⊎_, inl, inr, ⊎-elim}
-use Prim.Native.Nat.{ℕ, zero, suc, _+_, _*_, _-_, _≤_, _<_}
+use Prim.Native.Nat.{ℕ, zero, suc, _+_, _≤_, _<_}
 use native.Mathlib.Omega.{arith}
 use native.Mathlib.Decide.{ℕ-discrete, decLt}
 use lib.ListN.{length, set, getD, length-set, length-append}
@@ -11,13 +10,13 @@ use lib.Seq.{getD-set-same, getD-set-other}
 use Rattle.area.specs.Map.{PARENT, NEXT}
 use Rattle.area.specs.Region.{region}
 use Rattle.classes.specs.Labels.{Eq, relab, relabelled}
-use Rattle.area.specs.Log.{Logged, Later}
-use Rattle.classes.specs.Forest.{Shape, Forest, Root, tops}
-use Rattle.classes.specs.State.{Pile, Done, Same, Clashes, Chain, Seg, First, None, Way, Near, Framed, Bears, State, Grow, total, frames, withPair}
+use Rattle.area.specs.Log.{Logged}
+use Rattle.classes.specs.Forest.{Shape, Forest, tops}
+use Rattle.classes.specs.State.{Pile, Done, Same, Chain, First, None, Near, Framed, Bears, State, Grow, total, withPair}
 use Rattle.area.proofs.Region.{length-region}
 use Rattle.classes.proofs.Kernel.{relab-hit, relab-miss, relab-case}
 use Rattle.classes.proofs.Wood.{label, link-shape, link-forest, tops-link}
-use Rattle.classes.proofs.Links.{chain-same, seg-grow, way-grow, first-left, first-right, first-case, first-mem, total-set, total-one}
+use Rattle.classes.proofs.Links.{chain-same, seg-grow, way-grow, first-left, first-right, first-case, total-set, total-one}
 
 -- a label is at most its node
 pub label-low : (P M : List ℕ) → Shape P → Forest P M → (i : ℕ) → i < length P → getD M i 0 ≤ i
@@ -203,38 +202,38 @@ module _ (G : Pile) (H : Done) (F T : List ℕ) (n k s : ℕ) (fs : List (ℕ ×
               let r = u .bare c h (o .1) (omega arith) in
               (Co c x (o .0) ∙ r .0, subst (λ (v : ℕ). Bears G n N c v) (sym f) (bears c (getD w c 0) (r .1) c (λ i p. coarse i c (p ∙ sym (o .1)) ∙ e)))
 
-      homes : (c q : ℕ) → c < n → List·Memᴰ q (getD (fused (u .C) a b) c []) → List·Memᴰ q (H .K) × (getD N ((G .S) q) 0 ≡ c)
+      homes : (c q : ℕ) → c < n → List·Memᴰ q (getD (fused (u .C) a b) c []) → List·Memᴰ q (H .K) × (getD N (G .S q) 0 ≡ c)
       homes c q h m = go (ℕ-discrete c a) (ℕ-discrete c b)
         where
-          go : Dec (c ≡ a) → Dec (c ≡ b) → List·Memᴰ q (H .K) × (getD N ((G .S) q) 0 ≡ c)
+          go : Dec (c ≡ a) → Dec (c ≡ b) → List·Memᴰ q (H .K) × (getD N (G .S q) 0 ≡ c)
           go (yes e) d = ⊎-elim
-              (λ p. let r = u .home b q hb p in (r .0, to-a b ((G .S) q) (inr refl) (r .1) ∙ sym e))
-              (λ p. let r = u .home a q ha p in (r .0, to-a a ((G .S) q) (inl refl) (r .1) ∙ sym e))
+              (λ p. let r = u .home b q hb p in (r .0, to-a b (G .S q) (inr refl) (r .1) ∙ sym e))
+              (λ p. let r = u .home a q ha p in (r .0, to-a a (G .S q) (inl refl) (r .1) ∙ sym e))
               (List·Memᴰ·append-cases (getD (u .C) b []) (subst (List·Memᴰ q) (ap (λ (d : ℕ). getD (fused (u .C) a b) d []) e ∙ Ca) m))
           go (no x) (yes e) = absurd (List·Memᴰ·not-nil (subst (List·Memᴰ q) (ap (λ (d : ℕ). getD (fused (u .C) a b) d []) e ∙ Cb) m))
           go (no x) (no y) =
               let r = u .home c q h (subst (List·Memᴰ q) (Co c x y) m) in
-              (r .0, ⊎-elim (λ p. absurd (y (sym (r .1) ∙ p .0))) (λ p. p .1 ∙ r .1) (split ((G .S) q)))
+              (r .0, ⊎-elim (λ p. absurd (y (sym (r .1) ∙ p .0))) (λ p. p .1 ∙ r .1) (split (G .S q)))
 
       abbrev Goal : ℕ → Type 0
-      Goal j = (i : ℕ) × (First F (getD F j 0) (getD (fused (u .C) a b) (getD N ((G .S) j) 0) []) i × Near F T N w' (new ++ fs) (getD T i 0) (getD T j 0))
+      Goal j = (i : ℕ) × (First F (getD F j 0) (getD (fused (u .C) a b) (getD N (G .S j) 0) []) i × Near F T N w' (new ++ fs) (getD T i 0) (getD T j 0))
 
-      covers : (j : ℕ) → List·Memᴰ j (H .K) → (i : ℕ) × (First F (getD F j 0) (getD (fused (u .C) a b) (getD N ((G .S) j) 0) []) i × Near F T N w' (new ++ fs) (getD T i 0) (getD T j 0))
+      covers : (j : ℕ) → List·Memᴰ j (H .K) → (i : ℕ) × (First F (getD F j 0) (getD (fused (u .C) a b) (getD N (G .S j) 0) []) i × Near F T N w' (new ++ fs) (getD T i 0) (getD T j 0))
       covers j m = ⊎-elim
           (λ p. (o .0, (put (o .0) a (p .1) (subst (λ (l : List ℕ). First F (getD F j 0) l (o .0)) (sym Ca) (first-left F (getD F j 0) (getD (u .C) b []) (getD (u .C) a []) (o .0) (at b (p .0)))), near (o .1 .1))))
-          (λ p. other p (ℕ-discrete (getD (u .M) ((G .S) j) 0) a))
-          (split ((G .S) j))
+          (λ p. other p (ℕ-discrete (getD (u .M) (G .S j) 0) a))
+          (split (G .S j))
         where
-          o : (i : ℕ) × (First F (getD F j 0) (getD (u .C) (getD (u .M) ((G .S) j) 0) []) i × Near F T (u .M) w fs (getD T i 0) (getD T j 0))
+          o : (i : ℕ) × (First F (getD F j 0) (getD (u .C) (getD (u .M) (G .S j) 0) []) i × Near F T (u .M) w fs (getD T i 0) (getD T j 0))
           o = u .cover j m
 
-          at : (c : ℕ) → getD (u .M) ((G .S) j) 0 ≡ c → First F (getD F j 0) (getD (u .C) c []) (o .0)
+          at : (c : ℕ) → getD (u .M) (G .S j) 0 ≡ c → First F (getD F j 0) (getD (u .C) c []) (o .0)
           at c e = subst (λ (d : ℕ). First F (getD F j 0) (getD (u .C) d []) (o .0)) e (o .1 .0)
 
-          put : (i c : ℕ) → getD N ((G .S) j) 0 ≡ c → First F (getD F j 0) (getD (fused (u .C) a b) c []) i → First F (getD F j 0) (getD (fused (u .C) a b) (getD N ((G .S) j) 0) []) i
+          put : (i c : ℕ) → getD N (G .S j) 0 ≡ c → First F (getD F j 0) (getD (fused (u .C) a b) c []) i → First F (getD F j 0) (getD (fused (u .C) a b) (getD N (G .S j) 0) []) i
           put i c e p = subst (λ (d : ℕ). First F (getD F j 0) (getD (fused (u .C) a b) d []) i) (sym e) p
 
-          in-a : getD N ((G .S) j) 0 ≡ a → First F (getD F j 0) (getD (u .C) a []) (o .0) → ((q : ℕ) × First F (getD F j 0) (getD (u .C) b []) q) ⊎ None F (getD F j 0) (getD (u .C) b []) → Goal j
+          in-a : getD N (G .S j) 0 ≡ a → First F (getD F j 0) (getD (u .C) a []) (o .0) → ((q : ℕ) × First F (getD F j 0) (getD (u .C) b []) q) ⊎ None F (getD F j 0) (getD (u .C) b []) → Goal j
           in-a e p (inl q) = (
             q .0,
             (
@@ -244,23 +243,23 @@ module _ (G : Pile) (H : Done) (F T : List ℕ) (n k s : ℕ) (fs : List (ℕ ×
           )
           in-a e p (inr q) = (o .0, (put (o .0) a e (subst (λ (l : List ℕ). First F (getD F j 0) l (o .0)) (sym Ca) (first-right F (getD F j 0) (getD (u .C) b []) (getD (u .C) a []) (o .0) q p)), near (o .1 .1)))
 
-          other : (getD (u .M) ((G .S) j) 0 ≡ b → ⊥) × (getD N ((G .S) j) 0 ≡ getD (u .M) ((G .S) j) 0) → Dec (getD (u .M) ((G .S) j) 0 ≡ a) → Goal j
+          other : (getD (u .M) (G .S j) 0 ≡ b → ⊥) × (getD N (G .S j) 0 ≡ getD (u .M) (G .S j) 0) → Dec (getD (u .M) (G .S j) 0 ≡ a) → Goal j
           other p (yes e) = in-a (p .1 ∙ e) (at a e) (first-case F (getD F j 0) (getD (u .C) b []))
-          other p (no x) = (o .0, (put (o .0) (getD (u .M) ((G .S) j) 0) (p .1) (subst (λ (l : List ℕ). First F (getD F j 0) l (o .0)) (sym (Co (getD (u .M) ((G .S) j) 0) x (p .0))) (o .1 .0)), near (o .1 .1)))
+          other p (no x) = (o .0, (put (o .0) (getD (u .M) (G .S j) 0) (p .1) (subst (λ (l : List ℕ). First F (getD F j 0) l (o .0)) (sym (Co (getD (u .M) (G .S j) 0) x (p .0))) (o .1 .0)), near (o .1 .1)))
 
-      meets : (i : ℕ) → List·Memᴰ i (H .U) → ((G .A) i ≡ 0 → ⊥) → getD w' (getD N i 0) 0 ≡ (G .A) i
+      meets : (i : ℕ) → List·Memᴰ i (H .U) → (G .A i ≡ 0 → ⊥) → getD w' (getD N i 0) 0 ≡ G .A i
       meets i m x = ⊎-elim
           (λ p. ap (λ (c : ℕ). getD w' c 0) (p .1) ∙ z .keep-b (subst (λ (c : ℕ). 2048 < getD w c 0) (p .0) big) ∙ ap (λ (c : ℕ). getD w c 0) (sym (p .0)) ∙ o)
           (λ p. ap (λ (c : ℕ). getD w' c 0) (p .1) ∙ other p (ℕ-discrete (getD (u .M) i 0) a))
           (split i)
         where
-          o : getD w (getD (u .M) i 0) 0 ≡ (G .A) i
+          o : getD w (getD (u .M) i 0) 0 ≡ G .A i
           o = u .met i m x
 
           big : 2048 < getD w (getD (u .M) i 0) 0
           big = rw o (u .atoms i (u .nodes i m .1) x)
 
-          other : (getD (u .M) i 0 ≡ b → ⊥) × (getD N i 0 ≡ getD (u .M) i 0) → Dec (getD (u .M) i 0 ≡ a) → getD w' (getD (u .M) i 0) 0 ≡ (G .A) i
+          other : (getD (u .M) i 0 ≡ b → ⊥) × (getD N i 0 ≡ getD (u .M) i 0) → Dec (getD (u .M) i 0 ≡ a) → getD w' (getD (u .M) i 0) 0 ≡ G .A i
           other p (yes e) = ap (λ (c : ℕ). getD w' c 0) e ∙ z .keep-a (subst (λ (c : ℕ). 2048 < getD w c 0) e big) ∙ ap (λ (c : ℕ). getD w c 0) (sym e) ∙ o
           other p (no y) = z .first (getD (u .M) i 0) (low i (u .nodes i m .0)) y ∙ o
 

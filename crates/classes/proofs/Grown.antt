@@ -1,13 +1,13 @@
 -- A graph comes: what is pushed grows, the state stays, and what is done in the end is all. Assumes nothing.
 use mathlib.Core.Path.{_≡_, refl, sym, ap, _∙_, subst}
-use mathlib.Core.List.{List, [], _∷_, _++_, List·Memᴰ, List·Memᴰ·cases-cons, List·Memᴰ·head, List·Memᴰ·tail, List·Memᴰ·not-nil}
-use mathlib.Core.Logic.{_⊎_, inl, inr, ⊎-elim}
-use Prim.Native.Nat.{ℕ, zero, suc, _+_, _*_, _-_, _≤_, _<_}
+use mathlib.Core.List.{List, [], _∷_, List·Memᴰ, List·Memᴰ·head, List·Memᴰ·tail}
+use mathlib.Core.Logic.{⊎-elim}
+use Prim.Native.Nat.{ℕ, zero, suc, _+_, _*_, _≤_, _<_}
 use native.Mathlib.Omega.{arith}
 use lib.ListN.{length, getD}
-use Rattle.theory.specs.Net.{Node, atom, arcs, Graph, nodeAt, arcsOf}
+use Rattle.theory.specs.Net.{atom, arcs, Graph, nodeAt}
 use Rattle.classes.specs.State.{Pile, Done, Same, First, State}
-use Rattle.classes.specs.Nodes.{strung, span, spans, noded, listed}
+use Rattle.classes.specs.Nodes.{spans, noded, listed}
 use Rattle.classes.specs.Holds.{code}
 use Rattle.classes.proofs.Runs.{strung-length, strung-cases, strung-old, strung-new}
 use Rattle.classes.proofs.Added.{positions}

@@ -1,15 +1,14 @@
 -- What the layers above may use of `Holds` and `Since`. Assumes nothing.
-use mathlib.Core.Path.{_≡_, refl, sym, ap, _∙_, subst}
-use mathlib.Core.List.{List, [], _∷_, _++_, List·Memᴰ, List·Memᴰ·not-nil}
-use Prim.Native.Nat.{ℕ, zero, suc, _+_, _*_, _-_, _≤_, _<_}
+use mathlib.Core.Path.{_≡_, refl, sym, _∙_, subst}
+use mathlib.Core.List.{List, [], List·Memᴰ·not-nil}
+use Prim.Native.Nat.{ℕ, suc, _+_, _≤_, _<_}
 use native.Mathlib.Nat.{le-trans}
 use native.Mathlib.Omega.{arith}
-use lib.ListN.{length, take, getD, length-take}
-use lib.Seq.{ext-getD, getD-take}
+use lib.ListN.{length, getD}
 use Rattle.theory.specs.Net.{Graph, Agree}
 use Rattle.area.specs.Map.{PARENT, NEXT, LOG, WORDS, MARKS}
 use Rattle.area.specs.Region.{region}
-use Rattle.area.specs.Log.{body, Logged, Later, Undone}
+use Rattle.area.specs.Log.{Logged, Later, Undone}
 use Rattle.area.proofs.Region.{region-ext}
 use Rattle.area.proofs.Undo.{word, logged-same, past-agree, undone-is, undone-logged, undone-keeps, undone-rest}
 use Rattle.classes.specs.State.{words, targets, Pile, Done, Chain, Near, Bears, State}

@@ -1,16 +1,14 @@
 -- The laws of chains. Assumes nothing.
 use mathlib.Core.Path.{_≡_, refl, sym, ap, _∙_, subst}
-use mathlib.Core.Bool.{Bool, true, false}
-use mathlib.Core.List.{List, [], _∷_, _++_, List·Memᴰ, List·Memᴰ·head, List·Memᴰ·tail, List·Memᴰ·not-nil, List·Memᴰ·cases-cons, Memᴰ·cast}
+use mathlib.Core.List.{List, [], _∷_, _++_, List·Memᴰ, List·Memᴰ·head, List·Memᴰ·tail, List·Memᴰ·not-nil, List·Memᴰ·cases-cons}
 use mathlib.Core.Logic.{_⊎_, inl, inr, ⊎-elim}
-use Prim.Native.Nat.{ℕ, zero, suc, _+_, _*_, _-_, _≤_, _<_}
+use Prim.Native.Nat.{ℕ, zero, suc, _+_, _-_, _≤_, _<_}
 use native.Mathlib.Omega.{arith}
 use native.Mathlib.Decide.{ℕ-discrete}
 use lib.ListN.{length, set, getD}
-use lib.Dec.{eqb}
 use borrow.Author.Tests.{eq-eqb, ne-eqb}
 use Rattle.area.specs.Map.{NEXT, STACK}
-use Rattle.classes.specs.State.{Chain, Seg, First, None, Way, steps, hops, orSuc, Grow, total, frames, Runs}
+use Rattle.classes.specs.State.{Chain, Seg, First, None, Way, steps, hops, Grow, total, frames}
 
 -- ---- a chain
 pub chain-same : (w w' : List ℕ) (x : ℕ) (xs : List ℕ) → ((q : ℕ) → List·Memᴰ q xs → getD w' (NEXT + q) 0 ≡ getD w (NEXT + q) 0) → Chain w x xs → Chain w' x xs

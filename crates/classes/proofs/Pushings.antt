@@ -1,20 +1,19 @@
 -- A push, put together. Assumes nothing.
-use mathlib.Core.Path.{_≡_, refl, sym, ap, _∙_, subst}
+use mathlib.Core.Path.{_≡_, refl, sym, ap, subst}
 use mathlib.Core.Bool.{Bool, true, false}
 use mathlib.Core.List.{List, [], _∷_, _++_}
-use Prim.Native.Nat.{ℕ, zero, suc, _+_, _*_, _-_, _/_, _%_, _≤_, _<_}
+use Prim.Native.Nat.{ℕ, _+_, _/_, _%_, _≤_, _<_}
 use native.Mathlib.Omega.{arith}
 use lib.ListN.{length, getD}
-use Rattle.theory.specs.Net.{Clash}
-use Rattle.area.specs.Log.{body, Logged, Later, Undone}
+use Rattle.area.specs.Log.{body, Later, Undone}
 use Rattle.area.proofs.Undo.{later-trans, word, undone-is, undone-later}
 use Rattle.classes.specs.declared.push.Pushed.the-variants.{In, Clashed}
 use Rattle.classes.specs.State.{words, targets, State, Asked, United, withPair}
 use Rattle.classes.specs.Nodes.{Listing, Listed}
-use Rattle.classes.specs.Entry.{Entry, graphs, Comes}
+use Rattle.classes.specs.Entry.{Entry, Comes}
 use Rattle.classes.specs.Holds.{Holds, Adding, Adds, Pushing, Pushes}
 use Rattle.classes.proofs.Words.{word-at}
-use Rattle.classes.proofs.Comings.{pile, done', state', same', some', nodes', ahead', holds', clash'}
+use Rattle.classes.proofs.Comings.{pile, state', same', some', nodes', ahead', holds', clash'}
 use Rattle.classes.proofs.Laws.{holds-few, holds-again, since-later}
 
 module _ (n k : ℕ) (w : List ℕ) (g base c : ℕ) where

@@ -1,13 +1,11 @@
 -- When all that is pushed is done, the classes are the least equivalence and there is no clash. Assumes nothing.
 use mathlib.Core.Path.{_≡_, refl, sym, ap, _∙_, subst}
-use mathlib.Core.List.{List, [], _∷_, _++_, List·Memᴰ, List·Memᴰ·not-nil, List·Memᴰ·cases-cons, List·Memᴰ·head, List·Memᴰ·tail}
-use mathlib.Core.Logic.{_⊎_, inl, inr, ⊎-elim}
-use Prim.Native.Nat.{ℕ, zero, suc, _+_, _*_, _-_, _≤_, _<_}
+use mathlib.Core.List.{List, [], List·Memᴰ, List·Memᴰ·not-nil}
+use Prim.Native.Nat.{ℕ, _≤_, _<_}
 use native.Mathlib.Omega.{arith}
 use lib.ListN.{length, getD}
-use Rattle.area.specs.Region.{region}
 use Rattle.classes.specs.Labels.{Eq}
-use Rattle.classes.specs.State.{Pile, Done, Same, Clashes, First, State, Full, Least}
+use Rattle.classes.specs.State.{Pile, Done, Same, Clashes, First, State, Full}
 use Rattle.classes.proofs.Fuse.{low, top}
 use Rattle.classes.proofs.Links.{first-det, first-mem}
 use Rattle.classes.proofs.Visits.{near-none}
@@ -21,22 +19,19 @@ module _ (G : Pile) (H : Done) (F T : List ℕ) (n k s : ℕ) (w : List ℕ) (hn
   complete (Same.along {p} {q} a b e r) =
       let o = u .cover p (f .arcs p a) in
       let o' = u .cover q (f .arcs q b) in
-      let c : Eq (u .M) ((G .S) p) ((G .S) q) = complete r in
-      let d : o .0 ≡ o' .0 = first-det F (getD F q 0) (getD (u .C) (getD (u .M) ((G .S) q) 0) []) (o .0) (o' .0)
-      (subst (λ (z : ℕ). First F z (getD (u .C) (getD (u .M) ((G .S) q) 0) []) (o .0)) e (subst (λ (z : ℕ). First F (getD F p 0) (getD (u .C) z []) (o .0)) c (o .1 .0))) (o' .1 .0) in
+      let c : Eq (u .M) (G .S p) (G .S q) = complete r in
+      let d : o .0 ≡ o' .0 = first-det F (getD F q 0) (getD (u .C) (getD (u .M) (G .S q) 0) []) (o .0) (o' .0)
+      (subst (λ (z : ℕ). First F z (getD (u .C) (getD (u .M) (G .S q) 0) []) (o .0)) e (subst (λ (z : ℕ). First F (getD F p 0) (getD (u .C) z []) (o .0)) c (o .1 .0))) (o' .1 .0) in
       sym (near-none F T (u .M) w (o .1 .1)) ∙ ap (λ (z : ℕ). getD (u .M) (getD T z 0) 0) d ∙ near-none F T (u .M) w (o' .1 .1)
 
   pub agree : Clashes G F T → ⊥
   agree (Clashes.atoms {x} {y} a b r nx ny ne) =
       ne (sym (u .met x (f .atoms x a nx) nx) ∙ ap (λ (z : ℕ). getD w z 0) (complete r) ∙ u .met y (f .atoms y b ny) ny)
   agree (Clashes.mixed {x} {q} a nx b r) =
-      let e : Eq (u .M) x ((G .S) q) = complete r in
+      let e : Eq (u .M) x (G .S q) = complete r in
       let m = f .atoms x a nx in
       let hx = u .nodes x m .0 in
       let o = u .cover q (f .arcs q b) in
       let g : 2048 < getD w (getD (u .M) x 0) 0 = subst (λ (z : ℕ). 2048 < z) (sym (u .met x m nx)) (u .atoms x a nx) in
       let nil = u .bare (getD (u .M) x 0) (low G H F T n k s [] w (omega arith) hw u x hx) (top G H F T n k s [] w (omega arith) hw u x hx) g .0 in
-      List·Memᴰ·not-nil (subst (List·Memᴰ (o .0)) nil (subst (λ (z : ℕ). List·Memᴰ (o .0) (getD (u .C) z [])) (sym e) (first-mem F (getD F q 0) (getD (u .C) (getD (u .M) ((G .S) q) 0) []) (o .0) (o .1 .0))))
-
-  pub least : Least G F T n w
-  least = record { M = u .M; forest = u .forest; sound = u .sound; complete = λ i j r. complete r; agree = agree }
+      List·Memᴰ·not-nil (subst (List·Memᴰ (o .0)) nil (subst (λ (z : ℕ). List·Memᴰ (o .0) (getD (u .C) z [])) (sym e) (first-mem F (getD F q 0) (getD (u .C) (getD (u .M) (G .S q) 0) []) (o .0) (o .1 .0))))

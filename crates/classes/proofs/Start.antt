@@ -2,21 +2,20 @@
 use mathlib.Core.Path.{_≡_, refl, sym, ap, _∙_, subst}
 use mathlib.Core.Bool.{Bool, true, false}
 use mathlib.Core.List.{List, [], _∷_, List·Memᴰ, List·Memᴰ·head, List·Memᴰ·not-nil, List·Memᴰ·eq-of-singleton}
-use mathlib.Core.Logic.{_⊎_, inl, inr, ⊎-elim}
-use Prim.Native.Nat.{ℕ, zero, suc, _+_, _*_, _-_, _≤_, _<_}
+use mathlib.Core.Logic.{inl}
+use Prim.Native.Nat.{ℕ, zero, suc, _+_, _-_, _≤_, _<_}
 use native.Mathlib.Omega.{arith}
 use native.Mathlib.Decide.{ℕ-discrete, decLt}
 use lib.ListN.{length, set, getD, replicate, length-replicate, length-set}
 use lib.Seq.{getD-set-same, getD-set-other}
 use lib.Dec.{eqb}
-use Rattle.area.specs.Map.{PARENT, NEXT, LOG, WORDS}
+use Rattle.area.specs.Map.{PARENT, NEXT, LOG}
 use Rattle.area.specs.Region.{region}
-use Rattle.area.specs.Log.{Logged}
 use Rattle.area.proofs.Region.{length-region, getD-region}
-use Rattle.classes.specs.Labels.{Eq, pick}
-use Rattle.classes.specs.Forest.{Shape, Forest, tops}
-use Rattle.classes.specs.State.{words, targets, Pile, Done, Same, Chain, State, Full, total}
-use Rattle.classes.specs.Holds.{Tied, Holds, Starts}
+use Rattle.classes.specs.Labels.{pick}
+use Rattle.classes.specs.Forest.{tops}
+use Rattle.classes.specs.State.{words, targets, Pile, Done, Same, Chain, State, total}
+use Rattle.classes.specs.Holds.{Holds, Starts}
 
 tops-le : (i : ℕ) (P : List ℕ) → tops i P ≤ length P
 unfolding tops

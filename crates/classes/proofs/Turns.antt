@@ -1,22 +1,20 @@
 -- Merges of the classes of two nodes, frames that are worked off, and the stack of frames. Assumes nothing.
 use mathlib.Core.Path.{_≡_, refl, sym, ap, _∙_, subst}
-use mathlib.Core.Bool.{Bool, true, false}
-use mathlib.Core.List.{List, [], _∷_, _++_, append-nil, append-assoc, List·Memᴰ, List·Memᴰ·head, List·Memᴰ·tail, List·Memᴰ·not-nil, List·Memᴰ·cases-cons, List·Memᴰ·eq-of-singleton, List·Memᴰ·append-cases, Memᴰ·append-left, Memᴰ·append-right}
+use mathlib.Core.Bool.{Bool, false}
+use mathlib.Core.List.{List, [], _∷_, _++_, List·Memᴰ, List·Memᴰ·head, List·Memᴰ·tail, List·Memᴰ·cases-cons, List·Memᴰ·append-cases, Memᴰ·append-left, Memᴰ·append-right}
 use mathlib.Core.Logic.{_⊎_, inl, inr, ⊎-elim}
-use Prim.Native.Nat.{ℕ, zero, suc, _+_, _*_, _-_, _≤_, _<_}
-use native.Mathlib.Numerals.{add-one}
+use Prim.Native.Nat.{ℕ, suc, _+_, _-_, _≤_, _<_}
 use native.Mathlib.Omega.{arith}
-use native.Mathlib.Decide.{ℕ-discrete, decLt}
-use lib.ListN.{length, set, getD}
+use lib.ListN.{length, getD}
 use Rattle.area.specs.Map.{PARENT, NEXT}
 use Rattle.area.specs.Region.{region}
 use Rattle.classes.specs.Labels.{Eq}
-use Rattle.area.specs.Log.{Logged, Later}
-use Rattle.classes.specs.Forest.{Shape, Forest, Root, tops}
-use Rattle.classes.specs.State.{Pile, Done, Same, Clashes, Chain, Seg, First, None, Way, Near, Framed, Bears, State, Ready, Met, Grow, Looked, Runs, total, frames, hops, withPair, Walk, Working, Told, Turned, Drained, Stacked, Settled, Calm, United}
+use Rattle.area.specs.Log.{Logged}
+use Rattle.classes.specs.Forest.{Root, tops}
+use Rattle.classes.specs.State.{Pile, Done, Same, Chain, Seg, First, Way, Near, Framed, State, Met, Grow, Looked, Runs, hops, withPair, Working, Turned}
 use Rattle.area.proofs.Region.{length-region}
-use Rattle.area.proofs.Undo.{later-refl, later-trans}
-use Rattle.classes.proofs.Links.{chain-from, first-mem, first-feature, first-det, none-first, way-first, way-grow, seg-grow, hops-is, first-way}
+use Rattle.area.proofs.Undo.{later-refl}
+use Rattle.classes.proofs.Links.{chain-from, first-mem, first-feature, none-first, way-first, way-grow, seg-grow, hops-is, first-way}
 use Rattle.classes.proofs.Fuse.{low, top, chain-of, short}
 
 -- ---- the same state with other pairs
@@ -196,7 +194,7 @@ module _ (G : Pile) (H : Done) (F T : List ℕ) (n k s x to : ℕ) (fs : List (�
   after-runs = record { xs = after .0; chain = after .1 .0; short = after .1 .1 .0 }
 
   -- an arc of the frame's class
-  here : (q : ℕ) → List·Memᴰ q (getD (u .C) cl []) → List·Memᴰ q (G .B) × ((getD (u .M) ((G .S) q) 0 ≡ cl) × (((G .S) q < n) × ((getD T q 0 < n) × (q < 2047))))
+  here : (q : ℕ) → List·Memᴰ q (getD (u .C) cl []) → List·Memᴰ q (G .B) × ((getD (u .M) (G .S q) 0 ≡ cl) × ((G .S q < n) × ((getD T q 0 < n) × (q < 2047))))
   here q m =
       let h = u .home cl q cl-in m in
       let b = u .known q (h .0) in
@@ -231,7 +229,7 @@ module _ (G : Pile) (H : Done) (F T : List ℕ) (n k s x to : ℕ) (fs : List (�
         let a = here (x - 1) mine in
         let f = match-in r i l e in
         let b = here i (after .1 .1 .1 i (first-mem F (getD F (x - 1) 0) (after .0) i f)) in
-        Same.along (a .0) (b .0) (sym (first-feature F (getD F (x - 1) 0) (after .0) i f)) (u .sound ((G .S) (x - 1)) ((G .S) i) (a .1 .1 .0) (b .1 .1 .0) (a .1 .0 ∙ sym (b .1 .0)))
+        Same.along (a .0) (b .0) (sym (first-feature F (getD F (x - 1) 0) (after .0) i f)) (u .sound (G .S (x - 1)) (G .S i) (a .1 .1 .0) (b .1 .1 .0) (a .1 .0 ∙ sym (b .1 .0)))
 
     -- the first arc is paid for
     module _ (paid : (i : ℕ) (js : List ℕ) → Way w F (getD F (x - 1) 0) to js i → Eq (u .M) (getD T (x - 1) 0) (getD T i 0)) where

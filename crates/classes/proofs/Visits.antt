@@ -1,9 +1,9 @@
 -- An arc, or an atom, meets its class. Assumes nothing.
 use mathlib.Core.Path.{_≡_, refl, sym, ap, _∙_, subst}
 use mathlib.Core.Bool.{Bool, true, false}
-use mathlib.Core.List.{List, [], _∷_, _++_, List·Memᴰ, List·Memᴰ·head, List·Memᴰ·tail, List·Memᴰ·not-nil, List·Memᴰ·cases-cons}
-use mathlib.Core.Logic.{_⊎_, inl, inr, ⊎-elim}
-use Prim.Native.Nat.{ℕ, zero, suc, _+_, _*_, _-_, _≤_, _<_}
+use mathlib.Core.List.{List, [], _∷_, List·Memᴰ, List·Memᴰ·head, List·Memᴰ·tail, List·Memᴰ·not-nil, List·Memᴰ·cases-cons}
+use mathlib.Core.Logic.{inl, inr, ⊎-elim}
+use Prim.Native.Nat.{ℕ, suc, _+_, _≤_, _<_}
 use native.Mathlib.Numerals.{add-one}
 use native.Mathlib.Omega.{arith}
 use native.Mathlib.Decide.{ℕ-discrete, decLt}
@@ -12,9 +12,9 @@ use lib.Seq.{getD-set-same, getD-set-other}
 use Rattle.area.specs.Map.{PARENT, NEXT, LOG}
 use Rattle.area.specs.Region.{region}
 use Rattle.classes.specs.Labels.{Eq}
-use Rattle.area.specs.Log.{Logged, Later, Put}
-use Rattle.classes.specs.Forest.{Shape, Forest, Root, tops}
-use Rattle.classes.specs.State.{Pile, Done, Same, Clashes, Chain, First, None, Near, Framed, Bears, State, Runs, Looked, total, withPair, withArc, withNode, Asked, Fresh, Coming, Visited, United, Bearing, Marking, Marked}
+use Rattle.area.specs.Log.{Logged, Put}
+use Rattle.classes.specs.Forest.{Root, tops}
+use Rattle.classes.specs.State.{Pile, Done, Same, Clashes, Chain, First, None, Near, Bears, State, Runs, Looked, withPair, withArc, withNode, Fresh, Visited, United, Bearing, Marked}
 use Rattle.area.proofs.Region.{length-region, region-ext}
 use Rattle.area.proofs.Undo.{later-refl, later-trans, put-at, put-off}
 use Rattle.classes.proofs.Links.{chain-same, chain-zero, first-mem, first-feature, none-first, total-set}
@@ -50,12 +50,12 @@ module _ (F T : List ℕ) (n k : ℕ) (w : List ℕ) (hn : n ≤ 1024) (hw : 163
     class-runs l = record { xs = getD (u .C) c []; chain = chain-c l; short = short G H F T n k 0 [] w (omega arith) hw u c }
 
     -- an arc of the class
-    arc-of : (i : ℕ) → List·Memᴰ i (getD (u .C) c []) → List·Memᴰ i (G .B) × (Same G F T x ((G .S) i) × ((getD T i 0 < n) × (i < 2047)))
+    arc-of : (i : ℕ) → List·Memᴰ i (getD (u .C) c []) → List·Memᴰ i (G .B) × (Same G F T x (G .S i) × ((getD T i 0 < n) × (i < 2047)))
     arc-of i m =
         let h = u .home c i c-in m in
         let b = u .known i (h .0) in
         let a = u .arcs i b in
-        (b, (u .sound x ((G .S) i) hx (a .1 .0) (Mx ∙ sym (h .1)), (a .1 .1, a .0)))
+        (b, (u .sound x (G .S i) hx (a .1 .0) (Mx ∙ sym (h .1)), (a .1 .1, a .0)))
 
     -- the first arc of the class
     head-of : (l : List ℕ) → (getD w c 0 ≡ 0 → ⊥) → Chain w (getD w c 0) l → (i : ℕ) × List·Memᴰ i l
@@ -87,7 +87,7 @@ module _ (F T : List ℕ) (n k : ℕ) (w : List ℕ) (hn : n ≤ 1024) (hw : 163
     found-same G H u f =
         let p = found G H u in
         let a = arc-of G H u i (first-mem F (getD F t 0) (getD (u .C) c []) i p) in
-        Same.along (f .arc) (a .0) (sym (first-feature F (getD F t 0) (getD (u .C) c []) i p)) (subst (λ (v : ℕ). Same G F T v ((G .S) i)) (sym (f .is)) (a .1 .0))
+        Same.along (f .arc) (a .0) (sym (first-feature F (getD F t 0) (getD (u .C) c []) i p)) (subst (λ (v : ℕ). Same G F T v (G .S i)) (sym (f .is)) (a .1 .0))
 
     pub visit-found : (k' : ℕ) (bad : Bool) (w' : List ℕ) → United F T n k w (getD T t 0) (getD T i 0) k' bad w' → Visited F T n k w x t k' bad w'
     visit-found k' bad w' m = record {
@@ -95,14 +95,14 @@ module _ (F T : List ℕ) (n k : ℕ) (w : List ℕ) (hn : n ≤ 1024) (hw : 163
       fine = λ z G H u f.
           let p = found G H u in
           let mi = first-mem F (getD F t 0) (getD (u .C) c []) i p in
-          let e : Eq (u .M) ((G .S) i) ((G .S) t) = u .home c i c-in mi .1 ∙ sym (Mx G H u) ∙ ap (λ (v : ℕ). getD (u .M) v 0) (sym (f .is)) in
-          let H1 = withPair H ((G .S) i) ((G .S) t) in
+          let e : Eq (u .M) (G .S i) (G .S t) = u .home c i c-in mi .1 ∙ sym (Mx G H u) ∙ ap (λ (v : ℕ). getD (u .M) v 0) (sym (f .is)) in
+          let H1 = withPair H (G .S i) (G .S t) in
           covered G H f (first-feature F (getD F t 0) (getD (u .C) c []) i p) (u .home c i c-in mi .0)
-          (m .fine z G H1 (hold-pair G H F T n k 0 [] w u ((G .S) i) ((G .S) t) e) (found-same G H u f));
+          (m .fine z G H1 (hold-pair G H F T n k 0 [] w u (G .S i) (G .S t) e) (found-same G H u f));
       clash = λ z G H u f. m .clash z G H u (found-same G H u f);
     }
       where
-        covered : (G : Pile) (H : Done) → Fresh G H n x t → getD F i 0 ≡ getD F t 0 → List·Memᴰ i (H .K) → State G (withPair (withPair H ((G .S) i) ((G .S) t)) (getD T t 0) (getD T i 0)) F T n k' 0 [] w' → State G (withArc H t) F T n k' 0 [] w'
+        covered : (G : Pile) (H : Done) → Fresh G H n x t → getD F i 0 ≡ getD F t 0 → List·Memᴰ i (H .K) → State G (withPair (withPair H (G .S i) (G .S t)) (getD T t 0) (getD T i 0)) F T n k' 0 [] w' → State G (withArc H t) F T n k' 0 [] w'
         covered G H f ef mk v =
             let r1 = v .room in let r2 = v .all in let r3 = f .room in
             record {
@@ -122,7 +122,7 @@ module _ (F T : List ℕ) (n k : ℕ) (w : List ℕ) (hn : n ≤ 1024) (hw : 163
               bare = v .bare;
               home = λ d q h m. let o = v .home d q h m in (List·Memᴰ·tail (o .0), o .1);
               known = λ j m. ⊎-elim (λ e. subst (λ (a : ℕ). List·Memᴰ a (G .B)) (sym e) (f .arc)) (λ a. v .known j a) (List·Memᴰ·cases-cons m);
-              cover = λ j m. ⊎-elim (λ e. subst (λ (a : ℕ). (b : ℕ) × (First F (getD F a 0) (getD (v .C) (getD (v .M) ((G .S) a) 0) []) b × Near F T (v .M) w' [] (getD T b 0) (getD T a 0))) (sym e) here) (λ a. v .cover j a) (List·Memᴰ·cases-cons m);
+              cover = λ j m. ⊎-elim (λ e. subst (λ (a : ℕ). (b : ℕ) × (First F (getD F a 0) (getD (v .C) (getD (v .M) (G .S a) 0) []) b × Near F T (v .M) w' [] (getD T b 0) (getD T a 0))) (sym e) here) (λ a. v .cover j a) (List·Memᴰ·cases-cons m);
               nodes = v .nodes;
               met = v .met;
               held = λ a b m. v .held a b (List·Memᴰ·tail (List·Memᴰ·tail m));
@@ -130,12 +130,12 @@ module _ (F T : List ℕ) (n k : ℕ) (w : List ℕ) (hn : n ≤ 1024) (hw : 163
               frame = v .frame;
             }
           where
-            here : (b : ℕ) × (First F (getD F t 0) (getD (v .C) (getD (v .M) ((G .S) t) 0) []) b × Near F T (v .M) w' [] (getD T b 0) (getD T t 0))
+            here : (b : ℕ) × (First F (getD F t 0) (getD (v .C) (getD (v .M) (G .S t) 0) []) b × Near F T (v .M) w' [] (getD T b 0) (getD T t 0))
             here =
                 let o = v .cover i mk in
-                let e : Eq (v .M) ((G .S) i) ((G .S) t) = v .held ((G .S) i) ((G .S) t) (List·Memᴰ·tail (List·Memᴰ·head refl)) in
+                let e : Eq (v .M) (G .S i) (G .S t) = v .held (G .S i) (G .S t) (List·Memᴰ·tail (List·Memᴰ·head refl)) in
                 let d : Eq (v .M) (getD T t 0) (getD T i 0) = v .held (getD T t 0) (getD T i 0) (List·Memᴰ·head refl) in
-                (o .0, (subst (λ (a : ℕ). First F (getD F t 0) (getD (v .C) a []) (o .0)) e (subst (λ (a : ℕ). First F a (getD (v .C) (getD (v .M) ((G .S) i) 0) []) (o .0)) ef (o .1 .0)), Near.trans (o .1 .1) (Near.old (sym d))))
+                (o .0, (subst (λ (a : ℕ). First F (getD F t 0) (getD (v .C) a []) (o .0)) e (subst (λ (a : ℕ). First F a (getD (v .C) (getD (v .M) (G .S i) 0) []) (o .0)) ef (o .1 .0)), Near.trans (o .1 .1) (Near.old (sym d))))
 
   -- ---- the feature is not there: the arc goes onto the chain
   module _ (t : ℕ) (ht : t < 2048) (lc : getD w c 0 ≤ 2048) (h : ℕ) (eh : h ≡ getD w c 0) (miss : Looked F w (getD F t 0) (getD w c 0) 0) (hk : k + 2 ≤ 4096)
@@ -177,9 +177,9 @@ module _ (F T : List ℕ) (n k : ℕ) (w : List ℕ) (hn : n ≤ 1024) (hw : 163
           bare = λ d a b e. bares d a b e (ℕ-discrete d c);
           home = λ d q a m. homes d q a m (ℕ-discrete d c);
           known = λ j m. ⊎-elim (λ e. subst (λ (a : ℕ). List·Memᴰ a (G .B)) (sym e) (f .arc)) (λ a. u .known j a) (List·Memᴰ·cases-cons m);
-          cover = λ j m. ⊎-elim (λ e. subst (λ (a : ℕ). (b : ℕ) × (First F (getD F a 0) (getD (set (u .C) c (t ∷ getD (u .C) c [])) (getD (u .M) ((G .S) a) 0) []) b × Near F T (u .M) w2 [] (getD T b 0) (getD T a 0))) (sym e) here) (λ a. covers j a (ℕ-discrete (getD (u .M) ((G .S) j) 0) c)) (List·Memᴰ·cases-cons m);
+          cover = λ j m. ⊎-elim (λ e. subst (λ (a : ℕ). (b : ℕ) × (First F (getD F a 0) (getD (set (u .C) c (t ∷ getD (u .C) c [])) (getD (u .M) (G .S a) 0) []) b × Near F T (u .M) w2 [] (getD T b 0) (getD T a 0))) (sym e) here) (λ a. covers j a (ℕ-discrete (getD (u .M) (G .S j) 0) c)) (List·Memᴰ·cases-cons m);
           nodes = u .nodes;
-          met = λ i m a. off (getD (u .M) i 0) (λ e. let b = low G H F T n k 0 [] w (omega arith) hw u i (u .nodes i m .0) in omega arith) (λ e. let b : getD w (getD (u .M) i 0) 0 ≡ (G .A) i = u .met i m a in let d : getD w (getD (u .M) i 0) 0 ≡ getD w c 0 = ap (λ (v : ℕ). getD w v 0) e in let g = u .atoms i (u .nodes i m .1) a in omega arith) (let b = low G H F T n k 0 [] w (omega arith) hw u i (u .nodes i m .0) in omega arith) ∙ u .met i m a;
+          met = λ i m a. off (getD (u .M) i 0) (λ e. let b = low G H F T n k 0 [] w (omega arith) hw u i (u .nodes i m .0) in omega arith) (λ e. let b : getD w (getD (u .M) i 0) 0 ≡ G .A i = u .met i m a in let d : getD w (getD (u .M) i 0) 0 ≡ getD w c 0 = ap (λ (v : ℕ). getD w v 0) e in let g = u .atoms i (u .nodes i m .1) a in omega arith) (let b = low G H F T n k 0 [] w (omega arith) hw u i (u .nodes i m .0) in omega arith) ∙ u .met i m a;
           held = u .held;
           sound = u .sound;
           frame = λ a b m. absurd (List·Memᴰ·not-nil m);
@@ -213,9 +213,9 @@ module _ (F T : List ℕ) (n k : ℕ) (w : List ℕ) (hn : n ≤ 1024) (hw : 163
             let r = u .bare d a b (omega arith) in
             (Co d z ∙ r .0, subst (λ (v : ℕ). Bears G n (u .M) d v) (sym o) (r .1))
 
-        homes : (d q : ℕ) → d < n → List·Memᴰ q (getD (set (u .C) c (t ∷ getD (u .C) c [])) d []) → Dec (d ≡ c) → List·Memᴰ q (t ∷ H .K) × (getD (u .M) ((G .S) q) 0 ≡ d)
+        homes : (d q : ℕ) → d < n → List·Memᴰ q (getD (set (u .C) c (t ∷ getD (u .C) c [])) d []) → Dec (d ≡ c) → List·Memᴰ q (t ∷ H .K) × (getD (u .M) (G .S q) 0 ≡ d)
         homes d q a m (yes z) = ⊎-elim
-            (λ e. (List·Memᴰ·head e, ap (λ (v : ℕ). getD (u .M) ((G .S) v) 0) e ∙ ap (λ (v : ℕ). getD (u .M) v 0) (f .is) ∙ Mx G H u ∙ sym z))
+            (λ e. (List·Memᴰ·head e, ap (λ (v : ℕ). getD (u .M) (G .S v) 0) e ∙ ap (λ (v : ℕ). getD (u .M) v 0) (f .is) ∙ Mx G H u ∙ sym z))
             (λ b. let o = u .home c q c-in b in (List·Memᴰ·tail (o .0), o .1 ∙ sym z))
             (List·Memᴰ·cases-cons (subst (List·Memᴰ q) (ap (λ (v : ℕ). getD (set (u .C) c (t ∷ getD (u .C) c [])) v []) z ∙ C') m))
         homes d q a m (no z) = let o = u .home d q a (subst (List·Memᴰ q) (Co d z) m) in (List·Memᴰ·tail (o .0), o .1)
@@ -223,10 +223,10 @@ module _ (F T : List ℕ) (n k : ℕ) (w : List ℕ) (hn : n ≤ 1024) (hw : 163
         none : None F (getD F t 0) (getD (u .C) c [])
         none = miss .miss refl (getD (u .C) c []) (chain-c G H u lc)
 
-        here : (b : ℕ) × (First F (getD F t 0) (getD (set (u .C) c (t ∷ getD (u .C) c [])) (getD (u .M) ((G .S) t) 0) []) b × Near F T (u .M) w2 [] (getD T b 0) (getD T t 0))
+        here : (b : ℕ) × (First F (getD F t 0) (getD (set (u .C) c (t ∷ getD (u .C) c [])) (getD (u .M) (G .S t) 0) []) b × Near F T (u .M) w2 [] (getD T b 0) (getD T t 0))
         here = (t, (subst (λ (v : ℕ). First F (getD F t 0) (getD (set (u .C) c (t ∷ getD (u .C) c [])) v []) t) (sym (ap (λ (v : ℕ). getD (u .M) v 0) (f .is) ∙ Mx G H u)) (subst (λ (l : List ℕ). First F (getD F t 0) l t) (sym C') (inl (refl, refl))), Near.old refl))
 
-        covers : (j : ℕ) → List·Memᴰ j (H .K) → Dec (getD (u .M) ((G .S) j) 0 ≡ c) → (b : ℕ) × (First F (getD F j 0) (getD (set (u .C) c (t ∷ getD (u .C) c [])) (getD (u .M) ((G .S) j) 0) []) b × Near F T (u .M) w2 [] (getD T b 0) (getD T j 0))
+        covers : (j : ℕ) → List·Memᴰ j (H .K) → Dec (getD (u .M) (G .S j) 0 ≡ c) → (b : ℕ) × (First F (getD F j 0) (getD (set (u .C) c (t ∷ getD (u .C) c [])) (getD (u .M) (G .S j) 0) []) b × Near F T (u .M) w2 [] (getD T b 0) (getD T j 0))
         covers j m (yes z) =
             let o = u .cover j m in
             let p : First F (getD F j 0) (getD (u .C) c []) (o .0) = subst (λ (v : ℕ). First F (getD F j 0) (getD (u .C) v []) (o .0)) z (o .1 .0) in (
@@ -239,7 +239,7 @@ module _ (F T : List ℕ) (n k : ℕ) (w : List ℕ) (hn : n ≤ 1024) (hw : 163
             )
         covers j m (no z) =
             let o = u .cover j m in
-            (o .0, (subst (λ (l : List ℕ). First F (getD F j 0) l (o .0)) (sym (Co (getD (u .M) ((G .S) j) 0) z)) (o .1 .0), Near.old (near-none F T (u .M) w (o .1 .1))))
+            (o .0, (subst (λ (l : List ℕ). First F (getD F j 0) l (o .0)) (sym (Co (getD (u .M) (G .S j) 0) z)) (o .1 .0), Near.old (near-none F T (u .M) w (o .1 .1))))
 
     pub visit-hung : Visited F T n k w x t k2 false w2
     visit-hung = record {
@@ -293,7 +293,7 @@ module _ (F T : List ℕ) (n k : ℕ) (w : List ℕ) (hn : n ≤ 1024) (hw : 163
             known = u .known;
             cover = u .cover;
             nodes = λ i m. ⊎-elim (λ o. subst (λ (a : ℕ). (a < n) × List·Memᴰ a (G .N)) (sym o) (b .small, b .node)) (λ o. u .nodes i o) (List·Memᴰ·cases-cons m);
-            met = λ i m a. ⊎-elim (λ o. subst (λ (j : ℕ). getD w (getD (u .M) j 0) 0 ≡ (G .A) j) (sym o) (ap (λ (j : ℕ). getD w j 0) (Mx G H u) ∙ e ∙ sym (b .is))) (λ o. u .met i o a) (List·Memᴰ·cases-cons m);
+            met = λ i m a. ⊎-elim (λ o. subst (λ (j : ℕ). getD w (getD (u .M) j 0) 0 ≡ G .A j) (sym o) (ap (λ (j : ℕ). getD w j 0) (Mx G H u) ∙ e ∙ sym (b .is))) (λ o. u .met i o a) (List·Memᴰ·cases-cons m);
             held = u .held;
             sound = u .sound;
             frame = u .frame;
@@ -336,13 +336,13 @@ module _ (F T : List ℕ) (n k : ℕ) (w : List ℕ) (hn : n ≤ 1024) (hw : 163
             known = u .known;
             cover = λ j m. let o = u .cover j m in (o .0, (o .1 .0, Near.old (near-none F T (u .M) w (o .1 .1))));
             nodes = λ i m. ⊎-elim (λ o. subst (λ (a : ℕ). (a < n) × List·Memᴰ a (G .N)) (sym o) (b .small, b .node)) (λ o. u .nodes i o) (List·Memᴰ·cases-cons m);
-            met = λ i m a. ⊎-elim (λ o. subst (λ (j : ℕ). getD w1 (getD (u .M) j 0) 0 ≡ (G .A) j) (sym o) (ap (λ (j : ℕ). getD w1 j 0) (Mx G H u) ∙ at1 ∙ sym (b .is))) (λ o. old i o a) (List·Memᴰ·cases-cons m);
+            met = λ i m a. ⊎-elim (λ o. subst (λ (j : ℕ). getD w1 (getD (u .M) j 0) 0 ≡ G .A j) (sym o) (ap (λ (j : ℕ). getD w1 j 0) (Mx G H u) ∙ at1 ∙ sym (b .is))) (λ o. old i o a) (List·Memᴰ·cases-cons m);
             held = u .held;
             sound = u .sound;
             frame = λ a d m. absurd (List·Memᴰ·not-nil m);
           }
         where
-          old : (i : ℕ) → List·Memᴰ i (H .U) → ((G .A) i ≡ 0 → ⊥) → getD w1 (getD (u .M) i 0) 0 ≡ (G .A) i
+          old : (i : ℕ) → List·Memᴰ i (H .U) → (G .A i ≡ 0 → ⊥) → getD w1 (getD (u .M) i 0) 0 ≡ G .A i
           old i m a =
               let l = low G H F T n k 0 [] w (omega arith) hw u i (u .nodes i m .0) in
               off1 (getD (u .M) i 0) (λ e. a (sym (u .met i m a) ∙ ap (λ (j : ℕ). getD w j 0) e ∙ e0)) (omega arith) ∙ u .met i m a

@@ -1,23 +1,17 @@
 -- The laws of a forest in the area. Assumes nothing.
-use mathlib.Core.Path.{_≡_, refl, sym, ap, _∙_, subst}
+use mathlib.Core.Path.{_≡_, sym, ap, _∙_}
 use mathlib.Core.Bool.{true, false}
-use mathlib.Core.List.{List, [], _∷_, _++_, map}
-use mathlib.Core.Logic.{_⊎_, inl, inr, ⊎-elim}
-use Prim.Native.Nat.{ℕ, zero, suc, _+_, _*_, _-_, _≤_, _<_, min, max}
-use native.Mathlib.Nat.{eq-or-lt-of-le}
+use mathlib.Core.List.{List, [], _∷_, map}
+use Prim.Native.Nat.{ℕ, zero, suc, _+_, _≤_, _<_}
 use native.Mathlib.Omega.{arith}
 use native.Mathlib.Decide.{ℕ-discrete}
-use lib.ListN.{length, take, drop, set, getD, length-map, length-set, length-append, List·getD-map, List·getD-append}
-use lib.Seq.{getD-set-same, getD-set-other, getD-take, getD-at}
-use Rattle.area.specs.Region.{region}
-use Rattle.classes.specs.Labels.{pick, relab, relabelled, Eq}
+use lib.ListN.{length, set, getD, length-map, length-set, List·getD-map}
+use lib.Seq.{getD-set-same, getD-set-other}
+use Rattle.classes.specs.Labels.{relab, relabelled}
 use lib.Dec.{eqb}
 use borrow.Author.Tests.{eq-eqb, ne-eqb}
-use Rattle.area.specs.Log.{body, Logged, Later, Put}
-use Rattle.classes.specs.Forest.{Shape, Forest, Root, tops}
-use Rattle.area.proofs.Region.{region-set-same, region-take, length-region}
-use Rattle.classes.proofs.Kernel.{relab-hit, relab-miss, relab-case}
-use Rattle.area.proofs.Undo.{later-refl}
+use Rattle.classes.specs.Forest.{Shape, Forest, tops}
+use Rattle.classes.proofs.Kernel.{relab-hit, relab-miss}
 
 -- ---- a link: the root a goes below the root b
 module _ (P : List ℕ) (a b : ℕ) (ha : a < length P) (lt : b < a) (ra : getD P a 0 ≡ a) (rb : getD P b 0 ≡ b) where

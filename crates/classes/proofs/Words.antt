@@ -1,11 +1,10 @@
 -- The laws of the loaded words. Assumes nothing.
-use mathlib.Core.Path.{_≡_, refl, sym, ap, _∙_}
+use mathlib.Core.Path.{_≡_}
 use mathlib.Core.List.{List}
 use Prim.Native.Nat.{ℕ, _+_, _≤_, _<_}
 use native.Mathlib.Omega.{arith}
 use lib.ListN.{length, getD}
 use Rattle.area.specs.Map.{WORDS, MARKS}
-use Rattle.area.specs.Region.{region}
 use Rattle.area.specs.Log.{Later}
 use Rattle.area.proofs.Region.{getD-region, region-ext}
 use Rattle.classes.specs.State.{words, targets}

@@ -1,12 +1,10 @@
 -- A forest of parents P, and the labels L that it stands for. Assumes nothing.
-use Prim.Native.Nat.{ℕ, zero, suc, _+_, _*_, _-_, _≤_, _<_}
+use Prim.Native.Nat.{ℕ, suc, _+_, _≤_, _<_}
 use mathlib.Core.Path.{_≡_}
-use mathlib.Core.Logic.{_⊎_}
 use mathlib.Core.List.{List, [], _∷_}
 use lib.Dec.{eqb}
-use lib.ListN.{length, getD, set}
-use Rattle.area.specs.Region.{region}
-use Rattle.classes.specs.Labels.{pick, Eq}
+use lib.ListN.{length, getD}
+use Rattle.classes.specs.Labels.{pick}
 
 pub record Shape (P : List ℕ) : Type 0 where
   pub down : (i : ℕ) → i < length P → getD P i 0 ≤ i

@@ -6,7 +6,7 @@ use mathlib.Core.List.{List, [], _∷_, _++_, List·Memᴰ}
 use Prim.Native.Nat.{ℕ, suc, _+_, _*_, _≤_, _<_}
 use lib.ListN.{length, getD}
 use Rattle.theory.specs.Limits.{code-limit}
-use Rattle.theory.specs.Net.{Node, atom, arcs, Graph, nodeAt, arcsOf, Canonical, Clash}
+use Rattle.theory.specs.Net.{Node, atom, arcs, nodeAt, arcsOf, Canonical, Clash}
 use Rattle.theory.specs.Layout.{GraphFits}
 use Rattle.theory.proofs.Weight.{weight, weights}
 use Rattle.area.specs.Map.{WORDS, MARKS}

@@ -5,11 +5,11 @@ use mathlib.Core.Bool.{Bool, true, false}
 use mathlib.Core.Logic.{_⊎_}
 use mathlib.Core.List.{List, [], _∷_, _++_, List·Memᴰ}
 use lib.Dec.{eqb}
-use lib.ListN.{length, getD, set}
+use lib.ListN.{length, getD}
 use Rattle.area.specs.Map.{PARENT, NEXT, STACK, WORDS}
 use Rattle.area.specs.Region.{region}
 use Rattle.classes.specs.Labels.{Eq}
-use Rattle.area.specs.Log.{body, Logged, Later}
+use Rattle.area.specs.Log.{Logged, Later}
 use Rattle.classes.specs.Forest.{Shape, Forest, tops}
 
 -- ---- the loaded words, and what follows each of them
@@ -34,12 +34,12 @@ pub data Same (G : Pile) (F T : List ℕ) : ℕ → ℕ → Type 0 where
   self : (x : ℕ) → Same G F T x x
   back : {x y : ℕ} → Same G F T x y → Same G F T y x
   on : {x y z : ℕ} → Same G F T x y → Same G F T y z → Same G F T x z
-  along : {p q : ℕ} → List·Memᴰ p (G .B) → List·Memᴰ q (G .B) → getD F p 0 ≡ getD F q 0 → Same G F T ((G .S) p) ((G .S) q) → Same G F T (getD T p 0) (getD T q 0)
+  along : {p q : ℕ} → List·Memᴰ p (G .B) → List·Memᴰ q (G .B) → getD F p 0 ≡ getD F q 0 → Same G F T (G .S p) (G .S q) → Same G F T (getD T p 0) (getD T q 0)
 
 -- a class holds two different atoms, or an atom and an arc
 pub data Clashes (G : Pile) (F T : List ℕ) : Type 0 where
-  atoms : {x y : ℕ} → List·Memᴰ x (G .N) → List·Memᴰ y (G .N) → Same G F T x y → ((G .A) x ≡ 0 → ⊥) → ((G .A) y ≡ 0 → ⊥) → ((G .A) x ≡ (G .A) y → ⊥) → Clashes G F T
-  mixed : {x q : ℕ} → List·Memᴰ x (G .N) → ((G .A) x ≡ 0 → ⊥) → List·Memᴰ q (G .B) → Same G F T x ((G .S) q) → Clashes G F T
+  atoms : {x y : ℕ} → List·Memᴰ x (G .N) → List·Memᴰ y (G .N) → Same G F T x y → (G .A x ≡ 0 → ⊥) → (G .A y ≡ 0 → ⊥) → (G .A x ≡ G .A y → ⊥) → Clashes G F T
+  mixed : {x q : ℕ} → List·Memᴰ x (G .N) → (G .A x ≡ 0 → ⊥) → List·Memᴰ q (G .B) → Same G F T x (G .S q) → Clashes G F T
 
 -- what is done: the arcs K are on chains or stand for one that is, the atoms of the nodes U are met, and the pairs E are in one class
 pub record Done : Type 0 where
@@ -133,8 +133,8 @@ pub record State (G : Pile) (H : Done) (F T : List ℕ) (n k s : ℕ) (fs : List
   pub room : k + 3 * tops 0 (region PARENT n w) ≤ 3 * n + (2 * length (H .K) + length (H .U))
   pub few : 3 * n + (2 * length (H .K) + length (H .U)) ≤ 4096
   pub stack : s + tops 0 (region PARENT n w) ≤ n
-  pub arcs : (q : ℕ) → List·Memᴰ q (G .B) → (q < 2047) × (((G .S) q < n) × (getD T q 0 < n))
-  pub atoms : (i : ℕ) → List·Memᴰ i (G .N) → ((G .A) i ≡ 0 → ⊥) → 2048 < (G .A) i
+  pub arcs : (q : ℕ) → List·Memᴰ q (G .B) → (q < 2047) × ((G .S q < n) × (getD T q 0 < n))
+  pub atoms : (i : ℕ) → List·Memᴰ i (G .N) → (G .A i ≡ 0 → ⊥) → 2048 < G .A i
   pub M : List ℕ
   pub forest : Forest (region PARENT n w) M
   pub C : List (List ℕ)
@@ -142,11 +142,11 @@ pub record State (G : Pile) (H : Done) (F T : List ℕ) (n k s : ℕ) (fs : List
   pub all : total C ≤ length (H .K)
   pub chain : (c : ℕ) → c < n → getD M c 0 ≡ c → getD w c 0 ≤ 2048 → Chain w (getD w c 0) (getD C c [])
   pub bare : (c : ℕ) → c < n → getD M c 0 ≡ c → 2048 < getD w c 0 → (getD C c [] ≡ []) × Bears G n M c (getD w c 0)
-  pub home : (c q : ℕ) → c < n → List·Memᴰ q (getD C c []) → List·Memᴰ q (H .K) × (getD M ((G .S) q) 0 ≡ c)
+  pub home : (c q : ℕ) → c < n → List·Memᴰ q (getD C c []) → List·Memᴰ q (H .K) × (getD M (G .S q) 0 ≡ c)
   pub known : (j : ℕ) → List·Memᴰ j (H .K) → List·Memᴰ j (G .B)
-  pub cover : (j : ℕ) → List·Memᴰ j (H .K) → (i : ℕ) × (First F (getD F j 0) (getD C (getD M ((G .S) j) 0) []) i × Near F T M w fs (getD T i 0) (getD T j 0))
+  pub cover : (j : ℕ) → List·Memᴰ j (H .K) → (i : ℕ) × (First F (getD F j 0) (getD C (getD M (G .S j) 0) []) i × Near F T M w fs (getD T i 0) (getD T j 0))
   pub nodes : (i : ℕ) → List·Memᴰ i (H .U) → (i < n) × List·Memᴰ i (G .N)
-  pub met : (i : ℕ) → List·Memᴰ i (H .U) → ((G .A) i ≡ 0 → ⊥) → getD w (getD M i 0) 0 ≡ (G .A) i
+  pub met : (i : ℕ) → List·Memᴰ i (H .U) → (G .A i ≡ 0 → ⊥) → getD w (getD M i 0) 0 ≡ G .A i
   pub held : (x y : ℕ) → List·Memᴰ (x, y) (H .E) → Eq M x y
   pub sound : (i j : ℕ) → i < n → j < n → Eq M i j → Same G F T i j
   pub frame : (a b : ℕ) → List·Memᴰ (a, b) fs → Framed n M C w a b
@@ -217,12 +217,6 @@ pub record Settled (F T : List ℕ) (n k s : ℕ) (w : List ℕ) (k' : ℕ) (bad
   pub fine : bad ≡ false → (G : Pile) (H : Done) → State G H F T n k s (frames w s) w → State G H F T n k' 0 [] w'
   pub clash : bad ≡ true → (G : Pile) (H : Done) → State G H F T n k s (frames w s) w → Clashes G F T
 
--- nothing is owed
-pub record Calm (F T : List ℕ) (n k : ℕ) (w : List ℕ) : Type 0 where
-  pub G : Pile
-  pub H : Done
-  pub state : State G H F T n k 0 [] w
-
 pub record United (F T : List ℕ) (n k : ℕ) (w : List ℕ) (x y k' : ℕ) (bad : Bool) (w' : List ℕ) : Type 0 where
   pub later : Later k w k' w'
   pub fine : bad ≡ false → (G : Pile) (H : Done) → State G H F T n k 0 [] w → Same G F T x y → State G (withPair H x y) F T n k' 0 [] w'
@@ -288,17 +282,9 @@ pub record Marked (F T : List ℕ) (n k : ℕ) (w : List ℕ) (x v k' : ℕ) (ba
   pub fine : bad ≡ false → (G : Pile) (H : Done) → State G H F T n k 0 [] w → Bearing G H n x v → State G (withNode H x) F T n k' 0 [] w'
   pub clash : bad ≡ true → (G : Pile) (H : Done) → State G H F T n k 0 [] w → Bearing G H n x v → Clashes G F T
 
--- ---- the result: the classes are the least equivalence, and nothing clashes
-pub record Least (G : Pile) (F T : List ℕ) (n : ℕ) (w : List ℕ) : Type 0 where
-  pub M : List ℕ
-  pub forest : Forest (region PARENT n w) M
-  pub sound : (i j : ℕ) → i < n → j < n → Eq M i j → Same G F T i j
-  pub complete : (i j : ℕ) → Same G F T i j → Eq M i j
-  pub agree : Clashes G F T → ⊥
-
 -- all that is pushed is done
 pub record Full (G : Pile) (H : Done) : Type 0 where
   pub arcs : (q : ℕ) → List·Memᴰ q (G .B) → List·Memᴰ q (H .K)
-  pub atoms : (i : ℕ) → List·Memᴰ i (G .N) → ((G .A) i ≡ 0 → ⊥) → List·Memᴰ i (H .U)
+  pub atoms : (i : ℕ) → List·Memᴰ i (G .N) → (G .A i ≡ 0 → ⊥) → List·Memᴰ i (H .U)
   pub root : ℕ
   pub roots : (x : ℕ) → List·Memᴰ x (G .R) → List·Memᴰ (root, x) (H .E)

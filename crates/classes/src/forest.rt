@@ -2,8 +2,8 @@
 use area::log::wide;
 use area::map::PARENT;
 ghost use mathlib.Core.Path.{_≡_};
-ghost use Prim.Native.Nat.{ℕ, _+_, _*_, _-_, _≤_, _<_};
-ghost use lib.ListN.{length, getD, set};
+ghost use Prim.Native.Nat.{_+_, _≤_, _<_};
+ghost use lib.ListN.{length, getD};
 ghost use Rattle.area.specs.Region.{region};
 ghost use Rattle.classes.specs.Forest.{Shape, Root};
 

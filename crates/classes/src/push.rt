@@ -8,9 +8,8 @@ use area::log::undo;
 use area::log::wide;
 use area::map::NEXT;
 use area::map::PARENT;
-ghost use mathlib.Core.Path.{_≡_};
-ghost use Prim.Native.Nat.{ℕ, _+_, _*_, _-_, _≤_, _<_};
-ghost use lib.ListN.{length, getD};
+ghost use Prim.Native.Nat.{_+_, _≤_, _<_};
+ghost use lib.ListN.{length};
 ghost use Rattle.classes.specs.Holds.{Adding, Adds, Pushing, Pushes, Remembers, Backs, Starts, Labelled, Classed};
 
 // The log's entries after a push that went in; or the graph clashes with those that are there.

@@ -9,8 +9,8 @@ use area::log::wide;
 use area::map::STACK;
 ghost use mathlib.Core.Path.{_≡_};
 ghost use mathlib.Core.Bool.{true, false};
-ghost use Prim.Native.Nat.{ℕ, suc, _+_, _*_, _-_, _≤_, _<_};
-ghost use lib.ListN.{length, getD, set};
+ghost use Prim.Native.Nat.{_+_, _-_, _≤_, _<_};
+ghost use lib.ListN.{length};
 ghost use Rattle.classes.specs.State.{words, targets, Working, Turned, Drained, Stacked, Settled, Asked, United};
 
 // The first arc of what is left of a frame: its target joins that of the first arc from `to` on with its feature.

@@ -5,8 +5,6 @@ use Rattle.area.proofs.Undo.{put-law}
 use borrow.Author.Needs.{needs}
 use Rattle.area.proofs.log.put.Statement.{statement}
 use Rattle.area.proofs.log.put.Tie as tie
-use Rattle.area.proofs.log.put.Reads as reads
-use Rattle.area.proofs.log.put.Lts as lts
 
 -- src/log.rt:20:15
 mul-old : tie.Need-mul-old
@@ -58,7 +56,9 @@ same-length c = search needs
 
 -- src/log.rt:15:1
 returns : tie.Need-returns
-returns c = let s = c .before in put-law (s .args .n) (s .args .w .now) (s .args .i) (s .args .v) (s .pre .0) (s .pre .1 .0) (s .pre .1 .1 .1 .0) (omega arith) (omega arith)
+returns c =
+    let s = c .before in
+    put-law (s .args .n) (s .args .w .now) (s .args .i) (s .args .v) (s .pre .0) (s .pre .1 .0) (s .pre .1 .1 .1 .0) (omega arith) (omega arith)
 
 pub put-spec : {M : Type 1} → statement M
 put-spec =

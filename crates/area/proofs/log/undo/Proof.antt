@@ -7,9 +7,6 @@ use Rattle.area.proofs.Undo.{Going, going-start, going-back, going-done
 use borrow.Author.Needs.{needs}
 use Rattle.area.proofs.log.undo.Statement.{statement}
 use Rattle.area.proofs.log.undo.Tie as tie
-use Rattle.area.proofs.log.undo.Reads as reads
-use Rattle.area.proofs.log.undo.Lts as lts
-use Rattle.area.proofs.log.wide.Reads as wide-reads
 
 abbrev Inv-loop : tie.InvT-loop
 Inv-loop w₀ n m k₀ w k = (m ≤ k) × ((k ≤ n) × ((length w ≡ length w₀) × Going k n w₀ w))
@@ -47,7 +44,7 @@ mul-w c = search needs
 
 -- src/log.rt:37:9
 slice-write-w : tie.Need-slice-write-w Inv-loop μ-loop
-slice-write-w c = let r = c .before .before .before .before .before .pre .0 .room in omega arith
+slice-write-w c = omega arith
 
 -- src/log.rt:33:5
 loop-less : tie.Need-loop-less Inv-loop μ-loop
@@ -55,7 +52,10 @@ loop-less c = search needs
 
 -- src/log.rt:33:5
 loop-again : tie.Need-loop-again Inv-loop μ-loop
-loop-again c = let s = c .before .before .before .before .before in let o = c .before .before .before .loop in (omega arith, (omega arith, (simp length-set (o .inv .1 .1 .0), rw (c .wide .ensures) (going-back (o .k) (s .args .n) (s .args .w .now) (o .w) (o .inv .1 .1 .1) (omega arith) (omega arith)))))
+loop-again c =
+    let s = c .before .before .before .before .before in
+    let o = c .before .before .before .loop in
+    (omega arith, (omega arith, (simp length-set (o .inv .1 .1 .0), rw (c .wide .ensures) (going-back (o .k) (s .args .n) (s .args .w .now) (o .w) (o .inv .1 .1 .1) (omega arith) (omega arith)))))
 
 -- src/log.rt:27:1
 same-length : tie.Need-same-length Inv-loop μ-loop

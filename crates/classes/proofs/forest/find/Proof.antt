@@ -1,11 +1,12 @@
+-- `classes::forest::find` meets its contract. The loop's invariant: x has the root of i, and p is its parent. Assumes nothing.
 use mathlib.Core.Path.{_≡_, refl, sym, ap, _∙_}
 use mathlib.Core.List.{List}
-use Prim.Native.Nat.{ℕ, _<_, _≤_}
+use Prim.Native.Nat.{ℕ, _≤_}
 use native.Mathlib.Omega.{arith}
 use lib.ListN.{length, getD}
 use Rattle.area.specs.Map.{PARENT}
 use Rattle.area.specs.Region.{region}
-use Rattle.classes.specs.Forest.{Forest, Shape, Root}
+use Rattle.classes.specs.Forest.{Forest}
 use Rattle.area.proofs.Region.{length-region}
 use borrow.Author.Needs.{needs}
 use Rattle.classes.proofs.forest.find.Statement.{statement}

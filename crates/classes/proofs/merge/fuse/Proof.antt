@@ -1,13 +1,10 @@
+-- `classes::merge::fuse` meets its contract. Assumes nothing.
 use Rattle.classes.proofs.Walks.{some}
-use Prim.Native.Nat.{ℕ, suc, _+_, _*_, _-_, _<_, _≤_}
-use mathlib.Core.Path.{_≡_, refl, sym, ap, _∙_, subst}
-use mathlib.Core.Logic.{_⊎_, inl, inr}
+use mathlib.Core.Path.{refl}
+use mathlib.Core.Logic.{inl, inr}
 use native.Mathlib.Omega.{arith}
-use lib.ListN.{length, getD, set, length-set}
-use Rattle.area.specs.Region.{region}
-use Rattle.area.specs.Log.{Put}
-use Rattle.classes.specs.State.{Runs, Last, Looked, Ready, Met}
-use Rattle.classes.proofs.Cases.{room, high, plain, moved, knitted, clashed, ready-runs}
+use lib.ListN.{getD}
+use Rattle.classes.proofs.Cases.{room, plain, moved, clashed}
 use borrow.Author.Needs.{needs}
 use Rattle.classes.proofs.merge.fuse.Statement.{statement}
 use Rattle.classes.proofs.merge.fuse.Tie as tie
@@ -31,13 +28,22 @@ cast-put : tie.Need-cast-put
 cast-put c = search needs
 
 put-requires : tie.Need-put-requires
-put-requires c κs = let s = (c .before .before .before .before .before) in let a = s .args in let wn = a .w .now in let rm = room (a .n) (a .k) (a .s) wn (a .a) (a .b) (omega arith) (omega arith) (omega arith) (omega arith) (s .pre .1 .0 .0) (s .pre .1 .0 .1) (s .pre .1 .1) in (s .pre .1 .1 .state .logged, (omega arith, (omega arith, omega arith)))
+put-requires c κs =
+    let s = c .before .before .before .before .before in
+    let a = s .args in
+    let wn = a .w .now in
+    let rm = room (a .n) (a .k) (a .s) wn (a .a) (a .b) (omega arith) (omega arith) (omega arith) (omega arith) (s .pre .1 .0 .0) (s .pre .1 .0 .1) (s .pre .1 .1) in
+    (s .pre .1 .1 .state .logged, (omega arith, (omega arith, omega arith)))
 
 same-length : tie.Need-same-length
 same-length c = search needs
 
 returns : tie.Need-returns
-returns c = let s = (c .before .before .before .before .before .before .before .before) in let a = s .args in let wn = a .w .now in plain (a .n) (a .k) (a .s) wn (a .a) (a .b) (omega arith) (omega arith) (omega arith) (omega arith) (s .pre .1 .0 .0) (s .pre .1 .0 .1) (s .pre .1 .1) ((c .before .before .put) .result) ((c .before .before .put) .last .0) ((c .before .before .put) .ensures) (inl ((c .before .before .before .before .if1) .taken))
+returns c =
+    let s = c .before .before .before .before .before .before .before .before in
+    let a = s .args in
+    let wn = a .w .now in
+    plain (a .n) (a .k) (a .s) wn (a .a) (a .b) (omega arith) (omega arith) (omega arith) (omega arith) (s .pre .1 .0 .0) (s .pre .1 .0 .1) (s .pre .1 .1) (c .before .before .put .result) (c .before .before .put .last .0) (c .before .before .put .ensures) (inl (c .before .before .before .before .if1 .taken))
 
 add-put-2 : tie.Need-add-put-2
 add-put-2 c = search needs
@@ -46,16 +52,31 @@ cast-put-2 : tie.Need-cast-put-2
 cast-put-2 c = search needs
 
 put-requires-2 : tie.Need-put-requires-2
-put-requires-2 c κs = let s = (c .before .before .before .before .before .before) in let a = s .args in let wn = a .w .now in let rm = room (a .n) (a .k) (a .s) wn (a .a) (a .b) (omega arith) (omega arith) (omega arith) (omega arith) (s .pre .1 .0 .0) (s .pre .1 .0 .1) (s .pre .1 .1) in (s .pre .1 .1 .state .logged, (omega arith, (omega arith, omega arith)))
+put-requires-2 c κs =
+    let s = c .before .before .before .before .before .before in
+    let a = s .args in
+    let wn = a .w .now in
+    let rm = room (a .n) (a .k) (a .s) wn (a .a) (a .b) (omega arith) (omega arith) (omega arith) (omega arith) (s .pre .1 .0 .0) (s .pre .1 .0 .1) (s .pre .1 .1) in
+    (s .pre .1 .1 .state .logged, (omega arith, (omega arith, omega arith)))
 
 put-requires-3 : tie.Need-put-requires-3
-put-requires-3 c κs = let s = (c .before .before .before .before .before .before .before .before .before .before) in let a = s .args in let wn = a .w .now in let rm = room (a .n) (a .k) (a .s) wn (a .a) (a .b) (omega arith) (omega arith) (omega arith) (omega arith) (s .pre .1 .0 .0) (s .pre .1 .0 .1) (s .pre .1 .1) in let sm = s .pre .1 .1 .state .logged .small (a .b) (omega arith) in ((c .before .before .before .put2) .ensures .later .logged, (omega arith, (omega (arith, (c .before .before .before .put2) .ensures .next), (omega arith, omega (arith, (c .before .before .before .put2) .ensures .later .len)))))
+put-requires-3 c κs =
+    let s = c .before .before .before .before .before .before .before .before .before .before in
+    let a = s .args in
+    let wn = a .w .now in
+    let rm = room (a .n) (a .k) (a .s) wn (a .a) (a .b) (omega arith) (omega arith) (omega arith) (omega arith) (s .pre .1 .0 .0) (s .pre .1 .0 .1) (s .pre .1 .1) in
+    let sm = s .pre .1 .1 .state .logged .small (a .b) (omega arith) in
+    (c .before .before .before .put2 .ensures .later .logged, (omega arith, (omega (arith, c .before .before .before .put2 .ensures .next), (omega arith, omega (arith, c .before .before .before .put2 .ensures .later .len)))))
 
 same-length-2 : tie.Need-same-length-2
 same-length-2 c = search needs
 
 returns-2 : tie.Need-returns-2
-returns-2 c = let s = (c .before .before .before .before .before .before .before .before .before .before .before .before .before) in let a = s .args in let wn = a .w .now in moved (a .n) (a .k) (a .s) wn (a .a) (a .b) (omega arith) (omega arith) (omega arith) (omega arith) (s .pre .1 .0 .0) (s .pre .1 .0 .1) (s .pre .1 .1) ((c .before .before .before .before .before .before .put2) .result) ((c .before .before .before .before .before .before .put2) .last .0) ((c .before .before .before .before .before .before .put2) .ensures) (getD wn (a .b) 0) ((c .before .before .put3) .result) ((c .before .before .put3) .last .0) refl ((c .before .before .put3) .ensures) ((c .before .before .before .before .before .before .before .before .if2) .taken)
+returns-2 c =
+    let s = c .before .before .before .before .before .before .before .before .before .before .before .before .before in
+    let a = s .args in
+    let wn = a .w .now in
+    moved (a .n) (a .k) (a .s) wn (a .a) (a .b) (omega arith) (omega arith) (omega arith) (omega arith) (s .pre .1 .0 .0) (s .pre .1 .0 .1) (s .pre .1 .1) (c .before .before .before .before .before .before .put2 .result) (c .before .before .before .before .before .before .put2 .last .0) (c .before .before .before .before .before .before .put2 .ensures) (getD wn (a .b) 0) (c .before .before .put3 .result) (c .before .before .put3 .last .0) refl (c .before .before .put3 .ensures) (c .before .before .before .before .before .before .before .before .if2 .taken)
 
 add-put-3 : tie.Need-add-put-3
 add-put-3 c = search needs
@@ -64,22 +85,45 @@ cast-put-3 : tie.Need-cast-put-3
 cast-put-3 c = search needs
 
 put-requires-4 : tie.Need-put-requires-4
-put-requires-4 c κs = let s = (c .before .before .before .before .before .before .before .before) in let a = s .args in let wn = a .w .now in let rm = room (a .n) (a .k) (a .s) wn (a .a) (a .b) (omega arith) (omega arith) (omega arith) (omega arith) (s .pre .1 .0 .0) (s .pre .1 .0 .1) (s .pre .1 .1) in (s .pre .1 .1 .state .logged, (omega arith, (omega arith, omega arith)))
+put-requires-4 c κs =
+    let s = c .before .before .before .before .before .before .before .before in
+    let a = s .args in
+    let wn = a .w .now in
+    let rm = room (a .n) (a .k) (a .s) wn (a .a) (a .b) (omega arith) (omega arith) (omega arith) (omega arith) (s .pre .1 .0 .0) (s .pre .1 .0 .1) (s .pre .1 .1) in
+    (s .pre .1 .1 .state .logged, (omega arith, (omega arith, omega arith)))
 
 same-length-3 : tie.Need-same-length-3
 same-length-3 c = search needs
 
 returns-3 : tie.Need-returns-3
-returns-3 c = let s = (c .before .before .before .before .before .before .before .before .before .before .before) in let a = s .args in let wn = a .w .now in plain (a .n) (a .k) (a .s) wn (a .a) (a .b) (omega arith) (omega arith) (omega arith) (omega arith) (s .pre .1 .0 .0) (s .pre .1 .0 .1) (s .pre .1 .1) ((c .before .before .put4) .result) ((c .before .before .put4) .last .0) ((c .before .before .put4) .ensures) (inr ((c .before .before .before .before .before .if3) .taken, (c .before .before .before .before .if4) .taken))
+returns-3 c =
+    let s = c .before .before .before .before .before .before .before .before .before .before .before in
+    let a = s .args in
+    let wn = a .w .now in
+    plain (a .n) (a .k) (a .s) wn (a .a) (a .b) (omega arith) (omega arith) (omega arith) (omega arith) (s .pre .1 .0 .0) (s .pre .1 .0 .1) (s .pre .1 .1) (c .before .before .put4 .result) (c .before .before .put4 .last .0) (c .before .before .put4 .ensures) (inr (c .before .before .before .before .before .if3 .taken, c .before .before .before .before .if4 .taken))
 
 returns-4 : tie.Need-returns-4
-returns-4 c = let s = (c .before .before .before .before .before .before .before) in let a = s .args in let wn = a .w .now in clashed (a .n) (a .k) (a .s) wn (a .a) (a .b) (omega arith) (omega arith) (omega arith) (omega arith) (s .pre .1 .0 .0) (s .pre .1 .0 .1) (s .pre .1 .1) ((c .before .before .before .if1) .left) ((c .before .before .if2) .left) ((c .if4) .left) (inl ((c .before .if3) .taken))
+returns-4 c =
+    let s = c .before .before .before .before .before .before .before in
+    let a = s .args in
+    let wn = a .w .now in
+    clashed (a .n) (a .k) (a .s) wn (a .a) (a .b) (omega arith) (omega arith) (omega arith) (omega arith) (s .pre .1 .0 .0) (s .pre .1 .0 .1) (s .pre .1 .1) (c .before .before .before .if1 .left) (c .before .before .if2 .left) (c .if4 .left) (inl (c .before .if3 .taken))
 
 returns-5 : tie.Need-returns-5
-returns-5 c = let s = (c .before .before .before .before .before .before .before) in let a = s .args in let wn = a .w .now in clashed (a .n) (a .k) (a .s) wn (a .a) (a .b) (omega arith) (omega arith) (omega arith) (omega arith) (s .pre .1 .0 .0) (s .pre .1 .0 .1) (s .pre .1 .1) ((c .before .before .before .if1) .left) ((c .before .before .if2) .left) (λ e. omega arith) (inr ((c .if5) .taken))
+returns-5 c =
+    let s = c .before .before .before .before .before .before .before in
+    let a = s .args in
+    let wn = a .w .now in
+    clashed (a .n) (a .k) (a .s) wn (a .a) (a .b) (omega arith) (omega arith) (omega arith) (omega arith) (s .pre .1 .0 .0) (s .pre .1 .0 .1) (s .pre .1 .1) (c .before .before .before .if1 .left) (c .before .before .if2 .left) (λ e. omega arith) (inr (c .if5 .taken))
 
 knit-requires : tie.Need-knit-requires
-knit-requires c κs = let s = (c .before .before .before .before .before .before .before .before) in let a = s .args in let wn = a .w .now in let x = some (getD wn (a .b) 0) ((c .before .before .before .before .if1) .left) in let y = some (getD wn (a .a) 0) ((c .before .before .before .if2) .left) in (s .pre .0, (s .pre .1 .0, (((refl, refl), ((x, (c .before .before .if3) .left), (y, (c .before .if5) .left))), s .pre .1 .1)))
+knit-requires c κs =
+    let s = c .before .before .before .before .before .before .before .before in
+    let a = s .args in
+    let wn = a .w .now in
+    let x = some (getD wn (a .b) 0) (c .before .before .before .before .if1 .left) in
+    let y = some (getD wn (a .a) 0) (c .before .before .before .if2 .left) in
+    (s .pre .0, (s .pre .1 .0, (((refl, refl), ((x, c .before .before .if3 .left), (y, c .before .if5 .left))), s .pre .1 .1)))
 
 same-length-4 : tie.Need-same-length-4
 same-length-4 c = search needs

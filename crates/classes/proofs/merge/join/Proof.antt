@@ -1,43 +1,59 @@
-use Prim.Native.Nat.{ℕ, suc, _+_, _*_, _-_, _<_, _≤_}
-use mathlib.Core.Path.{_≡_, refl, sym, ap, _∙_, subst}
+-- `classes::merge::join` meets its contract. Assumes nothing.
 use native.Mathlib.Omega.{arith}
-use lib.ListN.{length, getD}
-use Rattle.area.specs.Region.{region}
-use Rattle.classes.specs.State.{Ready, Met}
 use Rattle.classes.proofs.Turns.{joined-same, joined-up, joined-down}
 use borrow.Author.Needs.{needs}
 use Rattle.classes.proofs.merge.join.Statement.{statement}
 use Rattle.classes.proofs.merge.join.Tie as tie
 
 find-requires : tie.Need-find-requires
-find-requires c κs = let s = (c .before .before) in let a = s .args in let wn = a .w .now in ((omega arith, (omega arith, omega arith)), s .pre .1 .state .shape)
+find-requires c κs =
+    let s = c .before .before in
+    ((omega arith, (omega arith, omega arith)), s .pre .1 .state .shape)
 
 find-requires-2 : tie.Need-find-requires-2
-find-requires-2 c κs = let s = (c .before .before .before .before) in let a = s .args in let wn = a .w .now in ((omega arith, (omega arith, omega arith)), s .pre .1 .state .shape)
+find-requires-2 c κs =
+    let s = c .before .before .before .before in
+    ((omega arith, (omega arith, omega arith)), s .pre .1 .state .shape)
 
 fuse-requires : tie.Need-fuse-requires
-fuse-requires c κs = let s = (c .before .before .before .before .before .before .before) in let a = s .args in let wn = a .w .now in ((omega arith, (omega (arith, (c .before .before .find2) .ensures .low), (omega arith, omega arith))), (((c .before .before .before .before .find) .ensures .top, (c .before .before .find2) .ensures .top), s .pre .1))
+fuse-requires c κs =
+    let s = c .before .before .before .before .before .before .before in
+    ((omega arith, (omega (arith, c .before .before .find2 .ensures .low), (omega arith, omega arith))), ((c .before .before .before .before .find .ensures .top, c .before .before .find2 .ensures .top), s .pre .1))
 
 same-length : tie.Need-same-length
 same-length c = search needs
 
 returns : tie.Need-returns
-returns c = let s = (c .before .before .before .before .before .before .before .before .before .before) in let a = s .args in let wn = a .w .now in joined-up (a .n) (a .k) (a .s) wn (a .x) (a .y) (omega arith) (omega arith) (omega arith) (omega arith) ((c .before .before .before .before .before .before .before .find) .result) ((c .before .before .before .before .before .find2) .result) ((c .before .before .before .before .before .before .before .find) .ensures) ((c .before .before .before .before .before .find2) .ensures) ((c .before .before .fuse) .result .k) ((c .before .before .fuse) .result .s) ((c .before .before .fuse) .result .bad) ((c .before .before .fuse) .last .0) ((c .before .before .fuse) .ensures)
+returns c =
+    let s = c .before .before .before .before .before .before .before .before .before .before in
+    let a = s .args in
+    let wn = a .w .now in
+    joined-up (a .n) (a .k) (a .s) wn (a .x) (a .y) (omega arith) (omega arith) (omega arith) (omega arith) (c .before .before .before .before .before .before .before .find .result) (c .before .before .before .before .before .find2 .result) (c .before .before .before .before .before .before .before .find .ensures) (c .before .before .before .before .before .find2 .ensures) (c .before .before .fuse .result .k) (c .before .before .fuse .result .s) (c .before .before .fuse .result .bad) (c .before .before .fuse .last .0) (c .before .before .fuse .ensures)
 
 fuse-requires-2 : tie.Need-fuse-requires-2
-fuse-requires-2 c κs = let s = (c .before .before .before .before .before .before .before .before) in let a = s .args in let wn = a .w .now in ((omega arith, (omega (arith, (c .before .before .before .before .before .find) .ensures .low), (omega arith, omega arith))), (((c .before .before .before .find2) .ensures .top, (c .before .before .before .before .before .find) .ensures .top), s .pre .1))
+fuse-requires-2 c κs =
+    let s = c .before .before .before .before .before .before .before .before in
+    ((omega arith, (omega (arith, c .before .before .before .before .before .find .ensures .low), (omega arith, omega arith))), ((c .before .before .before .find2 .ensures .top, c .before .before .before .before .before .find .ensures .top), s .pre .1))
 
 same-length-2 : tie.Need-same-length-2
 same-length-2 c = search needs
 
 returns-2 : tie.Need-returns-2
-returns-2 c = let s = (c .before .before .before .before .before .before .before .before .before .before .before) in let a = s .args in let wn = a .w .now in joined-down (a .n) (a .k) (a .s) wn (a .x) (a .y) (omega arith) (omega arith) (omega arith) (omega arith) ((c .before .before .before .before .before .before .before .before .find) .result) ((c .before .before .before .before .before .before .find2) .result) ((c .before .before .before .before .before .before .before .before .find) .ensures) ((c .before .before .before .before .before .before .find2) .ensures) ((c .before .before .fuse2) .result .k) ((c .before .before .fuse2) .result .s) ((c .before .before .fuse2) .result .bad) ((c .before .before .fuse2) .last .0) ((c .before .before .fuse2) .ensures)
+returns-2 c =
+    let s = c .before .before .before .before .before .before .before .before .before .before .before in
+    let a = s .args in
+    let wn = a .w .now in
+    joined-down (a .n) (a .k) (a .s) wn (a .x) (a .y) (omega arith) (omega arith) (omega arith) (omega arith) (c .before .before .before .before .before .before .before .before .find .result) (c .before .before .before .before .before .before .find2 .result) (c .before .before .before .before .before .before .before .before .find .ensures) (c .before .before .before .before .before .before .find2 .ensures) (c .before .before .fuse2 .result .k) (c .before .before .fuse2 .result .s) (c .before .before .fuse2 .result .bad) (c .before .before .fuse2 .last .0) (c .before .before .fuse2 .ensures)
 
 same-length-3 : tie.Need-same-length-3
 same-length-3 c = search needs
 
 returns-3 : tie.Need-returns-3
-returns-3 c = let s = (c .before .before .before .before .before .before .before) in let a = s .args in let wn = a .w .now in joined-same (a .n) (a .k) (a .s) wn (a .x) (a .y) (omega arith) (omega arith) (omega arith) (omega arith) ((c .before .before .before .before .find) .result) ((c .before .before .find2) .result) ((c .before .before .before .before .find) .ensures) ((c .before .before .find2) .ensures) (omega arith) (s .pre .1 .state .logged)
+returns-3 c =
+    let s = c .before .before .before .before .before .before .before in
+    let a = s .args in
+    let wn = a .w .now in
+    joined-same (a .n) (a .k) (a .s) wn (a .x) (a .y) (omega arith) (omega arith) (omega arith) (omega arith) (c .before .before .before .before .find .result) (c .before .before .find2 .result) (c .before .before .before .before .find .ensures) (c .before .before .find2 .ensures) (omega arith) (s .pre .1 .state .logged)
 
 pub join-spec : {M : Type 1} → statement M
 join-spec =

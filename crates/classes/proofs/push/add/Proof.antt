@@ -1,9 +1,6 @@
 -- `classes::push::add` meets its contract. Assumes nothing.
-use Prim.Native.Nat.{ℕ, suc, _+_, _*_, _-_, _<_, _≤_}
-use mathlib.Core.Path.{_≡_, refl, sym, ap, _∙_, subst}
+use mathlib.Core.Path.{_∙_}
 use native.Mathlib.Omega.{arith}
-use lib.ListN.{length}
-use Rattle.classes.specs.State.{words, targets}
 use Rattle.classes.proofs.Words.{words-later, targets-later}
 use Rattle.classes.proofs.Pushings.{add-asked, add-low, add-listing, adds-bad, adds}
 use borrow.Author.Needs.{needs}
@@ -11,25 +8,79 @@ use Rattle.classes.proofs.push.add.Statement.{statement}
 use Rattle.classes.proofs.push.add.Tie as tie
 
 unite-requires : tie.Need-unite-requires
-unite-requires c κs = let s = (c .before .before) in let a = s .args in let wn = a .w .now in let it = s .pre in let lo = add-low (a .n) (a .k) wn (a .g) (a .base) (a .c) it in let l0 = lo .0 in let l1 = lo .1 .0 in let l2 = lo .1 .1 .0 in let l3 = lo .1 .1 .1 in ((l1, l2), ((omega arith, l0), add-asked (a .n) (a .k) wn (a .g) (a .base) (a .c) it))
+unite-requires c κs =
+    let s = c .before .before in
+    let a = s .args in
+    let wn = a .w .now in
+    let it = s .pre in
+    let lo = add-low (a .n) (a .k) wn (a .g) (a .base) (a .c) it in
+    let l0 = lo .0 in
+    let l1 = lo .1 .0 in
+    let l2 = lo .1 .1 .0 in
+    let l3 = lo .1 .1 .1 in
+    ((l1, l2), ((omega arith, l0), add-asked (a .n) (a .k) wn (a .g) (a .base) (a .c) it))
 
 same-length : tie.Need-same-length
-same-length c = (c .before .before .before .unite) .ensures .later .len
+same-length c = c .before .before .before .unite .ensures .later .len
 
 returns : tie.Need-returns
-returns c = let s = (c .before .before .before .before .before .before) in let a = s .args in let wn = a .w .now in let it = s .pre in let lo = add-low (a .n) (a .k) wn (a .g) (a .base) (a .c) it in let l0 = lo .0 in let l1 = lo .1 .0 in let l2 = lo .1 .1 .0 in let l3 = lo .1 .1 .1 in adds-bad (a .n) (a .k) wn (a .g) (a .base) (a .c) ((c .before .before .before .unite) .result .k) ((c .before .before .before .unite) .result .bad) ((c .before .before .before .unite) .last .0) ((c .before .before .before .unite) .ensures) ((c .if1) .taken)
+returns c =
+    let s = c .before .before .before .before .before .before in
+    let a = s .args in
+    let wn = a .w .now in
+    let it = s .pre in
+    let lo = add-low (a .n) (a .k) wn (a .g) (a .base) (a .c) it in
+    let l0 = lo .0 in
+    let l1 = lo .1 .0 in
+    let l2 = lo .1 .1 .0 in
+    let l3 = lo .1 .1 .1 in
+    adds-bad (a .n) (a .k) wn (a .g) (a .base) (a .c) (c .before .before .before .unite .result .k) (c .before .before .before .unite .result .bad) (c .before .before .before .unite .last .0) (c .before .before .before .unite .ensures) (c .if1 .taken)
 
 add-nodes : tie.Need-add-nodes
-add-nodes c = let s = (c .before .before .before .before .before .before .before) in let a = s .args in let wn = a .w .now in let it = s .pre in let lo = add-low (a .n) (a .k) wn (a .g) (a .base) (a .c) it in let l0 = lo .0 in let l1 = lo .1 .0 in let l2 = lo .1 .1 .0 in let l3 = lo .1 .1 .1 in search needs
+add-nodes c =
+    let s = c .before .before .before .before .before .before .before in
+    let a = s .args in
+    let wn = a .w .now in
+    let it = s .pre in
+    let lo = add-low (a .n) (a .k) wn (a .g) (a .base) (a .c) it in
+    let l0 = lo .0 in
+    let l1 = lo .1 .0 in
+    let l2 = lo .1 .1 .0 in
+    let l3 = lo .1 .1 .1 in
+    search needs
 
 nodes-requires : tie.Need-nodes-requires
-nodes-requires c κs = let s = (c .before .before .before .before .before .before .before) in let a = s .args in let wn = a .w .now in let it = s .pre in let lo = add-low (a .n) (a .k) wn (a .g) (a .base) (a .c) it in let l0 = lo .0 in let l1 = lo .1 .0 in let l2 = lo .1 .1 .0 in let l3 = lo .1 .1 .1 in let wl = words-later (a .k) wn ((c .before .before .before .before .unite) .result .k) ((c .before .before .before .before .unite) .last .0) l2 ((c .before .before .before .before .unite) .ensures .later) in let tl = targets-later (a .k) wn ((c .before .before .before .before .unite) .result .k) ((c .before .before .before .before .unite) .last .0) l2 ((c .before .before .before .before .unite) .ensures .later) in ((l1, omega (arith, (c .before .before .before .before .unite) .ensures .later .len)), rw (wl, tl) (add-listing (a .n) (a .k) wn (a .g) (a .base) (a .c) ((c .before .before .before .before .unite) .result .k) ((c .before .before .before .before .unite) .result .bad) ((c .before .before .before .before .unite) .last .0) ((c .before .before .before .before .unite) .ensures) ((c .before .if1) .left) it))
+nodes-requires c κs =
+    let s = c .before .before .before .before .before .before .before in
+    let a = s .args in
+    let wn = a .w .now in
+    let it = s .pre in
+    let lo = add-low (a .n) (a .k) wn (a .g) (a .base) (a .c) it in
+    let l0 = lo .0 in
+    let l1 = lo .1 .0 in
+    let l2 = lo .1 .1 .0 in
+    let l3 = lo .1 .1 .1 in
+    let wl = words-later (a .k) wn (c .before .before .before .before .unite .result .k) (c .before .before .before .before .unite .last .0) l2 (c .before .before .before .before .unite .ensures .later) in
+    let tl = targets-later (a .k) wn (c .before .before .before .before .unite .result .k) (c .before .before .before .before .unite .last .0) l2 (c .before .before .before .before .unite .ensures .later) in
+    ((l1, omega (arith, c .before .before .before .before .unite .ensures .later .len)), rw (wl, tl) (add-listing (a .n) (a .k) wn (a .g) (a .base) (a .c) (c .before .before .before .before .unite .result .k) (c .before .before .before .before .unite .result .bad) (c .before .before .before .before .unite .last .0) (c .before .before .before .before .unite .ensures) (c .before .if1 .left) it))
 
 same-length-2 : tie.Need-same-length-2
-same-length-2 c = (c .before .before .nodes) .ensures .later .len ∙ (c .before .before .before .before .before .before .before .unite) .ensures .later .len
+same-length-2 c = c .before .before .nodes .ensures .later .len ∙ c .before .before .before .before .before .before .before .unite .ensures .later .len
 
 returns-2 : tie.Need-returns-2
-returns-2 c = let s = (c .before .before .before .before .before .before .before .before .before .before) in let a = s .args in let wn = a .w .now in let it = s .pre in let lo = add-low (a .n) (a .k) wn (a .g) (a .base) (a .c) it in let l0 = lo .0 in let l1 = lo .1 .0 in let l2 = lo .1 .1 .0 in let l3 = lo .1 .1 .1 in let wl = words-later (a .k) wn ((c .before .before .before .before .before .before .before .unite) .result .k) ((c .before .before .before .before .before .before .before .unite) .last .0) l2 ((c .before .before .before .before .before .before .before .unite) .ensures .later) in let tl = targets-later (a .k) wn ((c .before .before .before .before .before .before .before .unite) .result .k) ((c .before .before .before .before .before .before .before .unite) .last .0) l2 ((c .before .before .before .before .before .before .before .unite) .ensures .later) in adds (a .n) (a .k) wn (a .g) (a .base) (a .c) ((c .before .before .before .before .before .before .before .unite) .result .k) ((c .before .before .before .before .before .before .before .unite) .result .bad) ((c .before .before .before .before .before .before .before .unite) .last .0) ((c .before .before .before .before .before .before .before .unite) .ensures) ((c .before .before .before .before .if1) .left) ((c .before .before .nodes) .result .k) ((c .before .before .nodes) .result .bad) ((c .before .before .nodes) .last .0) (rw (wl, tl) at ((c .before .before .nodes) .ensures))
+returns-2 c =
+    let s = c .before .before .before .before .before .before .before .before .before .before in
+    let a = s .args in
+    let wn = a .w .now in
+    let it = s .pre in
+    let lo = add-low (a .n) (a .k) wn (a .g) (a .base) (a .c) it in
+    let l0 = lo .0 in
+    let l1 = lo .1 .0 in
+    let l2 = lo .1 .1 .0 in
+    let l3 = lo .1 .1 .1 in
+    let wl = words-later (a .k) wn (c .before .before .before .before .before .before .before .unite .result .k) (c .before .before .before .before .before .before .before .unite .last .0) l2 (c .before .before .before .before .before .before .before .unite .ensures .later) in
+    let tl = targets-later (a .k) wn (c .before .before .before .before .before .before .before .unite .result .k) (c .before .before .before .before .before .before .before .unite .last .0) l2 (c .before .before .before .before .before .before .before .unite .ensures .later) in
+    adds (a .n) (a .k) wn (a .g) (a .base) (a .c) (c .before .before .before .before .before .before .before .unite .result .k) (c .before .before .before .before .before .before .before .unite .result .bad) (c .before .before .before .before .before .before .before .unite .last .0) (c .before .before .before .before .before .before .before .unite .ensures) (c .before .before .before .before .if1 .left) (c .before .before .nodes .result .k) (c .before .before .nodes .result .bad) (c .before .before .nodes .last .0) (rw (wl, tl) at (c .before .before .nodes .ensures))
 
 pub add-spec : {M : Type 1} → statement M
 add-spec =

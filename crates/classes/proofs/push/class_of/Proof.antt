@@ -1,14 +1,15 @@
 -- `classes::push::class_of` meets its contract. Assumes nothing.
 use mathlib.Core.Path.{sym}
-use borrow.Author.Needs.{needs}
 use Rattle.classes.proofs.push.class_of.Statement.{statement}
 use Rattle.classes.proofs.push.class_of.Tie as tie
 
 find-requires : tie.Need-find-requires
-find-requires c κs = let g = (c .before) .pre .1 .holds in (((c .before) .pre .0, (g .below, g .long)), g .state .shape)
+find-requires c κs =
+    let g = c .before .pre .1 .holds in
+    ((c .before .pre .0, (g .below, g .long)), g .state .shape)
 
 returns : tie.Need-returns
-returns c = record { is = λ es k h. sym ((c .find) .ensures .is (h .state .M) (h .state .forest)) }
+returns c = record { is = λ es k h. sym (c .find .ensures .is (h .state .M) (h .state .forest)) }
 
 pub class-of-spec : {M : Type 1} → statement M
 class-of-spec = tie.close (tie.spec find-requires returns)

@@ -1,36 +1,54 @@
 -- `classes::push::push` meets its contract. Assumes nothing.
-use Prim.Native.Nat.{ℕ, suc, _+_, _*_, _-_, _<_, _≤_}
-use mathlib.Core.Path.{_≡_, refl, sym, ap, _∙_, subst}
+use mathlib.Core.Path.{_∙_}
 use native.Mathlib.Omega.{arith}
-use lib.ListN.{length}
 use Rattle.classes.proofs.Pushings.{push-adding, pushes-in, pushes-clashed}
 use borrow.Author.Needs.{needs}
 use Rattle.classes.proofs.push.push.Statement.{statement}
 use Rattle.classes.proofs.push.push.Tie as tie
 
 loaded-requires : tie.Need-loaded-requires
-loaded-requires c κs = let s = (c .before .before) in let a = s .args in let wn = a .w .now in let it = s .pre in let f = it .comes .lies .fits in let i = it .is in (omega arith, it .holds .long)
+loaded-requires c κs =
+    let s = c .before .before in
+    let it = s .pre in
+    let f = it .comes .lies .fits in
+    let i = it .is in
+    (omega arith, it .holds .long)
 
 wide-requires : tie.Need-wide-requires
 wide-requires c κs = search needs
 
 add-requires : tie.Need-add-requires
-add-requires c κs = let s = (c .before .before .before .before .before) in let a = s .args in let wn = a .w .now in let it = s .pre in push-adding (a .n) (a .k) wn (a .g) ((c .before .wide) .result) ((c .before .wide) .ensures ∙ (c .before .before .loaded) .ensures) it
+add-requires c κs =
+    let s = c .before .before .before .before .before in
+    let a = s .args in
+    let wn = a .w .now in
+    let it = s .pre in
+    push-adding (a .n) (a .k) wn (a .g) (c .before .wide .result) (c .before .wide .ensures ∙ c .before .before .loaded .ensures) it
 
 undo-requires : tie.Need-undo-requires
-undo-requires c κs = let s = (c .before .before .before .before .before .before .before .before .before .before) in let a = s .args in let wn = a .w .now in let it = s .pre in ((c .before .before .before .before .add) .ensures .later .logged, (c .before .before .before .before .add) .ensures .later .more)
+undo-requires c κs = (c .before .before .before .before .add .ensures .later .logged, c .before .before .before .before .add .ensures .later .more)
 
 same-length : tie.Need-same-length
-same-length c = (c .before .before .undo) .ensures .len ∙ (c .before .before .before .before .before .before .before .add) .ensures .later .len
+same-length c = c .before .before .undo .ensures .len ∙ c .before .before .before .before .before .before .before .add .ensures .later .len
 
 returns : tie.Need-returns
-returns c = let s = (c .before .before .before .before .before .before .before .before .before .before .before .before .before) in let a = s .args in let wn = a .w .now in let it = s .pre in pushes-clashed (a .n) (a .k) wn (a .g) ((c .before .before .before .before .before .before .before .before .before .wide) .result) ((c .before .before .before .before .before .before .before .before .before .wide) .ensures ∙ (c .before .before .before .before .before .before .before .before .before .before .loaded) .ensures) it ((c .before .before .before .before .before .before .before .add) .result .k) ((c .before .before .before .before .before .before .before .add) .result .bad) ((c .before .before .before .before .before .before .before .add) .last .0) ((c .before .before .before .before .before .before .before .add) .ensures) ((c .before .before .undo) .last .0) ((c .before .before .before .before .if1) .taken) ((c .before .before .undo) .ensures)
+returns c =
+    let s = c .before .before .before .before .before .before .before .before .before .before .before .before .before in
+    let a = s .args in
+    let wn = a .w .now in
+    let it = s .pre in
+    pushes-clashed (a .n) (a .k) wn (a .g) (c .before .before .before .before .before .before .before .before .before .wide .result) (c .before .before .before .before .before .before .before .before .before .wide .ensures ∙ c .before .before .before .before .before .before .before .before .before .before .loaded .ensures) it (c .before .before .before .before .before .before .before .add .result .k) (c .before .before .before .before .before .before .before .add .result .bad) (c .before .before .before .before .before .before .before .add .last .0) (c .before .before .before .before .before .before .before .add .ensures) (c .before .before .undo .last .0) (c .before .before .before .before .if1 .taken) (c .before .before .undo .ensures)
 
 same-length-2 : tie.Need-same-length-2
-same-length-2 c = (c .before .before .before .add) .ensures .later .len
+same-length-2 c = c .before .before .before .add .ensures .later .len
 
 returns-2 : tie.Need-returns-2
-returns-2 c = let s = (c .before .before .before .before .before .before .before .before .before) in let a = s .args in let wn = a .w .now in let it = s .pre in pushes-in (a .n) (a .k) wn (a .g) ((c .before .before .before .before .before .wide) .result) ((c .before .before .before .before .before .wide) .ensures ∙ (c .before .before .before .before .before .before .loaded) .ensures) it ((c .before .before .before .add) .result .k) ((c .before .before .before .add) .result .bad) ((c .before .before .before .add) .last .0) ((c .before .before .before .add) .ensures) ((c .if1) .left)
+returns-2 c =
+    let s = c .before .before .before .before .before .before .before .before .before in
+    let a = s .args in
+    let wn = a .w .now in
+    let it = s .pre in
+    pushes-in (a .n) (a .k) wn (a .g) (c .before .before .before .before .before .wide .result) (c .before .before .before .before .before .wide .ensures ∙ c .before .before .before .before .before .before .loaded .ensures) it (c .before .before .before .add .result .k) (c .before .before .before .add .result .bad) (c .before .before .before .add .last .0) (c .before .before .before .add .ensures) (c .if1 .left)
 
 pub push-spec : {M : Type 1} → statement M
 push-spec =

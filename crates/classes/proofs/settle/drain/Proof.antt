@@ -1,9 +1,8 @@
 -- `classes::settle::drain` meets its contract. The loop's invariant: the frame is worked off from `from` to x. Assumes nothing.
-use Prim.Native.Nat.{ℕ, suc, _+_, _*_, _-_, _<_, _≤_}
-use mathlib.Core.Path.{_≡_, refl, sym, ap, _∙_, subst}
+use mathlib.Core.Path.{_≡_, _∙_}
 use native.Mathlib.Omega.{arith}
-use lib.ListN.{length, getD}
-use Rattle.classes.specs.State.{words, targets, Walk, Working, Turned, Drained, hops}
+use lib.ListN.{length}
+use Rattle.classes.specs.State.{words, targets, Walk, hops}
 use Rattle.classes.proofs.Words.{words-later, targets-later}
 use Rattle.classes.proofs.Turns.{arc-pos, arc-low}
 use Rattle.classes.proofs.Drain.{walk-refl, walk-working, drain-turn, drained-bad, drained-end}
@@ -18,34 +17,103 @@ abbrev μ-loop : tie.MeasureT-loop
 μ-loop w₀ k s n from to e₀ h₀ x₀ w e h x = hops 2048 w to x
 
 loop-holds : tie.Need-loop-holds Inv-loop μ-loop
-loop-holds c = let s = (c .before) in let a = s .args in let wn = a .w .now in let F = words wn in let T = targets wn in let g = s .pre .1 in walk-refl F T (a .n) (a .k) (a .s) wn (a .from) (a .to) (g .state .logged)
+loop-holds c =
+    let s = c .before in
+    let a = s .args in
+    let wn = a .w .now in
+    let F = words wn in
+    let T = targets wn in
+    let g = s .pre .1 in
+    walk-refl F T (a .n) (a .k) (a .s) wn (a .from) (a .to) (g .state .logged)
 
 step-requires : tie.Need-step-requires Inv-loop μ-loop
-step-requires c κs = let s = (c .before .before .before .before) in let a = s .args in let wn = a .w .now in let F = words wn in let T = targets wn in let g = s .pre .1 in let o = (c .before .before .loop) in let le : length (o .w) ≡ length wn = o .inv .later .len in let wl = words-later (a .k) wn (o .e) (o .w) (omega arith) (o .inv .later) in let tl = targets-later (a .k) wn (o .e) (o .w) (omega arith) (o .inv .later) in let v = walk-working F T (a .n) (a .k) (a .s) wn (a .from) (a .to) (o .e) (o .h) (o .w) (o .x) g (o .inv) in ((omega arith, omega arith), ((c .before .loop-test) .taken, rw (wl, tl) v))
+step-requires c κs =
+    let s = c .before .before .before .before in
+    let a = s .args in
+    let wn = a .w .now in
+    let F = words wn in
+    let T = targets wn in
+    let g = s .pre .1 in
+    let o = c .before .before .loop in
+    let le : length (o .w) ≡ length wn = o .inv .later .len in
+    let wl = words-later (a .k) wn (o .e) (o .w) (omega arith) (o .inv .later) in
+    let tl = targets-later (a .k) wn (o .e) (o .w) (omega arith) (o .inv .later) in
+    let v = walk-working F T (a .n) (a .k) (a .s) wn (a .from) (a .to) (o .e) (o .h) (o .w) (o .x) g (o .inv) in
+    ((omega arith, omega arith), (c .before .loop-test .taken, rw (wl, tl) v))
 
 same-length : tie.Need-same-length Inv-loop μ-loop
-same-length c = (c .before .before .before .step) .ensures .later .len ∙ (c .before .before .before .before .before .before .loop) .inv .later .len
+same-length c = c .before .before .before .step .ensures .later .len ∙ c .before .before .before .before .before .before .loop .inv .later .len
 
 returns : tie.Need-returns Inv-loop μ-loop
-returns c = let s = (c .before .before .before .before .before .before .before .before) in let a = s .args in let wn = a .w .now in let F = words wn in let T = targets wn in let g = s .pre .1 in let o = (c .before .before .before .before .before .before .loop) in let le : length (o .w) ≡ length wn = o .inv .later .len in let wl = words-later (a .k) wn (o .e) (o .w) (omega arith) (o .inv .later) in let tl = targets-later (a .k) wn (o .e) (o .w) (omega arith) (o .inv .later) in drained-bad F T (a .n) (a .k) (a .s) wn (a .from) (a .to) (o .e) (o .h) (o .w) (o .x) ((c .before .before .before .step) .result .k) ((c .before .before .before .step) .result .s) ((c .before .before .before .step) .result .bad) ((c .before .before .before .step) .last .0) (o .inv) (rw (wl, tl) at ((c .before .before .before .step) .ensures)) ((c .if1) .taken)
+returns c =
+    let s = c .before .before .before .before .before .before .before .before in
+    let a = s .args in
+    let wn = a .w .now in
+    let F = words wn in
+    let T = targets wn in
+    let o = c .before .before .before .before .before .before .loop in
+    let le : length (o .w) ≡ length wn = o .inv .later .len in
+    let wl = words-later (a .k) wn (o .e) (o .w) (omega arith) (o .inv .later) in
+    let tl = targets-later (a .k) wn (o .e) (o .w) (omega arith) (o .inv .later) in
+    drained-bad F T (a .n) (a .k) (a .s) wn (a .from) (a .to) (o .e) (o .h) (o .w) (o .x) (c .before .before .before .step .result .k) (c .before .before .before .step .result .s) (c .before .before .before .step .result .bad) (c .before .before .before .step .last .0) (o .inv) (rw (wl, tl) at (c .before .before .before .step .ensures)) (c .if1 .taken)
 
 sub-next : tie.Need-sub-next Inv-loop μ-loop
-sub-next c = let s = (c .before .before .before .before .before .before .before .before .before) in let a = s .args in let wn = a .w .now in let F = words wn in let T = targets wn in let g = s .pre .1 in let o = (c .before .before .before .before .before .before .before .loop) in let le : length (o .w) ≡ length wn = o .inv .later .len in let wl = words-later (a .k) wn (o .e) (o .w) (omega arith) (o .inv .later) in let tl = targets-later (a .k) wn (o .e) (o .w) (omega arith) (o .inv .later) in let v = walk-working F T (a .n) (a .k) (a .s) wn (a .from) (a .to) (o .e) (o .h) (o .w) (o .x) g (o .inv) in let ps = arc-pos (v .G) (v .H) F T (a .n) (o .e) (o .h) (o .x) (a .to) (v .fs) (o .w) (omega arith) (omega arith) (v .state) ((c .before .before .before .before .before .before .loop-test) .taken) in search needs
+sub-next c =
+    let s = c .before .before .before .before .before .before .before .before .before in
+    let a = s .args in
+    let wn = a .w .now in
+    let F = words wn in
+    let T = targets wn in
+    let g = s .pre .1 in
+    let o = c .before .before .before .before .before .before .before .loop in
+    let le : length (o .w) ≡ length wn = o .inv .later .len in
+    let v = walk-working F T (a .n) (a .k) (a .s) wn (a .from) (a .to) (o .e) (o .h) (o .w) (o .x) g (o .inv) in
+    let ps = arc-pos (v .G) (v .H) F T (a .n) (o .e) (o .h) (o .x) (a .to) (v .fs) (o .w) (omega arith) (omega arith) (v .state) (c .before .before .before .before .before .before .loop-test .taken) in
+    search needs
 
 next-requires : tie.Need-next-requires Inv-loop μ-loop
-next-requires c κs = let s = (c .before .before .before .before .before .before .before .before .before) in let a = s .args in let wn = a .w .now in let F = words wn in let T = targets wn in let g = s .pre .1 in let o = (c .before .before .before .before .before .before .before .loop) in let le : length (o .w) ≡ length wn = o .inv .later .len in let wl = words-later (a .k) wn (o .e) (o .w) (omega arith) (o .inv .later) in let tl = targets-later (a .k) wn (o .e) (o .w) (omega arith) (o .inv .later) in let v = walk-working F T (a .n) (a .k) (a .s) wn (a .from) (a .to) (o .e) (o .h) (o .w) (o .x) g (o .inv) in let al = arc-low (v .G) (v .H) F T (a .n) (o .e) (o .h) (o .x) (a .to) (v .fs) (o .w) (omega arith) (omega arith) (v .state) ((c .before .before .before .before .before .before .loop-test) .taken) in (omega arith, omega (arith, (c .before .before .before .before .step) .ensures .later .len))
+next-requires c κs =
+    let s = c .before .before .before .before .before .before .before .before .before in
+    let a = s .args in
+    let wn = a .w .now in
+    let F = words wn in
+    let T = targets wn in
+    let g = s .pre .1 in
+    let o = c .before .before .before .before .before .before .before .loop in
+    let le : length (o .w) ≡ length wn = o .inv .later .len in
+    let v = walk-working F T (a .n) (a .k) (a .s) wn (a .from) (a .to) (o .e) (o .h) (o .w) (o .x) g (o .inv) in
+    let al = arc-low (v .G) (v .H) F T (a .n) (o .e) (o .h) (o .x) (a .to) (v .fs) (o .w) (omega arith) (omega arith) (v .state) (c .before .before .before .before .before .before .loop-test .taken) in
+    (omega arith, omega (arith, c .before .before .before .before .step .ensures .later .len))
 
 loop-less : tie.Need-loop-less Inv-loop μ-loop
-loop-less c = rw ((c .next) .ensures) ((c .before .before .before .before .before .step) .ensures .less ((c .before .before .if1) .left))
+loop-less c = rw (c .next .ensures) (c .before .before .before .before .before .step .ensures .less (c .before .before .if1 .left))
 
 loop-again : tie.Need-loop-again Inv-loop μ-loop
-loop-again c = let s = (c .before .before .before .before .before .before .before .before .before .before) in let a = s .args in let wn = a .w .now in let F = words wn in let T = targets wn in let g = s .pre .1 in let o = (c .before .before .before .before .before .before .before .before .loop) in let le : length (o .w) ≡ length wn = o .inv .later .len in let wl = words-later (a .k) wn (o .e) (o .w) (omega arith) (o .inv .later) in let tl = targets-later (a .k) wn (o .e) (o .w) (omega arith) (o .inv .later) in drain-turn F T (a .n) (a .k) (a .s) wn (a .from) (a .to) (o .e) (o .h) (o .w) (o .x) ((c .before .before .before .before .before .step) .result .k) ((c .before .before .before .before .before .step) .result .s) ((c .before .before .before .before .before .step) .result .bad) ((c .before .before .before .before .before .step) .last .0) ((c .next) .result) (o .inv) (rw (wl, tl) at ((c .before .before .before .before .before .step) .ensures)) ((c .before .before .if1) .left) ((c .next) .ensures)
+loop-again c =
+    let s = c .before .before .before .before .before .before .before .before .before .before in
+    let a = s .args in
+    let wn = a .w .now in
+    let F = words wn in
+    let T = targets wn in
+    let o = c .before .before .before .before .before .before .before .before .loop in
+    let le : length (o .w) ≡ length wn = o .inv .later .len in
+    let wl = words-later (a .k) wn (o .e) (o .w) (omega arith) (o .inv .later) in
+    let tl = targets-later (a .k) wn (o .e) (o .w) (omega arith) (o .inv .later) in
+    drain-turn F T (a .n) (a .k) (a .s) wn (a .from) (a .to) (o .e) (o .h) (o .w) (o .x) (c .before .before .before .before .before .step .result .k) (c .before .before .before .before .before .step .result .s) (c .before .before .before .before .before .step .result .bad) (c .before .before .before .before .before .step .last .0) (c .next .result) (o .inv) (rw (wl, tl) at (c .before .before .before .before .before .step .ensures)) (c .before .before .if1 .left) (c .next .ensures)
 
 same-length-2 : tie.Need-same-length-2 Inv-loop μ-loop
-same-length-2 c = (c .before .loop) .inv .later .len
+same-length-2 c = c .before .loop .inv .later .len
 
 returns-2 : tie.Need-returns-2 Inv-loop μ-loop
-returns-2 c = let s = (c .before .before .before) in let a = s .args in let wn = a .w .now in let F = words wn in let T = targets wn in let g = s .pre .1 in let o = (c .before .loop) in let le : length (o .w) ≡ length wn = o .inv .later .len in let wl = words-later (a .k) wn (o .e) (o .w) (omega arith) (o .inv .later) in let tl = targets-later (a .k) wn (o .e) (o .w) (omega arith) (o .inv .later) in drained-end F T (a .n) (a .k) (a .s) wn (a .from) (a .to) (o .e) (o .h) (o .w) (o .x) (o .inv) ((c .loop-test) .left)
+returns-2 c =
+    let s = c .before .before .before in
+    let a = s .args in
+    let wn = a .w .now in
+    let F = words wn in
+    let T = targets wn in
+    let o = c .before .loop in
+    let le : length (o .w) ≡ length wn = o .inv .later .len in
+    drained-end F T (a .n) (a .k) (a .s) wn (a .from) (a .to) (o .e) (o .h) (o .w) (o .x) (o .inv) (c .loop-test .left)
 
 pub drain-spec : {M : Type 1} → statement M
 drain-spec =

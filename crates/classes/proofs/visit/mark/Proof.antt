@@ -1,5 +1,4 @@
 -- `classes::visit::mark` meets its contract. Assumes nothing.
-use Prim.Native.Nat.{ℕ, suc, _+_, _*_, _-_, _<_, _≤_}
 use native.Mathlib.Omega.{arith}
 use Rattle.classes.specs.State.{words, targets}
 use Rattle.classes.proofs.Visits.{mark-new, mark-same, mark-clash}
@@ -8,7 +7,10 @@ use Rattle.classes.proofs.visit.mark.Statement.{statement}
 use Rattle.classes.proofs.visit.mark.Tie as tie
 
 find-requires : tie.Need-find-requires
-find-requires c κs = let s = (c .before .before) in let a = s .args in let wn = a .w .now in let F = words wn in let T = targets wn in let g = s .pre .1 .1 in ((omega arith, (omega arith, omega arith)), g .state .shape)
+find-requires c κs =
+    let s = c .before .before in
+    let g = s .pre .1 .1 in
+    ((omega arith, (omega arith, omega arith)), g .state .shape)
 
 mul-h : tie.Need-mul-h
 mul-h c = search needs
@@ -17,25 +19,52 @@ slice-read-h : tie.Need-slice-read-h
 slice-read-h c = search needs
 
 put-requires : tie.Need-put-requires
-put-requires c κs = let s = (c .before .before .before .before .before .before) in let a = s .args in let wn = a .w .now in let F = words wn in let T = targets wn in let g = s .pre .1 .1 in let r = g .bears .room in let q = g .state .room in let l = (c .before .before .before .find) .ensures .low in (g .state .logged, (omega arith, (omega arith, (omega arith, omega arith))))
+put-requires c κs =
+    let s = c .before .before .before .before .before .before in
+    let g = s .pre .1 .1 in
+    let q = g .state .room in
+    let l = c .before .before .before .find .ensures .low in
+    (g .state .logged, (omega arith, (omega arith, (omega arith, omega arith))))
 
 same-length : tie.Need-same-length
 same-length c = search needs
 
 returns : tie.Need-returns
-returns c = let s = (c .before .before .before .before .before .before .before .before .before) in let a = s .args in let wn = a .w .now in let F = words wn in let T = targets wn in let g = s .pre .1 .1 in let r = g .bears .room in let q = g .state .room in mark-new F T (a .n) (a .k) wn (omega arith) (omega arith) (a .x) (omega arith) ((c .before .before .before .before .before .before .find) .result) ((c .before .before .before .before .before .before .find) .ensures) (a .v) (s .pre .1 .0 .0) ((c .before .before .before .before .if1) .taken) (omega arith) ((c .before .before .put) .result) ((c .before .before .put) .last .0) ((c .before .before .put) .ensures)
+returns c =
+    let s = c .before .before .before .before .before .before .before .before .before in
+    let a = s .args in
+    let wn = a .w .now in
+    let F = words wn in
+    let T = targets wn in
+    let g = s .pre .1 .1 in
+    let q = g .state .room in
+    mark-new F T (a .n) (a .k) wn (omega arith) (omega arith) (a .x) (omega arith) (c .before .before .before .before .before .before .find .result) (c .before .before .before .before .before .before .find .ensures) (a .v) (s .pre .1 .0 .0) (c .before .before .before .before .if1 .taken) (omega arith) (c .before .before .put .result) (c .before .before .put .last .0) (c .before .before .put .ensures)
 
 same-length-2 : tie.Need-same-length-2
 same-length-2 c = search needs
 
 returns-2 : tie.Need-returns-2
-returns-2 c = let s = (c .before .before .before .before .before .before) in let a = s .args in let wn = a .w .now in let F = words wn in let T = targets wn in let g = s .pre .1 .1 in mark-same F T (a .n) (a .k) wn (omega arith) (omega arith) (a .x) (omega arith) ((c .before .before .before .find) .result) ((c .before .before .before .find) .ensures) (a .v) (s .pre .1 .0 .0) (g .state .logged) ((c .if2) .taken)
+returns-2 c =
+    let s = c .before .before .before .before .before .before in
+    let a = s .args in
+    let wn = a .w .now in
+    let F = words wn in
+    let T = targets wn in
+    let g = s .pre .1 .1 in
+    mark-same F T (a .n) (a .k) wn (omega arith) (omega arith) (a .x) (omega arith) (c .before .before .before .find .result) (c .before .before .before .find .ensures) (a .v) (s .pre .1 .0 .0) (g .state .logged) (c .if2 .taken)
 
 same-length-3 : tie.Need-same-length-3
 same-length-3 c = search needs
 
 returns-3 : tie.Need-returns-3
-returns-3 c = let s = (c .before .before .before .before .before .before) in let a = s .args in let wn = a .w .now in let F = words wn in let T = targets wn in let g = s .pre .1 .1 in mark-clash F T (a .n) (a .k) wn (omega arith) (omega arith) (a .x) (omega arith) ((c .before .before .before .find) .result) ((c .before .before .before .find) .ensures) (a .v) (s .pre .1 .0 .0) (g .state .logged) ((c .before .if1) .left) ((c .if2) .left)
+returns-3 c =
+    let s = c .before .before .before .before .before .before in
+    let a = s .args in
+    let wn = a .w .now in
+    let F = words wn in
+    let T = targets wn in
+    let g = s .pre .1 .1 in
+    mark-clash F T (a .n) (a .k) wn (omega arith) (omega arith) (a .x) (omega arith) (c .before .before .before .find .result) (c .before .before .before .find .ensures) (a .v) (s .pre .1 .0 .0) (g .state .logged) (c .before .if1 .left) (c .if2 .left)
 
 pub mark-spec : {M : Type 1} → statement M
 mark-spec =

@@ -1,8 +1,7 @@
 -- `classes::visit::node` meets its contract. Assumes nothing.
-use Prim.Native.Nat.{ℕ, suc, _+_, _*_, _-_, _<_, _≤_}
-use mathlib.Core.Path.{_≡_, refl, sym, ap, _∙_, subst}
+use mathlib.Core.Path.{_≡_, _∙_}
 use native.Mathlib.Omega.{arith}
-use lib.ListN.{length, getD}
+use lib.ListN.{getD}
 use Rattle.classes.specs.State.{words, targets}
 use Rattle.classes.proofs.Runs.{node-low, node-marking, node-batched, noded-mark, noded-run}
 use borrow.Author.Needs.{needs}
@@ -10,31 +9,99 @@ use Rattle.classes.proofs.visit.node.Statement.{statement}
 use Rattle.classes.proofs.visit.node.Tie as tie
 
 loaded-requires : tie.Need-loaded-requires
-loaded-requires c κs = let s = (c .before .before) in let a = s .args in let wn = a .w .now in let F = words wn in let T = targets wn in let g = s .pre .1 in let lo = node-low F (g .G) (a .n) (a .x) (a .p) (g .v) (g .node) in let lp = lo .0 in let lx = lo .1 in (omega arith, omega arith)
+loaded-requires c κs =
+    let s = c .before .before in
+    let a = s .args in
+    let wn = a .w .now in
+    let F = words wn in
+    let g = s .pre .1 in
+    let lo = node-low F (g .G) (a .n) (a .x) (a .p) (g .v) (g .node) in
+    let lp = lo .0 in
+    let lx = lo .1 in
+    (omega arith, omega arith)
 
 mark-requires : tie.Need-mark-requires
-mark-requires c κs = let s = (c .before .before .before .before .before) in let a = s .args in let wn = a .w .now in let F = words wn in let T = targets wn in let g = s .pre .1 in let lo = node-low F (g .G) (a .n) (a .x) (a .p) (g .v) (g .node) in let lp = lo .0 in let lx = lo .1 in let he : (c .before .before .loaded) .result ≡ getD F (a .p) 0 = (c .before .before .loaded) .ensures in let m = node-marking F T (a .n) (a .k) wn (a .x) (a .p) g (omega arith) in let b = m .1 in ((omega arith, (omega arith, omega arith)), ((omega arith, omega arith), rw he (m .0)))
+mark-requires c κs =
+    let s = c .before .before .before .before .before in
+    let a = s .args in
+    let wn = a .w .now in
+    let F = words wn in
+    let T = targets wn in
+    let g = s .pre .1 in
+    let lo = node-low F (g .G) (a .n) (a .x) (a .p) (g .v) (g .node) in
+    let lp = lo .0 in
+    let lx = lo .1 in
+    let he : c .before .before .loaded .result ≡ getD F (a .p) 0 = c .before .before .loaded .ensures in
+    let m = node-marking F T (a .n) (a .k) wn (a .x) (a .p) g (omega arith) in
+    let b = m .1 in
+    ((omega arith, (omega arith, omega arith)), ((omega arith, omega arith), rw he (m .0)))
 
 same-length : tie.Need-same-length
 same-length c = search needs
 
 returns : tie.Need-returns
-returns c = let s = (c .before .before .before .before .before .before .before .before) in let a = s .args in let wn = a .w .now in let F = words wn in let T = targets wn in let g = s .pre .1 in let lo = node-low F (g .G) (a .n) (a .x) (a .p) (g .v) (g .node) in let lp = lo .0 in let lx = lo .1 in let he : (c .before .before .before .before .before .loaded) .result ≡ getD F (a .p) 0 = (c .before .before .before .before .before .loaded) .ensures in noded-mark F T (a .n) (a .k) wn (a .x) (a .p) ((c .before .before .mark) .result .k) ((c .before .before .mark) .result .bad) ((c .before .before .mark) .last .0) (omega arith) (rw he at ((c .before .before .mark) .ensures))
+returns c =
+    let s = c .before .before .before .before .before .before .before .before in
+    let a = s .args in
+    let wn = a .w .now in
+    let F = words wn in
+    let T = targets wn in
+    let g = s .pre .1 in
+    let lo = node-low F (g .G) (a .n) (a .x) (a .p) (g .v) (g .node) in
+    let lp = lo .0 in
+    let lx = lo .1 in
+    let he : c .before .before .before .before .before .loaded .result ≡ getD F (a .p) 0 = c .before .before .before .before .before .loaded .ensures in
+    noded-mark F T (a .n) (a .k) wn (a .x) (a .p) (c .before .before .mark .result .k) (c .before .before .mark .result .bad) (c .before .before .mark .last .0) (omega arith) (rw he at (c .before .before .mark .ensures))
 
 add-arcs : tie.Need-add-arcs
-add-arcs c = let s = (c .before .before .before .before .before) in let a = s .args in let wn = a .w .now in let F = words wn in let T = targets wn in let g = s .pre .1 in let lo = node-low F (g .G) (a .n) (a .x) (a .p) (g .v) (g .node) in let lp = lo .0 in let lx = lo .1 in search needs
+add-arcs c =
+    let s = c .before .before .before .before .before in
+    let a = s .args in
+    let wn = a .w .now in
+    let F = words wn in
+    let g = s .pre .1 in
+    let lo = node-low F (g .G) (a .n) (a .x) (a .p) (g .v) (g .node) in
+    let lp = lo .0 in
+    let lx = lo .1 in
+    search needs
 
 wide-requires : tie.Need-wide-requires
 wide-requires c κs = search needs
 
 arcs-requires : tie.Need-arcs-requires
-arcs-requires c κs = let s = (c .before .before .before .before .before .before) in let a = s .args in let wn = a .w .now in let F = words wn in let T = targets wn in let g = s .pre .1 in let lo = node-low F (g .G) (a .n) (a .x) (a .p) (g .v) (g .node) in let lp = lo .0 in let lx = lo .1 in let he : (c .before .before .before .loaded) .result ≡ getD F (a .p) 0 = (c .before .before .before .loaded) .ensures in let m = node-batched F T (a .n) (a .k) wn (a .x) (a .p) g (omega arith) in let b = m .1 in let we : (c .wide) .result ≡ getD F (a .p) 0 = (c .wide) .ensures ∙ he in ((omega arith, omega arith), ((omega arith, omega arith), rw we (m .0)))
+arcs-requires c κs =
+    let s = c .before .before .before .before .before .before in
+    let a = s .args in
+    let wn = a .w .now in
+    let F = words wn in
+    let T = targets wn in
+    let g = s .pre .1 in
+    let lo = node-low F (g .G) (a .n) (a .x) (a .p) (g .v) (g .node) in
+    let lp = lo .0 in
+    let lx = lo .1 in
+    let he : c .before .before .before .loaded .result ≡ getD F (a .p) 0 = c .before .before .before .loaded .ensures in
+    let m = node-batched F T (a .n) (a .k) wn (a .x) (a .p) g (omega arith) in
+    let b = m .1 in
+    let we : c .wide .result ≡ getD F (a .p) 0 = c .wide .ensures ∙ he in
+    ((omega arith, omega arith), ((omega arith, omega arith), rw we (m .0)))
 
 same-length-2 : tie.Need-same-length-2
 same-length-2 c = search needs
 
 returns-2 : tie.Need-returns-2
-returns-2 c = let s = (c .before .before .before .before .before .before .before .before .before) in let a = s .args in let wn = a .w .now in let F = words wn in let T = targets wn in let g = s .pre .1 in let lo = node-low F (g .G) (a .n) (a .x) (a .p) (g .v) (g .node) in let lp = lo .0 in let lx = lo .1 in let he : (c .before .before .before .before .before .before .loaded) .result ≡ getD F (a .p) 0 = (c .before .before .before .before .before .before .loaded) .ensures in let we : (c .before .before .before .wide) .result ≡ getD F (a .p) 0 = (c .before .before .before .wide) .ensures ∙ he in noded-run F T (a .n) (a .k) wn (a .x) (a .p) ((c .before .before .arcs) .result .k) ((c .before .before .arcs) .result .bad) ((c .before .before .arcs) .last .0) (omega arith) (rw we at ((c .before .before .arcs) .ensures))
+returns-2 c =
+    let s = c .before .before .before .before .before .before .before .before .before in
+    let a = s .args in
+    let wn = a .w .now in
+    let F = words wn in
+    let T = targets wn in
+    let g = s .pre .1 in
+    let lo = node-low F (g .G) (a .n) (a .x) (a .p) (g .v) (g .node) in
+    let lp = lo .0 in
+    let lx = lo .1 in
+    let he : c .before .before .before .before .before .before .loaded .result ≡ getD F (a .p) 0 = c .before .before .before .before .before .before .loaded .ensures in
+    let we : c .before .before .before .wide .result ≡ getD F (a .p) 0 = c .before .before .before .wide .ensures ∙ he in
+    noded-run F T (a .n) (a .k) wn (a .x) (a .p) (c .before .before .arcs .result .k) (c .before .before .arcs .result .bad) (c .before .before .arcs .last .0) (omega arith) (rw we at (c .before .before .arcs .ensures))
 
 pub node-spec : {M : Type 1} → statement M
 node-spec =
