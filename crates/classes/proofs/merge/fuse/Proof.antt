@@ -40,10 +40,11 @@ same-length c = search needs
 
 returns : tie.Need-returns
 returns c =
+    let put = c .before .before .put in
     let s = c .before .before .before .before .before .before .before .before in
     let a = s .args in
     let wn = a .w .now in
-    plain (a .n) (a .k) (a .s) wn (a .a) (a .b) (omega arith) (omega arith) (omega arith) (omega arith) (s .pre .1 .0 .0) (s .pre .1 .0 .1) (s .pre .1 .1) (c .before .before .put .result) (c .before .before .put .last .0) (c .before .before .put .ensures) (inl (c .before .before .before .before .if1 .taken))
+    plain (a .n) (a .k) (a .s) wn (a .a) (a .b) (omega arith) (omega arith) (omega arith) (omega arith) (s .pre .1 .0 .0) (s .pre .1 .0 .1) (s .pre .1 .1) (put .result) (put .last .0) (put .ensures) (inl (c .before .before .before .before .if1 .taken))
 
 add-put-2 : tie.Need-add-put-2
 add-put-2 c = search needs
@@ -61,22 +62,25 @@ put-requires-2 c κs =
 
 put-requires-3 : tie.Need-put-requires-3
 put-requires-3 c κs =
+    let put2 = c .before .before .before .put2 in
     let s = c .before .before .before .before .before .before .before .before .before .before in
     let a = s .args in
     let wn = a .w .now in
     let rm = room (a .n) (a .k) (a .s) wn (a .a) (a .b) (omega arith) (omega arith) (omega arith) (omega arith) (s .pre .1 .0 .0) (s .pre .1 .0 .1) (s .pre .1 .1) in
     let sm = s .pre .1 .1 .state .logged .small (a .b) (omega arith) in
-    (c .before .before .before .put2 .ensures .later .logged, (omega arith, (omega (arith, c .before .before .before .put2 .ensures .next), (omega arith, omega (arith, c .before .before .before .put2 .ensures .later .len)))))
+    (put2 .ensures .later .logged, (omega arith, (omega (arith, put2 .ensures .next), (omega arith, omega (arith, put2 .ensures .later .len)))))
 
 same-length-2 : tie.Need-same-length-2
 same-length-2 c = search needs
 
 returns-2 : tie.Need-returns-2
 returns-2 c =
+    let put2 = c .before .before .before .before .before .before .put2 in
+    let put3 = c .before .before .put3 in
     let s = c .before .before .before .before .before .before .before .before .before .before .before .before .before in
     let a = s .args in
     let wn = a .w .now in
-    moved (a .n) (a .k) (a .s) wn (a .a) (a .b) (omega arith) (omega arith) (omega arith) (omega arith) (s .pre .1 .0 .0) (s .pre .1 .0 .1) (s .pre .1 .1) (c .before .before .before .before .before .before .put2 .result) (c .before .before .before .before .before .before .put2 .last .0) (c .before .before .before .before .before .before .put2 .ensures) (getD wn (a .b) 0) (c .before .before .put3 .result) (c .before .before .put3 .last .0) refl (c .before .before .put3 .ensures) (c .before .before .before .before .before .before .before .before .if2 .taken)
+    moved (a .n) (a .k) (a .s) wn (a .a) (a .b) (omega arith) (omega arith) (omega arith) (omega arith) (s .pre .1 .0 .0) (s .pre .1 .0 .1) (s .pre .1 .1) (put2 .result) (put2 .last .0) (put2 .ensures) (getD wn (a .b) 0) (put3 .result) (put3 .last .0) refl (put3 .ensures) (c .before .before .before .before .before .before .before .before .if2 .taken)
 
 add-put-3 : tie.Need-add-put-3
 add-put-3 c = search needs
@@ -97,10 +101,11 @@ same-length-3 c = search needs
 
 returns-3 : tie.Need-returns-3
 returns-3 c =
+    let put4 = c .before .before .put4 in
     let s = c .before .before .before .before .before .before .before .before .before .before .before in
     let a = s .args in
     let wn = a .w .now in
-    plain (a .n) (a .k) (a .s) wn (a .a) (a .b) (omega arith) (omega arith) (omega arith) (omega arith) (s .pre .1 .0 .0) (s .pre .1 .0 .1) (s .pre .1 .1) (c .before .before .put4 .result) (c .before .before .put4 .last .0) (c .before .before .put4 .ensures) (inr (c .before .before .before .before .before .if3 .taken, c .before .before .before .before .if4 .taken))
+    plain (a .n) (a .k) (a .s) wn (a .a) (a .b) (omega arith) (omega arith) (omega arith) (omega arith) (s .pre .1 .0 .0) (s .pre .1 .0 .1) (s .pre .1 .1) (put4 .result) (put4 .last .0) (put4 .ensures) (inr (c .before .before .before .before .before .if3 .taken, c .before .before .before .before .if4 .taken))
 
 returns-4 : tie.Need-returns-4
 returns-4 c =

@@ -39,20 +39,23 @@ add-put-2 c = search needs
 
 put-requires-2 : tie.Need-put-requires-2
 put-requires-2 c κs =
+    let put = c .before .before .before .put in
     let s = c .before .before .before .before .before .before .before .before .before in
     let a = s .args in
     let wn = a .w .now in
     let rm = room (a .n) (a .k) (a .s) wn (a .a) (a .b) (omega arith) (omega arith) (omega arith) (omega arith) (s .pre .1 .0 .0) (s .pre .1 .0 .1) (s .pre .1 .1 .1) in
     let l = c .before .before .before .before .before .last .ensures .below in
-    (c .before .before .before .put .ensures .later .logged, (omega arith, (omega (arith, c .before .before .before .put .ensures .next), (omega arith, omega (arith, c .before .before .before .put .ensures .later .len)))))
+    (put .ensures .later .logged, (omega arith, (omega (arith, put .ensures .next), (omega arith, omega (arith, put .ensures .later .len)))))
 
 put-requires-3 : tie.Need-put-requires-3
 put-requires-3 c κs =
+    let put2 = c .before .before .before .put2 in
+    let put = c .before .before .before .before .before .before .before .put in
     let s = c .before .before .before .before .before .before .before .before .before .before .before .before .before in
     let a = s .args in
     let wn = a .w .now in
     let rm = room (a .n) (a .k) (a .s) wn (a .a) (a .b) (omega arith) (omega arith) (omega arith) (omega arith) (s .pre .1 .0 .0) (s .pre .1 .0 .1) (s .pre .1 .1 .1) in
-    (c .before .before .before .put2 .ensures .later .logged, (omega arith, (omega (arith, c .before .before .before .before .before .before .before .put .ensures .next, c .before .before .before .put2 .ensures .next), (omega arith, omega (arith, c .before .before .before .before .before .before .before .put .ensures .later .len, c .before .before .before .put2 .ensures .later .len)))))
+    (put2 .ensures .later .logged, (omega arith, (omega (arith, put .ensures .next, put2 .ensures .next), (omega arith, omega (arith, put .ensures .later .len, put2 .ensures .later .len)))))
 
 mul-w : tie.Need-mul-w
 mul-w c = search needs
@@ -82,11 +85,15 @@ same-length c = simp length-set (c .before .before .put3 .ensures .later .len �
 
 returns : tie.Need-returns
 returns c =
+    let last = c .before .before .before .before .before .before .before .before .before .before .before .before .last in
+    let put = c .before .before .before .before .before .before .before .before .before .before .put in
+    let put2 = c .before .before .before .before .before .before .put2 in
+    let put3 = c .before .before .put3 in
     let s = c .before .before .before .before .before .before .before .before .before .before .before .before .before .before .before .before in
     let a = s .args in
     let wn = a .w .now in
-    let la : Last wn (a .p) (c .before .before .before .before .before .before .before .before .before .before .before .before .last .result) = subst (λ (v : ℕ). Last wn v (c .before .before .before .before .before .before .before .before .before .before .before .before .last .result)) (c .before .before .before .before .before .before .before .before .before .before .before .before .before .wide .ensures) (c .before .before .before .before .before .before .before .before .before .before .before .before .last .ensures) in
-    knitted (a .n) (a .k) (a .s) wn (a .a) (a .b) (omega arith) (omega arith) (omega arith) (omega arith) (s .pre .1 .0 .0) (s .pre .1 .0 .1) (s .pre .1 .1 .1) (c .before .before .before .before .before .before .before .before .before .before .put .result) (c .before .before .before .before .before .before .before .before .before .before .put .last .0) (c .before .before .before .before .before .before .before .before .before .before .put .ensures) (a .p) (a .q) (c .before .before .before .before .before .before .before .before .before .before .before .before .last .result) (c .before .before .before .before .before .before .put2 .result) (c .before .before .put3 .result) (c .before .before .before .before .before .before .put2 .last .0) (c .before .before .put3 .last .0) (set (c .before .before .put3 .last .0) (STACK + a .s) (a .p + 4096 * a .q)) (s .pre .1 .1 .0 .0 .0) (s .pre .1 .1 .0 .0 .1) (omega arith) (omega arith) (omega arith) (omega arith) la (c .before .before .before .before .before .before .put2 .ensures) (c .before .before .put3 .ensures) refl
+    let la : Last wn (a .p) (last .result) = subst (λ (v : ℕ). Last wn v (last .result)) (c .before .before .before .before .before .before .before .before .before .before .before .before .before .wide .ensures) (last .ensures) in
+    knitted (a .n) (a .k) (a .s) wn (a .a) (a .b) (omega arith) (omega arith) (omega arith) (omega arith) (s .pre .1 .0 .0) (s .pre .1 .0 .1) (s .pre .1 .1 .1) (put .result) (put .last .0) (put .ensures) (a .p) (a .q) (last .result) (put2 .result) (put3 .result) (put2 .last .0) (put3 .last .0) (set (put3 .last .0) (STACK + a .s) (a .p + 4096 * a .q)) (s .pre .1 .1 .0 .0 .0) (s .pre .1 .1 .0 .0 .1) (omega arith) (omega arith) (omega arith) (omega arith) la (put2 .ensures) (put3 .ensures) refl
 
 pub knit-spec : {M : Type 1} → statement M
 knit-spec =

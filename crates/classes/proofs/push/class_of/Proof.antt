@@ -5,8 +5,9 @@ use Rattle.classes.proofs.push.class_of.Tie as tie
 
 find-requires : tie.Need-find-requires
 find-requires c κs =
-    let g = c .before .pre .1 .holds in
-    ((c .before .pre .0, (g .below, g .long)), g .state .shape)
+    let pre = c .before .pre in
+    let g = pre .1 .holds in
+    ((pre .0, (g .below, g .long)), g .state .shape)
 
 returns : tie.Need-returns
 returns c = record { is = λ es k h. sym (c .find .ensures .is (h .state .M) (h .state .forest)) }

@@ -19,36 +19,44 @@ wide-requires c κs = search needs
 
 add-requires : tie.Need-add-requires
 add-requires c κs =
+    let wide = c .before .wide in
     let s = c .before .before .before .before .before in
     let a = s .args in
     let wn = a .w .now in
     let it = s .pre in
-    push-adding (a .n) (a .k) wn (a .g) (c .before .wide .result) (c .before .wide .ensures ∙ c .before .before .loaded .ensures) it
+    push-adding (a .n) (a .k) wn (a .g) (wide .result) (wide .ensures ∙ c .before .before .loaded .ensures) it
 
 undo-requires : tie.Need-undo-requires
-undo-requires c κs = (c .before .before .before .before .add .ensures .later .logged, c .before .before .before .before .add .ensures .later .more)
+undo-requires c κs =
+    let add = c .before .before .before .before .add in
+    (add .ensures .later .logged, add .ensures .later .more)
 
 same-length : tie.Need-same-length
 same-length c = c .before .before .undo .ensures .len ∙ c .before .before .before .before .before .before .before .add .ensures .later .len
 
 returns : tie.Need-returns
 returns c =
+    let wide = c .before .before .before .before .before .before .before .before .before .wide in
+    let add = c .before .before .before .before .before .before .before .add in
+    let undo = c .before .before .undo in
     let s = c .before .before .before .before .before .before .before .before .before .before .before .before .before in
     let a = s .args in
     let wn = a .w .now in
     let it = s .pre in
-    pushes-clashed (a .n) (a .k) wn (a .g) (c .before .before .before .before .before .before .before .before .before .wide .result) (c .before .before .before .before .before .before .before .before .before .wide .ensures ∙ c .before .before .before .before .before .before .before .before .before .before .loaded .ensures) it (c .before .before .before .before .before .before .before .add .result .k) (c .before .before .before .before .before .before .before .add .result .bad) (c .before .before .before .before .before .before .before .add .last .0) (c .before .before .before .before .before .before .before .add .ensures) (c .before .before .undo .last .0) (c .before .before .before .before .if1 .taken) (c .before .before .undo .ensures)
+    pushes-clashed (a .n) (a .k) wn (a .g) (wide .result) (wide .ensures ∙ c .before .before .before .before .before .before .before .before .before .before .loaded .ensures) it (add .result .k) (add .result .bad) (add .last .0) (add .ensures) (undo .last .0) (c .before .before .before .before .if1 .taken) (undo .ensures)
 
 same-length-2 : tie.Need-same-length-2
 same-length-2 c = c .before .before .before .add .ensures .later .len
 
 returns-2 : tie.Need-returns-2
 returns-2 c =
+    let wide = c .before .before .before .before .before .wide in
+    let add = c .before .before .before .add in
     let s = c .before .before .before .before .before .before .before .before .before in
     let a = s .args in
     let wn = a .w .now in
     let it = s .pre in
-    pushes-in (a .n) (a .k) wn (a .g) (c .before .before .before .before .before .wide .result) (c .before .before .before .before .before .wide .ensures ∙ c .before .before .before .before .before .before .loaded .ensures) it (c .before .before .before .add .result .k) (c .before .before .before .add .result .bad) (c .before .before .before .add .last .0) (c .before .before .before .add .ensures) (c .if1 .left)
+    pushes-in (a .n) (a .k) wn (a .g) (wide .result) (wide .ensures ∙ c .before .before .before .before .before .before .loaded .ensures) it (add .result .k) (add .result .bad) (add .last .0) (add .ensures) (c .if1 .left)
 
 pub push-spec : {M : Type 1} → statement M
 push-spec =

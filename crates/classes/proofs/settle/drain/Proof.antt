@@ -46,6 +46,7 @@ same-length c = c .before .before .before .step .ensures .later .len ∙ c .befo
 
 returns : tie.Need-returns Inv-loop μ-loop
 returns c =
+    let step = c .before .before .before .step in
     let s = c .before .before .before .before .before .before .before .before in
     let a = s .args in
     let wn = a .w .now in
@@ -55,7 +56,7 @@ returns c =
     let le : length (o .w) ≡ length wn = o .inv .later .len in
     let wl = words-later (a .k) wn (o .e) (o .w) (omega arith) (o .inv .later) in
     let tl = targets-later (a .k) wn (o .e) (o .w) (omega arith) (o .inv .later) in
-    drained-bad F T (a .n) (a .k) (a .s) wn (a .from) (a .to) (o .e) (o .h) (o .w) (o .x) (c .before .before .before .step .result .k) (c .before .before .before .step .result .s) (c .before .before .before .step .result .bad) (c .before .before .before .step .last .0) (o .inv) (rw (wl, tl) at (c .before .before .before .step .ensures)) (c .if1 .taken)
+    drained-bad F T (a .n) (a .k) (a .s) wn (a .from) (a .to) (o .e) (o .h) (o .w) (o .x) (step .result .k) (step .result .s) (step .result .bad) (step .last .0) (o .inv) (rw (wl, tl) at (step .ensures)) (c .if1 .taken)
 
 sub-next : tie.Need-sub-next Inv-loop μ-loop
 sub-next c =
@@ -90,6 +91,7 @@ loop-less c = rw (c .next .ensures) (c .before .before .before .before .before .
 
 loop-again : tie.Need-loop-again Inv-loop μ-loop
 loop-again c =
+    let step = c .before .before .before .before .before .step in
     let s = c .before .before .before .before .before .before .before .before .before .before in
     let a = s .args in
     let wn = a .w .now in
@@ -99,7 +101,7 @@ loop-again c =
     let le : length (o .w) ≡ length wn = o .inv .later .len in
     let wl = words-later (a .k) wn (o .e) (o .w) (omega arith) (o .inv .later) in
     let tl = targets-later (a .k) wn (o .e) (o .w) (omega arith) (o .inv .later) in
-    drain-turn F T (a .n) (a .k) (a .s) wn (a .from) (a .to) (o .e) (o .h) (o .w) (o .x) (c .before .before .before .before .before .step .result .k) (c .before .before .before .before .before .step .result .s) (c .before .before .before .before .before .step .result .bad) (c .before .before .before .before .before .step .last .0) (c .next .result) (o .inv) (rw (wl, tl) at (c .before .before .before .before .before .step .ensures)) (c .before .before .if1 .left) (c .next .ensures)
+    drain-turn F T (a .n) (a .k) (a .s) wn (a .from) (a .to) (o .e) (o .h) (o .w) (o .x) (step .result .k) (step .result .s) (step .result .bad) (step .last .0) (c .next .result) (o .inv) (rw (wl, tl) at (step .ensures)) (c .before .before .if1 .left) (c .next .ensures)
 
 same-length-2 : tie.Need-same-length-2 Inv-loop μ-loop
 same-length-2 c = c .before .loop .inv .later .len

@@ -91,6 +91,7 @@ wide-requires c κs = search needs
 
 drain-requires : tie.Need-drain-requires Inv-loop μ-loop
 drain-requires c κs =
+    let wide = c .before .wide in
     let s = c .before .before .before .before .before .before in
     let a = s .args in
     let wn = a .w .now in
@@ -103,13 +104,15 @@ drain-requires c κs =
     let tl = targets-later (a .k) wn (o .e) (o .w) (omega arith) (o .inv .later) in
     let hp = some (o .h) (c .before .before .before .loop-test .taken) in
     let hs = settle-stack F T (a .n) (a .k) (a .s) wn (o .e) (o .h) (o .w) g (o .inv) in
-    ((omega arith, omega arith), rw (wl, tl) (settle-working F T (a .n) (a .k) (a .s) wn (o .e) (o .h) (o .w) (c .before .wide .result % 4096) (c .before .wide .result / 4096) g (o .inv) hp (ap (λ (z : ℕ). z % 4096) (c .before .wide .ensures)) (ap (λ (z : ℕ). z / 4096) (c .before .wide .ensures))))
+    ((omega arith, omega arith), rw (wl, tl) (settle-working F T (a .n) (a .k) (a .s) wn (o .e) (o .h) (o .w) (wide .result % 4096) (wide .result / 4096) g (o .inv) hp (ap (λ (z : ℕ). z % 4096) (wide .ensures)) (ap (λ (z : ℕ). z / 4096) (wide .ensures))))
 
 same-length : tie.Need-same-length Inv-loop μ-loop
 same-length c = c .before .before .before .drain .ensures .later .len ∙ c .before .before .before .before .before .before .before .before .loop .inv .later .len
 
 returns : tie.Need-returns Inv-loop μ-loop
 returns c =
+    let wide = c .before .before .before .before .before .wide in
+    let drain = c .before .before .before .drain in
     let s = c .before .before .before .before .before .before .before .before .before .before in
     let a = s .args in
     let wn = a .w .now in
@@ -122,10 +125,12 @@ returns c =
     let tl = targets-later (a .k) wn (o .e) (o .w) (omega arith) (o .inv .later) in
     let hp = some (o .h) (c .before .before .before .before .before .before .before .loop-test .taken) in
     let hs = settle-stack F T (a .n) (a .k) (a .s) wn (o .e) (o .h) (o .w) g (o .inv) in
-    settled-bad F T (a .n) (a .k) (a .s) wn (o .e) (o .h) (o .w) (c .before .before .before .before .before .wide .result % 4096) (c .before .before .before .before .before .wide .result / 4096) (c .before .before .before .drain .result .k) (c .before .before .before .drain .result .s) (c .before .before .before .drain .result .bad) (c .before .before .before .drain .last .0) (o .inv) hp (ap (λ (z : ℕ). z % 4096) (c .before .before .before .before .before .wide .ensures)) (ap (λ (z : ℕ). z / 4096) (c .before .before .before .before .before .wide .ensures)) (rw (wl, tl) at (c .before .before .before .drain .ensures)) (c .if1 .taken)
+    settled-bad F T (a .n) (a .k) (a .s) wn (o .e) (o .h) (o .w) (wide .result % 4096) (wide .result / 4096) (drain .result .k) (drain .result .s) (drain .result .bad) (drain .last .0) (o .inv) hp (ap (λ (z : ℕ). z % 4096) (wide .ensures)) (ap (λ (z : ℕ). z / 4096) (wide .ensures)) (rw (wl, tl) at (drain .ensures)) (c .if1 .taken)
 
 loop-less : tie.Need-loop-less Inv-loop μ-loop
 loop-less c =
+    let wide = c .before .before .before .before .before .wide in
+    let drain = c .before .before .before .drain in
     let s = c .before .before .before .before .before .before .before .before .before .before in
     let a = s .args in
     let wn = a .w .now in
@@ -138,10 +143,12 @@ loop-less c =
     let tl = targets-later (a .k) wn (o .e) (o .w) (omega arith) (o .inv .later) in
     let hp = some (o .h) (c .before .before .before .before .before .before .before .loop-test .taken) in
     let hs = settle-stack F T (a .n) (a .k) (a .s) wn (o .e) (o .h) (o .w) g (o .inv) in
-    settle-less F T (a .n) (o .e) (o .h) (o .w) (c .before .before .before .before .before .wide .result % 4096) (c .before .before .before .before .before .wide .result / 4096) (c .before .before .before .drain .result .k) (c .before .before .before .drain .result .s) (c .before .before .before .drain .result .bad) (c .before .before .before .drain .last .0) hp (rw (wl, tl) at (c .before .before .before .drain .ensures)) (c .if1 .left)
+    settle-less F T (a .n) (o .e) (o .h) (o .w) (wide .result % 4096) (wide .result / 4096) (drain .result .k) (drain .result .s) (drain .result .bad) (drain .last .0) hp (rw (wl, tl) at (drain .ensures)) (c .if1 .left)
 
 loop-again : tie.Need-loop-again Inv-loop μ-loop
 loop-again c =
+    let wide = c .before .before .before .before .before .wide in
+    let drain = c .before .before .before .drain in
     let s = c .before .before .before .before .before .before .before .before .before .before in
     let a = s .args in
     let wn = a .w .now in
@@ -154,7 +161,7 @@ loop-again c =
     let tl = targets-later (a .k) wn (o .e) (o .w) (omega arith) (o .inv .later) in
     let hp = some (o .h) (c .before .before .before .before .before .before .before .loop-test .taken) in
     let hs = settle-stack F T (a .n) (a .k) (a .s) wn (o .e) (o .h) (o .w) g (o .inv) in
-    settle-turn F T (a .n) (a .k) (a .s) wn (o .e) (o .h) (o .w) (c .before .before .before .before .before .wide .result % 4096) (c .before .before .before .before .before .wide .result / 4096) (c .before .before .before .drain .result .k) (c .before .before .before .drain .result .s) (c .before .before .before .drain .result .bad) (c .before .before .before .drain .last .0) (o .inv) hp (ap (λ (z : ℕ). z % 4096) (c .before .before .before .before .before .wide .ensures)) (ap (λ (z : ℕ). z / 4096) (c .before .before .before .before .before .wide .ensures)) (rw (wl, tl) at (c .before .before .before .drain .ensures)) (c .if1 .left)
+    settle-turn F T (a .n) (a .k) (a .s) wn (o .e) (o .h) (o .w) (wide .result % 4096) (wide .result / 4096) (drain .result .k) (drain .result .s) (drain .result .bad) (drain .last .0) (o .inv) hp (ap (λ (z : ℕ). z % 4096) (wide .ensures)) (ap (λ (z : ℕ). z / 4096) (wide .ensures)) (rw (wl, tl) at (drain .ensures)) (c .if1 .left)
 
 same-length-2 : tie.Need-same-length-2 Inv-loop μ-loop
 same-length-2 c = c .before .loop .inv .later .len

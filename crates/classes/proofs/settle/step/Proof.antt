@@ -49,13 +49,14 @@ same-length c = search needs
 
 returns : tie.Need-returns
 returns c =
+    let look = c .before .look in
     let s = c .before .before .before .before .before .before in
     let a = s .args in
     let wn = a .w .now in
     let F = words wn in
     let T = targets wn in
     let g = s .pre .1 .1 in
-    let lk : Looked F wn (getD F (a .x - 1) 0) (a .to) (c .before .look .result) = subst (λ (v : ℕ). Looked F wn v (a .to) (c .before .look .result)) (c .before .before .before .loaded .ensures) (c .before .look .ensures) in
+    let lk : Looked F wn (getD F (a .x - 1) 0) (a .to) (look .result) = subst (λ (v : ℕ). Looked F wn v (a .to) (look .result)) (c .before .before .before .loaded .ensures) (look .ensures) in
     turned-miss F T (a .n) (a .k) (a .s) (a .x) (a .to) wn (omega arith) (omega arith) (s .pre .1 .0) g (rw (c .if1 .taken) at lk)
 
 sub-i : tie.Need-sub-i
@@ -77,14 +78,15 @@ target-requires c κs =
 
 target-requires-2 : tie.Need-target-requires-2
 target-requires-2 c κs =
+    let look = c .before .before .before .before .look in
     let s = c .before .before .before .before .before .before .before .before .before in
     let a = s .args in
     let wn = a .w .now in
     let F = words wn in
     let T = targets wn in
     let g = s .pre .1 .1 in
-    let lk : Looked F wn (getD F (a .x - 1) 0) (a .to) (c .before .before .before .before .look .result) = subst (λ (v : ℕ). Looked F wn v (a .to) (c .before .before .before .before .look .result)) (c .before .before .before .before .before .before .loaded .ensures) (c .before .before .before .before .look .ensures) in
-    let r = c .before .before .before .before .look .result in
+    let lk : Looked F wn (getD F (a .x - 1) 0) (a .to) (look .result) = subst (λ (v : ℕ). Looked F wn v (a .to) (look .result)) (c .before .before .before .before .before .before .loaded .ensures) (look .ensures) in
+    let r = look .result in
     let rp = some r (c .before .before .before .if1 .left) in
     let ri : r ≡ suc (r - 1) = omega arith in
     let mt = match-target (g .G) (g .H) F T (a .n) (a .k) (a .s) (a .x) (a .to) (g .fs) wn (omega arith) (omega arith) (g .state) (s .pre .1 .0) r (r - 1) lk ri in
@@ -93,14 +95,15 @@ target-requires-2 c κs =
 
 join-requires : tie.Need-join-requires
 join-requires c κs =
+    let look = c .before .before .before .before .before .before .look in
     let s = c .before .before .before .before .before .before .before .before .before .before .before in
     let a = s .args in
     let wn = a .w .now in
     let F = words wn in
     let T = targets wn in
     let g = s .pre .1 .1 in
-    let lk : Looked F wn (getD F (a .x - 1) 0) (a .to) (c .before .before .before .before .before .before .look .result) = subst (λ (v : ℕ). Looked F wn v (a .to) (c .before .before .before .before .before .before .look .result)) (c .before .before .before .before .before .before .before .before .loaded .ensures) (c .before .before .before .before .before .before .look .ensures) in
-    let r = c .before .before .before .before .before .before .look .result in
+    let lk : Looked F wn (getD F (a .x - 1) 0) (a .to) (look .result) = subst (λ (v : ℕ). Looked F wn v (a .to) (look .result)) (c .before .before .before .before .before .before .before .before .loaded .ensures) (look .ensures) in
+    let r = look .result in
     let rp = some r (c .before .before .before .before .before .if1 .left) in
     let ri : r ≡ suc (r - 1) = omega arith in
     let mt = match-target (g .G) (g .H) F T (a .n) (a .k) (a .s) (a .x) (a .to) (g .fs) wn (omega arith) (omega arith) (g .state) (s .pre .1 .0) r (r - 1) lk ri in
@@ -112,19 +115,21 @@ same-length-2 c = search needs
 
 returns-2 : tie.Need-returns-2
 returns-2 c =
+    let look = c .before .before .before .before .before .before .before .before .before .look in
+    let join = c .before .before .join in
     let s = c .before .before .before .before .before .before .before .before .before .before .before .before .before .before in
     let a = s .args in
     let wn = a .w .now in
     let F = words wn in
     let T = targets wn in
     let g = s .pre .1 .1 in
-    let lk : Looked F wn (getD F (a .x - 1) 0) (a .to) (c .before .before .before .before .before .before .before .before .before .look .result) = subst (λ (v : ℕ). Looked F wn v (a .to) (c .before .before .before .before .before .before .before .before .before .look .result)) (c .before .before .before .before .before .before .before .before .before .before .before .loaded .ensures) (c .before .before .before .before .before .before .before .before .before .look .ensures) in
-    let r = c .before .before .before .before .before .before .before .before .before .look .result in
+    let lk : Looked F wn (getD F (a .x - 1) 0) (a .to) (look .result) = subst (λ (v : ℕ). Looked F wn v (a .to) (look .result)) (c .before .before .before .before .before .before .before .before .before .before .before .loaded .ensures) (look .ensures) in
+    let r = look .result in
     let rp = some r (c .before .before .before .before .before .before .before .before .if1 .left) in
     let ri : r ≡ suc (r - 1) = omega arith in
     let mt = match-target (g .G) (g .H) F T (a .n) (a .k) (a .s) (a .x) (a .to) (g .fs) wn (omega arith) (omega arith) (g .state) (s .pre .1 .0) r (r - 1) lk ri in
     let mi : r - 1 < 2047 = mt .1 in
-    turned-hit F T (a .n) (a .k) (a .s) (a .x) (a .to) wn (omega arith) (omega arith) (s .pre .1 .0) g r (r - 1) (c .before .before .join .result .k) (c .before .before .join .result .s) (c .before .before .join .result .bad) (c .before .before .join .last .0) lk ri (rw (c .before .before .before .before .before .before .target .ensures, c .before .before .before .before .target2 .ensures) at (c .before .before .join .ensures))
+    turned-hit F T (a .n) (a .k) (a .s) (a .x) (a .to) wn (omega arith) (omega arith) (s .pre .1 .0) g r (r - 1) (join .result .k) (join .result .s) (join .result .bad) (join .last .0) lk ri (rw (c .before .before .before .before .before .before .target .ensures, c .before .before .before .before .target2 .ensures) at (join .ensures))
 
 pub step-spec : {M : Type 1} → statement M
 step-spec =

@@ -22,6 +22,7 @@ loaded-requires c κs =
 
 mark-requires : tie.Need-mark-requires
 mark-requires c κs =
+    let loaded = c .before .before .loaded in
     let s = c .before .before .before .before .before in
     let a = s .args in
     let wn = a .w .now in
@@ -31,7 +32,7 @@ mark-requires c κs =
     let lo = node-low F (g .G) (a .n) (a .x) (a .p) (g .v) (g .node) in
     let lp = lo .0 in
     let lx = lo .1 in
-    let he : c .before .before .loaded .result ≡ getD F (a .p) 0 = c .before .before .loaded .ensures in
+    let he : loaded .result ≡ getD F (a .p) 0 = loaded .ensures in
     let m = node-marking F T (a .n) (a .k) wn (a .x) (a .p) g (omega arith) in
     let b = m .1 in
     ((omega arith, (omega arith, omega arith)), ((omega arith, omega arith), rw he (m .0)))
@@ -41,6 +42,8 @@ same-length c = search needs
 
 returns : tie.Need-returns
 returns c =
+    let loaded = c .before .before .before .before .before .loaded in
+    let mark = c .before .before .mark in
     let s = c .before .before .before .before .before .before .before .before in
     let a = s .args in
     let wn = a .w .now in
@@ -50,8 +53,8 @@ returns c =
     let lo = node-low F (g .G) (a .n) (a .x) (a .p) (g .v) (g .node) in
     let lp = lo .0 in
     let lx = lo .1 in
-    let he : c .before .before .before .before .before .loaded .result ≡ getD F (a .p) 0 = c .before .before .before .before .before .loaded .ensures in
-    noded-mark F T (a .n) (a .k) wn (a .x) (a .p) (c .before .before .mark .result .k) (c .before .before .mark .result .bad) (c .before .before .mark .last .0) (omega arith) (rw he at (c .before .before .mark .ensures))
+    let he : loaded .result ≡ getD F (a .p) 0 = loaded .ensures in
+    noded-mark F T (a .n) (a .k) wn (a .x) (a .p) (mark .result .k) (mark .result .bad) (mark .last .0) (omega arith) (rw he at (mark .ensures))
 
 add-arcs : tie.Need-add-arcs
 add-arcs c =
@@ -70,6 +73,7 @@ wide-requires c κs = search needs
 
 arcs-requires : tie.Need-arcs-requires
 arcs-requires c κs =
+    let loaded = c .before .before .before .loaded in
     let s = c .before .before .before .before .before .before in
     let a = s .args in
     let wn = a .w .now in
@@ -79,7 +83,7 @@ arcs-requires c κs =
     let lo = node-low F (g .G) (a .n) (a .x) (a .p) (g .v) (g .node) in
     let lp = lo .0 in
     let lx = lo .1 in
-    let he : c .before .before .before .loaded .result ≡ getD F (a .p) 0 = c .before .before .before .loaded .ensures in
+    let he : loaded .result ≡ getD F (a .p) 0 = loaded .ensures in
     let m = node-batched F T (a .n) (a .k) wn (a .x) (a .p) g (omega arith) in
     let b = m .1 in
     let we : c .wide .result ≡ getD F (a .p) 0 = c .wide .ensures ∙ he in
@@ -90,6 +94,9 @@ same-length-2 c = search needs
 
 returns-2 : tie.Need-returns-2
 returns-2 c =
+    let loaded = c .before .before .before .before .before .before .loaded in
+    let wide = c .before .before .before .wide in
+    let arcs = c .before .before .arcs in
     let s = c .before .before .before .before .before .before .before .before .before in
     let a = s .args in
     let wn = a .w .now in
@@ -99,9 +106,9 @@ returns-2 c =
     let lo = node-low F (g .G) (a .n) (a .x) (a .p) (g .v) (g .node) in
     let lp = lo .0 in
     let lx = lo .1 in
-    let he : c .before .before .before .before .before .before .loaded .result ≡ getD F (a .p) 0 = c .before .before .before .before .before .before .loaded .ensures in
-    let we : c .before .before .before .wide .result ≡ getD F (a .p) 0 = c .before .before .before .wide .ensures ∙ he in
-    noded-run F T (a .n) (a .k) wn (a .x) (a .p) (c .before .before .arcs .result .k) (c .before .before .arcs .result .bad) (c .before .before .arcs .last .0) (omega arith) (rw we at (c .before .before .arcs .ensures))
+    let he : loaded .result ≡ getD F (a .p) 0 = loaded .ensures in
+    let we : wide .result ≡ getD F (a .p) 0 = wide .ensures ∙ he in
+    noded-run F T (a .n) (a .k) wn (a .x) (a .p) (arcs .result .k) (arcs .result .bad) (arcs .last .0) (omega arith) (rw we at (arcs .ensures))
 
 pub node-spec : {M : Type 1} → statement M
 node-spec =

@@ -48,6 +48,7 @@ same-length c = c .before .before .before .node .ensures .later .len ∙ c .befo
 
 returns : tie.Need-returns Inv-loop μ-loop
 returns c =
+    let node = c .before .before .before .node in
     let s = c .before .before .before .before .before .before .before .before in
     let a = s .args in
     let wn = a .w .now in
@@ -58,7 +59,7 @@ returns c =
     let h = some (o .left) (c .before .before .before .before .before .loop-test .taken) in
     let wl = words-later (a .k) wn (o .e) (o .w) (omega arith) (o .inv .later) in
     let tl = targets-later (a .k) wn (o .e) (o .w) (omega arith) (o .inv .later) in
-    listed-bad F T (a .n) (a .k) wn (a .x) (a .p) (a .c) (o .e) (o .y) (o .at) (o .left) (o .w) (o .inv) h (c .before .before .before .node .result .k) (c .before .before .before .node .result .bad) (c .before .before .before .node .last .0) (rw (wl, tl) at (c .before .before .before .node .ensures)) (c .if1 .taken)
+    listed-bad F T (a .n) (a .k) wn (a .x) (a .p) (a .c) (o .e) (o .y) (o .at) (o .left) (o .w) (o .inv) h (node .result .k) (node .result .bad) (node .last .0) (rw (wl, tl) at (node .ensures)) (c .if1 .taken)
 
 loaded-requires : tie.Need-loaded-requires Inv-loop μ-loop
 loaded-requires c κs =
@@ -82,6 +83,8 @@ span-requires c κs = search needs
 
 add-at : tie.Need-add-at Inv-loop μ-loop
 add-at c =
+    let node = c .before .before .before .before .before .before .node in
+    let loaded = c .before .loaded in
     let s = c .before .before .before .before .before .before .before .before .before .before .before in
     let a = s .args in
     let wn = a .w .now in
@@ -96,8 +99,8 @@ add-at c =
     let lo = node-low F (nd .G) (a .n) (o .y) (o .at) (nd .v) (nd .node) in
     let lp = lo .0 in
     let lx = lo .1 in
-    let w2 = words-later (o .e) (o .w) (c .before .before .before .before .before .before .node .result .k) (c .before .before .before .before .before .before .node .last .0) (omega arith) (c .before .before .before .before .before .before .node .ensures .later) ∙ wl in
-    let he : c .before .loaded .result ≡ getD F (o .at) 0 = c .before .loaded .ensures ∙ ap (λ (z : List ℕ). getD z (o .at) 0) w2 in
+    let w2 = words-later (o .e) (o .w) (node .result .k) (node .last .0) (omega arith) (node .ensures .later) ∙ wl in
+    let he : loaded .result ≡ getD F (o .at) 0 = loaded .ensures ∙ ap (λ (z : List ℕ). getD z (o .at) 0) w2 in
     let z = node-span F (nd .G) (a .n) (o .y) (o .at) (nd .v) (nd .node) (c .span .result) (λ b. c .span .ensures .0 (omega arith)) (λ b. c .span .ensures .1 (omega arith) ∙ omega arith) in
     search needs
 
@@ -140,6 +143,8 @@ loop-less c =
 
 loop-again : tie.Need-loop-again Inv-loop μ-loop
 loop-again c =
+    let node = c .before .before .before .before .before .before .node in
+    let loaded = c .before .loaded in
     let s = c .before .before .before .before .before .before .before .before .before .before .before in
     let a = s .args in
     let wn = a .w .now in
@@ -150,9 +155,9 @@ loop-again c =
     let h = some (o .left) (c .before .before .before .before .before .before .before .before .loop-test .taken) in
     let wl = words-later (a .k) wn (o .e) (o .w) (omega arith) (o .inv .later) in
     let tl = targets-later (a .k) wn (o .e) (o .w) (omega arith) (o .inv .later) in
-    let w2 = words-later (o .e) (o .w) (c .before .before .before .before .before .before .node .result .k) (c .before .before .before .before .before .before .node .last .0) (omega arith) (c .before .before .before .before .before .before .node .ensures .later) ∙ wl in
-    let he : c .before .loaded .result ≡ getD F (o .at) 0 = c .before .loaded .ensures ∙ ap (λ (z : List ℕ). getD z (o .at) 0) w2 in
-    marching-turn F T (a .n) (a .k) wn (a .x) (a .p) (a .c) (o .e) (o .y) (o .at) (o .left) (o .w) (o .inv) h (c .before .before .before .before .before .before .node .result .k) (c .before .before .before .before .before .before .node .result .bad) (c .before .before .before .before .before .before .node .last .0) (rw (wl, tl) at (c .before .before .before .before .before .before .node .ensures)) (c .before .before .before .if1 .left) (c .span .result) (λ b. c .span .ensures .0 (omega arith)) (λ b. c .span .ensures .1 (omega arith) ∙ omega arith)
+    let w2 = words-later (o .e) (o .w) (node .result .k) (node .last .0) (omega arith) (node .ensures .later) ∙ wl in
+    let he : loaded .result ≡ getD F (o .at) 0 = loaded .ensures ∙ ap (λ (z : List ℕ). getD z (o .at) 0) w2 in
+    marching-turn F T (a .n) (a .k) wn (a .x) (a .p) (a .c) (o .e) (o .y) (o .at) (o .left) (o .w) (o .inv) h (node .result .k) (node .result .bad) (node .last .0) (rw (wl, tl) at (node .ensures)) (c .before .before .before .if1 .left) (c .span .result) (λ b. c .span .ensures .0 (omega arith)) (λ b. c .span .ensures .1 (omega arith) ∙ omega arith)
 
 same-length-2 : tie.Need-same-length-2 Inv-loop μ-loop
 same-length-2 c = c .before .loop .inv .later .len

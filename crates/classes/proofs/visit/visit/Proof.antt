@@ -27,13 +27,14 @@ same-length c = search needs
 
 returns : tie.Need-returns
 returns c =
+    let find = c .before .before .find in
     let s = c .before .before .before .before .before in
     let a = s .args in
     let wn = a .w .now in
     let F = words wn in
     let T = targets wn in
     let g = s .pre .1 .1 in
-    visit-clash F T (a .n) (a .k) wn (omega arith) (omega arith) (a .x) (omega arith) (c .before .before .find .result) (c .before .before .find .ensures) (a .t) (g .state .logged) (c .if1 .taken)
+    visit-clash F T (a .n) (a .k) wn (omega arith) (omega arith) (a .x) (omega arith) (find .result) (find .ensures) (a .t) (g .state .logged) (c .if1 .taken)
 
 loaded-requires : tie.Need-loaded-requires
 loaded-requires c κs = search needs
@@ -43,13 +44,14 @@ wide-requires c κs = search needs
 
 look-requires : tie.Need-look-requires
 look-requires c κs =
+    let find = c .before .before .before .before .before .before .find in
     let s = c .before .before .before .before .before .before .before .before .before in
     let a = s .args in
     let wn = a .w .now in
     let F = words wn in
     let T = targets wn in
     let g = s .pre .1 .1 in
-    (omega arith, subst (λ (v : ℕ). Runs wn v) (sym (c .wide .ensures)) (class-runs F T (a .n) (a .k) wn (omega arith) (omega arith) (a .x) (omega arith) (c .before .before .before .before .before .before .find .result) (c .before .before .before .before .before .before .find .ensures) (g .G) (g .H) (g .state) (c .before .before .before .before .if1 .left)))
+    (omega arith, subst (λ (v : ℕ). Runs wn v) (sym (c .wide .ensures)) (class-runs F T (a .n) (a .k) wn (omega arith) (omega arith) (a .x) (omega arith) (find .result) (find .ensures) (g .G) (g .H) (g .state) (c .before .before .before .before .if1 .left)))
 
 add-put : tie.Need-add-put
 add-put c = search needs
@@ -71,18 +73,24 @@ cast-put c = search needs
 
 put-requires-2 : tie.Need-put-requires-2
 put-requires-2 c κs =
+    let put = c .before .before .before .put in
     let s = c .before .before .before .before .before .before .before .before .before .before .before .before .before .before .before .before in
     let g = s .pre .1 .1 in
     let rr = g .fresh .room in
     let rq = g .state .room in
     let lw = c .before .before .before .before .before .before .before .before .before .before .before .before .before .find .ensures .low in
-    (c .before .before .before .put .ensures .later .logged, (omega arith, (omega (arith, c .before .before .before .put .ensures .next), (omega arith, omega (arith, c .before .before .before .put .ensures .later .len)))))
+    (put .ensures .later .logged, (omega arith, (omega (arith, put .ensures .next), (omega arith, omega (arith, put .ensures .later .len)))))
 
 same-length-2 : tie.Need-same-length-2
 same-length-2 c = search needs
 
 returns-2 : tie.Need-returns-2
 returns-2 c =
+    let find = c .before .before .before .before .before .before .before .before .before .before .before .before .before .before .before .before .find in
+    let look = c .before .before .before .before .before .before .before .before .before .look in
+    let loaded = c .before .before .before .before .before .before .before .before .before .before .before .before .loaded in
+    let put = c .before .before .before .before .before .before .put in
+    let put2 = c .before .before .put2 in
     let s = c .before .before .before .before .before .before .before .before .before .before .before .before .before .before .before .before .before .before .before in
     let a = s .args in
     let wn = a .w .now in
@@ -91,9 +99,9 @@ returns-2 c =
     let g = s .pre .1 .1 in
     let rr = g .fresh .room in
     let rq = g .state .room in
-    let lw = c .before .before .before .before .before .before .before .before .before .before .before .before .before .before .before .before .find .ensures .low in
-    let lk : Looked F wn (getD F (a .t) 0) (getD wn (c .before .before .before .before .before .before .before .before .before .before .before .before .before .before .before .before .find .result) 0) (c .before .before .before .before .before .before .before .before .before .look .result) = subst (λ (v : ℕ). Looked F wn v (getD wn (c .before .before .before .before .before .before .before .before .before .before .before .before .before .before .before .before .find .result) 0) (c .before .before .before .before .before .before .before .before .before .look .result)) (c .before .before .before .before .before .before .before .before .before .before .before .before .loaded .ensures) (subst (λ (v : ℕ). Looked F wn (c .before .before .before .before .before .before .before .before .before .before .before .before .loaded .result) v (c .before .before .before .before .before .before .before .before .before .look .result)) (c .before .before .before .before .before .before .before .before .before .before .wide .ensures) (c .before .before .before .before .before .before .before .before .before .look .ensures)) in
-    visit-hung F T (a .n) (a .k) wn (omega arith) (omega arith) (a .x) (omega arith) (c .before .before .before .before .before .before .before .before .before .before .before .before .before .before .before .before .find .result) (c .before .before .before .before .before .before .before .before .before .before .before .before .before .before .before .before .find .ensures) (a .t) (omega arith) (c .before .before .before .before .before .before .before .before .before .before .before .before .before .before .if1 .left) (getD wn (c .before .before .before .before .before .before .before .before .before .before .before .before .before .before .before .before .find .result) 0) refl (subst (λ (v : ℕ). Looked F wn (getD F (a .t) 0) (getD wn (c .before .before .before .before .before .before .before .before .before .before .before .before .before .before .before .before .find .result) 0) v) (c .before .before .before .before .before .before .before .before .if2 .taken) lk) (omega arith) (c .before .before .before .before .before .before .put .result) (c .before .before .put2 .result) (c .before .before .before .before .before .before .put .last .0) (c .before .before .put2 .last .0) (c .before .before .before .before .before .before .put .ensures) (c .before .before .put2 .ensures)
+    let lw = find .ensures .low in
+    let lk : Looked F wn (getD F (a .t) 0) (getD wn (find .result) 0) (look .result) = subst (λ (v : ℕ). Looked F wn v (getD wn (find .result) 0) (look .result)) (loaded .ensures) (subst (λ (v : ℕ). Looked F wn (loaded .result) v (look .result)) (c .before .before .before .before .before .before .before .before .before .before .wide .ensures) (look .ensures)) in
+    visit-hung F T (a .n) (a .k) wn (omega arith) (omega arith) (a .x) (omega arith) (find .result) (find .ensures) (a .t) (omega arith) (c .before .before .before .before .before .before .before .before .before .before .before .before .before .before .if1 .left) (getD wn (find .result) 0) refl (subst (λ (v : ℕ). Looked F wn (getD F (a .t) 0) (getD wn (find .result) 0) v) (c .before .before .before .before .before .before .before .before .if2 .taken) lk) (omega arith) (put .result) (put2 .result) (put .last .0) (put2 .last .0) (put .ensures) (put2 .ensures)
 
 sub-i : tie.Need-sub-i
 sub-i c =
@@ -105,56 +113,70 @@ target-requires c κs = search needs
 
 target-requires-2 : tie.Need-target-requires-2
 target-requires-2 c κs =
+    let find = c .before .before .before .before .before .before .before .before .before .before .before .find in
+    let look = c .before .before .before .before .look in
+    let loaded = c .before .before .before .before .before .before .before .loaded in
     let s = c .before .before .before .before .before .before .before .before .before .before .before .before .before .before in
     let a = s .args in
     let wn = a .w .now in
     let F = words wn in
     let T = targets wn in
     let g = s .pre .1 .1 in
-    let lk : Looked F wn (getD F (a .t) 0) (getD wn (c .before .before .before .before .before .before .before .before .before .before .before .find .result) 0) (c .before .before .before .before .look .result) = subst (λ (v : ℕ). Looked F wn v (getD wn (c .before .before .before .before .before .before .before .before .before .before .before .find .result) 0) (c .before .before .before .before .look .result)) (c .before .before .before .before .before .before .before .loaded .ensures) (subst (λ (v : ℕ). Looked F wn (c .before .before .before .before .before .before .before .loaded .result) v (c .before .before .before .before .look .result)) (c .before .before .before .before .before .wide .ensures) (c .before .before .before .before .look .ensures)) in
-    let r = c .before .before .before .before .look .result in
+    let lk : Looked F wn (getD F (a .t) 0) (getD wn (find .result) 0) (look .result) = subst (λ (v : ℕ). Looked F wn v (getD wn (find .result) 0) (look .result)) (loaded .ensures) (subst (λ (v : ℕ). Looked F wn (loaded .result) v (look .result)) (c .before .before .before .before .before .wide .ensures) (look .ensures)) in
+    let r = look .result in
     let rp = some r (c .before .before .before .if2 .left) in
     let ri : r ≡ suc (r - 1) = omega arith in
-    let fa = found-arc F T (a .n) (a .k) wn (omega arith) (omega arith) (a .x) (omega arith) (c .before .before .before .before .before .before .before .before .before .before .before .find .result) (c .before .before .before .before .before .before .before .before .before .before .before .find .ensures) (a .t) r (r - 1) (c .before .before .before .before .before .before .before .before .before .if1 .left) lk ri (g .G) (g .H) (g .state) in
+    let fa = found-arc F T (a .n) (a .k) wn (omega arith) (omega arith) (a .x) (omega arith) (find .result) (find .ensures) (a .t) r (r - 1) (c .before .before .before .before .before .before .before .before .before .if1 .left) lk ri (g .G) (g .H) (g .state) in
     let mi : r - 1 < 2047 = fa .1 in
     (omega arith, omega arith)
 
 unite-requires : tie.Need-unite-requires
 unite-requires c κs =
+    let find = c .before .before .before .before .before .before .before .before .before .before .before .before .before .find in
+    let look = c .before .before .before .before .before .before .look in
+    let loaded = c .before .before .before .before .before .before .before .before .before .loaded in
+    let if1 = c .before .before .before .before .before .before .before .before .before .before .before .if1 in
+    let target = c .before .before .before .target in
+    let target2 = c .before .target2 in
     let s = c .before .before .before .before .before .before .before .before .before .before .before .before .before .before .before .before in
     let a = s .args in
     let wn = a .w .now in
     let F = words wn in
     let T = targets wn in
     let g = s .pre .1 .1 in
-    let lk : Looked F wn (getD F (a .t) 0) (getD wn (c .before .before .before .before .before .before .before .before .before .before .before .before .before .find .result) 0) (c .before .before .before .before .before .before .look .result) = subst (λ (v : ℕ). Looked F wn v (getD wn (c .before .before .before .before .before .before .before .before .before .before .before .before .before .find .result) 0) (c .before .before .before .before .before .before .look .result)) (c .before .before .before .before .before .before .before .before .before .loaded .ensures) (subst (λ (v : ℕ). Looked F wn (c .before .before .before .before .before .before .before .before .before .loaded .result) v (c .before .before .before .before .before .before .look .result)) (c .before .before .before .before .before .before .before .wide .ensures) (c .before .before .before .before .before .before .look .ensures)) in
-    let r = c .before .before .before .before .before .before .look .result in
+    let lk : Looked F wn (getD F (a .t) 0) (getD wn (find .result) 0) (look .result) = subst (λ (v : ℕ). Looked F wn v (getD wn (find .result) 0) (look .result)) (loaded .ensures) (subst (λ (v : ℕ). Looked F wn (loaded .result) v (look .result)) (c .before .before .before .before .before .before .before .wide .ensures) (look .ensures)) in
+    let r = look .result in
     let rp = some r (c .before .before .before .before .before .if2 .left) in
     let ri : r ≡ suc (r - 1) = omega arith in
-    let fa = found-arc F T (a .n) (a .k) wn (omega arith) (omega arith) (a .x) (omega arith) (c .before .before .before .before .before .before .before .before .before .before .before .before .before .find .result) (c .before .before .before .before .before .before .before .before .before .before .before .before .before .find .ensures) (a .t) r (r - 1) (c .before .before .before .before .before .before .before .before .before .before .before .if1 .left) lk ri (g .G) (g .H) (g .state) in
+    let fa = found-arc F T (a .n) (a .k) wn (omega arith) (omega arith) (a .x) (omega arith) (find .result) (find .ensures) (a .t) r (r - 1) (if1 .left) lk ri (g .G) (g .H) (g .state) in
     let mi : r - 1 < 2047 = fa .1 in
     let tt = g .state .arcs (a .t) (g .fresh .arc) .1 .1 in
-    let sm = found-same F T (a .n) (a .k) wn (omega arith) (omega arith) (a .x) (omega arith) (c .before .before .before .before .before .before .before .before .before .before .before .before .before .find .result) (c .before .before .before .before .before .before .before .before .before .before .before .before .before .find .ensures) (a .t) r (r - 1) (c .before .before .before .before .before .before .before .before .before .before .before .if1 .left) lk ri (g .G) (g .H) (g .state) (g .fresh) in
-    ((omega arith, omega arith), ((omega (arith, c .before .before .before .target .ensures, tt), omega (arith, c .before .target2 .ensures, fa .0)), record { G = g .G; H = g .H; state = g .state; same = rw (c .before .before .before .target .ensures, c .before .target2 .ensures) sm }))
+    let sm = found-same F T (a .n) (a .k) wn (omega arith) (omega arith) (a .x) (omega arith) (find .result) (find .ensures) (a .t) r (r - 1) (if1 .left) lk ri (g .G) (g .H) (g .state) (g .fresh) in
+    ((omega arith, omega arith), ((omega (arith, target .ensures, tt), omega (arith, target2 .ensures, fa .0)), record { G = g .G; H = g .H; state = g .state; same = rw (target .ensures, target2 .ensures) sm }))
 
 same-length-3 : tie.Need-same-length-3
 same-length-3 c = search needs
 
 returns-3 : tie.Need-returns-3
 returns-3 c =
+    let find = c .before .before .before .before .before .before .before .before .before .before .before .before .before .before .before .before .find in
+    let look = c .before .before .before .before .before .before .before .before .before .look in
+    let loaded = c .before .before .before .before .before .before .before .before .before .before .before .before .loaded in
+    let if1 = c .before .before .before .before .before .before .before .before .before .before .before .before .before .before .if1 in
+    let unite = c .before .before .unite in
     let s = c .before .before .before .before .before .before .before .before .before .before .before .before .before .before .before .before .before .before .before in
     let a = s .args in
     let wn = a .w .now in
     let F = words wn in
     let T = targets wn in
     let g = s .pre .1 .1 in
-    let lk : Looked F wn (getD F (a .t) 0) (getD wn (c .before .before .before .before .before .before .before .before .before .before .before .before .before .before .before .before .find .result) 0) (c .before .before .before .before .before .before .before .before .before .look .result) = subst (λ (v : ℕ). Looked F wn v (getD wn (c .before .before .before .before .before .before .before .before .before .before .before .before .before .before .before .before .find .result) 0) (c .before .before .before .before .before .before .before .before .before .look .result)) (c .before .before .before .before .before .before .before .before .before .before .before .before .loaded .ensures) (subst (λ (v : ℕ). Looked F wn (c .before .before .before .before .before .before .before .before .before .before .before .before .loaded .result) v (c .before .before .before .before .before .before .before .before .before .look .result)) (c .before .before .before .before .before .before .before .before .before .before .wide .ensures) (c .before .before .before .before .before .before .before .before .before .look .ensures)) in
-    let r = c .before .before .before .before .before .before .before .before .before .look .result in
+    let lk : Looked F wn (getD F (a .t) 0) (getD wn (find .result) 0) (look .result) = subst (λ (v : ℕ). Looked F wn v (getD wn (find .result) 0) (look .result)) (loaded .ensures) (subst (λ (v : ℕ). Looked F wn (loaded .result) v (look .result)) (c .before .before .before .before .before .before .before .before .before .before .wide .ensures) (look .ensures)) in
+    let r = look .result in
     let rp = some r (c .before .before .before .before .before .before .before .before .if2 .left) in
     let ri : r ≡ suc (r - 1) = omega arith in
-    let fa = found-arc F T (a .n) (a .k) wn (omega arith) (omega arith) (a .x) (omega arith) (c .before .before .before .before .before .before .before .before .before .before .before .before .before .before .before .before .find .result) (c .before .before .before .before .before .before .before .before .before .before .before .before .before .before .before .before .find .ensures) (a .t) r (r - 1) (c .before .before .before .before .before .before .before .before .before .before .before .before .before .before .if1 .left) lk ri (g .G) (g .H) (g .state) in
+    let fa = found-arc F T (a .n) (a .k) wn (omega arith) (omega arith) (a .x) (omega arith) (find .result) (find .ensures) (a .t) r (r - 1) (if1 .left) lk ri (g .G) (g .H) (g .state) in
     let mi : r - 1 < 2047 = fa .1 in
-    visit-found F T (a .n) (a .k) wn (omega arith) (omega arith) (a .x) (omega arith) (c .before .before .before .before .before .before .before .before .before .before .before .before .before .before .before .before .find .result) (c .before .before .before .before .before .before .before .before .before .before .before .before .before .before .before .before .find .ensures) (a .t) r (r - 1) (c .before .before .before .before .before .before .before .before .before .before .before .before .before .before .if1 .left) lk ri (c .before .before .unite .result .k) (c .before .before .unite .result .bad) (c .before .before .unite .last .0) (rw (c .before .before .before .before .before .before .target .ensures, c .before .before .before .before .target2 .ensures) at (c .before .before .unite .ensures))
+    visit-found F T (a .n) (a .k) wn (omega arith) (omega arith) (a .x) (omega arith) (find .result) (find .ensures) (a .t) r (r - 1) (if1 .left) lk ri (unite .result .k) (unite .result .bad) (unite .last .0) (rw (c .before .before .before .before .before .before .target .ensures, c .before .before .before .before .target2 .ensures) at (unite .ensures))
 
 pub visit-spec : {M : Type 1} → statement M
 visit-spec =
