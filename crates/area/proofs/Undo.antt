@@ -8,7 +8,7 @@ use native.Mathlib.Omega.{arith}
 use native.Mathlib.Decide.{ℕ-discrete}
 use lib.ListN.{length, take, drop, set, getD, length-set, length-take, length-drop}
 use lib.Seq.{ext-getD, take-set-le, drop-set-lt, take-set-lt, drop-set-add, set-set, set-getD, getD-take, getD-drop, getD-set-same, getD-set-other, length-take-le}
-use Rattle.area.specs.Map.{LOG, STACK, WORDS}
+use Rattle.area.specs.Map.{LOG, STACK, WORDS, SIZE}
 use Rattle.area.specs.Region.{region}
 use Rattle.area.proofs.Region.{region-take, region-set-same}
 use Rattle.area.specs.Log.{body, entries, back, past, Logged, Later, Put, Undone}
@@ -52,7 +52,7 @@ unfolding entries
 log-word w w' e j = sym (getD-drop LOG w' j 0) ∙ ap (λ (t : List ℕ). getD t j 0) e ∙ getD-drop LOG w j 0
 
 -- ---- one more entry
-module _ (n : ℕ) (w : List ℕ) (i v : ℕ) (g : Logged n w) (hi : i < LOG) (hv : v < 1048576) (hn : n < 4096) (room : 16384 ≤ length w) where
+module _ (n : ℕ) (w : List ℕ) (i v : ℕ) (g : Logged n w) (hi : i < LOG) (hv : v < 1048576) (hn : n < 4096) (room : SIZE ≤ length w) where
   abbrev packed : ℕ
   packed = i + 4096 * getD w i 0
 

@@ -22,3 +22,7 @@ MARKS = 11264
 
 abbrev pub RESULT : ℕ
 RESULT = 12288
+
+-- the words of the area that are used
+abbrev pub SIZE : ℕ
+SIZE = 16384

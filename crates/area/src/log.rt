@@ -3,6 +3,7 @@ use crate::map::LOG;
 ghost use mathlib.Core.Path.{_≡_};
 ghost use Prim.Native.Nat.{_+_, _*_, _≤_, _<_};
 ghost use lib.ListN.{length};
+ghost use Rattle.area.specs.Map.{LOG, SIZE};
 ghost use Rattle.area.specs.Log.{Logged, Put, Undone};
 
 pub fn wide(x: u32) -> usize
@@ -14,7 +15,7 @@ pub fn wide(x: u32) -> usize
 // Stores v at i of the body, and what stood there in the log, which has n entries. The entries after it.
 pub fn put(w: &mut [u32], n: usize, i: usize, v: u32) -> usize
     requires { ⌜ Logged n (now w) ⌝ }
-    requires { ⌜ (i < 4096) × ((n < 4096) × ((v < 1048576) × (16384 ≤ length (now w)))) ⌝ }
+    requires { ⌜ (i < LOG) × ((n < 4096) × ((v < 1048576) × (SIZE ≤ length (now w)))) ⌝ }
     ensures { λ r. ⌜ Put n (now (w .entry)) i v r (now (w .exit)) ⌝ }
 {
     let old = w[i];

@@ -22,3 +22,6 @@ pub const WORDS: usize = 9216;
 pub const MARKS: usize = 11264;
 
 pub const RESULT: usize = 12288;
+
+// The words of the area that are used.
+pub const SIZE: usize = 16384;

@@ -9,7 +9,7 @@ use native.Mathlib.Omega.{arith}
 use native.Mathlib.Decide.{decLt}
 use lib.ListN.{length, set, getD, length-set}
 use lib.Seq.{getD-set-same, getD-set-other}
-use Rattle.area.specs.Map.{PARENT, NEXT, LOG, STACK}
+use Rattle.area.specs.Map.{PARENT, NEXT, LOG, STACK, SIZE}
 use Rattle.area.specs.Region.{region}
 use Rattle.classes.specs.Labels.{relabelled}
 use Rattle.area.specs.Log.{Logged, Later, Put}
@@ -21,7 +21,7 @@ use Rattle.classes.proofs.Wood.{tops-link, tops-pos}
 use Rattle.classes.proofs.Links.{chain-same, chain-zero, seg-link, seg-chain, first-way, first-mem, first-feature, frames-same}
 use Rattle.classes.proofs.Fuse.{fused, short, Fuses, Ma, Mb, Na, Ca, fuse-state}
 
-module _ (n k s : ℕ) (w : List ℕ) (a b : ℕ) (lt : a < b) (hb : b < n) (hn : n ≤ 1024) (hw : 16384 ≤ length w) (ra : getD (region PARENT n w) a 0 ≡ a) (rb : getD (region PARENT n w) b 0 ≡ b) (g : Ready n k s w) where
+module _ (n k s : ℕ) (w : List ℕ) (a b : ℕ) (lt : a < b) (hb : b < n) (hn : n ≤ 1024) (hw : SIZE ≤ length w) (ra : getD (region PARENT n w) a 0 ≡ a) (rb : getD (region PARENT n w) b 0 ≡ b) (g : Ready n k s w) where
   pub room : k + 3 ≤ 4096
   room =
       let l = length-region PARENT n w (omega arith) in

@@ -5,11 +5,11 @@ use mathlib.Core.Logic.{_⊎_, inl, inr, ⊎-elim}
 use Prim.Native.Nat.{ℕ, suc, _+_, _*_, _≤_, _<_}
 use native.Mathlib.Omega.{arith}
 use lib.ListN.{length, getD}
+use Rattle.area.specs.Map.{WORDS, MARKS}
 use Rattle.theory.specs.Net.{Node, atom, arcs, Graph, nodeAt, arcsOf, Clash}
 use Rattle.theory.proofs.Weight.{weight, weights, weights-append}
 use Rattle.theory.proofs.Instance.{numbered-target}
 use Rattle.theory.proofs.Meaning.{canonical-some}
-use Rattle.area.specs.Map.{WORDS, MARKS}
 use Rattle.classes.specs.State.{words, targets, Pile, Done, Same, Clashes, State, Full, withPair}
 use Rattle.classes.specs.Nodes.{spans, NodesAt, Ahead, listed}
 use Rattle.classes.specs.Entry.{Entry, graphs, Aside, Comes}

@@ -7,7 +7,7 @@ use native.Mathlib.Omega.{arith}
 use native.Mathlib.Decide.{ℕ-discrete, decLt}
 use lib.ListN.{length, set, getD, length-set, length-append}
 use lib.Seq.{getD-set-same, getD-set-other}
-use Rattle.area.specs.Map.{PARENT, NEXT}
+use Rattle.area.specs.Map.{PARENT, NEXT, SIZE}
 use Rattle.area.specs.Region.{region}
 use Rattle.classes.specs.Labels.{Eq, relab, relabelled}
 use Rattle.area.specs.Log.{Logged}
@@ -51,7 +51,7 @@ label-top P M s f i h = go (suc i) i (omega arith) h
 abbrev pub fused : List (List ℕ) → ℕ → ℕ → List (List ℕ)
 fused C a b = set (set C b []) a (getD C b [] ++ getD C a [])
 
-module _ (G : Pile) (H : Done) (F T : List ℕ) (n k s : ℕ) (fs : List (ℕ × ℕ)) (w : List ℕ) (hn : n ≤ 1024) (hw : 16384 ≤ length w) (u : State G H F T n k s fs w) where
+module _ (G : Pile) (H : Done) (F T : List ℕ) (n k s : ℕ) (fs : List (ℕ × ℕ)) (w : List ℕ) (hn : n ≤ 1024) (hw : SIZE ≤ length w) (u : State G H F T n k s fs w) where
   -- what a state says of a node
   pub length-P : length (region PARENT n w) ≡ n
   length-P = length-region PARENT n w (omega arith)

@@ -5,14 +5,14 @@ use Prim.Native.Nat.{ℕ, suc, _+_, _≤_, _<_}
 use native.Mathlib.Nat.{le-trans}
 use native.Mathlib.Omega.{arith}
 use lib.ListN.{length, getD}
+use Rattle.area.specs.Map.{PARENT, NEXT, LOG, WORDS, MARKS, SIZE}
 use Rattle.theory.specs.Net.{Graph, Agree}
-use Rattle.area.specs.Map.{PARENT, NEXT, LOG, WORDS, MARKS}
 use Rattle.area.specs.Region.{region}
 use Rattle.area.specs.Log.{Logged, Later, Undone}
 use Rattle.area.proofs.Region.{region-ext}
 use Rattle.area.proofs.Undo.{word, logged-same, past-agree, undone-is, undone-logged, undone-keeps, undone-rest}
 use Rattle.classes.specs.State.{words, targets, Pile, Done, Chain, Near, Bears, State}
-use Rattle.classes.specs.Entry.{Entry, graphs, Lies}
+use Rattle.classes.specs.Entry.{Entry, graphs, Lies, Comes}
 use Rattle.classes.specs.Holds.{Sits, Holds, Since, Backs}
 use Rattle.classes.proofs.Words.{words-same, targets-same}
 use Rattle.classes.proofs.Links.{chain-same}
@@ -22,7 +22,7 @@ use Rattle.classes.proofs.Result.{agree}
 use Rattle.classes.proofs.Bridge.{clash-down}
 
 -- the same words before the log: the same state
-pub state-again : (G : Pile) (H : Done) (F T : List ℕ) (n k : ℕ) (w w' : List ℕ) → n ≤ 1024 → 16384 ≤ length w → State G H F T n k 0 [] w → Logged k w' → ((j : ℕ) → j < LOG → getD w' j 0 ≡ getD w j 0) → length w' ≡ length w → State G H F T n k 0 [] w'
+pub state-again : (G : Pile) (H : Done) (F T : List ℕ) (n k : ℕ) (w w' : List ℕ) → n ≤ 1024 → SIZE ≤ length w → State G H F T n k 0 [] w → Logged k w' → ((j : ℕ) → j < LOG → getD w' j 0 ≡ getD w j 0) → length w' ≡ length w → State G H F T n k 0 [] w'
 state-again G H F T n k w w' hn hw u g word l = record {
   logged = g;
   shape = rw par (u .shape);
@@ -64,6 +64,9 @@ lies-frame w w' g n K f l =
 
 pub sits-frame : (w w' : List ℕ) (n : ℕ) (e : Entry) → ((j : ℕ) → WORDS ≤ j → j < MARKS → getD w' j 0 ≡ getD w j 0) → Sits n w e → Sits n w' e
 sits-frame w w' n e f s = record { lies = lies-frame w w' (e .at) (e .number) (e .graph) f (s .lies); canonical = s .canonical; fits = s .fits; inside = s .inside }
+
+pub comes-frame : (n : ℕ) (es : List Entry) (e : Entry) (w w' : List ℕ) → ((j : ℕ) → WORDS ≤ j → j < MARKS → getD w' j 0 ≡ getD w j 0) → Comes n es e w → Comes n es e w'
+comes-frame n es e w w' f c = record { lies = lies-frame w w' (e .at) (e .number) (e .graph) f (c .lies); canonical = c .canonical; fits = c .fits; inside = c .inside; aside = c .aside; room = c .room }
 
 module _ (n : ℕ) (es : List Entry) (k : ℕ) (w : List ℕ) (h : Holds n es k w) where
   -- ---- what the graphs that are pushed agree on
@@ -115,7 +118,7 @@ since-trans a u b v c w p q = record {
   same = λ j l m. q .same j l m ∙ p .same j l m;
 }
 
-pub since-frame : (m : ℕ) (w₀ : List ℕ) (k : ℕ) (w w' : List ℕ) → length w' ≡ length w → 16384 ≤ length w → ((j : ℕ) → j < MARKS → getD w' j 0 ≡ getD w j 0) → Since m w₀ k w → Since m w₀ k w'
+pub since-frame : (m : ℕ) (w₀ : List ℕ) (k : ℕ) (w w' : List ℕ) → length w' ≡ length w → SIZE ≤ length w → ((j : ℕ) → j < MARKS → getD w' j 0 ≡ getD w j 0) → Since m w₀ k w → Since m w₀ k w'
 since-frame m w₀ k w w' len hw f p =
     let l = p .few in
     record {

@@ -5,6 +5,7 @@ use mathlib.Core.List.{List, [], _∷_, _++_}
 use Prim.Native.Nat.{ℕ, _+_, _/_, _%_, _≤_, _<_}
 use native.Mathlib.Omega.{arith}
 use lib.ListN.{length, getD}
+use Rattle.area.specs.Map.{SIZE}
 use Rattle.area.specs.Log.{body, Later, Undone}
 use Rattle.area.proofs.Undo.{later-trans, word, undone-is, undone-later}
 use Rattle.classes.specs.declared.push.Pushed.the-variants.{In, Clashed}
@@ -22,7 +23,7 @@ module _ (n k : ℕ) (w : List ℕ) (g base c : ℕ) where
       (record { G = pile n (a .es) k w (a .e) (a .holds) (a .comes); H = a .holds .H; state = state' n (a .es) k w (a .e) (a .holds) (a .comes); same = same' n (a .es) k w (a .e) (a .holds) (a .comes) })
 
   -- the numbers are below n
-  pub add-low : Adding n k w g base c → (base < n) × ((n ≤ 1024) × ((16384 ≤ length w) × (g < 2048)))
+  pub add-low : Adding n k w g base c → (base < n) × ((n ≤ 1024) × ((SIZE ≤ length w) × (g < 2048)))
   add-low a =
       let x = a .comes .inside in let y = some' n (a .es) k w (a .e) (a .holds) (a .comes) in let z = a .number in let f = a .comes .lies .fits in let i = a .is in
       (omega arith, (a .holds .below, (a .holds .long, omega arith)))

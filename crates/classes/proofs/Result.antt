@@ -4,13 +4,14 @@ use mathlib.Core.List.{List, [], List·Memᴰ, List·Memᴰ·not-nil}
 use Prim.Native.Nat.{ℕ, _≤_, _<_}
 use native.Mathlib.Omega.{arith}
 use lib.ListN.{length, getD}
+use Rattle.area.specs.Map.{SIZE}
 use Rattle.classes.specs.Labels.{Eq}
 use Rattle.classes.specs.State.{Pile, Done, Same, Clashes, First, State, Full}
 use Rattle.classes.proofs.Fuse.{low, top}
 use Rattle.classes.proofs.Links.{first-det, first-mem}
 use Rattle.classes.proofs.Visits.{near-none}
 
-module _ (G : Pile) (H : Done) (F T : List ℕ) (n k s : ℕ) (w : List ℕ) (hn : n ≤ 1024) (hw : 16384 ≤ length w) (u : State G H F T n k s [] w) (f : Full G H) where
+module _ (G : Pile) (H : Done) (F T : List ℕ) (n k s : ℕ) (w : List ℕ) (hn : n ≤ 1024) (hw : SIZE ≤ length w) (u : State G H F T n k s [] w) (f : Full G H) where
   pub complete : {x y : ℕ} → Same G F T x y → Eq (u .M) x y
   complete {x} {y} (Same.root a b) = sym (u .held (f .root) x (f .roots x a)) ∙ u .held (f .root) y (f .roots y b)
   complete (Same.self x) = refl

@@ -9,7 +9,7 @@ use native.Mathlib.Decide.{ℕ-discrete, decLt}
 use lib.ListN.{length, set, getD, replicate, length-replicate, length-set}
 use lib.Seq.{getD-set-same, getD-set-other}
 use lib.Dec.{eqb}
-use Rattle.area.specs.Map.{PARENT, NEXT, LOG}
+use Rattle.area.specs.Map.{PARENT, NEXT, LOG, SIZE}
 use Rattle.area.specs.Region.{region}
 use Rattle.area.proofs.Region.{length-region, getD-region}
 use Rattle.classes.specs.Labels.{pick}
@@ -60,7 +60,7 @@ unpushed = record { S = λ q. 0; B = []; R = 0 ∷ []; N = []; A = λ i. 0 }
 abbrev undone : Done
 undone = record { K = []; U = []; E = (0, 0) ∷ [] }
 
-module _ (w₀ w : List ℕ) (hw : 16384 ≤ length w₀) (s : Started w₀ 1024 w) where
+module _ (w₀ w : List ℕ) (hw : SIZE ≤ length w₀) (s : Started w₀ 1024 w) where
   small : (j : ℕ) → j < LOG → getD w j 0 < 1048576
   small j h = go (decLt j PARENT) (decLt j NEXT) (decLt j (NEXT + 1024))
     where
@@ -143,7 +143,7 @@ module _ (w₀ w : List ℕ) (hw : 16384 ≤ length w₀) (s : Started w₀ 1024
 pub started-none : (w : List ℕ) → Started w 0 w
 started-none w = record { len = refl; first = λ j h. absurd (omega arith); parent = λ j h. absurd (omega arith); next = λ j h. absurd (omega arith); rest = λ j h. refl }
 
-module _ (w₀ w : List ℕ) (i : ℕ) (h : i < 1024) (l : 16384 ≤ length w₀) (s : Started w₀ i w) where
+module _ (w₀ w : List ℕ) (i : ℕ) (h : i < 1024) (l : SIZE ≤ length w₀) (s : Started w₀ i w) where
   abbrev w1 : List ℕ
   w1 = set w i 0
 

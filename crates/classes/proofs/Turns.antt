@@ -6,7 +6,7 @@ use mathlib.Core.Logic.{_⊎_, inl, inr, ⊎-elim}
 use Prim.Native.Nat.{ℕ, suc, _+_, _-_, _≤_, _<_}
 use native.Mathlib.Omega.{arith}
 use lib.ListN.{length, getD}
-use Rattle.area.specs.Map.{PARENT, NEXT}
+use Rattle.area.specs.Map.{PARENT, NEXT, SIZE}
 use Rattle.area.specs.Region.{region}
 use Rattle.classes.specs.Labels.{Eq}
 use Rattle.area.specs.Log.{Logged}
@@ -94,7 +94,7 @@ front G H F T n k s new fs p w = reframe G H F T n k s (new ++ (p ∷ fs)) (p �
     (λ q m. ⊎-elim (λ e. Memᴰ·append-right new (List·Memᴰ·head e)) (λ a. ⊎-elim (λ b. Memᴰ·append-left (p ∷ fs) b) (λ b. Memᴰ·append-right new (List·Memᴰ·tail b)) (List·Memᴰ·append-cases new a)) (List·Memᴰ·cases-cons m))
 
 -- ---- the classes of x and y, whose roots are a and b
-module _ (n k s : ℕ) (w : List ℕ) (x y : ℕ) (hx : x < n) (hy : y < n) (hn : n ≤ 1024) (hw : 16384 ≤ length w) (a b : ℕ) (p : Root (region PARENT n w) x a) (q : Root (region PARENT n w) y b) where
+module _ (n k s : ℕ) (w : List ℕ) (x y : ℕ) (hx : x < n) (hy : y < n) (hn : n ≤ 1024) (hw : SIZE ≤ length w) (a b : ℕ) (p : Root (region PARENT n w) x a) (q : Root (region PARENT n w) y b) where
   length-P : length (region PARENT n w) ≡ n
   length-P = length-region PARENT n w (omega arith)
 
@@ -169,7 +169,7 @@ part w to x (j ∷ zs) s n =
     let e : x - 1 ≡ j = let d = s .0 in omega arith in
     (zs, (ap (λ (i : ℕ). i ∷ zs) (sym e), (let d = s .0 in omega arith, (let d = s .1 .0 in omega arith, subst (λ (i : ℕ). Seg w to (getD w (NEXT + i) 0) zs) (sym e) (s .1 .1 .1)))))
 
-module _ (G : Pile) (H : Done) (F T : List ℕ) (n k s x to : ℕ) (fs : List (ℕ × ℕ)) (w : List ℕ) (hn : n ≤ 1024) (hw : 16384 ≤ length w) (u : State G H F T n k s ((x, to) ∷ fs) w) where
+module _ (G : Pile) (H : Done) (F T : List ℕ) (n k s x to : ℕ) (fs : List (ℕ × ℕ)) (w : List ℕ) (hn : n ≤ 1024) (hw : SIZE ≤ length w) (u : State G H F T n k s ((x, to) ∷ fs) w) where
   abbrev fr : Framed n (u .M) (u .C) w x to
   fr = u .frame x to (List·Memᴰ·head refl)
 
@@ -321,7 +321,7 @@ way-det w F f x (l ∷ ls) (m ∷ ms) i j p q =
     way-det w F f (getD w (NEXT + l) 0) ls ms i j (p .1 .1 .1) (subst (λ (v : ℕ). Way w F f (getD w (NEXT + v) 0) ms j) (sym e) (q .1 .1 .1))
 
 -- ---- the two ends of `step`
-module _ (F T : List ℕ) (n k s x to : ℕ) (w : List ℕ) (hn : n ≤ 1024) (hw : 16384 ≤ length w) (ne : x ≡ to → ⊥) (wk : Working F T n k s x to w) where
+module _ (F T : List ℕ) (n k s x to : ℕ) (w : List ℕ) (hn : n ≤ 1024) (hw : SIZE ≤ length w) (ne : x ≡ to → ⊥) (wk : Working F T n k s x to w) where
   pub turned-miss : Looked F w (getD F (x - 1) 0) to 0 → Turned F T n k s w x to k s false w
   turned-miss l = record {
     later = later-refl k w (wk .state .logged);
@@ -349,7 +349,7 @@ module _ (F T : List ℕ) (n k s x to : ℕ) (w : List ℕ) (hn : n ≤ 1024) (h
           let v' : State G (withPair H (getD T (x - 1) 0) (getD T i 0)) F T n k' s' ((x, to) ∷ (m .new ++ fs)) w' = front G (withPair H (getD T (x - 1) 0) (getD T i 0)) F T n k' s' (m .new) fs (x, to) w' v in
           let y = way-is G H F T n k s x to fs w hn hw u ne r i l e in
           let y' : Way w' F (getD F (x - 1) 0) to (y .0) i = way-grow w w' F (getD F (x - 1) 0) to (y .0) i (m .grow) (y .1) in
-          let len : 16384 ≤ length w' = omega (arith, m .later .len) in
+          let len : SIZE ≤ length w' = omega (arith, m .later .len) in
           forget G H F T n k' s' ((getD w' (NEXT + (x - 1)) 0, to) ∷ (m .new ++ fs)) w' (getD T (x - 1) 0) (getD T i 0)
           (advance G (withPair H (getD T (x - 1) 0) (getD T i 0)) F T n k' s' x to (m .new ++ fs) w' hn len v' ne
           (λ j js t. v' .held (getD T (x - 1) 0) (getD T i 0) (List·Memᴰ·head refl) ∙ ap (λ (c : ℕ). getD (v' .M) (getD T c 0) 0) (way-det w' F (getD F (x - 1) 0) to (y .0) js i j y' t)));

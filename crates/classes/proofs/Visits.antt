@@ -9,7 +9,7 @@ use native.Mathlib.Omega.{arith}
 use native.Mathlib.Decide.{ℕ-discrete, decLt}
 use lib.ListN.{length, set, getD, length-set}
 use lib.Seq.{getD-set-same, getD-set-other}
-use Rattle.area.specs.Map.{PARENT, NEXT, LOG}
+use Rattle.area.specs.Map.{PARENT, NEXT, LOG, SIZE}
 use Rattle.area.specs.Region.{region}
 use Rattle.classes.specs.Labels.{Eq}
 use Rattle.area.specs.Log.{Logged, Put}
@@ -29,7 +29,7 @@ near-none F T M w (Near.sym r) = sym (near-none F T M w r)
 near-none F T M w (Near.trans r t) = near-none F T M w r ∙ near-none F T M w t
 
 -- ---- the class c of the node x
-module _ (F T : List ℕ) (n k : ℕ) (w : List ℕ) (hn : n ≤ 1024) (hw : 16384 ≤ length w) (x : ℕ) (hx : x < n) (c : ℕ) (root : Root (region PARENT n w) x c) where
+module _ (F T : List ℕ) (n k : ℕ) (w : List ℕ) (hn : n ≤ 1024) (hw : SIZE ≤ length w) (x : ℕ) (hx : x < n) (c : ℕ) (root : Root (region PARENT n w) x c) where
   length-P : length (region PARENT n w) ≡ n
   length-P = length-region PARENT n w (omega arith)
 

@@ -4,7 +4,7 @@ use mathlib.Core.List.{List}
 use Prim.Native.Nat.{ℕ, _+_, _≤_, _<_}
 use native.Mathlib.Omega.{arith}
 use lib.ListN.{length, getD}
-use Rattle.area.specs.Map.{WORDS, MARKS}
+use Rattle.area.specs.Map.{WORDS, MARKS, SIZE}
 use Rattle.area.specs.Log.{Later}
 use Rattle.area.proofs.Region.{getD-region, region-ext}
 use Rattle.classes.specs.State.{words, targets}
@@ -18,7 +18,7 @@ unfolding targets
 target-at w j h = getD-region (WORDS + 1) 2047 w j h
 
 -- they are the same where the area is
-module _ (w w' : List ℕ) (hw : 16384 ≤ length w) (len : length w' ≡ length w) (same : (j : ℕ) → WORDS ≤ j → j < MARKS → getD w' j 0 ≡ getD w j 0) where
+module _ (w w' : List ℕ) (hw : SIZE ≤ length w) (len : length w' ≡ length w) (same : (j : ℕ) → WORDS ≤ j → j < MARKS → getD w' j 0 ≡ getD w j 0) where
   pub words-same : words w' ≡ words w
   unfolding words
   words-same = region-ext WORDS 2048 w' w (omega arith) len (λ j h. same (WORDS + j) (omega arith) (omega arith))
@@ -27,7 +27,7 @@ module _ (w w' : List ℕ) (hw : 16384 ≤ length w) (len : length w' ≡ length
   unfolding targets
   targets-same = region-ext (WORDS + 1) 2047 w' w (omega arith) len (λ j h. same (WORDS + 1 + j) (omega arith) (omega arith))
 
-module _ (k : ℕ) (w : List ℕ) (k' : ℕ) (w' : List ℕ) (hw : 16384 ≤ length w) (l : Later k w k' w') where
+module _ (k : ℕ) (w : List ℕ) (k' : ℕ) (w' : List ℕ) (hw : SIZE ≤ length w) (l : Later k w k' w') where
   pub words-later : words w' ≡ words w
   words-later = words-same w w' hw (l .len) (λ j a b. l .rest j a)
 

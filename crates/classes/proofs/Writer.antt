@@ -6,10 +6,10 @@ use Prim.Native.Nat.{ℕ, _+_, _*_, _≤_, _<_}
 use native.Mathlib.Omega.{arith}
 use native.Mathlib.Decide.{decLt}
 use lib.ListN.{getD}
+use Rattle.area.specs.Map.{PARENT}
 use Rattle.theory.specs.Limits.{code-limit}
 use Rattle.theory.specs.Net.{beside, Same, roots}
 use Rattle.theory.proofs.Meaning.{some-root}
-use Rattle.area.specs.Map.{PARENT}
 use Rattle.area.specs.Region.{region}
 use Rattle.classes.specs.Forest.{tops}
 use Rattle.classes.specs.State.{words, targets, First}

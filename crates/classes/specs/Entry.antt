@@ -4,11 +4,11 @@ use mathlib.Core.Logic.{_⊎_, inl, inr}
 use mathlib.Core.List.{List, [], _∷_, _++_, List·Memᴰ}
 use Prim.Native.Nat.{ℕ, suc, _+_, _*_, _≤_, _<_}
 use lib.ListN.{length, getD}
+use Rattle.area.specs.Map.{WORDS}
 use Rattle.theory.specs.Limits.{code-limit}
 use Rattle.theory.specs.Net.{Node, atom, arcs, Graph, beside, Canonical}
 use Rattle.theory.specs.Layout.{GraphFits}
 use Rattle.theory.proofs.Weight.{weight, weights}
-use Rattle.area.specs.Map.{WORDS}
 
 -- a graph in the loaded words: the position of its header, the number of its node 0, and the graph
 pub record Entry : Type 0 where

@@ -5,11 +5,11 @@ use mathlib.Core.Logic.{_⊎_}
 use mathlib.Core.List.{List, [], _∷_, _++_, List·Memᴰ}
 use Prim.Native.Nat.{ℕ, suc, _+_, _*_, _≤_, _<_}
 use lib.ListN.{length, getD}
+use Rattle.area.specs.Map.{WORDS, MARKS, SIZE}
 use Rattle.theory.specs.Limits.{code-limit}
 use Rattle.theory.specs.Net.{Node, atom, arcs, nodeAt, arcsOf, Canonical, Clash}
 use Rattle.theory.specs.Layout.{GraphFits}
 use Rattle.theory.proofs.Weight.{weight, weights}
-use Rattle.area.specs.Map.{WORDS, MARKS}
 use Rattle.area.specs.Log.{body, past, Logged, Later}
 use Rattle.classes.specs.declared.push.Pushed.{Pushed}
 use Rattle.classes.specs.declared.push.Pushed.the-variants.{In, Clashed}
@@ -69,7 +69,7 @@ pub record Sits (n : ℕ) (w : List ℕ) (e : Entry) : Type 0 where
 
 -- w, with k entries in its log, stands for the graphs es, whose numbers are below n
 pub record Holds (n : ℕ) (es : List Entry) (k : ℕ) (w : List ℕ) : Type 0 where
-  pub long : 16384 ≤ length w
+  pub long : SIZE ≤ length w
   pub below : n ≤ 1024
   pub G : Pile
   pub H : Done

@@ -28,7 +28,7 @@ pub record Pile : Type 0 where
   pub N : List ℕ
   pub A : ℕ → ℕ
 
--- the least equivalence in which all roots are equal and equal nodes have equal targets under an equal feature
+-- "The classes are the least equivalence in which all roots are equal and equal nodes have equal targets under an equal feature."
 pub data Same (G : Pile) (F T : List ℕ) : ℕ → ℕ → Type 0 where
   root : {x y : ℕ} → List·Memᴰ x (G .R) → List·Memᴰ y (G .R) → Same G F T x y
   self : (x : ℕ) → Same G F T x x
@@ -36,7 +36,7 @@ pub data Same (G : Pile) (F T : List ℕ) : ℕ → ℕ → Type 0 where
   on : {x y z : ℕ} → Same G F T x y → Same G F T y z → Same G F T x z
   along : {p q : ℕ} → List·Memᴰ p (G .B) → List·Memᴰ q (G .B) → getD F p 0 ≡ getD F q 0 → Same G F T (G .S p) (G .S q) → Same G F T (getD T p 0) (getD T q 0)
 
--- a class holds two different atoms, or an atom and an arc
+-- "There is a clash when a class holds two different atoms, or an atom and an arc."
 pub data Clashes (G : Pile) (F T : List ℕ) : Type 0 where
   atoms : {x y : ℕ} → List·Memᴰ x (G .N) → List·Memᴰ y (G .N) → Same G F T x y → (G .A x ≡ 0 → ⊥) → (G .A y ≡ 0 → ⊥) → (G .A x ≡ G .A y → ⊥) → Clashes G F T
   mixed : {x q : ℕ} → List·Memᴰ x (G .N) → (G .A x ≡ 0 → ⊥) → List·Memᴰ q (G .B) → Same G F T x (G .S q) → Clashes G F T

@@ -12,6 +12,7 @@ ghost use mathlib.Core.Path.{_≡_};
 ghost use mathlib.Core.Bool.{true, false};
 ghost use Prim.Native.Nat.{_+_, _*_, _≤_, _<_};
 ghost use lib.ListN.{length, getD};
+ghost use Rattle.area.specs.Map.{PARENT, SIZE};
 ghost use Rattle.area.specs.Region.{region};
 ghost use Rattle.classes.specs.State.{Ready, Met};
 
@@ -24,8 +25,8 @@ pub struct Made {
 
 // The class b goes into the class a, where both have chains, from p and from q.
 fn knit(w: &mut [u32], k: usize, s: usize, n: usize, a: usize, b: usize, p: u32, q: u32) -> Made
-    requires { ⌜ (a < b) × ((b < n) × ((n ≤ 1024) × (16384 ≤ length (now w)))) ⌝ }
-    requires { ⌜ (getD (region 1024 n (now w)) a 0 ≡ a) × (getD (region 1024 n (now w)) b 0 ≡ b) ⌝ }
+    requires { ⌜ (a < b) × ((b < n) × ((n ≤ 1024) × (SIZE ≤ length (now w)))) ⌝ }
+    requires { ⌜ (getD (region PARENT n (now w)) a 0 ≡ a) × (getD (region PARENT n (now w)) b 0 ≡ b) ⌝ }
     requires { ⌜ ((p ≡ getD (now w) b 0) × (q ≡ getD (now w) a 0)) × (((0 < p) × (p ≤ 2048)) × ((0 < q) × (q ≤ 2048))) ⌝ }
     requires { ⌜ Ready n k s (now w) ⌝ }
     ensures { λ r. ⌜ Met n k s (now (w .entry)) a b (r .k) (r .s) (r .bad) (now (w .exit)) ⌝ }
@@ -44,8 +45,8 @@ fn knit(w: &mut [u32], k: usize, s: usize, n: usize, a: usize, b: usize, p: u32,
 
 // The class b goes into the class a.
 fn fuse(w: &mut [u32], k: usize, s: usize, n: usize, a: usize, b: usize) -> Made
-    requires { ⌜ (a < b) × ((b < n) × ((n ≤ 1024) × (16384 ≤ length (now w)))) ⌝ }
-    requires { ⌜ (getD (region 1024 n (now w)) a 0 ≡ a) × (getD (region 1024 n (now w)) b 0 ≡ b) ⌝ }
+    requires { ⌜ (a < b) × ((b < n) × ((n ≤ 1024) × (SIZE ≤ length (now w)))) ⌝ }
+    requires { ⌜ (getD (region PARENT n (now w)) a 0 ≡ a) × (getD (region PARENT n (now w)) b 0 ≡ b) ⌝ }
     requires { ⌜ Ready n k s (now w) ⌝ }
     ensures { λ r. ⌜ Met n k s (now (w .entry)) a b (r .k) (r .s) (r .bad) (now (w .exit)) ⌝ }
 {
@@ -95,7 +96,7 @@ fn fuse(w: &mut [u32], k: usize, s: usize, n: usize, a: usize, b: usize) -> Made
 
 // The classes of x and y become one.
 pub fn join(w: &mut [u32], k: usize, s: usize, n: usize, x: usize, y: usize) -> Made
-    requires { ⌜ (x < n) × ((y < n) × ((n ≤ 1024) × (16384 ≤ length (now w)))) ⌝ }
+    requires { ⌜ (x < n) × ((y < n) × ((n ≤ 1024) × (SIZE ≤ length (now w)))) ⌝ }
     requires { ⌜ Ready n k s (now w) ⌝ }
     ensures { λ r. ⌜ Met n k s (now (w .entry)) x y (r .k) (r .s) (r .bad) (now (w .exit)) ⌝ }
 {

@@ -10,6 +10,7 @@ use area::map::NEXT;
 use area::map::PARENT;
 ghost use Prim.Native.Nat.{_+_, _≤_, _<_};
 ghost use lib.ListN.{length};
+ghost use Rattle.area.specs.Map.{SIZE};
 ghost use Rattle.classes.specs.Holds.{Adding, Adds, Pushing, Pushes, Remembers, Backs, Starts, Labelled, Classed};
 
 // The log's entries after a push that went in; or the graph clashes with those that are there.
@@ -20,7 +21,7 @@ pub enum Pushed {
 
 // Nothing is pushed: each number is its own class, which holds nothing.
 pub fn start(w: &mut [u32])
-    requires { ⌜ 16384 ≤ length (now w) ⌝ }
+    requires { ⌜ SIZE ≤ length (now w) ⌝ }
     ensures { λ _. ⌜ Starts (now (w .entry)) (now (w .exit)) ⌝ }
 {
     let mut i: usize = 0;

@@ -12,12 +12,13 @@ ghost use mathlib.Core.Path.{_≡_};
 ghost use mathlib.Core.Bool.{true, false};
 ghost use Prim.Native.Nat.{_+_, _*_, _-_, _≤_, _<_};
 ghost use lib.ListN.{length};
+ghost use Rattle.area.specs.Map.{SIZE};
 ghost use Rattle.classes.specs.State.{words, targets, Coming, Visited, Marking, Marked};
 ghost use Rattle.classes.specs.Nodes.{Batched, Run, Noding, Noded, Listing, Listed};
 
 // The arc t of the node x: it goes onto the chain of its class, or its target joins that of the arc there with its feature.
 fn visit(w: &mut [u32], k: usize, n: usize, x: usize, t: usize) -> Made
-    requires { ⌜ (n ≤ 1024) × (16384 ≤ length (now w)) ⌝ }
+    requires { ⌜ (n ≤ 1024) × (SIZE ≤ length (now w)) ⌝ }
     requires { ⌜ (x < n) × (t < 2047) ⌝ }
     requires { ⌜ Coming (words (now w)) (targets (now w)) n k (now w) x t ⌝ }
     ensures { λ r. ⌜ Visited (words (now (w .entry))) (targets (now (w .entry))) n k (now (w .entry)) x t (r .k) (r .bad) (now (w .exit)) ⌝ }
@@ -50,7 +51,7 @@ fn visit(w: &mut [u32], k: usize, n: usize, x: usize, t: usize) -> Made
 
 // The atom's head v of the node x meets what its class holds.
 fn mark(w: &mut [u32], k: usize, n: usize, x: usize, v: u32) -> Made
-    requires { ⌜ (n ≤ 1024) × ((x < n) × (16384 ≤ length (now w))) ⌝ }
+    requires { ⌜ (n ≤ 1024) × ((x < n) × (SIZE ≤ length (now w))) ⌝ }
     requires { ⌜ (2048 < v) × (v < 1048576) ⌝ }
     requires { ⌜ Marking (words (now w)) (targets (now w)) n k (now w) x v ⌝ }
     ensures { λ r. ⌜ Marked (words (now (w .entry))) (targets (now (w .entry))) n k (now (w .entry)) x v (r .k) (r .bad) (now (w .exit)) ⌝ }
@@ -81,7 +82,7 @@ fn mark(w: &mut [u32], k: usize, n: usize, x: usize, v: u32) -> Made
 
 // The d arcs of the node x that stand from `from` on, the last one first.
 fn arcs(w: &mut [u32], k: usize, n: usize, x: usize, from: usize, d: usize) -> Made
-    requires { ⌜ (n ≤ 1024) × (16384 ≤ length (now w)) ⌝ }
+    requires { ⌜ (n ≤ 1024) × (SIZE ≤ length (now w)) ⌝ }
     requires { ⌜ (x < n) × (from + 2 * d ≤ 2048) ⌝ }
     requires { ⌜ Batched (words (now w)) (targets (now w)) n k (now w) x from d ⌝ }
     ensures { λ r. ⌜ Run (words (now (w .entry))) (targets (now (w .entry))) n k (now (w .entry)) x from d (r .k) (r .bad) (now (w .exit)) ⌝ }
@@ -109,7 +110,7 @@ fn arcs(w: &mut [u32], k: usize, n: usize, x: usize, from: usize, d: usize) -> M
 
 // The node x, whose head stands at p.
 fn node(w: &mut [u32], k: usize, n: usize, x: usize, p: usize) -> Made
-    requires { ⌜ (n ≤ 1024) × (16384 ≤ length (now w)) ⌝ }
+    requires { ⌜ (n ≤ 1024) × (SIZE ≤ length (now w)) ⌝ }
     requires { ⌜ Noding (words (now w)) (targets (now w)) n k (now w) x p ⌝ }
     ensures { λ r. ⌜ Noded (words (now (w .entry))) (targets (now (w .entry))) n k (now (w .entry)) x p (r .k) (r .bad) (now (w .exit)) ⌝ }
 {
@@ -129,7 +130,7 @@ fn span(h: u32) -> usize
 
 // The c nodes from x on, the first of which has its head at p.
 pub fn nodes(w: &mut [u32], k: usize, n: usize, x: usize, p: usize, c: usize) -> Made
-    requires { ⌜ (n ≤ 1024) × (16384 ≤ length (now w)) ⌝ }
+    requires { ⌜ (n ≤ 1024) × (SIZE ≤ length (now w)) ⌝ }
     requires { ⌜ Listing (words (now w)) (targets (now w)) n k (now w) x p c ⌝ }
     ensures { λ r. ⌜ Listed (words (now (w .entry))) (targets (now (w .entry))) n k (now (w .entry)) x p c (r .k) (r .bad) (now (w .exit)) ⌝ }
 {
