@@ -119,7 +119,7 @@ pub record Framed (n : ℕ) (M : List ℕ) (C : List (List ℕ)) (w : List ℕ) 
   pub is : b ≡ suc e
   pub stop : List·Memᴰ e (getD C (getD M c 0) [])
 
--- an atom's node
+-- a node of the class c that bears the atom v
 pub record Bears (G : Pile) (n : ℕ) (M : List ℕ) (c v : ℕ) : Type 0 where
   pub i : ℕ
   pub small : i < n
@@ -128,27 +128,38 @@ pub record Bears (G : Pile) (n : ℕ) (M : List ℕ) (c v : ℕ) : Type 0 where
   pub class : getD M i 0 ≡ c
 
 pub record State (G : Pile) (H : Done) (F T : List ℕ) (n k s : ℕ) (fs : List (ℕ × ℕ)) (w : List ℕ) : Type 0 where
+  -- the log and the forest
   pub logged : Logged k w
   pub shape : Shape (region PARENT n w)
+  -- each root may still be merged, with three entries of the log; each arc takes two and each atom one
   pub room : k + 3 * tops 0 (region PARENT n w) ≤ 3 * n + (2 * length (H .K) + length (H .U))
   pub few : 3 * n + (2 * length (H .K) + length (H .U)) ≤ 4096
   pub stack : s + tops 0 (region PARENT n w) ≤ n
+  -- what is pushed is in bounds
   pub arcs : (q : ℕ) → List·Memᴰ q (G .B) → (q < 2047) × ((G .S q < n) × (getD T q 0 < n))
   pub atoms : (i : ℕ) → List·Memᴰ i (G .N) → (G .A i ≡ 0 → ⊥) → 2048 < G .A i
+  -- M labels each node by its class
   pub M : List ℕ
   pub forest : Forest (region PARENT n w) M
+  -- C has the arcs on the chain of each class
   pub C : List (List ℕ)
   pub wide : length C ≡ n
   pub all : total C ≤ length (H .K)
   pub chain : (c : ℕ) → c < n → getD M c 0 ≡ c → getD w c 0 ≤ 2048 → Chain w (getD w c 0) (getD C c [])
+  -- a class with an atom has no arcs
   pub bare : (c : ℕ) → c < n → getD M c 0 ≡ c → 2048 < getD w c 0 → (getD C c [] ≡ []) × Bears G n M c (getD w c 0)
+  -- an arc is on the chain of its source's class
   pub home : (c q : ℕ) → c < n → List·Memᴰ q (getD C c []) → List·Memᴰ q (H .K) × (getD M (G .S q) 0 ≡ c)
   pub known : (j : ℕ) → List·Memᴰ j (H .K) → List·Memᴰ j (G .B)
+  -- for each arc that is done, the first of its feature on its class's chain has a target that is in one class with its own, or will be when the frames are worked off
   pub cover : (j : ℕ) → List·Memᴰ j (H .K) → (i : ℕ) × (First F (getD F j 0) (getD C (getD M (G .S j) 0) []) i × Near F T M w fs (getD T i 0) (getD T j 0))
+  -- the atoms that are done stand at their classes
   pub nodes : (i : ℕ) → List·Memᴰ i (H .U) → (i < n) × List·Memᴰ i (G .N)
   pub met : (i : ℕ) → List·Memᴰ i (H .U) → (G .A i ≡ 0 → ⊥) → getD w (getD M i 0) 0 ≡ G .A i
+  -- classes are made of equal nodes, and the pairs E are in them
   pub held : (x y : ℕ) → List·Memᴰ (x, y) (H .E) → Eq M x y
   pub sound : (i j : ℕ) → i < n → j < n → Eq M i j → Same G F T i j
+  -- the frames are parts of chains
   pub frame : (a b : ℕ) → List·Memᴰ (a, b) fs → Framed n M C w a b
 
 -- some state, whose part the code needs
