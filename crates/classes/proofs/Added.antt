@@ -10,12 +10,13 @@ use lib.Dec.{eqb, ltb}
 use borrow.Author.Tests.{eq-eqb, ne-eqb, lt-ltb, le-ltb}
 use Rattle.theory.specs.Limits.{code-limit}
 use Rattle.theory.specs.Net.{Node, atom, arcs, Graph, nodeAt, arcsOf}
-use Rattle.theory.specs.Layout.{node-words, nodes-words, GraphFits}
+use Rattle.theory.specs.Layout.{arc-words, node-words, nodes-words, GraphFits}
 use Rattle.theory.proofs.Weight.{weight, arc-length}
 use Rattle.classes.specs.Labels.{pick}
 use Rattle.classes.specs.State.{Pile}
 use Rattle.classes.specs.Nodes.{strung, span, spans, NodeAt, NodesAt}
-use Rattle.classes.specs.Entry.{arcs-located, located}
+use Rattle.loading.specs.Loaded.{moved-arcs, located}
+use Rattle.loading.proofs.Sizes.{moved-length}
 use Rattle.classes.specs.Holds.{code}
 use Rattle.classes.proofs.Runs.{strung-cases, strung-old, strung-new}
 
@@ -41,11 +42,11 @@ NodesLie F T b p (atom a ∷ vs) = (getD F p 0 ≡ code-limit + a) × NodesLie F
 NodesLie F T b p (arcs l ∷ vs) = ((getD F p 0 ≡ length l) × ArcsLie F T b (p + 1) l) × NodesLie F T b (p + (1 + 2 * length l)) vs
 
 module _ (F T : List ℕ) (b : ℕ) (follows : (q : ℕ) → suc q < 2048 → getD T q 0 ≡ getD F (suc q) 0) where
-  arcs-length : (l : List (ℕ × ℕ)) → length (arcs-located b l) ≡ 2 * length l
+  arcs-length : (l : List (ℕ × ℕ)) → length (arc-words (moved-arcs b l)) ≡ 2 * length l
   arcs-length [] = refl
   arcs-length (a ∷ l) = let r = arcs-length l in omega arith
 
-  arcs-lie : (l : List (ℕ × ℕ)) (p : ℕ) → p + 2 * length l ≤ 2048 → ((r : ℕ) → r < 2 * length l → getD F (p + r) 0 ≡ getD (arcs-located b l) r 0) → ArcsLie F T b p l
+  arcs-lie : (l : List (ℕ × ℕ)) (p : ℕ) → p + 2 * length l ≤ 2048 → ((r : ℕ) → r < 2 * length l → getD F (p + r) 0 ≡ getD (arc-words (moved-arcs b l)) r 0) → ArcsLie F T b p l
   arcs-lie [] p h f = tt
   arcs-lie (a ∷ l) p h f =
       let z : p + 0 ≡ p = omega arith in
@@ -63,15 +64,15 @@ module _ (F T : List ℕ) (b : ℕ) (follows : (q : ℕ) → suc q < 2048 → ge
       let z : p + 0 ≡ p = omega arith in
       let len = arcs-length l in (
         (
-          rw z at (f 0 (omega arith)),
+          (rw z at (f 0 (omega arith))) ∙ moved-length b l,
           arcs-lie l (p + 1) (omega arith) (λ r q.
               let e : p + suc r ≡ p + 1 + r = omega arith in
-              (rw e at (f (suc r) (omega arith))) ∙ List·getD-append (arcs-located b l) (located b vs) 0 r (omega arith)),
+              (rw e at (f (suc r) (omega arith))) ∙ List·getD-append (arc-words (moved-arcs b l)) (located b vs) 0 r (omega arith)),
         ),
         nodes-lie vs (p + (1 + 2 * length l)) (omega arith) (λ r q.
             let e : p + suc (2 * length l + r) ≡ p + (1 + 2 * length l) + r = omega arith in
-            let g : length (arcs-located b l) + r ≡ 2 * length l + r = omega arith in
-            (rw e at (f (suc (2 * length l + r)) (omega arith))) ∙ (rw g at (getD-append-add (arcs-located b l) (located b vs) r 0))),
+            let g : length (arc-words (moved-arcs b l)) + r ≡ 2 * length l + r = omega arith in
+            (rw e at (f (suc (2 * length l + r)) (omega arith))) ∙ (rw g at (getD-append-add (arc-words (moved-arcs b l)) (located b vs) r 0))),
       )
 
 -- ---- what is pushed with the graph vs: its nodes have the numbers from x on, and its words stand from p on

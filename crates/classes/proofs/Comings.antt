@@ -12,7 +12,8 @@ use Rattle.theory.proofs.Instance.{numbered-target}
 use Rattle.theory.proofs.Meaning.{canonical-some}
 use Rattle.classes.specs.State.{words, targets, Pile, Done, Same, Clashes, State, Full, withPair}
 use Rattle.classes.specs.Nodes.{spans, NodesAt, Ahead, listed}
-use Rattle.classes.specs.Entry.{Entry, graphs, Aside, Comes}
+use Rattle.loading.specs.Entry.{Entry, graphs}
+use Rattle.classes.specs.Entry.{Aside, Comes}
 use Rattle.classes.specs.Holds.{code, ArcOf, Tied, Apart, Sits, Holds}
 use Rattle.classes.proofs.Words.{word-at, target-at, words-same, targets-same}
 use Rattle.classes.proofs.Added.{weight-spans, NodesLie, nodes-lie, numbers-old, numbers-new, numbers-cases, codes-new, codes-old, positions-old, positions-cases, positions-new, sources-old, sources-new, NewArc, added, nodes-at}

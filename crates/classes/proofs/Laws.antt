@@ -12,7 +12,8 @@ use Rattle.area.specs.Log.{Logged, Later, Undone}
 use Rattle.area.proofs.Region.{region-ext}
 use Rattle.area.proofs.Undo.{word, logged-same, past-agree, undone-is, undone-logged, undone-keeps, undone-rest}
 use Rattle.classes.specs.State.{words, targets, Pile, Done, Chain, Near, Bears, State}
-use Rattle.classes.specs.Entry.{Entry, graphs, Lies, Comes}
+use Rattle.loading.specs.Entry.{Entry, graphs}
+use Rattle.classes.specs.Entry.{Lies, Comes}
 use Rattle.classes.specs.Holds.{Sits, Holds, Since, Backs}
 use Rattle.classes.proofs.Words.{words-same, targets-same}
 use Rattle.classes.proofs.Links.{chain-same}

@@ -11,7 +11,8 @@ use Rattle.area.proofs.Undo.{later-trans, word, undone-is, undone-later}
 use Rattle.classes.specs.declared.push.Pushed.the-variants.{In, Clashed}
 use Rattle.classes.specs.State.{words, targets, State, Asked, United, withPair}
 use Rattle.classes.specs.Nodes.{Listing, Listed}
-use Rattle.classes.specs.Entry.{Entry, Comes}
+use Rattle.loading.specs.Entry.{Entry}
+use Rattle.classes.specs.Entry.{Comes}
 use Rattle.classes.specs.Holds.{Holds, Adding, Adds, Pushing, Pushes}
 use Rattle.classes.proofs.Words.{word-at}
 use Rattle.classes.proofs.Comings.{pile, state', same', some', nodes', ahead', holds', clash'}

@@ -13,7 +13,8 @@ use Rattle.theory.proofs.Meaning.{some-root}
 use Rattle.area.specs.Region.{region}
 use Rattle.classes.specs.Forest.{tops}
 use Rattle.classes.specs.State.{words, targets, First}
-use Rattle.classes.specs.Entry.{Entry, graphs, Spots, number-of}
+use Rattle.loading.specs.Entry.{Entry, graphs}
+use Rattle.classes.specs.Entry.{Spots, number-of}
 use Rattle.classes.specs.Holds.{Holds, class}
 use Rattle.classes.specs.Content.{Content}
 use Rattle.area.proofs.Region.{length-region}

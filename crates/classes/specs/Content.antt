@@ -6,7 +6,8 @@ use lib.ListN.{length, getD}
 use Rattle.theory.specs.Limits.{code-limit}
 use Rattle.theory.specs.Net.{beside}
 use Rattle.classes.specs.State.{words, targets, Chain, First}
-use Rattle.classes.specs.Entry.{Entry, graphs, Spots, number-of}
+use Rattle.loading.specs.Entry.{Entry, graphs}
+use Rattle.classes.specs.Entry.{Spots, number-of}
 
 -- the word c of w has an atom's head where the class c of the graphs es holds that atom; else a chain of its arcs from there, which has one for each of its features
 pub record Content (es : List Entry) (class : ℕ → ℕ) (w : List ℕ) (c : ℕ) : Type 0 where

@@ -5,20 +5,11 @@ use mathlib.Core.List.{List, [], _∷_, _++_, List·Memᴰ}
 use Prim.Native.Nat.{ℕ, suc, _+_, _*_, _≤_, _<_}
 use lib.ListN.{length, getD}
 use Rattle.area.specs.Map.{WORDS}
-use Rattle.theory.specs.Limits.{code-limit}
-use Rattle.theory.specs.Net.{Node, atom, arcs, Graph, beside, Canonical}
+use Rattle.loading.specs.Entry.{Entry, graphs}
+use Rattle.loading.specs.Loaded.{located}
+use Rattle.theory.specs.Net.{Graph, beside, Canonical}
 use Rattle.theory.specs.Layout.{GraphFits}
 use Rattle.theory.proofs.Weight.{weight, weights}
-
--- a graph in the loaded words: the position of its header, the number of its node 0, and the graph
-pub record Entry : Type 0 where
-  pub at : ℕ
-  pub number : ℕ
-  pub graph : Graph
-
-abbrev pub graphs : List Entry → List Graph
-graphs [] = []
-graphs (e ∷ es) = e .graph ∷ graphs es
 
 -- "Put the nodes of all graphs side by side.": a node of one of the graphs, and its number
 abbrev pub Spots : List Entry → Type 0
@@ -27,21 +18,6 @@ Spots es = beside (graphs es) .Spot
 abbrev pub number-of : (es : List Entry) → Spots es → ℕ
 number-of (e ∷ es) (inl x) = e .number + x .0
 number-of (e ∷ es) (inr y) = number-of es y
-
--- "An arc is two words: feature 0..65,535, target node": the target by its number, where n is that of node 0
-abbrev pub arcs-located : ℕ → List (ℕ × ℕ) → List ℕ
-arcs-located n [] = []
-arcs-located n (p ∷ l) = p .0 ∷ (n + p .1) ∷ arcs-located n l
-
--- "Head 0..65,535 is the number of arcs; head 65,536..131,071 is the atom numbered head - 65,536, with no arcs."
-abbrev pub node-located : ℕ → Node → List ℕ
-node-located n (atom a) = (code-limit + a) ∷ []
-node-located n (arcs l) = length l ∷ arcs-located n l
-
--- "then each node in order: a head, then its arcs"
-abbrev pub located : ℕ → Graph → List ℕ
-located n [] = []
-located n (v ∷ vs) = node-located n v ++ located n vs
 
 -- the graph K lies in the words of w: at g its header, after it its nodes, the first of which has the number n
 pub record Lies (w : List ℕ) (g n : ℕ) (K : Graph) : Type 0 where

@@ -14,7 +14,8 @@ use Rattle.area.specs.Log.{body, past, Logged, Later}
 use Rattle.classes.specs.declared.push.Pushed.{Pushed}
 use Rattle.classes.specs.declared.push.Pushed.the-variants.{In, Clashed}
 use Rattle.classes.specs.State.{words, targets, Pile, Done, State, Full}
-use Rattle.classes.specs.Entry.{Entry, graphs, Lies, Aside, Comes}
+use Rattle.loading.specs.Entry.{Entry, graphs}
+use Rattle.classes.specs.Entry.{Lies, Aside, Comes}
 
 -- an atom's head, or 0
 abbrev pub code : Node → ℕ

@@ -11,17 +11,12 @@ use Rattle.theory.specs.Descr.{Desc, desc, Disjs, end, _and_, Alts, fail, _or_,
 use Rattle.theory.specs.Layout.{nodes-words, words, disjs-words, alts-words}
 use Rattle.layout.specs.Standing.{Stands}
 use Rattle.layout.proofs.Standing.{stands-append, stands-cons, stands-length}
+use Rattle.loading.specs.Entry.{Entry}
 use Rattle.loading.specs.Loaded.{extent, header, closing, located, nodes-in, nodes-all, nodes-any, loaded, loaded-all, loaded-any}
 use Rattle.loading.proofs.Sizes.{located-length, loaded-length, any-length, graphs, graphs-all, graphs-any}
 
--- a graph, the position where it lies, and the number of its node 0
-pub record Entry : Type 0 where
-  pub place : ℕ
-  pub number : ℕ
-  pub graph : Graph
-
 abbrev pub entry : ℕ → ℕ → Graph → Entry
-entry p n g = record { place = p; number = n; graph = g }
+entry p n g = record { at = p; number = n; graph = g }
 
 abbrev mutual
   pub entries : ℕ → ℕ → Desc → List Entry
@@ -49,7 +44,7 @@ mutual
 
 -- each lies from p up to q, with numbers from n up to m
 abbrev pub Inside : ℕ → ℕ → ℕ → ℕ → List Entry → Type 0
-Inside p q n m es = (e : Entry) → List·Memᴰ e es → (p ≤ e .place) × (e .place + extent (e .graph) < q) × (n ≤ e .number) × (e .number + length (e .graph) ≤ m)
+Inside p q n m es = (e : Entry) → List·Memᴰ e es → (p ≤ e .at) × (e .at + extent (e .graph) < q) × (n ≤ e .number) × (e .number + length (e .graph) ≤ m)
 
 inside-append : (p r q n l m : ℕ) (xs ys : List Entry) → p ≤ r → r ≤ q → n ≤ l → l ≤ m → Inside p r n l xs → Inside r q l m ys → Inside p q n m (xs ++ ys)
 inside-append p r q n l m xs ys h h′ k k′ a b e i = ⊎-elim
@@ -61,7 +56,7 @@ inside-wide : (p p′ q q′ n n′ m m′ : ℕ) (es : List Entry) → p′ ≤
 inside-wide p p′ q q′ n n′ m m′ es h h′ k k′ a e i = let u = a e i in let v = u .0 in let w = u .1 in let x = u .2 in let y = u .3 in (omega arith, omega arith, omega arith, omega arith)
 
 inside-one : (p n : ℕ) (g : Graph) → Inside p (p + extent g + 1) n (n + length g) (entry p n g ∷ [])
-inside-one p n g e i = ⊎-elim (λ s. subst (λ (f : Entry). (p ≤ f .place) × (f .place + extent (f .graph) < p + extent g + 1) × (n ≤ f .number) × (f .number + length (f .graph) ≤ n + length g)) (sym s) (omega arith, omega arith, omega arith, omega arith)) (λ j. absurd (List·Memᴰ·not-nil j)) (List·Memᴰ·cases-cons i)
+inside-one p n g e i = ⊎-elim (λ s. subst (λ (f : Entry). (p ≤ f .at) × (f .at + extent (f .graph) < p + extent g + 1) × (n ≤ f .number) × (f .number + length (f .graph) ≤ n + length g)) (sym s) (omega arith, omega arith, omega arith, omega arith)) (λ j. absurd (List·Memᴰ·not-nil j)) (List·Memᴰ·cases-cons i)
 
 mutual
   pub entries-inside : (p n : ℕ) (d : Desc) → Inside p (p + length (words d)) n (n + nodes-in d) (entries p n d)
@@ -92,7 +87,7 @@ mutual
 -- each entry's words and numbers end before those of the entries after it begin
 abbrev pub Ordered : List Entry → Type 0
 Ordered [] = Unit {0}
-Ordered (e ∷ es) = ((f : Entry) → List·Memᴰ f es → (e .place + extent (e .graph) < f .place) × (e .number + length (e .graph) ≤ f .number)) × Ordered es
+Ordered (e ∷ es) = ((f : Entry) → List·Memᴰ f es → (e .at + extent (e .graph) < f .at) × (e .number + length (e .graph) ≤ f .number)) × Ordered es
 
 ordered-append : (p r q n l m : ℕ) (xs ys : List Entry) → Inside p r n l xs → Inside r q l m ys → Ordered xs → Ordered ys → Ordered (xs ++ ys)
 ordered-append p r q n l m [] ys a b x y = y
@@ -125,7 +120,7 @@ mutual
 
 -- an entry's graph lies at its place, with its numbers
 abbrev pub Lies : List ℕ → Entry → Type 0
-Lies t e = Stands t (e .place) (header (e .number) (e .graph) ∷ located (e .number) (e .graph)) (e .place + extent (e .graph))
+Lies t e = Stands t (e .at) (header (e .number) (e .graph) ∷ located (e .number) (e .graph)) (e .at + extent (e .graph))
 
 module _ (t : List ℕ) where
   abbrev Lie : List Entry → Type 0

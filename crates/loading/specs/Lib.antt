@@ -3,3 +3,4 @@ pub mod Loaded
 pub mod Numbered
 pub mod At
 pub mod Loading
+pub mod Entry
