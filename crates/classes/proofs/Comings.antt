@@ -29,7 +29,7 @@ graphs-append (e ∷ a) b = ap (λ (l : List Graph). e .graph ∷ l) (graphs-app
 aside-sym : (e o : Entry) → Aside e o → Aside o e
 aside-sym e o a = (⊎-elim (λ x. inr x) (λ x. inl x) (a .0), ⊎-elim (λ x. inr x) (λ x. inl x) (a .1))
 
-apart-more : (es : List Entry) (e : Entry) → Apart es → ((o : Entry) → List·Memᴰ o es → Aside e o) → Apart (es ++ e ∷ [])
+pub apart-more : (es : List Entry) (e : Entry) → Apart es → ((o : Entry) → List·Memᴰ o es → Aside e o) → Apart (es ++ e ∷ [])
 apart-more [] e a f = ((λ o m. absurd (List·Memᴰ·not-nil m)), tt)
 apart-more (o ∷ es) e a f = (
   (λ u m. ⊎-elim (λ i. a .0 u i) (λ i. subst (λ (z : Entry). Aside o z) (sym (List·Memᴰ·eq-of-singleton i)) (aside-sym e o (f o (List·Memᴰ·head refl)))) (List·Memᴰ·append-cases es m)),

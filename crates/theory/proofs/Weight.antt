@@ -45,11 +45,11 @@ abbrev pub range : ℕ → ℕ → List ℕ
 range a zero = []
 range a (suc n) = a ∷ range (suc a) n
 
-range-length : (a n : ℕ) → length (range a n) ≡ n
+pub range-length : (a n : ℕ) → length (range a n) ≡ n
 range-length a zero = refl
 range-length a (suc n) = ap suc (range-length (suc a) n)
 
-range-in : (a n k : ℕ) → a ≤ k → k < a + n → List·Memᴰ k (range a n)
+pub range-in : (a n k : ℕ) → a ≤ k → k < a + n → List·Memᴰ k (range a n)
 range-in a zero k h l = absurd (omega arith)
 range-in a (suc n) k h l = go (ltb a k) (tells-lt a k) (range-in (suc a) n k)
   where
@@ -57,7 +57,7 @@ range-in a (suc n) k h l = go (ltb a k) (tells-lt a k) (range-in (suc a) n k)
     go true (holds p) s = List·Memᴰ·tail (s (omega arith) (omega arith))
     go false (fails p) s = let e : k ≡ a = omega arith in List·Memᴰ·head e
 
-range-above : (a n k : ℕ) → List·Memᴰ k (range a n) → (a ≤ k) × (k < a + n)
+pub range-above : (a n k : ℕ) → List·Memᴰ k (range a n) → (a ≤ k) × (k < a + n)
 range-above a zero k i = absurd (List·Memᴰ·not-nil i)
 range-above a (suc n) k i = go (List·Memᴰ·cases-cons i) (range-above (suc a) n k)
   where
@@ -65,7 +65,7 @@ range-above a (suc n) k i = go (List·Memᴰ·cases-cons i) (range-above (suc a)
     go (inl e) s = (omega arith, omega arith)
     go (inr j) s = let p = s j .0 in let q = s j .1 in (omega arith, omega arith)
 
-range-distinct : (a n : ℕ) → Distinct (range a n)
+pub range-distinct : (a n : ℕ) → Distinct (range a n)
 range-distinct a zero = tt
 range-distinct a (suc n) = (λ i. let p = range-above (suc a) n a i .0 in omega arith, range-distinct (suc a) n)
 
