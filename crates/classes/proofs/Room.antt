@@ -6,7 +6,8 @@ use Prim.Native.Nat.{ℕ, suc, _+_, _*_, _≤_, _<_}
 use native.Mathlib.Omega.{arith}
 use lib.ListN.{length, length-append}
 use Rattle.theory.proofs.Weight.{Distinct, distinct-length, distinct-append, range, range-length, range-in, range-above, range-distinct, weight, weights}
-use Rattle.classes.specs.Entry.{Entry, graphs, Lies, Aside}
+use Rattle.loading.specs.Entry.{Entry, graphs}
+use Rattle.classes.specs.Entry.{Lies, Aside}
 use Rattle.classes.specs.Holds.{Apart, Holds}
 use Rattle.classes.proofs.Comings.{graphs-append, apart-more}
 
