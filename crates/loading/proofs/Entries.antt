@@ -46,13 +46,13 @@ mutual
 abbrev pub Inside : ℕ → ℕ → ℕ → ℕ → List Entry → Type 0
 Inside p q n m es = (e : Entry) → List·Memᴰ e es → (p ≤ e .at) × (e .at + extent (e .graph) < q) × (n ≤ e .number) × (e .number + length (e .graph) ≤ m)
 
-inside-append : (p r q n l m : ℕ) (xs ys : List Entry) → p ≤ r → r ≤ q → n ≤ l → l ≤ m → Inside p r n l xs → Inside r q l m ys → Inside p q n m (xs ++ ys)
+pub inside-append : (p r q n l m : ℕ) (xs ys : List Entry) → p ≤ r → r ≤ q → n ≤ l → l ≤ m → Inside p r n l xs → Inside r q l m ys → Inside p q n m (xs ++ ys)
 inside-append p r q n l m xs ys h h′ k k′ a b e i = ⊎-elim
     (λ j. let u = a e j in let v = u .1 in let w = u .3 in (u .0, omega arith, u .2, omega arith))
     (λ j. let u = b e j in let v = u .0 in let w = u .2 in (omega arith, u .1, omega arith, u .3))
     (List·Memᴰ·append-cases xs i)
 
-inside-wide : (p p′ q q′ n n′ m m′ : ℕ) (es : List Entry) → p′ ≤ p → q ≤ q′ → n′ ≤ n → m ≤ m′ → Inside p q n m es → Inside p′ q′ n′ m′ es
+pub inside-wide : (p p′ q q′ n n′ m m′ : ℕ) (es : List Entry) → p′ ≤ p → q ≤ q′ → n′ ≤ n → m ≤ m′ → Inside p q n m es → Inside p′ q′ n′ m′ es
 inside-wide p p′ q q′ n n′ m m′ es h h′ k k′ a e i = let u = a e i in let v = u .0 in let w = u .1 in let x = u .2 in let y = u .3 in (omega arith, omega arith, omega arith, omega arith)
 
 inside-one : (p n : ℕ) (g : Graph) → Inside p (p + extent g + 1) n (n + length g) (entry p n g ∷ [])
@@ -89,7 +89,7 @@ abbrev pub Ordered : List Entry → Type 0
 Ordered [] = Unit {0}
 Ordered (e ∷ es) = ((f : Entry) → List·Memᴰ f es → (e .at + extent (e .graph) < f .at) × (e .number + length (e .graph) ≤ f .number)) × Ordered es
 
-ordered-append : (p r q n l m : ℕ) (xs ys : List Entry) → Inside p r n l xs → Inside r q l m ys → Ordered xs → Ordered ys → Ordered (xs ++ ys)
+pub ordered-append : (p r q n l m : ℕ) (xs ys : List Entry) → Inside p r n l xs → Inside r q l m ys → Ordered xs → Ordered ys → Ordered (xs ++ ys)
 ordered-append p r q n l m [] ys a b x y = y
 ordered-append p r q n l m (e ∷ xs) ys a b x y = (
   λ f i. ⊎-elim (x .0 f) (λ j. let u = a e (List·Memᴰ·head refl) in let v = b f j in let s = u .1 in let w = u .3 in let z = v .0 in let o = v .2 in (omega arith, omega arith)) (List·Memᴰ·append-cases xs i),
