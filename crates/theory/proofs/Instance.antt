@@ -143,7 +143,7 @@ atoms-out o k (v ∷ vs) p m = go (List·Memᴰ·append-cases (atom-at (o + k) v
     go (inr i) s = let (n, h, b, a) = s i in (suc n, omega arith, b, omega arith)
 
 -- canonical graphs: targets are nodes, and every node is reached
-met-ge : (m : ℕ) (l : List Arc) → m ≤ met m l
+pub met-ge : (m : ℕ) (l : List Arc) → m ≤ met m l
 met-ge m [] = omega arith
 met-ge m (p ∷ l) = omega (arith, met-ge (max m (suc (p .1))) l)
 
@@ -155,7 +155,7 @@ met-in m (p ∷ l) f t i = go (List·Memᴰ·cases-cons i) (met-in (max m (suc (
     go (inl e) s = omega (arith, met-ge (max m (suc (p .1))) l, ap (λ (z : Arc). z .1) e)
     go (inr j) s = s j
 
-numbered-ge : (k m : ℕ) (g : Graph) → Numbered k m g → m ≤ k + length g
+pub numbered-ge : (k m : ℕ) (g : Graph) → Numbered k m g → m ≤ k + length g
 numbered-ge k m [] c = omega arith
 numbered-ge k m (v ∷ vs) c = omega (arith, numbered-ge (suc k) (met m (arcsOf v)) vs (c .3), met-ge m (arcsOf v))
 
@@ -165,7 +165,7 @@ numbered-target k m (v ∷ vs) c zero f t i = omega (arith, numbered-ge (suc k) 
 numbered-target k m (v ∷ vs) c (suc n) f t i = omega (arith, numbered-target (suc k) (met m (arcsOf v)) vs (c .3) n f t i)
 
 module _ (P : ℕ → Type 0) where
-  met-reach : (m : ℕ) (l : List Arc) → InOrder m l → ((j : ℕ) → j < m → P j) → ((f t : ℕ) → List·Memᴰ (f, t) l → P t) → (j : ℕ) → j < met m l → P j
+  pub met-reach : (m : ℕ) (l : List Arc) → InOrder m l → ((j : ℕ) → j < m → P j) → ((f t : ℕ) → List·Memᴰ (f, t) l → P t) → (j : ℕ) → j < met m l → P j
   met-reach m [] o p s = p
   met-reach m (x ∷ l) o p s = met-reach (max m (suc (x .1))) l (o .1) (λ j h. go j h (test-lt j m)) (λ f t i. s f t (List·Memᴰ·tail i))
     where

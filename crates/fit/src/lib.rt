@@ -1,0 +1,53 @@
+// The fit test of document 01: whether a structure, a description with no disjunctions, satisfies a description.
+pub mod limits;
+mod sending;
+mod testing;
+mod width;
+
+use crate::limits::INPUT_LIMIT;
+use crate::sending::Answer;
+use crate::testing::satisfied;
+use layout::reading::Judgement;
+use layout::reading::judge;
+use layout::skipping::skip_graph;
+ghost use Rattle.theory.specs.FitTest.{FitGiven};
+ghost use Rattle.fit.specs.Number.{number-of};
+
+// What comes of a fit test; `number-of` gives document 01's number of each.
+pub enum Verdict {
+    Satisfies,
+    Fails,
+    TooLong,
+    BadStructure,
+    BadDescription,
+    HasDisjunctions,
+}
+
+// Tells whether the structure satisfies the description.
+pub fn fit(structure: &[u32], description: &[u32]) -> Verdict
+    ensures { λ r. ⌜ FitGiven (now (structure .entry)) (now (description .entry)) (number-of r) ⌝ }
+{
+    if INPUT_LIMIT < structure.len() {
+        return Verdict::TooLong;
+    }
+    if INPUT_LIMIT < description.len() {
+        return Verdict::TooLong;
+    }
+    let first = judge(structure);
+    let Judgement::Accepted = first else {
+        return Verdict::BadStructure;
+    };
+    let second = judge(description);
+    let Judgement::Accepted = second else {
+        return Verdict::BadDescription;
+    };
+    let end = skip_graph(structure, 0);
+    if 0 < structure[end] {
+        return Verdict::HasDisjunctions;
+    }
+    let answer = satisfied(structure, description);
+    match answer {
+        Answer::Fits(next) => Verdict::Satisfies,
+        Answer::Fails => Verdict::Fails,
+    }
+}

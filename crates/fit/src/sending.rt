@@ -1,0 +1,212 @@
+// Giving each node of a graph its structure node: the one possible map, from the root on.
+use crate::limits::INPUT_LIMIT;
+use crate::width::wide;
+use layout::limits::CODE_LIMIT;
+ghost use mathlib.Core.Path.{_≡_};
+ghost use Prim.Native.Nat.{_≤_, suc, max};
+ghost use lib.ListN.{length};
+ghost use Rattle.theory.specs.Limits.{input-limit};
+ghost use Rattle.fit.specs.Parts.{arcs-in, after, arcsFrom, lastArcs, nodeFrom, nodesFrom, nodesEnd, graphIn};
+ghost use Rattle.fit.specs.Sending.{Finds, Steps, Sends, Walks, SentNodes, Findable, Sendable, ArcsAsked, NodeAsked, NodesAsked, Noted, Notable};
+
+// What looking for a feature finds: the target of its arc and how many arcs come after that, or no such arc.
+pub enum Found {
+    Target { target: u32, left: u32 },
+    Nowhere,
+}
+
+// How many nodes have their structure node after a step, or that there is no map.
+pub enum Step {
+    Met(u32),
+    Stopped,
+}
+
+// The same after a node, with the position after it.
+pub enum Walk {
+    Went { next: usize, met: u32 },
+    Stuck,
+}
+
+// Whether there is a map of a part of the words, and the position after that part.
+pub enum Answer {
+    Fits(usize),
+    Fails,
+}
+
+// How many arcs a head tells.
+fn arcs_in(head: u32) -> u32
+    ensures { λ r. ⌜ r ≡ arcs-in head ⌝ }
+{
+    if head < CODE_LIMIT {
+        return head;
+    }
+    0
+}
+
+// Looks for a feature among the last `count` of a node's arcs, which end at `end`.
+fn find(structure: &[u32], end: usize, count: u32, feature: u32) -> Found
+    requires { ⌜ Findable (now structure) end count ⌝ }
+    ensures { λ r. ⌜ Finds (now (structure .entry)) end count feature r ⌝ }
+{
+    let mut left = count;
+    while 0 < left {
+        let at = end - 2 * wide(left);
+        let here = structure[at];
+        if feature < here {
+            return Found::Nowhere;
+        }
+        if feature == here {
+            return Found::Target {
+                target: structure[at + 1],
+                left: left - 1,
+            };
+        }
+        left -= 1;
+    }
+    Found::Nowhere
+}
+
+// Gives a node its structure node, where the nodes below `met` have one.
+fn send(map: &mut [u32; INPUT_LIMIT], node: u32, given: u32, met: u32) -> Step
+    requires { ⌜ input-limit ≤ length (now map) ⌝ }
+    requires { ⌜ Sendable node met ⌝ }
+    ensures { λ r. ⌜ Steps (now (map .entry)) met (λ m. m node ≡ given) (max met (suc node)) (now (map .exit)) r ⌝ }
+    ensures { λ _. ⌜ length (now (map .exit)) ≡ length (now (map .entry)) ⌝ }
+{
+    if node < met {
+        if map[wide(node)] == given {
+            return Step::Met(met);
+        }
+        return Step::Stopped;
+    }
+    map[wide(node)] = given;
+    Step::Met(node + 1)
+}
+
+// Sends the `count` arcs of a node along the `ahead` arcs of its structure node, which end at `end`: both rise.
+fn send_arcs(
+    map: &mut [u32; INPUT_LIMIT],
+    structure: &[u32],
+    end: usize,
+    ahead: u32,
+    ws: &[u32],
+    p: usize,
+    count: u32,
+    first: u32,
+) -> Step
+    requires { ⌜ input-limit ≤ length (now map) ⌝ }
+    requires { ⌜ ArcsAsked (now structure) end ahead (now ws) p count first ⌝ }
+    ensures { λ r. ⌜ Sends (lastArcs (now (structure .entry)) end ahead) (arcsFrom (now (ws .entry)) p count) (now (map .entry)) first (now (map .exit)) r ⌝ }
+    ensures { λ _. ⌜ length (now (map .exit)) ≡ length (now (map .entry)) ⌝ }
+{
+    let mut at = p;
+    let mut left = count;
+    let mut more = ahead;
+    let mut met = first;
+    while 0 < left {
+        let feature = ws[at];
+        let node = ws[at + 1];
+        let found = find(structure, end, more, feature);
+        let Found::Target {
+            target,
+            left: others,
+        } = found
+        else {
+            return Step::Stopped;
+        };
+        let step = send(map, node, target, met);
+        let Step::Met(reached) = step else {
+            return Step::Stopped;
+        };
+        met = reached;
+        more = others;
+        at += 2;
+        left -= 1;
+    }
+    Step::Met(met)
+}
+
+// Sends node i to the structure node that it is given: its atom, or its arcs.
+fn send_node(
+    map: &mut [u32; INPUT_LIMIT],
+    place: &[u32; INPUT_LIMIT],
+    structure: &[u32],
+    ws: &[u32],
+    p: usize,
+    i: u32,
+    met: u32,
+) -> Walk
+    requires { ⌜ input-limit ≤ length (now map) ⌝ }
+    requires { ⌜ Noted (now structure) (now place) ⌝ }
+    requires { ⌜ NodeAsked (now structure) (now ws) p i (now map) met ⌝ }
+    ensures { λ r. ⌜ Walks (graphIn (now (structure .entry)) 0) (now (ws .entry)) p i (now (map .entry)) met (now (map .exit)) r ⌝ }
+    ensures { λ _. ⌜ length (now (map .exit)) ≡ length (now (map .entry)) ⌝ }
+{
+    let head = ws[p];
+    let given = map[wide(i)];
+    let there = wide(place[wide(given)]);
+    let other = structure[there];
+    if CODE_LIMIT <= head {
+        if head == other {
+            return Walk::Went { next: p + 1, met };
+        }
+        return Walk::Stuck;
+    }
+    let ahead = arcs_in(other);
+    let end = there + 1 + 2 * wide(ahead);
+    let step = send_arcs(map, structure, end, ahead, ws, p + 1, head, met);
+    let Step::Met(reached) = step else {
+        return Walk::Stuck;
+    };
+    Walk::Went {
+        next: p + 1 + 2 * wide(head),
+        met: reached,
+    }
+}
+
+// Sends all nodes of a graph of so many nodes, where the root has its structure node.
+pub fn send_nodes(
+    map: &mut [u32; INPUT_LIMIT],
+    place: &[u32; INPUT_LIMIT],
+    structure: &[u32],
+    ws: &[u32],
+    p: usize,
+    nodes: u32,
+) -> Answer
+    requires { ⌜ input-limit ≤ length (now map) ⌝ }
+    requires { ⌜ Noted (now structure) (now place) ⌝ }
+    requires { ⌜ NodesAsked (now structure) (now ws) p nodes (now map) ⌝ }
+    ensures { λ r. ⌜ SentNodes (graphIn (now (structure .entry)) 0) (now (ws .entry)) p nodes (now (map .entry)) r ⌝ }
+    ensures { λ _. ⌜ length (now (map .exit)) ≡ length (now (map .entry)) ⌝ }
+{
+    let mut at = p;
+    let mut i: u32 = 0;
+    let mut met: u32 = 1;
+    while i < nodes {
+        let node = send_node(map, place, structure, ws, at, i, met);
+        let Walk::Went { next, met: reached } = node else {
+            return Answer::Fails;
+        };
+        at = next;
+        met = reached;
+        i += 1;
+    }
+    Answer::Fits(at)
+}
+
+// Notes where each node of the structure stands.
+pub fn note(place: &mut [u32; INPUT_LIMIT], structure: &[u32])
+    requires { ⌜ input-limit ≤ length (now place) ⌝ }
+    requires { ⌜ Notable (now structure) ⌝ }
+    ensures { λ _. ⌜ Noted (now (structure .entry)) (now (place .exit)) ⌝ }
+{
+    let nodes = wide(structure[0]);
+    let mut at: u32 = 1;
+    let mut i: usize = 0;
+    while i < nodes {
+        let head = structure[wide(at)];
+        place[i] = at;
+        at = at + 1 + 2 * arcs_in(head);
+        i += 1;
+    }
+}

@@ -1,0 +1,123 @@
+// Testing a description against a structure: its graph, and of each disjunction an alternative.
+use crate::limits::INPUT_LIMIT;
+use crate::sending::Answer;
+use crate::sending::note;
+use crate::sending::send_nodes;
+use layout::limits::DEPTH_LIMIT;
+use layout::skipping::skip_description;
+ghost use mathlib.Core.Path.{_≡_};
+ghost use Prim.Native.Nat.{_≤_};
+ghost use lib.ListN.{length};
+ghost use Rattle.theory.specs.Limits.{input-limit};
+ghost use Rattle.fit.specs.Parts.{graphIn};
+ghost use Rattle.fit.specs.Sending.{Noted};
+ghost use Rattle.fit.specs.Testing.{a-graph, a-disjunction, a-description, Asked, Answers, Skips, Tested, TestAsked};
+
+fn space() -> [u32; INPUT_LIMIT]
+    ensures { λ r. ⌜ input-limit ≡ length r ⌝ }
+{
+    [0; INPUT_LIMIT]
+}
+
+// Tests a graph: its root goes to the structure's.
+fn test_graph(
+    map: &mut [u32; INPUT_LIMIT],
+    place: &[u32; INPUT_LIMIT],
+    structure: &[u32],
+    ws: &[u32],
+    p: usize,
+) -> Answer
+    requires { ⌜ input-limit ≤ length (now map) ⌝ }
+    requires { ⌜ Noted (now structure) (now place) ⌝ }
+    requires { ⌜ Asked (a-graph (graphIn (now structure) 0)) (now ws) p ⌝ }
+    ensures { λ r. ⌜ Answers (a-graph (graphIn (now (structure .entry)) 0)) (now (ws .entry)) p r ⌝ }
+    ensures { λ _. ⌜ length (now (map .exit)) ≡ length (now (map .entry)) ⌝ }
+{
+    let nodes = ws[p];
+    map[0] = 0;
+    send_nodes(map, place, structure, ws, p + 1, nodes)
+}
+
+// Tests a description whose alternatives nest at most `left` deep: its graph, and each disjunction.
+fn test_description(
+    map: &mut [u32; INPUT_LIMIT],
+    place: &[u32; INPUT_LIMIT],
+    structure: &[u32],
+    ws: &[u32],
+    p: usize,
+    left: u32,
+) -> Answer
+    requires { ⌜ input-limit ≤ length (now map) ⌝ }
+    requires { ⌜ Noted (now structure) (now place) ⌝ }
+    requires { ⌜ Asked (a-description (graphIn (now structure) 0) left) (now ws) p ⌝ }
+    ensures { λ r. ⌜ Answers (a-description (graphIn (now (structure .entry)) 0) left) (now (ws .entry)) p r ⌝ }
+    ensures { λ _. ⌜ length (now (map .exit)) ≡ length (now (map .entry)) ⌝ }
+{
+    let graph = test_graph(map, place, structure, ws, p);
+    let Answer::Fits(q) = graph else {
+        return Answer::Fails;
+    };
+    let mut count = ws[q];
+    let mut at = q + 1;
+    while 0 < count {
+        let disjunction = test_disjunction(map, place, structure, ws, at, left);
+        let Answer::Fits(next) = disjunction else {
+            return Answer::Fails;
+        };
+        at = next;
+        count -= 1;
+    }
+    Answer::Fits(at)
+}
+
+// Tests a disjunction whose own alternatives are one of the `left` levels: those after the first that fits are skipped.
+fn test_disjunction(
+    map: &mut [u32; INPUT_LIMIT],
+    place: &[u32; INPUT_LIMIT],
+    structure: &[u32],
+    ws: &[u32],
+    p: usize,
+    left: u32,
+) -> Answer
+    requires { ⌜ input-limit ≤ length (now map) ⌝ }
+    requires { ⌜ Noted (now structure) (now place) ⌝ }
+    requires { ⌜ Asked (a-disjunction (graphIn (now structure) 0) left) (now ws) p ⌝ }
+    ensures { λ r. ⌜ Answers (a-disjunction (graphIn (now (structure .entry)) 0) left) (now (ws .entry)) p r ⌝ }
+    ensures { λ _. ⌜ length (now (map .exit)) ≡ length (now (map .entry)) ⌝ }
+{
+    let mut count = ws[p];
+    let mut at = p + 1;
+    while 0 < count {
+        let alternative = test_description(map, place, structure, ws, at, left - 1);
+        if let Answer::Fits(next) = alternative {
+            return Answer::Fits(skip_alternatives(ws, next, count - 1));
+        }
+        at = skip_description(ws, at);
+        count -= 1;
+    }
+    Answer::Fails
+}
+
+// Where `count` alternatives end.
+fn skip_alternatives(ws: &[u32], p: usize, count: u32) -> usize
+    ensures { λ r. ⌜ Skips (now (ws .entry)) p count r ⌝ }
+{
+    let mut at = p;
+    let mut left = count;
+    while 0 < left {
+        at = skip_description(ws, at);
+        left -= 1;
+    }
+    at
+}
+
+// Tests all of a description.
+pub fn satisfied(structure: &[u32], description: &[u32]) -> Answer
+    requires { ⌜ TestAsked (now structure) (now description) ⌝ }
+    ensures { λ r. ⌜ Tested (now (structure .entry)) (now (description .entry)) r ⌝ }
+{
+    let mut place = space();
+    note(&mut place, structure);
+    let mut map = space();
+    test_description(&mut map, &place, structure, description, 0, DEPTH_LIMIT)
+}
