@@ -123,8 +123,7 @@ static Description random_structure(Random *random, const Description *descripti
     return structure;
 }
 
-// The structure, now and then with the disjunctions that a structure must not have.
-static Call random_fit(Random *random) {
+Call random_fit(Random *random) {
     Pair pair = random_pair(random);
     Description structure = random_one_in(random, 3)
                                 ? description_copy(&pair.first)

@@ -8,10 +8,13 @@
 // A random call; the same for the same state of the source on every machine.
 Call random_call(Random *random);
 
+// A random call of the fit test, its structure now and then with the disjunctions that it must not have.
+Call random_fit(Random *random);
+
 // Prints so many calls in the batch format.
 int run_generate(uint64_t seed, uint64_t count);
 
-// Writes so many stored vectors of the kind `calls`, `reading` or `joins`.
+// Writes so many stored vectors of the kind `calls`, `fits`, `reading` or `joins`.
 int run_vectors(uint64_t seed, uint64_t count, const char *kind);
 
 #endif

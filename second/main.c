@@ -12,7 +12,7 @@ static int usage(void) {
           "       second known\n"
           "       second check SEED COUNT\n"
           "       second generate SEED COUNT\n"
-          "       second vectors SEED COUNT calls|reading|joins\n",
+          "       second vectors SEED COUNT calls|fits|reading|joins\n",
           stderr);
     return 2;
 }

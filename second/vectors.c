@@ -6,6 +6,8 @@
 
 #include <string.h>
 
+enum { LONGEST_STORED = 2048 };
+
 static void put_word(uint32_t word) {
     for (int shift = 0; shift < 32; shift += 8) {
         putchar((int)(word >> shift & 0xFF));
@@ -42,6 +44,27 @@ static void put_call(const Call *call) {
 static void put_random_call(Random *random) {
     Call call = random_call(random);
     put_call(&call);
+    call_free(&call);
+}
+
+// Whether an input is over 2,048 words; every other long call counts too, to keep the stream short.
+static bool too_long_to_store(Random *random, const Call *call) {
+    return call->first.count > LONGEST_STORED || call->second.count > LONGEST_STORED ||
+           (call->first.count + call->second.count > LONGEST_INPUT && random_one_in(random, 2));
+}
+
+// A fit test: both inputs, of at most 2,048 words each, and the number.
+static void put_random_fit(Random *random) {
+    Call call = random_fit(random);
+    while (too_long_to_store(random, &call)) {
+        call_free(&call);
+        call = random_fit(random);
+    }
+    Outcome outcome = call_run(&call);
+    put_counted(&call.first);
+    put_counted(&call.second);
+    put_word(outcome.number);
+    words_free(&outcome.result);
     call_free(&call);
 }
 
@@ -112,11 +135,12 @@ static void put_random_reading(Random *random) {
 int run_vectors(uint64_t seed, uint64_t count, const char *kind) {
     Random random = {seed};
     void (*put)(Random *) = strcmp(kind, "calls") == 0     ? put_random_call
+                            : strcmp(kind, "fits") == 0    ? put_random_fit
                             : strcmp(kind, "reading") == 0 ? put_random_reading
                             : strcmp(kind, "joins") == 0   ? put_random_join
                                                            : NULL;
     if (put == NULL) {
-        fputs("second: the kind is calls, reading or joins\n", stderr);
+        fputs("second: the kind is calls, fits, reading or joins\n", stderr);
         return 2;
     }
     for (uint64_t index = 0; index < count; index++) {

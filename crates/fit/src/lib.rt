@@ -10,6 +10,7 @@ use crate::testing::satisfied;
 use layout::reading::Judgement;
 use layout::reading::judge;
 use layout::skipping::skip_graph;
+ghost use mathlib.Core.Path.{_≡_};
 ghost use Rattle.theory.specs.FitTest.{FitGiven};
 ghost use Rattle.fit.specs.Number.{number-of};
 
@@ -21,6 +22,20 @@ pub enum Verdict {
     BadStructure,
     BadDescription,
     HasDisjunctions,
+}
+
+// Document 01's number.
+pub fn number(verdict: Verdict) -> u32
+    ensures { λ r. ⌜ r ≡ number-of verdict ⌝ }
+{
+    match verdict {
+        Verdict::Satisfies => 0,
+        Verdict::Fails => 6,
+        Verdict::TooLong => 3,
+        Verdict::BadStructure => 4,
+        Verdict::BadDescription => 5,
+        Verdict::HasDisjunctions => 9,
+    }
 }
 
 // Tells whether the structure satisfies the description.
