@@ -9,11 +9,13 @@ use lib.ListN.{length, getD}
 use lib.Dec.{eqb}
 use Rattle.theory.specs.Limits.{depth-limit, input-limit}
 use Rattle.theory.specs.Net.{Graph}
-use Rattle.theory.specs.Descr.{desc, Disjs, end, _and_, disjs}
+use Rattle.theory.specs.Descr.{Desc, desc, Disjs, end, _and_, disjs}
 use Rattle.theory.specs.Layout.{words, WellFormed, Image}
 use Rattle.theory.specs.FitTest.{FitGiven, fits, six, nine}
 use Rattle.theory.specs.Fitted.{fitted}
-use Rattle.theory.proofs.FitTable.{fit-table}
+use Rattle.theory.specs.Satisfaction.{Sat}
+use Rattle.theory.proofs.Fit.{structure}
+use Rattle.theory.proofs.FitTable.{fit-table, fit-satisfies}
 use Rattle.layout.specs.declared.reading.Judgement.{Judgement}
 use Rattle.layout.specs.declared.reading.Judgement.the-variants.{Malformed}
 use Rattle.layout.specs.Judged.{Judged}
@@ -115,3 +117,11 @@ answered-is HasDisjunctions = refl
 -- the contract allows one answer
 pub one-fit : (a b : List ℕ) (r s : Verdict) → FitGiven a b (number-of r) → FitGiven a b (number-of s) → r ≡ s
 one-fit a b r s g h = sym (answered-is r) ∙ ap answered (sym (given-number a b r .0 g) ∙ given-number a b s .0 h) ∙ answered-is s
+
+-- in the words of satisfaction: of inputs that are read, the answer is `Satisfies` exactly when the structure satisfies the description
+pub satisfies-iff : (H : Graph) (d : Desc) (w : WellFormed (desc H end) depth-limit) → WellFormed d depth-limit → length (words (desc H end)) ≤ input-limit → length (words d) ≤ input-limit
+    → (r : Verdict) → FitGiven (words (desc H end)) (words d) (number-of r) → (r ≡ Satisfies) ↔ Sat (structure H (w .0)) d
+satisfies-iff H d w v la lb r g =
+    let t = fit-satisfies H d w v la lb in
+    let e = given-number (words (desc H end)) (words d) r .0 g in
+    (λ z. t .0 (e ∙ ap number-of z), λ s. sym (answered-is r) ∙ ap answered (sym e ∙ t .1 s) ∙ answered-is Satisfies)
