@@ -5,7 +5,8 @@ use Prim.Native.Nat.{ℕ, zero, suc, _+_, _≤_, _<_}
 use native.Mathlib.Omega.{arith}
 use lib.ListN.{length, take, drop, set, getD, length-take, length-drop}
 use lib.Seq.{ext-getD, drop-set-add, take-set-lt, take-take, getD-take, getD-drop}
-use Rattle.area.specs.Region.{region}
+use Rattle.area.specs.Map.{WORDS, MARKS}
+use Rattle.area.specs.Region.{region, words}
 
 pub length-region : (a n : ℕ) (w : List ℕ) → a + n ≤ length w → length (region a n w) ≡ n
 unfolding region
@@ -33,3 +34,17 @@ region-ext a n u w h e f =
     let p : length (region a n u) ≡ n = length-region a n u h in
     let q : length (region a n w) ≡ n = length-region a n w (omega arith) in
     ext-getD 0 (region a n u) (region a n w) (p ∙ sym q) (λ j l. let m : j < n = omega arith in getD-region a n u j m ∙ f j m ∙ sym (getD-region a n w j m))
+
+-- the loaded words
+pub word-at : (w : List ℕ) (j : ℕ) → j < 2048 → getD (words w) j 0 ≡ getD w (WORDS + j) 0
+unfolding words
+word-at w j h = getD-region WORDS 2048 w j h
+
+pub words-many : (w : List ℕ) → 16384 ≤ length w → length (words w) ≡ 2048
+unfolding words
+words-many w h = length-region WORDS 2048 w (omega arith)
+
+-- they are the same where the area is
+pub words-same : (w w' : List ℕ) → 16384 ≤ length w → length w' ≡ length w → ((j : ℕ) → WORDS ≤ j → j < MARKS → getD w' j 0 ≡ getD w j 0) → words w' ≡ words w
+unfolding words
+words-same w w' h len same = region-ext WORDS 2048 w' w (omega arith) len (λ j l. same (WORDS + j) (omega arith) (omega arith))

@@ -1,0 +1,72 @@
+-- What is read of a description that stands loaded.
+-- Assumes nothing.
+use Prim.Native.Nat.{ℕ, _+_, _≤_, _<_, _%_, _/_}
+use native.Mathlib.Omega.{arith}
+use mathlib.Core.Path.{_≡_, ap, _∙_}
+use mathlib.Core.List.{List}
+use lib.ListN.{length, getD}
+use Rattle.theory.specs.Net.{Graph}
+use Rattle.area.specs.Region.{words}
+use Rattle.area.proofs.Region.{words-many}
+use Rattle.engine.specs.Placed.{Placed, place, Places, _also_, Options}
+use Rattle.loading.specs.Loaded.{extent, number-step}
+use Rattle.loading.specs.Numbered.{places, options}
+use Rattle.loading.specs.At.{At, AtAll}
+use Rattle.loading.proofs.Walking.{at-bounds, at-counts, at-header, at-closing}
+use Rattle.marks.specs.Positions.{number-at, tail-at, disjunctions-at, end-at, alternatives-at, after-at}
+
+-- at p stands a graph, with this number, that ends at e, within a description that ends at q
+pub record Read (w : List ℕ) (p n q : ℕ) : Type 0 where
+  pub here : p < 2048
+  pub low : n < number-step
+  pub number : number-at w p ≡ n
+  pub inside : tail-at w p < 2048
+  pub after : after-at w p ≡ q
+  pub on : p < q
+  pub end : q ≤ 2048
+
+module _ (w : List ℕ) (room : 16384 ≤ length w) where
+  module _ (g : Graph) (ds : Places) (p n q m : ℕ) (at : At (words w) p n (place g ds) q m) (low : m < number-step) where
+    pub number-is : number-at w p ≡ n
+    unfolding number-at
+    number-is = at-header (words w) g ds p n q m at low .1
+
+    pub tail-is : tail-at w p ≡ p + extent g
+    unfolding tail-at
+    tail-is = ap (λ (k : ℕ). p + k) (at-header (words w) g ds p n q m at low .2)
+
+    -- the description is within the loaded words
+    pub within : (p + extent g < 2048) × (p + extent g < q) × (q ≤ 2048)
+    within =
+        let many = words-many w room in
+        let bounds = at-bounds (words w) (place g ds) p n q m at in
+        let far = bounds .1 in
+        let tail = at-counts (words w) g ds p n q m at .1 in
+        (omega arith, omega arith, omega arith)
+
+    pub disjunctions-is : disjunctions-at w (p + extent g) ≡ places ds
+    unfolding disjunctions-at
+    disjunctions-is = let far = within .2 in at-closing (words w) g ds p n q m at (omega arith) .0
+
+    pub end-is : end-at w (p + extent g) ≡ q
+    unfolding end-at
+    end-is = let far = within .2 in at-closing (words w) g ds p n q m at (omega arith) .1
+
+    pub after-is : after-at w p ≡ q
+    unfolding after-at
+    after-is = ap (end-at w) tail-is ∙ end-is
+
+    pub read-place : Read w p n q
+    read-place =
+        let few = at-counts (words w) g ds p n q m at .2 in
+        let e = tail-is in
+        let there = within .0 in
+        let tail = within .1 in
+        record { here = omega arith; low = omega arith; number = number-is; inside = omega arith; after = after-is; on = omega arith; end = within .2 }
+
+  pub read-at : (d : Placed) (p n q m : ℕ) → At (words w) p n d q m → m < number-step → Read w p n q
+  read-at (place g ds) p n q m at low = read-place g ds p n q m at low
+
+pub alternatives-is : (w : List ℕ) (a : Options) (ds : Places) (p n q m : ℕ) → AtAll (words w) p n (a also ds) q m → alternatives-at w p ≡ options a
+unfolding alternatives-at
+alternatives-is w a ds p n q m at = at .3

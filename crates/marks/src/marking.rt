@@ -1,0 +1,34 @@
+// The marks, a word for each alternative under the number of its node 0: 1 where it is dropped, 0 or 2 where it is kept.
+use area::map::MARKS;
+ghost use mathlib.Core.Path.{_≡_};
+ghost use Prim.Native.Nat.{_≤_, _<_};
+ghost use lib.ListN.{length};
+ghost use Rattle.marks.specs.Marked.{marking, Dropped, Cleared};
+
+// Is the alternative x kept?
+pub fn kept(w: &[u32], x: usize) -> bool
+    requires { ⌜ (x < 1024) × (16384 ≤ length (now w)) ⌝ }
+    ensures { λ r. ⌜ r ≡ marking (now (w .entry)) x ⌝ }
+{
+    w[MARKS + x] != 1
+}
+
+// Drops the alternative x.
+pub fn drop(w: &mut [u32], x: usize)
+    requires { ⌜ (x < 1024) × (16384 ≤ length (now w)) ⌝ }
+    ensures { λ _. ⌜ Dropped (now (w .entry)) x (now (w .exit)) ⌝ }
+{
+    w[MARKS + x] = 1;
+}
+
+// Keeps all alternatives.
+pub fn clear_marks(w: &mut [u32])
+    requires { ⌜ 16384 ≤ length (now w) ⌝ }
+    ensures { λ _. ⌜ Cleared (now (w .entry)) (now (w .exit)) ⌝ }
+{
+    let mut left: usize = 1024;
+    while 0 < left {
+        left -= 1;
+        w[MARKS + left] = 0;
+    }
+}
