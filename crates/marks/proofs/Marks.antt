@@ -2,7 +2,7 @@
 -- Assumes nothing.
 use Prim.Native.Nat.{ℕ, zero, _+_, _-_, _≤_, _<_}
 use native.Mathlib.Omega.{arith}
-use mathlib.Core.Path.{_≡_, refl, sym, ap, _∙_}
+use mathlib.Core.Path.{_≡_, refl, ap, _∙_}
 use mathlib.Core.Logic.{_⊎_, inl, inr, ⊎-elim}
 use mathlib.Core.Bool.{Bool, true, false, not}
 use mathlib.Core.List.{List}
@@ -13,7 +13,7 @@ use lib.Seq.{getD-set-same, getD-set-other}
 use Rattle.area.specs.Map.{MARKS, RESULT}
 use Rattle.area.specs.Region.{region, words}
 use Rattle.area.proofs.Region.{length-region, getD-region, region-set-same, region-ext, words-same}
-use Rattle.engine.specs.Marks.{Marking, all-kept, drop}
+use Rattle.engine.specs.Marks.{Marking}
 use Rattle.marks.specs.Marked.{marking, Dropped, Cleared}
 
 -- markings are equal where their marks are

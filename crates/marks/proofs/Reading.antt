@@ -1,21 +1,21 @@
 -- What is read of a description that stands loaded.
 -- Assumes nothing.
-use Prim.Native.Nat.{ℕ, _+_, _≤_, _<_, _%_, _/_}
+use Prim.Native.Nat.{ℕ, _+_, _≤_, _<_}
 use native.Mathlib.Omega.{arith}
 use mathlib.Core.Path.{_≡_, ap, _∙_}
 use mathlib.Core.List.{List}
-use lib.ListN.{length, getD}
+use lib.ListN.{length}
 use Rattle.theory.specs.Net.{Graph}
 use Rattle.area.specs.Region.{words}
 use Rattle.area.proofs.Region.{words-many}
-use Rattle.engine.specs.Placed.{Placed, place, Places, _also_, Options}
+use Rattle.engine.specs.Placed.{Placed, place, Places, _also_, Options, option}
 use Rattle.loading.specs.Loaded.{extent, number-step}
 use Rattle.loading.specs.Numbered.{places, options}
-use Rattle.loading.specs.At.{At, AtAll}
-use Rattle.loading.proofs.Walking.{at-bounds, at-counts, at-header, at-closing}
+use Rattle.loading.specs.At.{At, AtAll, AtAny}
+use Rattle.loading.proofs.Walking.{at-bounds, any-bounds, at-counts, at-header, at-closing}
 use Rattle.marks.specs.Positions.{number-at, tail-at, disjunctions-at, end-at, alternatives-at, after-at}
 
--- at p stands a graph, with this number, that ends at e, within a description that ends at q
+-- at p stands a description with this number, which ends at q
 pub record Read (w : List ℕ) (p n q : ℕ) : Type 0 where
   pub here : p < 2048
   pub low : n < number-step
@@ -66,6 +66,14 @@ module _ (w : List ℕ) (room : 16384 ≤ length w) where
 
   pub read-at : (d : Placed) (p n q m : ℕ) → At (words w) p n d q m → m < number-step → Read w p n q
   read-at (place g ds) p n q m at low = read-place g ds p n q m at low
+
+  -- at an alternative; numbers stay low in it
+  pub read-option : (x : ℕ) (d : Placed) (a : Options) (p n q m : ℕ) (o : AtAny (words w) p n (option x d a) q m) → m < number-step → Read w p x (o .0) × (o .1 < number-step)
+  read-option x d a p n q m o low =
+      let bounds = at-bounds (words w) d p n (o .0) (o .1) (o .3) in
+      let more = any-bounds (words w) a (o .0) (o .1) q m (bounds .1) (o .4) .2 in
+      let small : o .1 < number-step = omega arith in
+      (rw (o .2) (read-at d p n (o .0) (o .1) (o .3) small), small)
 
 pub alternatives-is : (w : List ℕ) (a : Options) (ds : Places) (p n q m : ℕ) → AtAll (words w) p n (a also ds) q m → alternatives-at w p ≡ options a
 unfolding alternatives-at

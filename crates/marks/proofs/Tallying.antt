@@ -1,24 +1,20 @@
 -- Counting the kept ones of some alternatives: what is left of them goes on to count them all.
 -- Assumes nothing.
-use Prim.Native.Nat.{ℕ, suc, _+_, _-_, _≤_, _<_}
+use Prim.Native.Nat.{ℕ, _+_, _-_, _≤_, _<_}
 use native.Mathlib.Omega.{arith}
 use mathlib.Core.Path.{_≡_, refl, sym, subst, ap, _∙_}
 use mathlib.Core.Logic.{_⊎_, inl, inr, ⊎-elim}
 use mathlib.Core.Bool.{Bool, true, false}
 use mathlib.Core.List.{List}
-use lib.ListN.{length}
 use Rattle.area.specs.Region.{words}
-use Rattle.area.proofs.Region.{words-many}
-use Rattle.engine.specs.Placed.{Placed, Options, no-more, option}
+use Rattle.engine.specs.Placed.{Options, no-more, option}
 use Rattle.engine.specs.Marks.{Marking, kept-of}
-use Rattle.loading.specs.Loaded.{number-step}
 use Rattle.loading.specs.Numbered.{options}
-use Rattle.loading.specs.At.{At, AtAny}
-use Rattle.loading.proofs.Walking.{at-bounds, any-bounds}
+use Rattle.loading.specs.At.{AtAny}
 use Rattle.marks.specs.Positions.{number-at, tail-at, after-at}
 use Rattle.marks.specs.Marked.{marking}
 use Rattle.marks.specs.Tallied.{from-kept, Alternatives, Tallied}
-use Rattle.marks.proofs.Reading.{Read, read-at}
+use Rattle.marks.proofs.Reading.{read-option}
 use Rattle.marks.proofs.First.{kept-true, kept-false, from-true, from-false}
 
 module _ (w : List ℕ) (p count : ℕ) (s : Alternatives w p count) where
@@ -47,21 +43,13 @@ module _ (w : List ℕ) (p count : ℕ) (s : Alternatives w p count) where
   pub tally-none : Tallying count p p 0
   tally-none = record { rest = s .a; k = s .n; stand = s .at; many = s .many; total = omega arith; mark = inl (refl, refl, refl) }
 
-  -- the next alternative
-  read-next : (x : ℕ) (d : Placed) (a : Options) (at k : ℕ) (o : AtAny (words w) at k (option x d a) (s .q) (s .m)) → Read w at x (o .0)
-  read-next x d a at k o =
-      let bounds = at-bounds (words w) d at k (o .0) (o .1) (o .3) in
-      let rest = any-bounds (words w) a (o .0) (o .1) (s .q) (s .m) (bounds .1) (o .4) .2 in
-      let low = s .low in
-      subst (λ (n : ℕ). Read w at n (o .0)) (sym (o .2)) (read-at w (s .room) d at k (o .0) (o .1) (o .3) (omega arith))
-
   pub tally-read : (left at first found : ℕ) → Tallying left at first found → 0 < left → (at < 2048) × (number-at w at < 1024) × (tail-at w at < 2048)
   tally-read left at first found t h = go (t .rest) (t .stand) (t .many)
     where
       go : (a : Options) → AtAny (words w) at (t .k) a (s .q) (s .m) → options a ≡ left → (at < 2048) × (number-at w at < 1024) × (tail-at w at < 2048)
       go no-more o e = absurd (omega arith)
       go (option x d a) o e =
-          let r = read-next x d a at (t .k) o in
+          let r = read-option w (s .room) x d a at (t .k) (s .q) (s .m) o (s .low) .0 in
           let low = r .low in
           let n = r .number in
           (r .here, omega arith, r .inside)
@@ -75,7 +63,7 @@ module _ (w : List ℕ) (p count : ℕ) (s : Alternatives w p count) where
       go : (a : Options) → AtAny (words w) at (t .k) a (s .q) (s .m) → options a ≡ left → kept-of m (s .a) ≡ found + kept-of m a → Before a at first found ⊎ Since first found → Tallying (left - 1) next first' found'
       go no-more o many total mark = absurd (omega arith)
       go (option x d a) o many total mark =
-          let r = read-next x d a at (t .k) o in
+          let r = read-option w (s .room) x d a at (t .k) (s .q) (s .m) o (s .low) .0 in
           let far : o .0 ≡ next = sym (e ∙ r .after) in
           record {
             rest = a;
@@ -87,7 +75,7 @@ module _ (w : List ℕ) (p count : ℕ) (s : Alternatives w p count) where
           }
         where
           own : (b : Bool) → m (number-at w at) ≡ b → m x ≡ b
-          own b f = ap m (sym (read-next x d a at (t .k) o .number)) ∙ f
+          own b f = ap m (sym (read-option w (s .room) x d a at (t .k) (s .q) (s .m) o (s .low) .0 .number)) ∙ f
 
           totals : Turn at next first found first' found' → kept-of m (s .a) ≡ found' + kept-of m a
           totals (one f g h) = omega (arith, kept-true m x d a (own true f))

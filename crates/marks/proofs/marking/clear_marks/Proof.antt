@@ -1,9 +1,5 @@
 -- `marks::marking::clear_marks` meets its contract: from the last mark down, each is zero. Assumes nothing.
 use native.Mathlib.Omega.{arith}
-use mathlib.Core.Path.{_≡_, ap}
-use mathlib.Core.List.{List}
-use Prim.Native.Nat.{ℕ}
-use lib.ListN.{length}
 use Rattle.marks.proofs.Marks.{Clearing, clear-none, clear-one, cleared}
 use Rattle.marks.proofs.marking.clear_marks.Statement.{statement}
 use Rattle.marks.proofs.marking.clear_marks.Tie as tie

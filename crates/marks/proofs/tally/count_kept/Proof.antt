@@ -1,10 +1,7 @@
 -- `marks::tally::count_kept` meets its contract: what is left of the alternatives goes on to count them all. Assumes nothing.
 use native.Mathlib.Omega.{arith}
-use mathlib.Core.Path.{_≡_, refl, sym, _∙_}
 use mathlib.Core.Logic.{⊎-elim}
-use mathlib.Core.Bool.{true, false}
-use Prim.Native.Nat.{ℕ, _+_, _≤_}
-use borrow.Author.Needs.{needs}
+use Prim.Native.Nat.{_+_, _≤_}
 use Rattle.marks.specs.Tallied.{Alternatives}
 use Rattle.marks.proofs.Tallying.{Tallying, one, none, more, tally-none, tally-read, tally-step, tally-all}
 use Rattle.marks.proofs.tally.count_kept.Statement.{statement}
