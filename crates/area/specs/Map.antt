@@ -17,6 +17,10 @@ STACK = 8192
 abbrev pub WORDS : ℕ
 WORDS = 9216
 
+-- the second input among the loaded words
+abbrev pub SECOND : ℕ
+SECOND = 1024
+
 abbrev pub MARKS : ℕ
 MARKS = 11264
 

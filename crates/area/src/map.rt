@@ -19,6 +19,9 @@ pub const STACK: usize = 8192;
 
 pub const WORDS: usize = 9216;
 
+// Among the loaded words the first input is from 0 on, and the second from here.
+pub const SECOND: usize = 1024;
+
 pub const MARKS: usize = 11264;
 
 pub const RESULT: usize = 12288;

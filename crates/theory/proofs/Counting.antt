@@ -48,7 +48,7 @@ cap-left : (c x y : ℕ) → c ≤ y → min (x * c) c ≡ min (x * y) c
 cap-left c zero y k = rw (zero-mul c, zero-mul y)
 cap-left c (suc x) y k = big c (suc x) c (omega arith) (omega arith) ∙ sym (big c (suc x) y (omega arith) k)
 
-cap-one : (c x y : ℕ) → min (x * min y c) c ≡ min (x * y) c
+pub cap-one : (c x y : ℕ) → min (x * min y c) c ≡ min (x * y) c
 cap-one c x y = go (ltb y c) (tells-lt y c)
   where
     go : (t : Bool) → Tells (y < c) t → min (x * min y c) c ≡ min (x * y) c

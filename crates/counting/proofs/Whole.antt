@@ -1,0 +1,56 @@
+-- What counting answers for an input that is well formed and loaded, while every alternative is kept.
+-- Assumes nothing.
+use Prim.Native.Nat.{ℕ, zero, suc, _+_, _-_, _≤_, _<_, min}
+use native.Mathlib.Omega.{arith}
+use mathlib.Core.Path.{_≡_, sym, ap, _∙_}
+use mathlib.Core.List.{List}
+use lib.Dec.{ltb}
+use lib.ListN.{length}
+use Rattle.theory.specs.Limits.{choice-limit, choice-stop}
+use Rattle.theory.specs.Descr.{Desc, desc, Disjs, end, _and_, Alts, fail, _or_, number, capped}
+use Rattle.theory.specs.Layout.{WellFormed, WellAll, WellAny}
+use Rattle.theory.proofs.Counting.{capped-number, over-limit}
+use Rattle.area.specs.Region.{words}
+use Rattle.engine.specs.Placed.{strip}
+use Rattle.engine.specs.Marks.{Marking, all-kept}
+use Rattle.engine.specs.Counting.{count-at}
+use Rattle.engine.proofs.Marks.{keep-all-marked}
+use Rattle.engine.proofs.Counting.{count-left}
+use Rattle.loading.specs.Loaded.{number-step, nodes-in, nodes-any}
+use Rattle.loading.specs.Numbered.{numbered, numbered-all, numbered-any}
+use Rattle.loading.specs.At.{At}
+use Rattle.loading.proofs.Names.{numbered-strip}
+use Rattle.marks.specs.Marked.{marking}
+use Rattle.counting.specs.Nesting.{Nests, NestsAll, NestsAny}
+use Rattle.counting.specs.Counted.{Countable, Counted}
+
+-- a description nests as deep as its words may
+mutual
+  pub well-nests : (d : Desc) (n left : ℕ) → WellFormed d left → Nests (numbered n d) left
+  well-nests (desc g ds) n left f = well-nests-all ds (n + length g) left (f .2)
+
+  well-nests-all : (ds : Disjs) (n left : ℕ) → WellAll ds left → NestsAll (numbered-all n ds) left
+  well-nests-all end n left f = tt
+  well-nests-all (a and ds) n zero f = absurd f
+  well-nests-all (a and ds) n (suc left) f = let same : suc left - 1 ≡ left = omega arith in (omega arith, rw same (well-nests-any a n left (f .1)), well-nests-all ds (n + nodes-any a) (suc left) (f .2))
+
+  well-nests-any : (a : Alts) (n left : ℕ) → WellAny a left → NestsAny (numbered-any n a) left
+  well-nests-any fail n left f = tt
+  well-nests-any (d or a) n left f = (well-nests d n left (f .0), well-nests-any a (n + nodes-in d) left (f .1))
+
+-- where every alternative is kept, what is counted is the number of choices
+pub count-every : (d : Desc) (n : ℕ) → count-at choice-stop all-kept (numbered n d) ≡ capped d
+count-every d n = count-left (numbered n d) choice-stop (omega arith) all-kept ∙ ap (λ (e : Desc). min (number e) choice-stop) (ap strip (keep-all-marked (numbered n d)) ∙ numbered-strip n d) ∙ sym (capped-number d)
+
+module _ (w : List ℕ) (room : 16384 ≤ length w) (d : Desc) (p n q m left : ℕ) (fine : WellFormed d left) (at : At (words w) p n (numbered n d) q m) (low : m < number-step) where
+  -- such an input may be counted
+  abbrev pub loaded-countable : Countable w p left
+  loaded-countable = record { room = room; d = numbered n d; n = n; q = q; m = m; at = at; low = low; nests = well-nests d n left fine }
+
+  module _ (every : marking w ≡ all-kept) (r : ℕ) (counted : Counted w p left r) where
+    pub counted-every : r ≡ capped d
+    counted-every = counted .is loaded-countable ∙ ap (λ (k : Marking). count-at choice-stop k (numbered n d)) every ∙ count-every d n
+
+    -- the answer is over 4,096 exactly when there are so many choices
+    pub over-every : ltb choice-limit r ≡ ltb choice-limit (number d)
+    over-every = ap (ltb choice-limit) counted-every ∙ over-limit d

@@ -1,0 +1,2 @@
+// The number of choices over the kept alternatives, stopping at 4,097.
+pub mod choices;
