@@ -6,7 +6,7 @@ ghost use mathlib.Core.Path.{_≡_};
 ghost use Prim.Native.Nat.{_≤_, suc, max};
 ghost use lib.ListN.{length};
 ghost use Rattle.theory.specs.Limits.{input-limit};
-ghost use Rattle.fit.specs.Parts.{arcs-in, after, arcsFrom, lastArcs, nodeFrom, nodesFrom, nodesEnd, graphIn};
+ghost use Rattle.fit.specs.Parts.{arcs-in, arcsFrom, lastArcs, graphIn};
 ghost use Rattle.fit.specs.Sending.{Finds, Steps, Sends, Walks, SentNodes, Findable, Sendable, ArcsAsked, NodeAsked, NodesAsked, Noted, Notable};
 
 // What looking for a feature finds: the target of its arc and how many arcs come after that, or no such arc.

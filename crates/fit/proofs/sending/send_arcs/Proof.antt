@@ -45,7 +45,9 @@ returns : tie.Need-returns Inv-loop μ-loop
 returns c = (arcwise-none _ _ _ _ _ _ _ _ _ _ _ _ (c .before .before .before .before .before .before .loop .inv) (omega arith) (c .before .before .find .result) (cc) (c .before .before .find .ensures), c .before .before .before .before .before .before .loop .inv .kept)
 
 send-requires : tie.Need-send-requires Inv-loop μ-loop
-send-requires c κs = let kept = c .before .before .before .before .before .before .before .before .loop .inv .kept in (omega (arith, kept, c .before .before .before .before .before .before .before .before .before .before .before .pre .0), arcwise-next _ _ _ _ _ _ _ _ _ _ _ _ (c .before .before .before .before .before .before .before .before .loop .inv) (omega arith))
+send-requires c κs =
+    let kept = c .before .before .before .before .before .before .before .before .loop .inv .kept in
+    (omega (arith, kept, c .before .before .before .before .before .before .before .before .before .before .before .pre .0), arcwise-next _ _ _ _ _ _ _ _ _ _ _ _ (c .before .before .before .before .before .before .before .before .loop .inv) (omega arith))
 
 enum-known-step : tie.Need-enum-known-step Inv-loop μ-loop
 enum-known-step c = search needs
@@ -54,7 +56,9 @@ enum-told-2 : tie.Need-enum-told-2 Inv-loop μ-loop
 enum-told-2 c = search needs
 
 returns-2 : tie.Need-returns-2 Inv-loop μ-loop
-returns-2 c = (arcwise-stop _ _ _ _ _ _ _ _ _ _ _ _ (c .before .before .before .before .before .before .before .before .before .before .before .loop .inv) (omega arith) (c .before .before .before .before .before .before .before .find .result) (c .before .before .before .before .before .found .given .0 .0) (c .before .before .before .before .before .found .given .0 .1 .0) (c .before .before .before .before .before .found .given .1) (c .before .before .before .before .before .before .before .find .ensures) _ _ (c .before .before .send .result) (cc) (c .before .before .send .ensures .0), c .before .before .send .ensures .1 ∙ c .before .before .before .before .before .before .before .before .before .before .before .loop .inv .kept)
+returns-2 c =
+    let target = c .before .before .before .before .before .found in
+    (arcwise-stop _ _ _ _ _ _ _ _ _ _ _ _ (c .before .before .before .before .before .before .before .before .before .before .before .loop .inv) (omega arith) (c .before .before .before .before .before .before .before .find .result) (target .given .0 .0) (target .given .0 .1 .0) (target .given .1) (c .before .before .before .before .before .before .before .find .ensures) _ _ (c .before .before .send .result) (cc) (c .before .before .send .ensures .0), c .before .before .send .ensures .1 ∙ c .before .before .before .before .before .before .before .before .before .before .before .loop .inv .kept)
 
 add-at : tie.Need-add-at Inv-loop μ-loop
 add-at c = omega (arith, c .before .before .before .before .before .before .before .before .before .before .before .before .loop .inv .asked .there)
@@ -66,7 +70,9 @@ loop-less : tie.Need-loop-less Inv-loop μ-loop
 loop-less c = search needs
 
 loop-again : tie.Need-loop-again Inv-loop μ-loop
-loop-again c = arcwise-step _ _ _ _ _ _ _ _ _ _ _ _ (c .before .before .before .before .before .before .before .before .before .before .before .before .loop .inv) (omega arith) (c .before .before .before .before .before .before .before .before .find .result) (c .before .before .before .before .before .before .found .given .0 .0) (c .before .before .before .before .before .before .found .given .0 .1 .0) (c .before .before .before .before .before .before .found .given .1) (c .before .before .before .before .before .before .before .before .find .ensures) _ (c .before .before .before .send .result) (c .before .step .given .0 .0) (c .before .step .given .1) (c .before .before .before .send .ensures .0) (c .before .before .before .send .ensures .1)
+loop-again c =
+    let target = c .before .before .before .before .before .before .found in
+    arcwise-step _ _ _ _ _ _ _ _ _ _ _ _ (c .before .before .before .before .before .before .before .before .before .before .before .before .loop .inv) (omega arith) (c .before .before .before .before .before .before .before .before .find .result) (target .given .0 .0) (target .given .0 .1 .0) (target .given .1) (c .before .before .before .before .before .before .before .before .find .ensures) _ (c .before .before .before .send .result) (c .before .step .given .0 .0) (c .before .step .given .1) (c .before .before .before .send .ensures .0) (c .before .before .before .send .ensures .1)
 
 returns-3 : tie.Need-returns-3 Inv-loop μ-loop
 returns-3 c = (arcwise-end _ _ _ _ _ _ _ _ _ _ _ _ (c .before .loop .inv) (omega arith), c .before .loop .inv .kept)

@@ -18,7 +18,9 @@ loop-holds : tie.Need-loop-holds Inv-loop μ-loop
 loop-holds c = nodewise-start _ _ _ _ _ (c .before .before .pre .1 .1)
 
 send-node-requires : tie.Need-send-node-requires Inv-loop μ-loop
-send-node-requires c κs = let kept = c .before .before .loop .inv .kept in (omega (arith, c .before .before .before .before .before .pre .0), (c .before .before .before .before .before .pre .1 .0, nodewise-next _ _ _ _ _ _ _ _ _ (c .before .before .loop .inv) (omega arith)))
+send-node-requires c κs =
+    let kept = c .before .before .loop .inv .kept in
+    (omega (arith, c .before .before .before .before .before .pre .0), (c .before .before .before .before .before .pre .1 .0, nodewise-next _ _ _ _ _ _ _ _ _ (c .before .before .loop .inv) (omega arith)))
 
 enum-known-node : tie.Need-enum-known-node Inv-loop μ-loop
 enum-known-node c = search needs

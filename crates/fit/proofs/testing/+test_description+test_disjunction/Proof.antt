@@ -73,7 +73,10 @@ test-description-test-graph-requires : (t : ℕ) → test-description-lts.Need-t
   test-disjunction-below t,
   test-disjunction.Post,
 ) (test-description-at t) test-description.Post test-description-Inv-loop test-description-μ-loop
-test-description-test-graph-requires t c κs = (c .before .before .before .pre .1 .0, (c .before .before .before .pre .1 .1 .0, graph-first _ (graphIn (c .before .before .before .args .structure .now) 0) (c .before .before .before .args .left) _ (c .before .before .before .pre .1 .1 .1)))
+test-description-test-graph-requires t c κs =
+    let H = graphIn (c .before .before .before .args .structure .now) 0 in
+    let left = c .before .before .before .args .left in
+    (c .before .before .before .pre .1 .0, (c .before .before .before .pre .1 .1 .0, graph-first _ H left _ (c .before .before .before .pre .1 .1 .1)))
 
 test-description-enum-known-graph : (t : ℕ) → test-description-lts.Need-enum-known-graph (
   test-graph-reads.Asked,
@@ -97,7 +100,9 @@ test-description-returns : (t : ℕ) → test-description-lts.Need-returns (
   test-disjunction-below t,
   test-disjunction.Post,
 ) (test-description-at t) test-description.Post test-description-Inv-loop test-description-μ-loop
-test-description-returns t c = (graph-fails _ (graphIn (c .before .before .before .before .before .before .args .structure .now) 0) _ _ (c .before .before .test-graph .result) (cc) (c .before .before .test-graph .ensures .0), c .before .before .test-graph .ensures .1)
+test-description-returns t c =
+    let H = graphIn (c .before .before .before .before .before .before .args .structure .now) 0 in
+    (graph-fails _ H _ _ (c .before .before .test-graph .result) (cc) (c .before .before .test-graph .ensures .0), c .before .before .test-graph .ensures .1)
 
 test-description-mul-count : (t : ℕ) → test-description-lts.Need-mul-count (
   test-graph-reads.Asked,
@@ -105,7 +110,10 @@ test-description-mul-count : (t : ℕ) → test-description-lts.Need-mul-count (
   test-disjunction-below t,
   test-disjunction.Post,
 ) (test-description-at t) test-description.Post test-description-Inv-loop test-description-μ-loop
-test-description-mul-count t c = omega (arith, after-graph _ (graphIn (c .before .before .before .before .before .before .before .args .structure .now) 0) (c .before .before .before .before .before .before .before .args .left) _ (c .before .before .before .test-graph .result) _ (c .before .graph .given .1) (c .before .before .before .test-graph .ensures .0) (c .before .before .before .before .before .before .before .pre .1 .1 .1))
+test-description-mul-count t c =
+    let H = graphIn (c .before .before .before .before .before .before .before .args .structure .now) 0 in
+    let left = c .before .before .before .before .before .before .before .args .left in
+    omega (arith, after-graph _ H left _ (c .before .before .before .test-graph .result) _ (c .before .graph .given .1) (c .before .before .before .test-graph .ensures .0) (c .before .before .before .before .before .before .before .pre .1 .1 .1))
 
 test-description-shared-slice-read-count :
     (t : ℕ) → test-description-lts.Need-shared-slice-read-count (
@@ -118,7 +126,10 @@ test-description-shared-slice-read-count :
     test-description.Post
     test-description-Inv-loop
     test-description-μ-loop
-test-description-shared-slice-read-count t c = omega (arith, after-graph _ (graphIn (c .before .before .before .before .before .before .before .before .args .structure .now) 0) (c .before .before .before .before .before .before .before .before .args .left) _ (c .before .before .before .before .test-graph .result) _ (c .before .before .graph .given .1) (c .before .before .before .before .test-graph .ensures .0) (c .before .before .before .before .before .before .before .before .pre .1 .1 .1))
+test-description-shared-slice-read-count t c =
+    let H = graphIn (c .before .before .before .before .before .before .before .before .args .structure .now) 0 in
+    let left = c .before .before .before .before .before .before .before .before .args .left in
+    omega (arith, after-graph _ H left _ (c .before .before .before .before .test-graph .result) _ (c .before .before .graph .given .1) (c .before .before .before .before .test-graph .ensures .0) (c .before .before .before .before .before .before .before .before .pre .1 .1 .1))
 
 test-description-add-at : (t : ℕ) → test-description-lts.Need-add-at (
   test-graph-reads.Asked,
@@ -126,7 +137,10 @@ test-description-add-at : (t : ℕ) → test-description-lts.Need-add-at (
   test-disjunction-below t,
   test-disjunction.Post,
 ) (test-description-at t) test-description.Post test-description-Inv-loop test-description-μ-loop
-test-description-add-at t c = omega (arith, after-graph _ (graphIn (c .before .before .before .before .before .before .before .before .args .structure .now) 0) (c .before .before .before .before .before .before .before .before .args .left) _ (c .before .before .before .before .test-graph .result) _ (c .before .before .graph .given .1) (c .before .before .before .before .test-graph .ensures .0) (c .before .before .before .before .before .before .before .before .pre .1 .1 .1))
+test-description-add-at t c =
+    let H = graphIn (c .before .before .before .before .before .before .before .before .args .structure .now) 0 in
+    let left = c .before .before .before .before .before .before .before .before .args .left in
+    omega (arith, after-graph _ H left _ (c .before .before .before .before .test-graph .result) _ (c .before .before .graph .given .1) (c .before .before .before .before .test-graph .ensures .0) (c .before .before .before .before .before .before .before .before .pre .1 .1 .1))
 
 test-description-loop-holds : (t : ℕ) → test-description-lts.Need-loop-holds (
   test-graph-reads.Asked,
@@ -134,7 +148,9 @@ test-description-loop-holds : (t : ℕ) → test-description-lts.Need-loop-holds
   test-disjunction-below t,
   test-disjunction.Post,
 ) (test-description-at t) test-description.Post test-description-Inv-loop test-description-μ-loop
-test-description-loop-holds t c = (refl, disjunctions-start _ (graphIn (c .before .before .before .before .before .before .before .before .args .structure .now) 0) _ _ (c .before .before .before .before .test-graph .result) _ (c .before .before .graph .given .1) (c .before .before .before .before .test-graph .ensures .0))
+test-description-loop-holds t c =
+    let H = graphIn (c .before .before .before .before .before .before .before .before .args .structure .now) 0 in
+    (refl, disjunctions-start _ H _ _ (c .before .before .before .before .test-graph .result) _ (c .before .before .graph .given .1) (c .before .before .before .before .test-graph .ensures .0))
 
 test-description-test-disjunction-requires :
     (t : ℕ) → test-description-lts.Need-test-disjunction-requires (
@@ -147,7 +163,10 @@ test-description-test-disjunction-requires :
     test-description.Post
     test-description-Inv-loop
     test-description-μ-loop
-test-description-test-disjunction-requires t c κs = (omega arith, (let kept = c .before .before .before .before .before .before .before .test-graph .ensures .1 in omega (arith, c .before .before .loop .inv .0, c .before .before .before .before .before .before .before .before .before .before .before .pre .1 .0), (c .before .before .before .before .before .before .before .before .before .before .before .pre .1 .1 .0, disjunction-next _ (graphIn (c .before .before .before .before .before .before .before .before .before .before .before .args .structure .now) 0) (c .before .before .before .before .before .before .before .before .before .before .before .args .left) (c .before .before .loop .count) _ (omega arith) (left-asked _ (a-description (graphIn (c .before .before .before .before .before .before .before .before .before .before .before .args .structure .now) 0) (c .before .before .before .before .before .before .before .before .before .before .before .args .left)) (its-disjunctions (graphIn (c .before .before .before .before .before .before .before .before .before .before .before .args .structure .now) 0) (c .before .before .before .before .before .before .before .before .before .before .before .args .left) (c .before .before .loop .count)) _ _ (c .before .before .before .before .before .before .before .before .before .before .before .pre .1 .1 .1) (c .before .before .loop .inv .1)))))
+test-description-test-disjunction-requires t c κs =
+    let H = graphIn (c .before .before .before .before .before .before .before .before .before .before .before .args .structure .now) 0 in
+    let left = c .before .before .before .before .before .before .before .before .before .before .before .args .left in
+    (omega arith, (let kept = c .before .before .before .before .before .before .before .test-graph .ensures .1 in omega (arith, c .before .before .loop .inv .0, c .before .before .before .before .before .before .before .before .before .before .before .pre .1 .0), (c .before .before .before .before .before .before .before .before .before .before .before .pre .1 .1 .0, disjunction-next _ H left (c .before .before .loop .count) _ (omega arith) (left-asked _ (a-description H left) (its-disjunctions H left (c .before .before .loop .count)) _ _ (c .before .before .before .before .before .before .before .before .before .before .before .pre .1 .1 .1) (c .before .before .loop .inv .1)))))
 
 test-description-enum-known-disjunction :
     (t : ℕ) → test-description-lts.Need-enum-known-disjunction (
@@ -176,7 +195,10 @@ test-description-returns-2 : (t : ℕ) → test-description-lts.Need-returns-2 (
   test-disjunction-below t,
   test-disjunction.Post,
 ) (test-description-at t) test-description.Post test-description-Inv-loop test-description-μ-loop
-test-description-returns-2 t c = (disjunctions-stop _ (graphIn (c .before .before .before .before .before .before .before .before .before .before .before .before .before .before .args .structure .now) 0) _ _ _ (a-description (graphIn (c .before .before .before .before .before .before .before .before .before .before .before .before .before .before .args .structure .now) 0) (c .before .before .before .before .before .before .before .before .before .before .before .before .before .before .args .left)) _ (c .before .before .before .before .before .loop .inv .1) (c .before .before .test-disjunction .result) (cc) (c .before .before .test-disjunction .ensures .0) (omega arith), c .before .before .test-disjunction .ensures .1 ∙ c .before .before .before .before .before .loop .inv .0 ∙ c .before .before .before .before .before .before .before .before .before .before .test-graph .ensures .1)
+test-description-returns-2 t c =
+    let H = graphIn (c .before .before .before .before .before .before .before .before .before .before .before .before .before .before .args .structure .now) 0 in
+    let left = c .before .before .before .before .before .before .before .before .before .before .before .before .before .before .args .left in
+    (disjunctions-stop _ H _ _ _ (a-description H left) _ (c .before .before .before .before .before .loop .inv .1) (c .before .before .test-disjunction .result) (cc) (c .before .before .test-disjunction .ensures .0) (omega arith), c .before .before .test-disjunction .ensures .1 ∙ c .before .before .before .before .before .loop .inv .0 ∙ c .before .before .before .before .before .before .before .before .before .before .test-graph .ensures .1)
 
 test-description-sub-count : (t : ℕ) → test-description-lts.Need-sub-count (
   test-graph-reads.Asked,
@@ -200,7 +222,10 @@ test-description-loop-again : (t : ℕ) → test-description-lts.Need-loop-again
   test-disjunction-below t,
   test-disjunction.Post,
 ) (test-description-at t) test-description.Post test-description-Inv-loop test-description-μ-loop
-test-description-loop-again t c = (c .before .before .before .test-disjunction .ensures .1 ∙ c .before .before .before .before .before .before .loop .inv .0, disjunctions-step _ (graphIn (c .before .before .before .before .before .before .before .before .before .before .before .before .before .before .before .args .structure .now) 0) _ _ _ (a-description (graphIn (c .before .before .before .before .before .before .before .before .before .before .before .before .before .before .before .args .structure .now) 0) (c .before .before .before .before .before .before .before .before .before .before .before .before .before .before .before .args .left)) _ (c .before .before .before .before .before .before .loop .inv .1) (c .before .before .before .test-disjunction .result) _ (c .before .disjunction .given .1) (c .before .before .before .test-disjunction .ensures .0) (omega arith))
+test-description-loop-again t c =
+    let H = graphIn (c .before .before .before .before .before .before .before .before .before .before .before .before .before .before .before .args .structure .now) 0 in
+    let left = c .before .before .before .before .before .before .before .before .before .before .before .before .before .before .before .args .left in
+    (c .before .before .before .test-disjunction .ensures .1 ∙ c .before .before .before .before .before .before .loop .inv .0, disjunctions-step _ H _ _ _ (a-description H left) _ (c .before .before .before .before .before .before .loop .inv .1) (c .before .before .before .test-disjunction .result) _ (c .before .disjunction .given .1) (c .before .before .before .test-disjunction .ensures .0) (omega arith))
 
 test-description-returns-3 : (t : ℕ) → test-description-lts.Need-returns-3 (
   test-graph-reads.Asked,
@@ -208,7 +233,10 @@ test-description-returns-3 : (t : ℕ) → test-description-lts.Need-returns-3 (
   test-disjunction-below t,
   test-disjunction.Post,
 ) (test-description-at t) test-description.Post test-description-Inv-loop test-description-μ-loop
-test-description-returns-3 t c = (disjunctions-end _ (graphIn (c .before .before .before .before .before .before .before .before .before .before .args .structure .now) 0) _ _ _ (a-description (graphIn (c .before .before .before .before .before .before .before .before .before .before .args .structure .now) 0) (c .before .before .before .before .before .before .before .before .before .before .args .left)) _ (c .before .loop .inv .1) (omega arith), c .before .loop .inv .0 ∙ c .before .before .before .before .before .before .test-graph .ensures .1)
+test-description-returns-3 t c =
+    let H = graphIn (c .before .before .before .before .before .before .before .before .before .before .args .structure .now) 0 in
+    let left = c .before .before .before .before .before .before .before .before .before .before .args .left in
+    (disjunctions-end _ H _ _ _ (a-description H left) _ (c .before .loop .inv .1) (omega arith), c .before .loop .inv .0 ∙ c .before .before .before .before .before .before .test-graph .ensures .1)
 
 abbrev test-disjunction-Inv-loop : test-disjunction-lts.InvT-loop
 test-disjunction-Inv-loop map₀ place structure ws p left count₀ at₀ map count at = (length map ≡ length map₀) × Left ws (a-disjunction (graphIn structure 0) left) p (its-alternatives (graphIn structure 0) (left - 1) count) at
@@ -224,7 +252,10 @@ test-disjunction-mul-count : (t : ℕ) → test-disjunction-lts.Need-mul-count (
   skip-description-reads.Asked,
   skip-description-reads.Learnt,
 ) (test-disjunction-at t) test-disjunction.Post test-disjunction-Inv-loop test-disjunction-μ-loop
-test-disjunction-mul-count t c = omega (arith, disjunction-there _ (graphIn (c .before .before .args .structure .now) 0) (c .before .before .args .left) _ (c .before .before .pre .1 .1 .1) .1)
+test-disjunction-mul-count t c =
+    let H = graphIn (c .before .before .args .structure .now) 0 in
+    let left = c .before .before .args .left in
+    omega (arith, disjunction-there _ H left _ (c .before .before .pre .1 .1 .1) .1)
 
 test-disjunction-shared-slice-read-count :
     (t : ℕ) → test-disjunction-lts.Need-shared-slice-read-count (
@@ -239,7 +270,10 @@ test-disjunction-shared-slice-read-count :
     test-disjunction.Post
     test-disjunction-Inv-loop
     test-disjunction-μ-loop
-test-disjunction-shared-slice-read-count t c = omega (arith, disjunction-there _ (graphIn (c .before .before .before .args .structure .now) 0) (c .before .before .before .args .left) _ (c .before .before .before .pre .1 .1 .1) .1)
+test-disjunction-shared-slice-read-count t c =
+    let H = graphIn (c .before .before .before .args .structure .now) 0 in
+    let left = c .before .before .before .args .left in
+    omega (arith, disjunction-there _ H left _ (c .before .before .before .pre .1 .1 .1) .1)
 
 test-disjunction-add-at : (t : ℕ) → test-disjunction-lts.Need-add-at (
   test-description-below t,
@@ -249,7 +283,10 @@ test-disjunction-add-at : (t : ℕ) → test-disjunction-lts.Need-add-at (
   skip-description-reads.Asked,
   skip-description-reads.Learnt,
 ) (test-disjunction-at t) test-disjunction.Post test-disjunction-Inv-loop test-disjunction-μ-loop
-test-disjunction-add-at t c = omega (arith, disjunction-there _ (graphIn (c .before .before .before .args .structure .now) 0) (c .before .before .before .args .left) _ (c .before .before .before .pre .1 .1 .1) .1)
+test-disjunction-add-at t c =
+    let H = graphIn (c .before .before .before .args .structure .now) 0 in
+    let left = c .before .before .before .args .left in
+    omega (arith, disjunction-there _ H left _ (c .before .before .before .pre .1 .1 .1) .1)
 
 test-disjunction-loop-holds : (t : ℕ) → test-disjunction-lts.Need-loop-holds (
   test-description-below t,
@@ -259,7 +296,7 @@ test-disjunction-loop-holds : (t : ℕ) → test-disjunction-lts.Need-loop-holds
   skip-description-reads.Asked,
   skip-description-reads.Learnt,
 ) (test-disjunction-at t) test-disjunction.Post test-disjunction-Inv-loop test-disjunction-μ-loop
-test-disjunction-loop-holds t c = (refl, alternatives-start _ (graphIn (c .before .before .before .args .structure .now) 0) _ _)
+test-disjunction-loop-holds t c = let H = graphIn (c .before .before .before .args .structure .now) 0 in (refl, alternatives-start _ H _ _)
 
 test-disjunction-sub-test-description : (t : ℕ) → test-disjunction-lts.Need-sub-test-description (
   test-description-below t,
@@ -269,7 +306,11 @@ test-disjunction-sub-test-description : (t : ℕ) → test-disjunction-lts.Need-
   skip-description-reads.Asked,
   skip-description-reads.Learnt,
 ) (test-disjunction-at t) test-disjunction.Post test-disjunction-Inv-loop test-disjunction-μ-loop
-test-disjunction-sub-test-description t c = let some = disjunction-there _ (graphIn (c .before .before .before .before .before .before .args .structure .now) 0) (c .before .before .before .before .before .before .args .left) _ (c .before .before .before .before .before .before .pre .1 .1 .1) .0 in omega arith
+test-disjunction-sub-test-description t c =
+    let H = graphIn (c .before .before .before .before .before .before .args .structure .now) 0 in
+    let left = c .before .before .before .before .before .before .args .left in
+    let some = disjunction-there _ H left _ (c .before .before .before .before .before .before .pre .1 .1 .1) .0 in
+    omega arith
 
 test-disjunction-test-description-requires :
     (t : ℕ) → test-disjunction-lts.Need-test-description-requires (
@@ -284,7 +325,11 @@ test-disjunction-test-description-requires :
     test-disjunction.Post
     test-disjunction-Inv-loop
     test-disjunction-μ-loop
-test-disjunction-test-description-requires t c κs = let some = disjunction-there _ (graphIn (c .before .before .before .before .before .before .args .structure .now) 0) (c .before .before .before .before .before .before .args .left) _ (c .before .before .before .before .before .before .pre .1 .1 .1) .0 in (omega arith, (omega (arith, c .before .before .loop .inv .0, c .before .before .before .before .before .before .pre .1 .0), (c .before .before .before .before .before .before .pre .1 .1 .0, alternative-next _ (graphIn (c .before .before .before .before .before .before .args .structure .now) 0) ((c .before .before .before .before .before .before .args .left) - 1) (c .before .before .loop .count) _ (omega arith) (left-asked _ (a-disjunction (graphIn (c .before .before .before .before .before .before .args .structure .now) 0) (c .before .before .before .before .before .before .args .left)) (its-alternatives (graphIn (c .before .before .before .before .before .before .args .structure .now) 0) ((c .before .before .before .before .before .before .args .left) - 1) (c .before .before .loop .count)) _ _ (c .before .before .before .before .before .before .pre .1 .1 .1) (c .before .before .loop .inv .1)))))
+test-disjunction-test-description-requires t c κs =
+    let H = graphIn (c .before .before .before .before .before .before .args .structure .now) 0 in
+    let left = c .before .before .before .before .before .before .args .left in
+    let some = disjunction-there _ H left _ (c .before .before .before .before .before .before .pre .1 .1 .1) .0 in
+    (omega arith, (omega (arith, c .before .before .loop .inv .0, c .before .before .before .before .before .before .pre .1 .0), (c .before .before .before .before .before .before .pre .1 .1 .0, alternative-next _ H (left - 1) (c .before .before .loop .count) _ (omega arith) (left-asked _ (a-disjunction H left) (its-alternatives H (left - 1) (c .before .before .loop .count)) _ _ (c .before .before .before .before .before .before .pre .1 .1 .1) (c .before .before .loop .inv .1)))))
 
 test-disjunction-enum-known-alternative :
     (t : ℕ) → test-disjunction-lts.Need-enum-known-alternative (
@@ -334,7 +379,10 @@ test-disjunction-returns : (t : ℕ) → test-disjunction-lts.Need-returns (
   skip-description-reads.Asked,
   skip-description-reads.Learnt,
 ) (test-disjunction-at t) test-disjunction.Post test-disjunction-Inv-loop test-disjunction-μ-loop
-test-disjunction-returns t c = (alternatives-fit _ (graphIn (c .before .before .before .before .before .before .before .before .before .before .before .args .structure .now) 0) _ _ _ (c .before .before .before .before .test-description .result) (c .before .before .before .before .test-description .ensures .0) (omega arith) (a-disjunction (graphIn (c .before .before .before .before .before .before .before .before .before .before .before .args .structure .now) 0) (c .before .before .before .before .before .before .before .before .before .before .before .args .left)) _ (c .before .before .before .before .before .before .before .loop .inv .1) _ _ (c .before .before .alternative .given .1) (c .skip-alternatives .ensures), c .before .before .before .before .test-description .ensures .1 ∙ c .before .before .before .before .before .before .before .loop .inv .0)
+test-disjunction-returns t c =
+    let H = graphIn (c .before .before .before .before .before .before .before .before .before .before .before .args .structure .now) 0 in
+    let left = c .before .before .before .before .before .before .before .before .before .before .before .args .left in
+    (alternatives-fit _ H _ _ _ (c .before .before .before .before .test-description .result) (c .before .before .before .before .test-description .ensures .0) (omega arith) (a-disjunction H left) _ (c .before .before .before .before .before .before .before .loop .inv .1) _ _ (c .before .before .alternative .given .1) (c .skip-alternatives .ensures), c .before .before .before .before .test-description .ensures .1 ∙ c .before .before .before .before .before .before .before .loop .inv .0)
 
 test-disjunction-enum-told : (t : ℕ) → test-disjunction-lts.Need-enum-told (
   test-description-below t,
@@ -389,7 +437,10 @@ test-disjunction-loop-again : (t : ℕ) → test-disjunction-lts.Need-loop-again
   skip-description-reads.Asked,
   skip-description-reads.Learnt,
 ) (test-disjunction-at t) test-disjunction.Post test-disjunction-Inv-loop test-disjunction-μ-loop
-test-disjunction-loop-again t c = (c .before .before .before .test-description .ensures .1 ∙ c .before .before .before .before .before .before .loop .inv .0, alternatives-step _ (graphIn (c .before .before .before .before .before .before .before .before .before .before .args .structure .now) 0) _ _ _ (c .before .before .before .test-description .result) (c .before .before .before .test-description .ensures .0) (omega arith) (a-disjunction (graphIn (c .before .before .before .before .before .before .before .before .before .before .args .structure .now) 0) (c .before .before .before .before .before .before .before .before .before .before .args .left)) _ (c .before .before .before .before .before .before .loop .inv .1) _ (cc) (c .skip-description .ensures))
+test-disjunction-loop-again t c =
+    let H = graphIn (c .before .before .before .before .before .before .before .before .before .before .args .structure .now) 0 in
+    let left = c .before .before .before .before .before .before .before .before .before .before .args .left in
+    (c .before .before .before .test-description .ensures .1 ∙ c .before .before .before .before .before .before .loop .inv .0, alternatives-step _ H _ _ _ (c .before .before .before .test-description .result) (c .before .before .before .test-description .ensures .0) (omega arith) (a-disjunction H left) _ (c .before .before .before .before .before .before .loop .inv .1) _ (cc) (c .skip-description .ensures))
 
 test-disjunction-returns-2 : (t : ℕ) → test-disjunction-lts.Need-returns-2 (
   test-description-below t,
@@ -399,7 +450,10 @@ test-disjunction-returns-2 : (t : ℕ) → test-disjunction-lts.Need-returns-2 (
   skip-description-reads.Asked,
   skip-description-reads.Learnt,
 ) (test-disjunction-at t) test-disjunction.Post test-disjunction-Inv-loop test-disjunction-μ-loop
-test-disjunction-returns-2 t c = (alternatives-end _ (graphIn (c .before .before .before .before .before .args .structure .now) 0) _ _ _ (a-disjunction (graphIn (c .before .before .before .before .before .args .structure .now) 0) (c .before .before .before .before .before .args .left)) _ (c .before .loop .inv .1) (omega arith), c .before .loop .inv .0)
+test-disjunction-returns-2 t c =
+    let H = graphIn (c .before .before .before .before .before .args .structure .now) 0 in
+    let left = c .before .before .before .before .before .args .left in
+    (alternatives-end _ H _ _ _ (a-disjunction H left) _ (c .before .loop .inv .1) (omega arith), c .before .loop .inv .0)
 
 pub +test-description+test-disjunction-spec : {M : Type 1} → statement M
 +test-description+test-disjunction-spec =
