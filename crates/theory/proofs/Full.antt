@@ -12,10 +12,10 @@ use Rattle.theory.specs.Net.{Node, atom, arcs, Graph, Canonical}
 use Rattle.theory.proofs.Instance.{AllCanonical}
 use Rattle.theory.proofs.Sets.{Within}
 use Rattle.theory.specs.Join.{join}
-use Rattle.theory.specs.Descr.{Desc, desc, Disjs, end, _and_, Alts, fail, _or_, each, pairs, choices, choices-all, choices-any, _then_, answers, agree, readings}
+use Rattle.theory.specs.Descr.{Desc, desc, Disjs, end, _and_, Alts, fail, _or_, each, pairs, choices, choices-all, choices-any, _then_, answers, agree}
 use Rattle.theory.specs.Modes.{some-agree, Round, after, in-place, folded-in, prune, prune-all, prune-any, fold, fold-all, fold-any}
 use Rattle.theory.proofs.Mean.{Ctx, Fine, fine-append, Alike, run, run-each, run-append, run-pairs, run-cong, run-none, run-dead, run-same, good-run, Good, AllFine, Can, CanAll, CanAny, choices-fine, choices-all-fine, choices-any-fine, Holds, Rounded, after-ok, join-canonical, canon-append, alike-set, alike-after, clash-stays, within-both, in-l, in-r, each-fine, pairs-fine}
-use Rattle.theory.proofs.Quick.{nil, nil-canonical, nil-holds, one, leaf, good-leaf, meanings, readings-count}
+use Rattle.theory.proofs.Quick.{nil, nil-canonical, nil-holds, one, leaf, good-leaf, meanings}
 
 -- membership of a choice in a list of choices
 pub each-in : (a : Ctx) (l : List Ctx) (r : Ctx) → List·Memᴰ r l → List·Memᴰ (a ++ r) (each a l)
@@ -199,9 +199,6 @@ cover-chosen others l c k r fr m v hs f h = rw (append-assoc c r hs) (v (r ++ hs
 pub full-pairs : (others l : List Ctx) → AllFull others → AllFine l → AllFull (pairs others l)
 full-pairs others l fo fl o m = let (x, y, i, j, e) = pairs-from others l o m in subst Fine (sym e) (fine-append x y (fo x i) (fl y j))
 
-fine-singleton : (g : Graph) → Canonical g → AllFine ((g ∷ []) ∷ [])
-fine-singleton g cg r m = ⊎-elim (λ e. subst AllCanonical (sym e) (cg, tt)) (λ i. absurd (List·Memᴰ·not-nil i)) (List·Memᴰ·cases-cons m)
-
 pub full-graph : (others : List Ctx) (g : Graph) → Canonical g → AllFine others → AllFull (pairs others ((g ∷ []) ∷ []))
 full-graph others g cg fo o m =
     let (x, y, i, j, e) = pairs-from others ((g ∷ []) ∷ []) o m in
@@ -277,6 +274,3 @@ full-means d p =
     let e : Desc = prune whole d in
     let f = fold-ok e (prune-can d p whole) in
     sym (prune-ok d p whole whole-fine [] tt leaf good-leaf (λ hs fh h. ap one (h [] (List·Memᴰ·head refl))) ∙ f .1 [] tt leaf good-leaf)
-
-pub full-readings : (d : Desc) → Can d → readings (fold (prune whole d)) ≡ readings d
-full-readings d p = rw (readings-count, readings-count) (ap length (full-means d p))
