@@ -119,8 +119,9 @@ since-trans a u b v c w p q = record {
   same = λ j l m. q .same j l m ∙ p .same j l m;
 }
 
-pub since-frame : (m : ℕ) (w₀ : List ℕ) (k : ℕ) (w w' : List ℕ) → length w' ≡ length w → SIZE ≤ length w → ((j : ℕ) → j < MARKS → getD w' j 0 ≡ getD w j 0) → Since m w₀ k w → Since m w₀ k w'
-since-frame m w₀ k w w' len hw f p =
+-- the same words before the free part of the log, and the same loaded words
+pub since-again : (m : ℕ) (w₀ : List ℕ) (k : ℕ) (w w' : List ℕ) → length w' ≡ length w → SIZE ≤ length w → ((j : ℕ) → j < LOG + k → getD w' j 0 ≡ getD w j 0) → ((j : ℕ) → WORDS ≤ j → j < MARKS → getD w' j 0 ≡ getD w j 0) → Since m w₀ k w → Since m w₀ k w'
+since-again m w₀ k w w' len hw f g p =
     let l = p .few in
     record {
       len = len ∙ p .len;
@@ -128,9 +129,12 @@ since-frame m w₀ k w w' len hw f p =
       few = p .few;
       began = p .began;
       logged = logged-same k w w' (p .logged) len (λ j h. f j (omega arith));
-      keeps = λ i h. past-agree i k w w' (le-trans h (p .more)) len (omega arith) (λ j h. f j (omega arith)) ∙ p .keeps i h;
-      same = λ j a b. f j b ∙ p .same j a b;
+      keeps = λ i h. past-agree i k w w' (le-trans h (p .more)) len (omega arith) f ∙ p .keeps i h;
+      same = λ j a b. g j a b ∙ p .same j a b;
     }
+
+pub since-frame : (m : ℕ) (w₀ : List ℕ) (k : ℕ) (w w' : List ℕ) → length w' ≡ length w → SIZE ≤ length w → ((j : ℕ) → j < MARKS → getD w' j 0 ≡ getD w j 0) → Since m w₀ k w → Since m w₀ k w'
+since-frame m w₀ k w w' len hw f p = let l = p .few in since-again m w₀ k w w' len hw (λ j h. f j (omega arith)) (λ j a b. f j b) p
 
 -- ---- back at the mark
 module _ (m k : ℕ) (w w' : List ℕ) (u : Undone m k w w') where
