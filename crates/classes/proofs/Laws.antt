@@ -7,15 +7,15 @@ use native.Mathlib.Omega.{arith}
 use lib.ListN.{length, getD}
 use Rattle.area.specs.Map.{PARENT, NEXT, LOG, WORDS, MARKS, SIZE}
 use Rattle.theory.specs.Net.{Graph, Agree}
-use Rattle.area.specs.Region.{region}
+use Rattle.area.specs.Region.{region, words}
 use Rattle.area.specs.Log.{Logged, Later, Undone}
-use Rattle.area.proofs.Region.{region-ext}
+use Rattle.area.proofs.Region.{region-ext, words-same}
 use Rattle.area.proofs.Undo.{word, logged-same, past-agree, undone-is, undone-logged, undone-keeps, undone-rest}
-use Rattle.classes.specs.State.{words, targets, Pile, Done, Chain, Near, Bears, State}
+use Rattle.classes.specs.State.{targets, Pile, Done, Chain, Near, Bears, State}
 use Rattle.loading.specs.Entry.{Entry, graphs}
 use Rattle.classes.specs.Entry.{Lies, Comes}
 use Rattle.classes.specs.Holds.{Sits, Holds, Since, Backs}
-use Rattle.classes.proofs.Words.{words-same, targets-same}
+use Rattle.classes.proofs.Words.{targets-same}
 use Rattle.classes.proofs.Links.{chain-same}
 use Rattle.classes.proofs.Fuse.{low}
 use Rattle.classes.proofs.Visits.{near-none}

@@ -9,12 +9,13 @@ use Rattle.area.specs.Map.{SIZE}
 use Rattle.area.specs.Log.{body, Later, Undone}
 use Rattle.area.proofs.Undo.{later-trans, word, undone-is, undone-later}
 use Rattle.classes.specs.declared.push.Pushed.the-variants.{In, Clashed}
-use Rattle.classes.specs.State.{words, targets, State, Asked, United, withPair}
+use Rattle.area.specs.Region.{words}
+use Rattle.classes.specs.State.{targets, State, Asked, United, withPair}
 use Rattle.classes.specs.Nodes.{Listing, Listed}
 use Rattle.loading.specs.Entry.{Entry}
 use Rattle.classes.specs.Entry.{Comes}
 use Rattle.classes.specs.Holds.{Holds, Adding, Adds, Pushing, Pushes}
-use Rattle.classes.proofs.Words.{word-at}
+use Rattle.area.proofs.Region.{word-at}
 use Rattle.classes.proofs.Comings.{pile, state', same', some', nodes', ahead', holds', clash'}
 use Rattle.classes.proofs.Laws.{holds-few, holds-again, since-later}
 

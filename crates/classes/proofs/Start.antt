@@ -10,11 +10,11 @@ use lib.ListN.{length, set, getD, replicate, length-replicate, length-set}
 use lib.Seq.{getD-set-same, getD-set-other}
 use lib.Dec.{eqb}
 use Rattle.area.specs.Map.{PARENT, NEXT, LOG, SIZE}
-use Rattle.area.specs.Region.{region}
+use Rattle.area.specs.Region.{region, words}
 use Rattle.area.proofs.Region.{length-region, getD-region}
 use Rattle.classes.specs.Labels.{pick}
 use Rattle.classes.specs.Forest.{tops}
-use Rattle.classes.specs.State.{words, targets, Pile, Done, Same, Chain, State, total}
+use Rattle.classes.specs.State.{targets, Pile, Done, Same, Chain, State, total}
 use Rattle.classes.specs.Holds.{Holds, Starts}
 
 tops-le : (i : ℕ) (P : List ℕ) → tops i P ≤ length P

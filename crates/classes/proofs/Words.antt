@@ -6,12 +6,9 @@ use native.Mathlib.Omega.{arith}
 use lib.ListN.{length, getD}
 use Rattle.area.specs.Map.{WORDS, MARKS, SIZE}
 use Rattle.area.specs.Log.{Later}
-use Rattle.area.proofs.Region.{getD-region, region-ext}
-use Rattle.classes.specs.State.{words, targets}
-
-pub word-at : (w : List ℕ) (j : ℕ) → j < 2048 → getD (words w) j 0 ≡ getD w (WORDS + j) 0
-unfolding words
-word-at w j h = getD-region WORDS 2048 w j h
+use Rattle.area.proofs.Region.{getD-region, region-ext, words-same}
+use Rattle.area.specs.Region.{words}
+use Rattle.classes.specs.State.{targets}
 
 pub target-at : (w : List ℕ) (j : ℕ) → j < 2047 → getD (targets w) j 0 ≡ getD w (WORDS + 1 + j) 0
 unfolding targets
@@ -19,10 +16,6 @@ target-at w j h = getD-region (WORDS + 1) 2047 w j h
 
 -- they are the same where the area is
 module _ (w w' : List ℕ) (hw : SIZE ≤ length w) (len : length w' ≡ length w) (same : (j : ℕ) → WORDS ≤ j → j < MARKS → getD w' j 0 ≡ getD w j 0) where
-  pub words-same : words w' ≡ words w
-  unfolding words
-  words-same = region-ext WORDS 2048 w' w (omega arith) len (λ j h. same (WORDS + j) (omega arith) (omega arith))
-
   pub targets-same : targets w' ≡ targets w
   unfolding targets
   targets-same = region-ext (WORDS + 1) 2047 w' w (omega arith) len (λ j h. same (WORDS + 1 + j) (omega arith) (omega arith))

@@ -10,9 +10,9 @@ use Rattle.area.specs.Map.{PARENT}
 use Rattle.theory.specs.Limits.{code-limit}
 use Rattle.theory.specs.Net.{beside, Same, roots}
 use Rattle.theory.proofs.Meaning.{some-root}
-use Rattle.area.specs.Region.{region}
+use Rattle.area.specs.Region.{region, words}
 use Rattle.classes.specs.Forest.{tops}
-use Rattle.classes.specs.State.{words, targets, First}
+use Rattle.classes.specs.State.{targets, First}
 use Rattle.loading.specs.Entry.{Entry, graphs}
 use Rattle.classes.specs.Entry.{Spots, number-of}
 use Rattle.classes.specs.Holds.{Holds, class}

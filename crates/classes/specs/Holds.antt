@@ -13,7 +13,8 @@ use Rattle.theory.proofs.Weight.{weight, weights}
 use Rattle.area.specs.Log.{body, past, Logged, Later}
 use Rattle.classes.specs.declared.push.Pushed.{Pushed}
 use Rattle.classes.specs.declared.push.Pushed.the-variants.{In, Clashed}
-use Rattle.classes.specs.State.{words, targets, Pile, Done, State, Full}
+use Rattle.area.specs.Region.{words}
+use Rattle.classes.specs.State.{targets, Pile, Done, State, Full}
 use Rattle.loading.specs.Entry.{Entry, graphs}
 use Rattle.classes.specs.Entry.{Lies, Aside, Comes}
 

@@ -7,15 +7,12 @@ use mathlib.Core.List.{List, [], _∷_, _++_, List·Memᴰ}
 use lib.Dec.{eqb}
 use lib.ListN.{length, getD}
 use Rattle.area.specs.Map.{PARENT, NEXT, STACK, WORDS}
-use Rattle.area.specs.Region.{region}
+use Rattle.area.specs.Region.{region, words}
 use Rattle.classes.specs.Labels.{Eq}
 use Rattle.area.specs.Log.{Logged, Later}
 use Rattle.classes.specs.Forest.{Shape, Forest, tops}
 
--- ---- the loaded words, and what follows each of them
-unfoldable pub words : List ℕ → List ℕ
-words w = region WORDS 2048 w
-
+-- ---- what follows each of the loaded words
 unfoldable pub targets : List ℕ → List ℕ
 targets w = region (WORDS + 1) 2047 w
 

@@ -12,7 +12,8 @@ ghost use mathlib.Core.Bool.{true, false};
 ghost use Prim.Native.Nat.{_+_, _-_, _≤_, _<_};
 ghost use lib.ListN.{length};
 ghost use Rattle.area.specs.Map.{SIZE};
-ghost use Rattle.classes.specs.State.{words, targets, Working, Turned, Drained, Stacked, Settled, Asked, United};
+ghost use Rattle.area.specs.Region.{words};
+ghost use Rattle.classes.specs.State.{targets, Working, Turned, Drained, Stacked, Settled, Asked, United};
 
 // The first arc of what is left of a frame: its target joins that of the first arc from `to` on with its feature.
 fn step(w: &mut [u32], k: usize, s: usize, n: usize, x: usize, to: usize) -> Made

@@ -13,7 +13,8 @@ ghost use mathlib.Core.Bool.{true, false};
 ghost use Prim.Native.Nat.{_+_, _*_, _-_, _≤_, _<_};
 ghost use lib.ListN.{length};
 ghost use Rattle.area.specs.Map.{SIZE};
-ghost use Rattle.classes.specs.State.{words, targets, Coming, Visited, Marking, Marked};
+ghost use Rattle.area.specs.Region.{words};
+ghost use Rattle.classes.specs.State.{targets, Coming, Visited, Marking, Marked};
 ghost use Rattle.classes.specs.Nodes.{Batched, Run, Noding, Noded, Listing, Listed};
 
 // The arc t of the node x: it goes onto the chain of its class, or its target joins that of the arc there with its feature.

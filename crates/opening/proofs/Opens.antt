@@ -17,7 +17,7 @@ use Rattle.loading.specs.Entry.{Entry}
 use Rattle.loading.specs.Loaded.{nodes-in, loaded}
 use Rattle.loading.proofs.Names.{nodes-some}
 use Rattle.loading.proofs.Entries.{entries}
-use Rattle.area.specs.Map.{WORDS, MARKS, SIZE}
+use Rattle.area.specs.Map.{WORDS, MARKS, SIZE, SECOND}
 use Rattle.area.specs.Region.{region}
 use Rattle.area.proofs.Region.{region-ext}
 use Rattle.classes.specs.Entry.{Comes}
@@ -25,7 +25,7 @@ use Rattle.classes.specs.Holds.{Holds, Pushing, Pushes, Starts}
 use Rattle.classes.specs.declared.push.Pushed.{Pushed}
 use Rattle.classes.specs.declared.push.Pushed.the-variants.{In, Clashed}
 use Rattle.opening.specs.declared.Opened.the-variants as opened
-use Rattle.opening.specs.Opening.{SECOND, Inputs, Read, Stand, Paired, Opening, definite, Told, Opens}
+use Rattle.opening.specs.Opening.{Inputs, Read, Stand, Paired, Opening, definite, Told, Opens}
 use Rattle.opening.proofs.Universe.{universe, nodes-room, comes}
 
 -- ---- k words from p on, put back into the area

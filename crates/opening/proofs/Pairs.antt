@@ -15,7 +15,8 @@ use Rattle.loading.specs.Loaded.{nodes-in, loaded}
 use Rattle.loading.specs.Loading.{Put, Loadable, LoadedAt}
 use Rattle.loading.proofs.Sizes.{nodes-few}
 use Rattle.loading.proofs.Putting.{stands-frame}
-use Rattle.opening.specs.Opening.{SECOND, Inputs, Pair, Read, Stand, Paired}
+use Rattle.area.specs.Map.{SECOND}
+use Rattle.opening.specs.Opening.{Inputs, Pair, Read, Stand, Paired}
 
 pub begins : (t a b : List ℕ) → Pair t a b → Loadable t a 0 0
 begins t a b p = record { image = p .inputs .first; few = p .inputs .first-few; near = omega arith; room = p .room; numbers = omega arith }

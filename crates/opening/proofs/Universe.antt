@@ -19,13 +19,13 @@ use Rattle.loading.specs.Entry.{Entry, graphs}
 use Rattle.loading.specs.Loaded.{extent, header, located, nodes-in, nodes-any, loaded}
 use Rattle.loading.proofs.Sizes.{nodes-few, graph-extent, located-length}
 use Rattle.loading.proofs.Entries.{entry, entries, entries-all, entries-any, Inside, inside-wide, entries-inside, Ordered, ordered-append, entries-ordered, entries-lie}
-use Rattle.area.specs.Map.{WORDS, SIZE}
+use Rattle.area.specs.Map.{WORDS, SIZE, SECOND}
 use Rattle.area.specs.Region.{region}
 use Rattle.area.proofs.Region.{getD-region, length-region}
 use Rattle.classes.specs.Entry.{Lies, Aside, Comes}
 use Rattle.classes.specs.Holds.{Holds}
 use Rattle.classes.proofs.Room.{room-enough}
-use Rattle.opening.specs.Opening.{SECOND, Stand}
+use Rattle.opening.specs.Opening.{Stand}
 
 -- what stands at p, word by word
 stands-get : (ws xs : List ℕ) (p q j : ℕ) → Stands ws p xs q → j < length xs → getD ws (p + j) 0 ≡ getD xs j 0

@@ -11,15 +11,11 @@ use Rattle.theory.specs.Layout.{words, WellFormed, Image}
 use Rattle.layout.specs.Standing.{Stands}
 use Rattle.loading.specs.Entry.{Entry}
 use Rattle.loading.specs.Loaded.{nodes-in, loaded}
-use Rattle.area.specs.Map.{WORDS, MARKS, SIZE}
+use Rattle.area.specs.Map.{SECOND, WORDS, MARKS, SIZE}
 use Rattle.area.specs.Region.{region}
 use Rattle.classes.specs.Holds.{Holds}
 use Rattle.opening.specs.declared.Opened.{Opened}
 use Rattle.opening.specs.declared.Opened.the-variants.{Joined, Clashed}
-
--- where the second input begins among the loaded words
-abbrev pub SECOND : ℕ
-SECOND = 1024
 
 -- two inputs that are well formed and not too long
 pub record Inputs (a b : List ℕ) : Type 0 where

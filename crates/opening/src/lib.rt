@@ -1,14 +1,12 @@
 // Both inputs are put into the working area, and their definite graphs pushed: where every mode begins.
 use area::map::MARKS;
+use area::map::SECOND;
 use area::map::WORDS;
 use classes::push::Pushed;
 use classes::push::push;
 use classes::push::start;
 use loading::loading::load;
 ghost use Rattle.opening.specs.Opening.{Pair, Paired, Opening, Opens};
-
-// Where the second input begins among the loaded words.
-pub const SECOND: usize = 1024;
 
 // How it came out: the definite graphs join, there are so many nodes, and the log has so many entries; or they clash.
 pub enum Opened {

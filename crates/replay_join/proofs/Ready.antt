@@ -17,7 +17,8 @@ use Rattle.loading.specs.Loaded.{nodes-in}
 use Rattle.classes.specs.Holds.{Holds}
 use Rattle.classes.proofs.Laws.{holds-agree}
 use Rattle.opening.specs.declared.Opened.the-variants as opened
-use Rattle.opening.specs.Opening.{SECOND, Inputs, definite, Opens}
+use Rattle.area.specs.Map.{SECOND}
+use Rattle.opening.specs.Opening.{Inputs, definite, Opens}
 use Rattle.writing.specs.Writing.{Writing}
 
 -- the words of a description are those of its graph, and two more

@@ -10,10 +10,10 @@ use Rattle.theory.specs.Net.{Graph}
 use Rattle.layout.specs.Standing.{Stands}
 use Rattle.layout.proofs.Standing.{stands-order}
 use Rattle.area.specs.Map.{PARENT, NEXT, LOG, STACK, WORDS, RESULT}
-use Rattle.area.specs.Region.{region}
-use Rattle.area.proofs.Region.{region-ext}
-use Rattle.classes.specs.State.{words, targets}
-use Rattle.classes.proofs.Words.{words-same, targets-same}
+use Rattle.area.specs.Region.{region, words}
+use Rattle.area.proofs.Region.{region-ext, words-same}
+use Rattle.classes.specs.State.{targets}
+use Rattle.classes.proofs.Words.{targets-same}
 use Rattle.classes.proofs.Links.{chain-same}
 use Rattle.writing.specs.Classes.{Fan, Classes, Met}
 use Rattle.writing.specs.Writing.{Kept, Cleared}

@@ -14,12 +14,11 @@ use Rattle.theory.proofs.Close.{Test, differ, test}
 use Rattle.theory.proofs.Meaning.{joined-root}
 use Rattle.theory.proofs.Weight.{Distinct, distinct-length, range, range-length}
 use Rattle.area.specs.Map.{PARENT}
-use Rattle.area.specs.Region.{region}
+use Rattle.area.specs.Region.{region, words}
 use Rattle.area.proofs.Region.{length-region}
 use Rattle.loading.specs.Entry.{Entry, graphs}
 use Rattle.classes.specs.Labels.{pick}
 use Rattle.classes.specs.Forest.{tops}
-use Rattle.classes.specs.State.{words}
 use Rattle.classes.specs.Entry.{Spots, number-of}
 use Rattle.classes.specs.Holds.{Holds, class}
 use Rattle.classes.specs.Content.{Content}

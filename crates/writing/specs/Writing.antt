@@ -10,7 +10,8 @@ use Rattle.theory.proofs.Weight.{weight}
 use Rattle.layout.specs.Standing.{Stands, graph-words}
 use Rattle.loading.specs.Entry.{Entry, graphs}
 use Rattle.area.specs.Map.{LOG, STACK, WORDS, RESULT}
-use Rattle.classes.specs.State.{words, targets, Chain}
+use Rattle.area.specs.Region.{words}
+use Rattle.classes.specs.State.{targets, Chain}
 use Rattle.classes.specs.Holds.{Holds, Since}
 use Rattle.writing.specs.Classes.{Fan, Classes, Met}
 

@@ -2,7 +2,8 @@
 use mathlib.Core.Path.{_≡_, _∙_}
 use native.Mathlib.Omega.{arith}
 use lib.ListN.{length}
-use Rattle.classes.specs.State.{words, targets, Walk, hops}
+use Rattle.area.specs.Region.{words}
+use Rattle.classes.specs.State.{targets, Walk, hops}
 use Rattle.classes.proofs.Words.{words-later, targets-later}
 use Rattle.classes.proofs.Turns.{arc-pos, arc-low}
 use Rattle.classes.proofs.Drain.{walk-refl, walk-working, drain-turn, drained-bad, drained-end}

@@ -4,9 +4,9 @@ use mathlib.Core.Path.{_≡_, ap, _∙_}
 use native.Mathlib.Omega.{arith}
 use lib.ListN.{length}
 use Rattle.area.specs.Map.{PARENT}
-use Rattle.area.specs.Region.{region}
+use Rattle.area.specs.Region.{region, words}
 use Rattle.classes.specs.Forest.{tops}
-use Rattle.classes.specs.State.{words, targets}
+use Rattle.classes.specs.State.{targets}
 use Rattle.classes.proofs.Words.{words-later, targets-later}
 use Rattle.classes.proofs.Walks.{some}
 use Rattle.classes.proofs.Drain.{Settling, settle-start, settle-working, settle-stack, settle-turn, settle-less, settled-bad, settled-end}

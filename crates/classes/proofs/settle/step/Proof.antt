@@ -3,7 +3,8 @@ use Prim.Native.Nat.{ℕ, suc, _-_, _<_}
 use mathlib.Core.Path.{_≡_, subst}
 use native.Mathlib.Omega.{arith}
 use lib.ListN.{getD}
-use Rattle.classes.specs.State.{words, targets, Looked}
+use Rattle.area.specs.Region.{words}
+use Rattle.classes.specs.State.{targets, Looked}
 use Rattle.classes.proofs.Walks.{some}
 use Rattle.classes.proofs.Turns.{after-runs, arc-pos, arc-low, arc-target, match-target, turned-miss, turned-hit}
 use borrow.Author.Needs.{needs}

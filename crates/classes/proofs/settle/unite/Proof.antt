@@ -1,7 +1,8 @@
 -- `classes::settle::unite` meets its contract. Assumes nothing.
 use mathlib.Core.Path.{_∙_}
 use native.Mathlib.Omega.{arith}
-use Rattle.classes.specs.State.{words, targets}
+use Rattle.area.specs.Region.{words}
+use Rattle.classes.specs.State.{targets}
 use Rattle.classes.proofs.Words.{words-later, targets-later}
 use Rattle.classes.proofs.Drain.{united, united-bad, united-stacked}
 use Rattle.classes.proofs.settle.unite.Statement.{statement}

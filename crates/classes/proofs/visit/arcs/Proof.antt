@@ -2,7 +2,8 @@
 use mathlib.Core.Path.{_≡_, _∙_}
 use native.Mathlib.Omega.{arith}
 use lib.ListN.{length}
-use Rattle.classes.specs.State.{words, targets}
+use Rattle.area.specs.Region.{words}
+use Rattle.classes.specs.State.{targets}
 use Rattle.classes.proofs.Words.{words-later, targets-later}
 use Rattle.classes.proofs.Walks.{some}
 use Rattle.classes.proofs.Runs.{Stringing, stringing-start, stringing-coming, stringing-turn, run-bad, run-end}

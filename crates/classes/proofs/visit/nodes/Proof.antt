@@ -4,7 +4,8 @@ use mathlib.Core.Path.{_≡_, ap, _∙_}
 use mathlib.Core.List.{List}
 use native.Mathlib.Omega.{arith}
 use lib.ListN.{length, getD}
-use Rattle.classes.specs.State.{words, targets}
+use Rattle.area.specs.Region.{words}
+use Rattle.classes.specs.State.{targets}
 use Rattle.classes.proofs.Words.{words-later, targets-later}
 use Rattle.classes.proofs.Walks.{some}
 use Rattle.classes.proofs.Runs.{node-low, node-span, Marching, marching-start, marching-noding, marching-turn, listed-bad, listed-end}

@@ -3,7 +3,8 @@ use Prim.Native.Nat.{ℕ, suc, _-_, _<_}
 use mathlib.Core.Path.{_≡_, refl, sym, subst}
 use native.Mathlib.Omega.{arith}
 use lib.ListN.{getD}
-use Rattle.classes.specs.State.{words, targets, Looked, Runs}
+use Rattle.area.specs.Region.{words}
+use Rattle.classes.specs.State.{targets, Looked, Runs}
 use Rattle.classes.proofs.Walks.{some}
 use Rattle.classes.proofs.Visits.{class-runs, visit-clash, visit-hung, visit-found, found-arc, found-same}
 use borrow.Author.Needs.{needs}
