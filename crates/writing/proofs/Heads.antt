@@ -98,7 +98,10 @@ module _ (n k : ℕ) (w : List ℕ) (i at m c : ℕ) (e : c ≡ getD w (LOG + k 
 
         -- where they end
         ends : (G : Graph) → Stands v (RESULT + (at + 1)) (arc-words (arcsOf (nodeAt G i))) (RESULT + at') → at' ≡ at + 1 + 2 * length (arcsOf (nodeAt G i))
-        ends G q = let z = arc-length (arcsOf (nodeAt G i)) in let y = stands-length v (arc-words (arcsOf (nodeAt G i))) (RESULT + (at + 1)) (RESULT + at') q in omega arith
+        ends G q =
+            let z = arc-length (arcsOf (nodeAt G i)) in
+            let y = stands-length v (arc-words (arcsOf (nodeAt G i))) (RESULT + (at + 1)) (RESULT + at') q in
+            omega arith
 
         pub noded-small : (at' ≤ 2048) × ((length v ≡ length w) × (at < at'))
         noded-small =

@@ -36,7 +36,9 @@ pub kept-both : (k a b : ℕ) (u v w : List ℕ) → Kept k a b u v → Kept k a
 kept-both k a b u v w p q = record { len = q .len ∙ p .len; more = p .more; low = λ j h. q .low j h ∙ p .low j h; mid = λ j h l. q .mid j h l ∙ p .mid j h l; high = λ j h. q .high j h ∙ p .high j h }
 
 pub kept-wider : (k a b a' : ℕ) (v w : List ℕ) → Kept k a b v w → a' ≤ a → Kept k a' b v w
-kept-wider k a b a' v w p h = let x = p .more in record { len = p .len; more = omega arith; low = p .low; mid = λ j g l. p .mid j g (omega arith); high = p .high }
+kept-wider k a b a' v w p h =
+    let x = p .more in
+    record { len = p .len; more = omega arith; low = p .low; mid = λ j g l. p .mid j g (omega arith); high = p .high }
 
 -- a store into the result
 pub kept-put : (k at at' p v : ℕ) (w : List ℕ) → k ≤ 4096 → at ≤ p → p < at' → Kept k at at' w (set w (RESULT + p) v)

@@ -28,7 +28,7 @@ use Rattle.classes.proofs.Writer.{holds-room, spot-low, class-low, class-top, c
 use Rattle.writing.specs.Classes.{Fan, Classes}
 
 -- ---- lists
-pub ranged : (f : ℕ → ℕ) (a d i : ℕ) → i < d → getD (map f (range a d)) i 0 ≡ f (a + i)
+ranged : (f : ℕ → ℕ) (a d i : ℕ) → i < d → getD (map f (range a d)) i 0 ≡ f (a + i)
 ranged f a zero i h = absurd (omega arith)
 ranged f a (suc d) zero h = ap f (omega arith)
 ranged f a (suc d) (suc i) h = let e : suc a + i ≡ a + suc i = omega arith in ranged f (suc a) d i (omega arith) ∙ ap f e
@@ -92,7 +92,9 @@ module _ (n : ℕ) (es : List Entry) (k : ℕ) (w : List ℕ) (h : Holds n es k 
 
   spot-at : (i : ℕ) → i < length G → (s : Spots es) × ((j .class s ≡ i) × (getD ord i 0 ≡ class h (number-of es s)))
   unfolding ord class-at
-  spot-at i l = let p = go (decLt i (length G)) in (p .0, (p .1 .0, ranged (λ (i : ℕ). class-at i (decLt i (length G))) 0 (length G) i l ∙ ap (λ (i : ℕ). class-at i (decLt i (length G))) (omega arith) ∙ p .1 .1))
+  spot-at i l =
+      let p = go (decLt i (length G)) in
+      (p .0, (p .1 .0, ranged (λ (i : ℕ). class-at i (decLt i (length G))) 0 (length G) i l ∙ ap (λ (i : ℕ). class-at i (decLt i (length G))) (omega arith) ∙ p .1 .1))
     where
       go : (d : Dec (i < length G)) → (s : Spots es) × ((j .class s ≡ i) × (class-at i d ≡ class h (number-of es s)))
       go (yes m) = let o = j .onto i m in (o .0, (o .1, refl))
@@ -115,7 +117,13 @@ module _ (n : ℕ) (es : List Entry) (k : ℕ) (w : List ℕ) (h : Holds n es k 
 
   -- a class is a root of the forest
   low : (i : ℕ) → i < length ord → getD ord i 0 < n
-  low i l = let m = many in let p = spot-at i (omega arith) in let a = spot-low n es k w h (p .0) in let b = class-low n es k w h (number-of es (p .0)) a in let e = p .1 .1 in omega arith
+  low i l =
+      let m = many in
+      let p = spot-at i (omega arith) in
+      let a = spot-low n es k w h (p .0) in
+      let b = class-low n es k w h (number-of es (p .0)) a in
+      let e = p .1 .1 in
+      omega arith
 
   top : (i : ℕ) → i < length ord → class h (getD ord i 0) ≡ getD ord i 0
   top i l = let m = many in let p = spot-at i (omega arith) in rw (p .1 .1) (class-top n es k w h (number-of es (p .0)) (spot-low n es k w h (p .0)))

@@ -29,7 +29,9 @@ module _ (n k : ℕ) (w : List ℕ) (o : ℕ) (p : Writing n k w o) where
 
   module _ (w1 : List ℕ) (z : Cleared n w w1) where
     cleared-kept : (at : ℕ) → Kept k at at w w1
-    cleared-kept at = let f = few in record { len = z .len; more = omega arith; low = λ j h. z .low j (omega arith); mid = λ j h l. z .high j h; high = λ j h. z .high j (omega arith) }
+    cleared-kept at =
+        let f = few in
+        record { len = z .len; more = omega arith; low = λ j h. z .low j (omega arith); mid = λ j h l. z .high j h; high = λ j h. z .high j (omega arith) }
 
     -- no class has a number yet
     module _ (G : Graph) (lab : ℕ → ℕ) (ord : List ℕ) (s : Classes n k w G lab ord) where
@@ -70,7 +72,10 @@ module _ (n k : ℕ) (w : List ℕ) (o : ℕ) (p : Writing n k w o) where
           begun = kept-classes n k o o w w2 (begun-kept o) lab ord G s
 
           one : Met k 1 ord w2
-          one = let q = u .told G lab ord (cleared G lab ord s) (none G lab ord s) 0 (s .some) (omega arith) (first G lab ord s c r) in let e : m ≡ 1 = q .1 .0 ∙ omega arith in subst (λ (i : ℕ). Met k i ord w2) e (q .0)
+          one =
+              let q = u .told G lab ord (cleared G lab ord s) (none G lab ord s) 0 (s .some) (omega arith) (first G lab ord s c r) in
+              let e : m ≡ 1 = q .1 .0 ∙ omega arith in
+              subst (λ (i : ℕ). Met k i ord w2) e (q .0)
 
         pub writing-nodes : Listing n k w2 (o + 1)
         unfolding weight
@@ -91,7 +96,9 @@ module _ (n k : ℕ) (w : List ℕ) (o : ℕ) (p : Writing n k w o) where
           w4 = set w3 (RESULT + o) m'
 
           kept : Kept k o at w w4
-          kept = let f = v .kept .more in kept-both k o at w w3 w4 (kept-trans k o o at w w2 w3 (begun-kept o) (kept-wider k (o + 1) at o w2 w3 (v .kept) (omega arith))) (kept-put k o at o m' w3 few (omega arith) (omega arith))
+          kept =
+              let f = v .kept .more in
+              kept-both k o at w w3 w4 (kept-trans k o o at w w2 w3 (begun-kept o) (kept-wider k (o + 1) at o w2 w3 (v .kept) (omega arith))) (kept-put k o at o m' w3 few (omega arith) (omega arith))
 
           pub writes : Writes n k w o at w4
           unfolding Stands weight

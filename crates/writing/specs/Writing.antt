@@ -38,9 +38,11 @@ pub record Passed (F : List ℕ) (low : ℕ) (chain rest : List ℕ) (best : ℕ
   pub one : (q : ℕ) → best ≡ suc q → List·Memᴰ q chain × (low ≤ getD F q 0)
   pub all : (q : ℕ) → List·Memᴰ q chain → low ≤ getD F q 0 → List·Memᴰ q rest ⊎ ((b : ℕ) × ((best ≡ suc b) × (getD F b 0 ≤ getD F q 0)))
 
+-- the arc r, counted from 1, has the least feature from low on of the chain from x; 0 where there is none
 pub record Leads (w : List ℕ) (x low r : ℕ) : Type 0 where
   pub is : (chain : List ℕ) → Chain w x chain → Passed (words w) low chain [] r
 
+-- what a number asks: the class c has one, or is the next to get one
 pub record Numbering (n k m c : ℕ) (w : List ℕ) : Type 0 where
   pub G : Graph
   pub lab : ℕ → ℕ
@@ -52,11 +54,13 @@ pub record Numbering (n k m c : ℕ) (w : List ℕ) : Type 0 where
   pub next : t ≤ m
   pub is : c ≡ getD ord t 0
 
+-- "a target is either a number already met or the next unused one": the class c has its number, and r classes are met
 pub record Numbers (n k m c : ℕ) (w : List ℕ) (r : ℕ) (w' : List ℕ) : Type 0 where
   pub kept : (at : ℕ) → Kept k at at w w'
   pub told : (G : Graph) (lab : ℕ → ℕ) (ord : List ℕ) → Classes n k w G lab ord → Met k m ord w → (t : ℕ) → t < length ord → t ≤ m → c ≡ getD ord t 0
       → Met k r ord w' × ((r ≡ max m (suc t)) × (getD w' (STACK + c) 0 ≡ suc t))
 
+-- what an arc asks: q is an arc to the node t, which is met or the next
 pub record Pointing (n k : ℕ) (w : List ℕ) (q at m : ℕ) : Type 0 where
   pub G : Graph
   pub lab : ℕ → ℕ
@@ -71,11 +75,13 @@ pub record Pointing (n k : ℕ) (w : List ℕ) (q at m : ℕ) : Type 0 where
   pub label : lab (getD (targets w) q 0) ≡ getD ord t 0
   pub fits : at + 2 ≤ 2048
 
+-- "An arc is two words: feature 0..65,535, target node.": they stand in the result
 pub record Pointed (n k : ℕ) (w : List ℕ) (q at m m' : ℕ) (w' : List ℕ) : Type 0 where
   pub kept : Kept k at (at + 2) w w'
   pub told : (G : Graph) (lab : ℕ → ℕ) (ord : List ℕ) → Classes n k w G lab ord → Met k m ord w → (t : ℕ) → t < length ord → t ≤ m → lab (getD (targets w) q 0) ≡ getD ord t 0
       → Met k m' ord w' × ((m' ≡ max m (suc t)) × ((getD w' (RESULT + at) 0 ≡ getD (words w) q 0) × (getD w' (RESULT + at + 1) 0 ≡ t)))
 
+-- what the arcs of a node ask: the chain from x has the arcs l, and there is room for them
 pub record Arcing (n k : ℕ) (w : List ℕ) (x at m : ℕ) : Type 0 where
   pub G : Graph
   pub lab : ℕ → ℕ
@@ -88,18 +94,21 @@ pub record Arcing (n k : ℕ) (w : List ℕ) (x at m : ℕ) : Type 0 where
   pub order : InOrder m l
   pub fits : at + 2 * length l ≤ 2048
 
+-- "Features rise strictly within a node.": the words of all arcs of l stand in the result
 pub record Arced (n k : ℕ) (w : List ℕ) (x at m at' m' : ℕ) (w' : List ℕ) : Type 0 where
   pub kept : Kept k at at' w w'
   pub told : (G : Graph) (lab : ℕ → ℕ) (ord : List ℕ) → Classes n k w G lab ord → Met k m ord w → (l : List (ℕ × ℕ)) → Fan n w lab ord x 0 l → Rising 0 l → InOrder m l
       → Met k m' ord w' × ((m' ≡ met m l) × Stands w' (RESULT + at) (arc-words l) (RESULT + at'))
 
 -- ---- the nodes
+-- no class below n has a number, and no other word has changed
 pub record Cleared (n : ℕ) (w w' : List ℕ) : Type 0 where
   pub len : length w' ≡ length w
   pub is : (i : ℕ) → i < n → getD w' (STACK + i) 0 ≡ 0
   pub low : (j : ℕ) → j < STACK → getD w' j 0 ≡ getD w j 0
   pub high : (j : ℕ) → WORDS ≤ j → getD w' j 0 ≡ getD w j 0
 
+-- what a node asks: its class is met, and there is room for it
 pub record Noding (n k : ℕ) (w : List ℕ) (i at m : ℕ) : Type 0 where
   pub G : Graph
   pub lab : ℕ → ℕ
@@ -111,11 +120,13 @@ pub record Noding (n k : ℕ) (w : List ℕ) (i at m : ℕ) : Type 0 where
   pub order : InOrder m (arcsOf (nodeAt G i))
   pub fits : at + length (node-words (nodeAt G i)) ≤ 2048
 
+-- "a head, then its arcs": the words of the node i stand in the result
 pub record Noded (n k : ℕ) (w : List ℕ) (i at m at' m' : ℕ) (w' : List ℕ) : Type 0 where
   pub kept : Kept k at at' w w'
   pub told : (G : Graph) (lab : ℕ → ℕ) (ord : List ℕ) → Classes n k w G lab ord → Met k m ord w → i < m → Rising 0 (arcsOf (nodeAt G i)) → InOrder m (arcsOf (nodeAt G i))
       → Met k m' ord w' × ((m' ≡ met m (arcsOf (nodeAt G i))) × Stands w' (RESULT + at) (node-words (nodeAt G i)) (RESULT + at'))
 
+-- what all nodes ask: the class of the root is met, and there is room for them
 pub record Listing (n k : ℕ) (w : List ℕ) (at : ℕ) : Type 0 where
   pub G : Graph
   pub lab : ℕ → ℕ
@@ -125,6 +136,7 @@ pub record Listing (n k : ℕ) (w : List ℕ) (at : ℕ) : Type 0 where
   pub canonical : Canonical G
   pub fits : at + length (nodes-words G) ≤ 2048
 
+-- "then each node in order": the words of all nodes of G stand in the result
 pub record Listed (n k : ℕ) (w : List ℕ) (at at' m' : ℕ) (w' : List ℕ) : Type 0 where
   pub kept : Kept k at at' w w'
   pub told : (G : Graph) (lab : ℕ → ℕ) (ord : List ℕ) → Classes n k w G lab ord → Met k 1 ord w → Canonical G

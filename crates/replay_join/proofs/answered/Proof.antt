@@ -20,7 +20,10 @@ returns-2 : tie.Need-returns-2
 returns-2 c = search needs
 
 open-requires : tie.Need-open-requires
-open-requires c κs = let s = c .before .before .before .before .before .before .before .before in let i : Inputs (s .args .a .now) (s .args .b .now) = record { first = c .before .before .before .before .malformed .ensures (c .before .before .before .if1 .left); second = c .before .before .malformed2 .ensures (c .before .if2 .left); first-few = s .pre .1 .0; second-few = s .pre .1 .1 } in record { long = s .pre .0; inputs = i }
+open-requires c κs =
+    let s = c .before .before .before .before .before .before .before .before in
+    let i : Inputs (s .args .a .now) (s .args .b .now) = record { first = c .before .before .before .before .malformed .ensures (c .before .before .before .if1 .left); second = c .before .before .malformed2 .ensures (c .before .if2 .left); first-few = s .pre .1 .0; second-few = s .pre .1 .1 } in
+    record { long = s .pre .0; inputs = i }
 
 enum-known-opened : tie.Need-enum-known-opened
 enum-known-opened c = search needs
@@ -35,7 +38,11 @@ returns-3 : tie.Need-returns-3
 returns-3 c = search needs
 
 write-graph-requires : tie.Need-write-graph-requires
-write-graph-requires c κs = let s = c .before .before .before .before .before .before .before .before .before .before .before .before .before .before .before in let i : Inputs (s .args .a .now) (s .args .b .now) = record { first = c .before .before .before .before .before .before .before .before .before .before .before .malformed .ensures (c .before .before .before .before .before .before .before .before .before .before .if1 .left); second = c .before .before .before .before .before .before .before .before .before .malformed2 .ensures (c .before .before .before .before .before .before .before .before .if2 .left); first-few = s .pre .1 .0; second-few = s .pre .1 .1 } in let o = c .before .before .before .before .before .before .«open» in ready (s .args .w .now) (s .args .a .now) (s .args .b .now) (o .last .0) (c .before .before .opened .given .0 .0) (c .before .before .opened .given .0 .1 .0) i (subst (λ (r : Opened). Opens (s .args .w .now) (s .args .a .now) (s .args .b .now) r (o .last .0)) (c .before .before .opened .given .1) (o .ensures))
+write-graph-requires c κs =
+    let s = c .before .before .before .before .before .before .before .before .before .before .before .before .before .before .before in
+    let i : Inputs (s .args .a .now) (s .args .b .now) = record { first = c .before .before .before .before .before .before .before .before .before .before .before .malformed .ensures (c .before .before .before .before .before .before .before .before .before .before .if1 .left); second = c .before .before .before .before .before .before .before .before .before .malformed2 .ensures (c .before .before .before .before .before .before .before .before .if2 .left); first-few = s .pre .1 .0; second-few = s .pre .1 .1 } in
+    let o = c .before .before .before .before .before .before .«open» in
+    ready (s .args .w .now) (s .args .a .now) (s .args .b .now) (o .last .0) (c .before .before .opened .given .0 .0) (c .before .before .opened .given .0 .1 .0) i (subst (λ (r : Opened). Opens (s .args .w .now) (s .args .a .now) (s .args .b .now) r (o .last .0)) (c .before .before .opened .given .1) (o .ensures))
 
 same-length-2 : tie.Need-same-length-2
 same-length-2 c = search needs

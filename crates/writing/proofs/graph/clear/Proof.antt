@@ -39,7 +39,10 @@ same-length : tie.Need-same-length Inv-loop μ-loop
 same-length c = c .before .loop .inv .1 .len
 
 returns : tie.Need-returns Inv-loop μ-loop
-returns c = let o = c .before .loop in let e : o .i ≡ c .before .before .args .n = omega arith in subst (λ (z : ℕ). Cleared z (c .before .before .args .w .now) (o .w)) e (o .inv .1)
+returns c =
+    let o = c .before .loop in
+    let e : o .i ≡ c .before .before .args .n = omega arith in
+    subst (λ (z : ℕ). Cleared z (c .before .before .args .w .now) (o .w)) e (o .inv .1)
 
 pub clear-spec : {M : Type 1} → statement M
 clear-spec =
