@@ -101,7 +101,7 @@ module _ (w : List ℕ) (d e : Desc) (n : ℕ) (long : SIZE ≤ length w) (wd : 
   ordered : Ordered (universe d e)
   ordered = ordered-append 0 SECOND 2048 0 (nodes-in d) n (entries 0 0 d) (entries SECOND (nodes-in d) e) first-inside second-inside (entries-ordered 0 0 d) (entries-ordered SECOND (nodes-in d) e)
 
-  good : AllGood (universe d e)
+  pub good : AllGood (universe d e)
   good = good-append (entries 0 0 d) (entries SECOND (nodes-in d) e) (entries-good 0 0 depth-limit d wd) (entries-good SECOND (nodes-in d) depth-limit e we)
 
   -- how an entry's graph stands among the words, and that it is not too large

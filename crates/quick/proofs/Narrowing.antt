@@ -1,0 +1,259 @@
+-- The disjunctions of a description are narrowed in order: what is still to be narrowed goes on to the whole.
+-- Assumes nothing.
+use Prim.Native.Nat.{ℕ, zero, suc, _+_, _-_, _≤_, _<_}
+use native.Mathlib.Omega.{arith}
+use mathlib.Core.Path.{_≡_, refl, sym, ap, subst, _∙_}
+use mathlib.Core.Logic.{_⊎_, inl, inr, ⊎-elim}
+use mathlib.Core.List.{List, List·Memᴰ}
+use lib.ListN.{length, getD}
+use Rattle.theory.specs.Net.{Graph}
+use Rattle.area.specs.Map.{WORDS, MARKS, RESULT}
+use Rattle.area.specs.Region.{words}
+use Rattle.area.proofs.Region.{words-many}
+use Rattle.engine.specs.Placed.{Placed, place, Places, stop, _also_, Options}
+use Rattle.engine.specs.Marks.{Marking}
+use Rattle.engine.specs.Quickly as quickly
+use Rattle.engine.specs.Quickly.{fails, stands, narrow-at, inside-at, any-at}
+use Rattle.loading.specs.Entry.{Entry, graphs}
+use Rattle.loading.specs.Loaded.{extent, number-step}
+use Rattle.loading.specs.Numbered.{places, options}
+use Rattle.loading.specs.At.{At, AtAll, AtAny}
+use Rattle.loading.proofs.Walking.{at-bounds, all-bounds, any-bounds}
+use Rattle.marks.specs.Positions.{tail-at, disjunctions-at, alternatives-at}
+use Rattle.marks.specs.Marked.{marking}
+use Rattle.marks.specs.Tallied.{Alternatives, Tallied}
+use Rattle.marks.proofs.Reading.{tail-is, disjunctions-is, alternatives-is, read-at}
+use Rattle.marks.proofs.Marks.{marking-frame}
+use Rattle.counting.specs.Nesting.{Nests, NestsAll, NestsAny}
+use Rattle.classes.specs.Holds.{Holds, Since, Backs}
+use Rattle.classes.proofs.Laws.{since-refl, since-trans}
+use Rattle.quick.specs.declared.step.Step.{Step}
+use Rattle.quick.specs.declared.step.Step.the-variants.{Stands, Fails}
+use Rattle.quick.specs.Taken.{Among, AmongAll, AmongAny, Inside}
+use Rattle.quick.specs.Clear.{Outside, Clear, ClearAll, ClearAny}
+use Rattle.quick.specs.Stepped.{total, Fewer, Off, Moved, Stood, Narrowing, NarrowStands, NarrowFails, Narrows, Choosing, ChooseStands, ChooseFails, Chooses}
+use Rattle.quick.proofs.Mirror.{Alike}
+use Rattle.quick.proofs.Clearing.{all-alike, any-alike}
+use Rattle.quick.proofs.Sifting.{moved-trans, moved-words}
+
+narrow-more : (S : List Graph) (m : Marking) (a : Options) (ds : Places) (s : quickly.Step) → any-at S m a ≡ s → narrow-at S m (a also ds) ≡ elim s [ fails n ↦ fails n | stands T n ↦ narrow-at T n ds ]
+unfolding narrow-at
+narrow-more S m a ds s e = ap (λ (o : quickly.Step). elim o [ fails n ↦ fails n | stands T n ↦ narrow-at T n ds ]) e
+
+module _ (n k : ℕ) (w : List ℕ) (g left : ℕ) where
+  -- `more` disjunctions are left, from `at` on
+  pub record Going (c : Narrowing n k w g left) (more at log : ℕ) (w₁ : List ℕ) : Type 0 where
+    pub ds : Places
+    pub l : ℕ
+    pub stand : AtAll (c .t) at l ds (c .end) (c .to)
+    pub many : places ds ≡ more
+    pub nests : NestsAll ds left
+    pub among : AmongAll (c .U) (c .t) at l ds (c .end) (c .to) stand
+    pub above : c .from + 1 ≤ l
+    pub es₁ : List Entry
+    pub stood : Stood n (c .U) (c .es) (c .from + 1) (c .to) log w₁ es₁
+    pub ahead : ClearAll es₁ (c .t) (marking w₁) at l ds (c .end) (c .to) stand
+    pub behind : (E : List Entry) (K : Marking) → Alike (marking w₁) K (c .from + 1) l → ((o : Entry) → List·Memᴰ o E → List·Memᴰ o es₁ ⊎ Outside (c .from + 1) l (o .number)) → ClearAll E (c .t) K at l ds (c .end) (c .to) stand → Clear E (c .t) K g (c .from) (c .d) (c .end) (c .to) (c .at)
+    pub off : Off (c .from + 1) (c .to) (marking w) (marking w₁)
+    pub is : inside-at (graphs (c .es)) (marking w) (c .d) ≡ narrow-at (graphs es₁) (marking w₁) ds
+
+  module _ (c : Narrowing n k w g left) where
+    low : c .to < number-step
+    low = omega (arith, c .low, c .ground .few)
+
+    here : At (words w) g (c .from) (c .d) (c .end) (c .to)
+    here = subst (λ (t : List ℕ). At t g (c .from) (c .d) (c .end) (c .to)) (sym (c .loaded)) (c .at)
+
+    pub narrow-starts : (g < 2048) × (tail-at w g < 2048)
+    narrow-starts = let s = read-at w (c .holds .long) (c .d) g (c .from) (c .end) (c .to) here low in (s .here, s .inside)
+
+    pub moved-start : Moved k w k w
+    moved-start = record { len = refl; rest = λ j h. refl; since = since-refl n (c .es) k w (c .holds) }
+
+    pub narrow-begin : (e more : ℕ) → e ≡ tail-at w g → more ≡ disjunctions-at w e → Going c more (e + 1) k w
+    unfolding inside-at
+    narrow-begin e more f h = go (c .d) (c .at) here (c .among) (c .nests) (c .clear) refl (λ E K x. x)
+      where
+        go : (d : Placed) (at : At (c .t) g (c .from) d (c .end) (c .to)) → At (words w) g (c .from) d (c .end) (c .to) → Among (c .U) (c .t) g (c .from) d (c .end) (c .to) at → Nests d left → Clear (c .es) (c .t) (marking w) g (c .from) d (c .end) (c .to) at →
+            inside-at (graphs (c .es)) (marking w) (c .d) ≡ inside-at (graphs (c .es)) (marking w) d → ((E : List Entry) (K : Marking) → Clear E (c .t) K g (c .from) d (c .end) (c .to) at → Clear E (c .t) K g (c .from) (c .d) (c .end) (c .to) (c .at)) → Going c more (e + 1) k w
+        go (place G ds) at loaded u nests clear same whole =
+            let tail : e ≡ g + extent G = f ∙ tail-is w (c .holds .long) G ds g (c .from) (c .end) (c .to) loaded low in
+            let some = at .0 in
+            subst (λ (p : ℕ). Going c more (p + 1) k w) (sym tail) (record {
+              ds = ds;
+              l = c .from + length G;
+              stand = at .6;
+              many = sym (h ∙ ap (disjunctions-at w) tail ∙ disjunctions-is w (c .holds .long) G ds g (c .from) (c .end) (c .to) loaded low);
+              nests = nests;
+              among = u .1;
+              above = omega arith;
+              es₁ = c .es;
+              stood = record { holds = c .holds; inside = c .inside; old = λ o i. i; fresh = λ o i. inl i };
+              ahead = clear;
+              behind = λ E K a b x. whole E K x;
+              off = λ y h. refl;
+              is = same;
+            })
+
+  module _ (c : Narrowing n k w g left) (more at log : ℕ) (w₁ : List ℕ) (m : Moved k w log w₁) (s : Going c more at log w₁) where
+    pub narrow-done : more ≤ 0 → NarrowStands n k w g left log w₁ c
+    unfolding narrow-at
+    narrow-done h = record { es' = s .es₁; stood = s .stood; clear' = s .behind (s .es₁) (marking w₁) (λ y a b. refl) (λ o i. inl i) (s .ahead); off = s .off; is = go (s .ds) (s .many) (s .is) }
+      where
+        go : (ds : Places) → places ds ≡ more → inside-at (graphs (c .es)) (marking w) (c .d) ≡ narrow-at (graphs (s .es₁)) (marking w₁) ds → inside-at (graphs (c .es)) (marking w) (c .d) ≡ stands (graphs (s .es₁)) (marking w₁)
+        go stop e f = f
+        go (a also ds) e f = absurd (omega arith)
+
+    module _ (h : 0 < more) where
+      loaded₁ : words w₁ ≡ c .t
+      loaded₁ = moved-words k w log w₁ (c .holds .long) m ∙ c .loaded
+
+      -- the next disjunction
+      record Next : Type 0 where
+        a : Options
+        ds : Places
+        o : AtAll (c .t) at (s .l) (a also ds) (c .end) (c .to)
+        nested : NestsAll (a also ds) left
+        amongst : AmongAll (c .U) (c .t) at (s .l) (a also ds) (c .end) (c .to) o
+        later : places ds + 1 ≡ more
+        clear : ClearAll (s .es₁) (c .t) (marking w₁) at (s .l) (a also ds) (c .end) (c .to) o
+        whole : inside-at (graphs (c .es)) (marking w) (c .d) ≡ narrow-at (graphs (s .es₁)) (marking w₁) (a also ds)
+        before : (E : List Entry) (K : Marking) → Alike (marking w₁) K (c .from + 1) (s .l) → ((o : Entry) → List·Memᴰ o E → List·Memᴰ o (s .es₁) ⊎ Outside (c .from + 1) (s .l) (o .number)) → ClearAll E (c .t) K at (s .l) (a also ds) (c .end) (c .to) o → Clear E (c .t) K g (c .from) (c .d) (c .end) (c .to) (c .at)
+
+      next : Next
+      next = go (s .ds) (s .stand) (s .many) (s .nests) (s .among) (s .ahead) (s .is) (s .behind)
+        where
+          go : (ds : Places) (o : AtAll (c .t) at (s .l) ds (c .end) (c .to)) → places ds ≡ more → NestsAll ds left → AmongAll (c .U) (c .t) at (s .l) ds (c .end) (c .to) o → ClearAll (s .es₁) (c .t) (marking w₁) at (s .l) ds (c .end) (c .to) o → inside-at (graphs (c .es)) (marking w) (c .d) ≡ narrow-at (graphs (s .es₁)) (marking w₁) ds →
+              ((E : List Entry) (K : Marking) → Alike (marking w₁) K (c .from + 1) (s .l) → ((o : Entry) → List·Memᴰ o E → List·Memᴰ o (s .es₁) ⊎ Outside (c .from + 1) (s .l) (o .number)) → ClearAll E (c .t) K at (s .l) ds (c .end) (c .to) o → Clear E (c .t) K g (c .from) (c .d) (c .end) (c .to) (c .at)) → Next
+          go stop o e f u x q b = absurd (omega arith)
+          go (a also ds) o e f u x q b = record { a = a; ds = ds; o = o; nested = f; amongst = u; later = omega arith; clear = x; whole = q; before = b }
+
+      pub narrow-here : at < 2048
+      narrow-here = let there = next .o .2 in omega (arith, words-many w (c .holds .long), ap length (c .loaded))
+
+      pub narrow-deep : 0 < left
+      narrow-deep = next .nested .0
+
+      first : (at + 1 ≤ next .o .0) × (next .o .0 ≤ length (c .t)) × (s .l ≤ next .o .1)
+      first = let there = next .o .2 in any-bounds (c .t) (next .a) (at + 1) (s .l) (next .o .0) (next .o .1) (omega arith) (next .o .4)
+
+      last : next .o .1 ≤ c .to
+      last = all-bounds (c .t) (next .ds) (next .o .0) (next .o .1) (c .end) (c .to) (first .1) (next .o .5) .2
+
+      module _ (count : ℕ) (e : count ≡ alternatives-at w₁ at) where
+        abbrev asks : Choosing n log w₁ (at + 1) count (left - 1)
+        asks = record {
+          t = c .t;
+          loaded = loaded₁;
+          U = c .U;
+          ground = c .ground;
+          a = next .a;
+          from = s .l;
+          end = next .o .0;
+          to = next .o .1;
+          at = next .o .4;
+          within = (let there = next .o .2 in omega arith);
+          low = omega (arith, last, c .low);
+          many = sym (e ∙ alternatives-is w₁ (next .a) (next .ds) at (s .l) (c .end) (c .to) (subst (λ (t : List ℕ). AtAll t at (s .l) (next .a also next .ds) (c .end) (c .to)) (sym loaded₁) (next .o)));
+          nests = next .nested .1;
+          among = next .amongst .0;
+          es = s .es₁;
+          holds = s .stood .holds;
+          inside = s .stood .inside;
+          clear = next .clear .0;
+        }
+
+        pub asks-one : Choosing n log w₁ (at + 1) count (left - 1)
+        asks-one = asks
+
+        module _ (r : Step) (w₂ : List ℕ) (v : Chooses n log w₁ (at + 1) count (left - 1) r w₂) where
+          -- what is counted after it
+          pub asks-count : (room : 16384 ≤ length w₂) → words w₂ ≡ words w₁ → Alternatives w₂ (at + 1) count
+          asks-count room same = record { room = room; a = next .a; n = s .l; q = next .o .0; m = next .o .1; at = subst (λ (t : List ℕ). AtAny t (at + 1) (s .l) (next .a) (next .o .0) (next .o .1)) (sym (same ∙ loaded₁)) (next .o .4); low = omega (arith, last, c .low, c .ground .few); many = asks .many }
+
+          module _ (j i : ℕ) (y : r ≡ Stands j i) where
+            pub moved-on : Moved k w j w₂
+            moved-on = moved-trans k w log w₁ j w₂ m (v .standing j i y .0)
+
+            told : ChooseStands n log w₁ (at + 1) count (left - 1) j w₂ asks
+            told = v .standing j i y .2 asks
+
+            pub asks-after : Alternatives w₂ (at + 1) count
+            asks-after = asks-count (omega (arith, v .standing j i y .0 .len, m .len, c .holds .long)) (moved-words log w₁ j w₂ (omega (arith, m .len, c .holds .long)) (v .standing j i y .0))
+
+            pub narrow-on : (kept first' after : ℕ) → ((a : Alternatives w₂ (at + 1) count) → Tallied w₂ a kept first' after) → Going c (more - 1) after j w₂
+            unfolding asks-after asks-count
+            narrow-on kept first' after tally =
+                let count' = next .later in
+                let above = s .above in
+                let near = first .2 in
+                let far = last in
+                let there = next .o .2 in
+                subst (λ (p : ℕ). Going c (more - 1) p j w₂) (sym (tally asks-after .after-is)) (record {
+                  ds = next .ds;
+                  l = next .o .1;
+                  stand = next .o .5;
+                  many = omega arith;
+                  nests = next .nested .2;
+                  among = next .amongst .1;
+                  above = omega arith;
+                  es₁ = told .es';
+                  stood = record {
+                    holds = told .stood .holds;
+                    inside = told .stood .inside;
+                    old = λ o i. told .stood .old o (s .stood .old o i);
+                    fresh = λ o i. ⊎-elim (λ b. s .stood .fresh o b) (λ b. let u = b .0 in let x = b .1 in inr (omega arith, omega arith)) (told .stood .fresh o i);
+                  };
+                  ahead = all-alike (c .t) (marking w₁) (marking w₂) (s .es₁) (told .es') (next .o .0) (next .o .1) (next .ds) (c .end) (c .to) (first .1) (next .o .5) (λ y a b. told .off y (inr a)) (λ o i. ⊎-elim (λ b. inl b) (λ b. let u = b .1 in inr (inl u)) (told .stood .fresh o i)) (next .clear .1);
+                  behind = λ E K alike new x. next .before E K
+                      (λ y a b. alike y a (omega arith) ∙ told .off y (inl b))
+                      (λ o i. ⊎-elim (λ b. ⊎-elim (λ d. inl d) (λ d. inr (inr (d .0))) (told .stood .fresh o b)) (λ b. inr (⊎-elim (λ d. inl d) (λ d. inr (omega arith)) b)) (new o i))
+                      (any-alike (c .t) (marking w₂) K (told .es') E (at + 1) (s .l) (next .a) (next .o .0) (next .o .1) (omega arith) (next .o .4) (λ y a b. alike y (omega arith) b) (λ o i. ⊎-elim (λ b. inl b) (λ b. inr (⊎-elim (λ d. inl (omega arith)) (λ d. inr d) b)) (new o i)) (told .clear'), x);
+                  off = λ y h. told .off y (⊎-elim (λ b. inl (omega arith)) (λ b. inr (omega arith)) h) ∙ s .off y h;
+                  is = next .whole ∙ narrow-more (graphs (s .es₁)) (marking w₁) (next .a) (next .ds) (stands (graphs (told .es')) (marking w₂)) (told .is);
+                })
+
+          -- it fails, and all is taken back
+          module _ (y : r ≡ Fails) (w₃ : List ℕ) (b : Backs k log w₂ w₃) where
+            marks₃ : marking w₃ ≡ marking w₂
+            marks₃ = marking-frame w₂ w₃ (omega (arith, v .failing y .0 .len, m .len, c .holds .long)) (b .len) (λ i h l. b .rest i (omega arith))
+
+            pub narrow-fails : NarrowFails n k w g left w₃ c
+            narrow-fails =
+                let f = v .failing y in
+                let told = f .2 asks in
+                let above = s .above in
+                let far = last in
+                record {
+                  holds' = b .holds n (c .es) w (c .holds) (since-trans k w log w₁ log w₂ (m .since) (f .0 .since));
+                  off = λ y h. ap (λ (k : Marking). k y) marks₃ ∙ told .off y (⊎-elim (λ b. inl (omega arith)) (λ b. inr (omega arith)) h) ∙ s .off y h;
+                  is = next .whole ∙ narrow-more (graphs (s .es₁)) (marking w₁) (next .a) (next .ds) (fails (marking w₂)) (told .is) ∙ ap fails (sym marks₃);
+                }
+
+            pub moved-back : Moved k w k w₃
+            moved-back =
+                let f = v .failing y .0 in
+                record { len = b .len ∙ f .len ∙ m .len; rest = λ i h. b .rest i (omega arith) ∙ f .rest i h ∙ m .rest i h; since = b .since w (since-trans k w log w₁ log w₂ (m .since) (f .since)) }
+
+            pub fewer-back : (drops : ℕ) → Fewer drops (marking w) (marking w₁) → total (marking w₃) ≤ total (marking w)
+            fewer-back drops p = let e : total (marking w₃) ≡ total (marking w₂) = ap total marks₃ in omega (arith, v .failing y .1, p .fewer)
+
+-- ---- what the function answers
+pub narrows-stands : (n k : ℕ) (w : List ℕ) (g left log drops : ℕ) (w₁ : List ℕ) → Moved k w log w₁ → Fewer drops (marking w) (marking w₁) → ((c : Narrowing n k w g left) → NarrowStands n k w g left log w₁ c) → Narrows n k w g left (Stands log drops) w₁
+narrows-stands n k w g left log drops w₁ m f all = record {
+  standing = λ j i y.
+      let x : log ≡ j = cc in
+      let z : drops ≡ i = cc in
+      subst (λ (j : ℕ). Moved k w j w₁ × Fewer i (marking w) (marking w₁) × ((c : Narrowing n k w g left) → NarrowStands n k w g left j w₁ c)) x (m, subst (λ (i : ℕ). Fewer i (marking w) (marking w₁)) z f, all);
+  failing = λ y. let x : _≡_ {A = ℕ} 0 1 = cc in absurd (omega arith);
+}
+
+pub narrows-fails : (n k : ℕ) (w : List ℕ) (g left : ℕ) (w₁ : List ℕ) → Moved k w k w₁ → total (marking w₁) ≤ total (marking w) → ((c : Narrowing n k w g left) → NarrowFails n k w g left w₁ c) → Narrows n k w g left Fails w₁
+narrows-fails n k w g left w₁ m f all = record {
+  standing = λ j i y. let x : _≡_ {A = ℕ} 0 1 = cc in absurd (omega arith);
+  failing = λ y. (m, f, all);
+}
+
+pub narrows-len : (n k : ℕ) (w : List ℕ) (g left : ℕ) (r : Step) (w₁ : List ℕ) → Narrows n k w g left r w₁ → length w₁ ≡ length w
+narrows-len n k w g left (Stands j i) w₁ v = v .standing j i refl .0 .len
+narrows-len n k w g left Fails w₁ v = v .failing refl .0 .len

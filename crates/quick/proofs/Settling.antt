@@ -1,0 +1,149 @@
+-- Settling a disjunction: engine's `settle-at`, return by return.
+-- Assumes nothing.
+use Prim.Native.Nat.{ℕ, zero, suc, _+_, _≤_, _<_}
+use native.Mathlib.Omega.{arith}
+use mathlib.Core.Path.{_≡_, refl, sym, ap, subst, _∙_}
+use mathlib.Core.Logic.{_≢_}
+use mathlib.Core.Bool.{Bool, true, false}
+use mathlib.Core.List.{List, [], _∷_, _++_, append-nil}
+use lib.ListN.{length, length-append}
+use Rattle.theory.specs.Net.{Graph, Clash, Agree}
+use Rattle.theory.specs.Descr.{agree}
+use Rattle.theory.proofs.Instance.{AllCanonical}
+use Rattle.theory.proofs.Mean.{Ctx, Fine}
+use Rattle.theory.proofs.Model.{agree-iff}
+use Rattle.engine.specs.Placed.{Placed, place, Options}
+use Rattle.engine.specs.Marks.{Marking, kept-of}
+use Rattle.engine.specs.Certain.{certain-any}
+use Rattle.engine.specs.Quickly.{Step, fails, stands, settle-at}
+use Rattle.loading.specs.Entry.{Entry, graphs}
+use Rattle.loading.specs.At.{At}
+use Rattle.marks.specs.Marked.{marking}
+use Rattle.marks.specs.Tallied.{Alternatives, Tallied}
+use Rattle.classes.specs.Holds.{Holds, Since}
+use Rattle.classes.specs.declared.push.Pushed.{Pushed}
+use Rattle.classes.specs.declared.push.Pushed.the-variants.{In, Clashed}
+use Rattle.classes.proofs.Comings.{graphs-append}
+use Rattle.classes.proofs.Laws.{holds-agree, since-refl}
+use Rattle.quick.specs.Taken.{taken, taken-any, Inside}
+use Rattle.quick.specs.Ground.{Ground}
+use Rattle.quick.specs.Entered.{Entering, entered, Enters}
+use Rattle.quick.specs.Settled.{Alternating, settled, Settles}
+use Rattle.quick.proofs.Certain.{taken-lone, taken-none, taken-any-inside}
+use Rattle.quick.proofs.Alone.{counted, inner, inner-entered, inner-es}
+use Rattle.quick.proofs.Entering.{inside-append, canonical-all}
+
+-- ---- engine's settling, by the number that is kept
+settling : List Graph → Marking → Options → ℕ → Bool → Step
+settling S m a c b = elim c [ zero ↦ fails m | suc k ↦ elim k [ zero ↦ elim b [ false ↦ fails m | true ↦ stands (S ++ certain-any m a) m ] | suc l ↦ stands S m ] ]
+
+module _ (S : List Graph) (m : Marking) (a : Options) where
+  settle-none : kept-of m a ≡ 0 → settle-at S m a ≡ fails m
+  unfolding settling
+  settle-none e = ap (λ (c : ℕ). settling S m a c (agree (S ++ certain-any m a))) e
+
+  settle-one : (b : Bool) → kept-of m a ≡ 1 → agree (S ++ certain-any m a) ≡ b → settle-at S m a ≡ elim b [ false ↦ fails m | true ↦ stands (S ++ certain-any m a) m ]
+  unfolding settling
+  settle-one b e f = ap (λ (c : ℕ). settling S m a c (agree (S ++ certain-any m a))) e ∙ ap (λ (b : Bool). settling S m a 1 b) f
+
+  settle-several : (l : ℕ) → kept-of m a ≡ suc (suc l) → settle-at S m a ≡ stands S m
+  unfolding settling
+  settle-several l e = ap (λ (c : ℕ). settling S m a c (agree (S ++ certain-any m a))) e
+
+-- ---- a stack agrees, or clashes
+pub agrees-true : (gs : Ctx) → Fine gs → Agree gs → agree gs ≡ true
+agrees-true gs f a = agree-iff gs f .1 a
+
+pub clash-false : (gs : Ctx) → Fine gs → Clash gs → agree gs ≡ false
+clash-false gs f k = go (agree gs) refl
+  where
+    go : (b : Bool) → agree gs ≡ b → b ≡ false
+    go true e = absurd (agree-iff gs f .0 e k)
+    go false e = refl
+
+pub some-taken : (t : List ℕ) (k : Marking) (p n : ℕ) (d : Placed) (q m : ℕ) (at : At t p n d q m) → 0 < length (graphs (taken t k p n d q m at))
+some-taken t k p n (place g ds) q m at = omega arith
+
+module _ (n k : ℕ) (w : List ℕ) (p count left : ℕ) where
+  module _ (c : Alternating n k w p count left) where
+    settled-graphs : graphs (settled c) ≡ graphs (c .es) ++ certain-any (marking w) (c .a)
+    settled-graphs = graphs-append (c .es) (taken-any (c .t) (marking w) p (c .from) (c .a) (c .end) (c .to) (c .at)) ∙ ap (λ (l : List Graph). graphs (c .es) ++ l) (taken-lone (c .t) (marking w) p (c .from) (c .a) (c .end) (c .to) (c .at))
+
+    pub settled-inside : Inside (c .U) (settled c)
+    settled-inside = inside-append (c .U) (c .es) (taken-any (c .t) (marking w) p (c .from) (c .a) (c .end) (c .to) (c .at)) (c .inside) (taken-any-inside (c .t) (marking w) (c .U) p (c .from) (c .a) (c .end) (c .to) (c .at) (c .among))
+
+  module _ (kept first after : ℕ) (tally : (s : Alternatives w p count) → Tallied w s kept first after) where
+    pub settles-none : Alternating n k w p count left → kept ≡ 0 → Settles n k w p count left Clashed w
+    settles-none c₀ z = record {
+      len = refl;
+      rest = λ j h. refl;
+      pushed = λ i y. let x : _≡_ {A = ℕ} 0 1 = cc in absurd (omega arith);
+      clashed = λ y. (since-refl n (c₀ .es) k w (c₀ .holds), λ c. (c .holds, settle-none (graphs (c .es)) (marking w) (c .a) (sym (tally (counted n k w p count left c) .kept-are) ∙ z)));
+    }
+
+    pub settles-several : Alternating n k w p count left → 1 < kept → Settles n k w p count left (In k) w
+    settles-several c₀ z = record {
+      len = refl;
+      rest = λ j h. refl;
+      pushed = λ i y. let x : k ≡ i = cc in subst (λ (i : ℕ). Since k w i w × ((c : Alternating n k w p count left) → Holds n (settled c) i w × (settle-at (graphs (c .es)) (marking w) (c .a) ≡ stands (graphs (settled c)) (marking w)))) x (since-refl n (c₀ .es) k w (c₀ .holds), several);
+      clashed = λ y. let x : _≡_ {A = ℕ} 0 1 = cc in absurd (omega arith);
+    }
+      where
+        several : (c : Alternating n k w p count left) → Holds n (settled c) k w × (settle-at (graphs (c .es)) (marking w) (c .a) ≡ stands (graphs (settled c)) (marking w))
+        several c =
+            let are = tally (counted n k w p count left c) .kept-are in
+            let none = taken-none (c .t) (marking w) (c .a) p (c .from) (c .end) (c .to) (c .at) (λ f. let g = are in omega arith) in
+            let same : settled c ≡ c .es = ap (λ (l : List Entry). c .es ++ l) none ∙ append-nil (c .es) in
+            (subst (λ (l : List Entry). Holds n l k w) (sym same) (c .holds), go (kept-of (marking w) (c .a)) refl (sym are) ∙ ap (λ (l : List Entry). stands (graphs l) (marking w)) (sym same))
+          where
+            go : (b : ℕ) → kept-of (marking w) (c .a) ≡ b → kept-of (marking w) (c .a) ≡ kept → settle-at (graphs (c .es)) (marking w) (c .a) ≡ stands (graphs (c .es)) (marking w)
+            go zero e f = absurd (omega arith)
+            go (suc zero) e f = absurd (omega arith)
+            go (suc (suc l)) e f = settle-several (graphs (c .es)) (marking w) (c .a) l e
+
+    module _ (one : kept ≡ 1) where
+      -- the one that is kept
+      pub asks-inner : Alternating n k w p count left → Entering n k w first left
+      asks-inner c = inner n k w p count left c kept first after (tally (counted n k w p count left c)) one
+
+      same-entered : (c : Alternating n k w p count left) → entered (asks-inner c) ≡ settled c
+      unfolding asks-inner
+      same-entered c = inner-entered n k w p count left c kept first after (tally (counted n k w p count left c)) one
+
+      same-es : (c : Alternating n k w p count left) → asks-inner c .es ≡ c .es
+      unfolding asks-inner
+      same-es c = inner-es n k w p count left c kept first after (tally (counted n k w p count left c)) one
+
+      fine : (c : Alternating n k w p count left) → Fine (graphs (c .es) ++ certain-any (marking w) (c .a))
+      fine c =
+          let d = asks-inner c in
+          let list = taken (d .t) (marking w) first (d .from) (d .d) (d .end) (d .to) (d .at) in
+          let some = some-taken (d .t) (marking w) first (d .from) (d .d) (d .end) (d .to) (d .at) in
+          subst Fine (ap graphs (same-entered c) ∙ settled-graphs c) (
+            (rw (graphs-append (d .es) list) (simp length-append (omega arith))),
+            subst (λ (l : List Entry). AllCanonical (graphs l)) (sym (same-entered c)) (canonical-all n (c .t) (c .U) (settled c) (c .ground) (settled-inside c)),
+          )
+
+      module _ (r : Pushed) (w' : List ℕ) (u : Enters n k w first left r w') where
+        pub settles-one : Settles n k w p count left r w'
+        settles-one = record {
+          len = u .len;
+          rest = u .rest;
+          pushed = λ i y. (
+            u .pushed i y .0,
+            λ c.
+                let held = subst (λ (l : List Entry). Holds n l i w') (same-entered c) (u .pushed i y .1 (asks-inner c)) in
+                let good = agrees-true (graphs (c .es) ++ certain-any (marking w) (c .a)) (fine c) (subst Agree (settled-graphs c) (holds-agree n (settled c) i w' held)) in
+                (held, settle-one (graphs (c .es)) (marking w) (c .a) true (kept-one c) good ∙ ap (λ (l : List Graph). stands l (marking w)) (sym (settled-graphs c))),
+          );
+          clashed = λ y. (
+            u .clashed y .0,
+            λ c.
+                let told = u .clashed y .1 (asks-inner c) in
+                let bad = clash-false (graphs (c .es) ++ certain-any (marking w) (c .a)) (fine c) (subst Clash (ap graphs (same-entered c) ∙ settled-graphs c) (told .0)) in
+                (subst (λ (l : List Entry). Holds n l k w') (same-es c) (told .1), settle-one (graphs (c .es)) (marking w) (c .a) false (kept-one c) bad),
+          );
+        }
+          where
+            kept-one : (c : Alternating n k w p count left) → kept-of (marking w) (c .a) ≡ 1
+            kept-one c = sym (tally (counted n k w p count left c) .kept-are) ∙ one

@@ -1,0 +1,298 @@
+-- The alternatives of a disjunction are tried in order: what is still to be sifted goes on to the whole.
+-- Assumes nothing.
+use Prim.Native.Nat.{ℕ, zero, suc, _+_, _-_, _≤_, _<_}
+use native.Mathlib.Omega.{arith}
+use mathlib.Core.Path.{_≡_, refl, sym, ap, subst, _∙_}
+use mathlib.Core.Logic.{_⊎_, inl, inr, ⊎-elim}
+use mathlib.Core.Bool.{Bool, true, false}
+use mathlib.Core.List.{List}
+use lib.ListN.{length, getD}
+use lib.Dec.{eqb}
+use borrow.Author.Tests.{eqb-true, eqb-false}
+use Rattle.theory.specs.Net.{Graph}
+use Rattle.area.specs.Map.{WORDS, MARKS, RESULT}
+use Rattle.area.specs.Region.{words}
+use Rattle.area.proofs.Region.{words-same}
+use Rattle.engine.specs.Placed.{Placed, Options, no-more, option}
+use Rattle.engine.specs.Marks.{Marking, drop}
+use Rattle.engine.specs.Quickly as quickly
+use Rattle.engine.specs.Quickly.{fails, stands, tried, try-at, sift-at}
+use Rattle.engine.proofs.Marks.{drop-self, drop-other}
+use Rattle.loading.specs.Entry.{Entry, graphs}
+use Rattle.loading.specs.Loaded.{number-step}
+use Rattle.loading.specs.Numbered.{options}
+use Rattle.loading.specs.At.{At, AtAny}
+use Rattle.loading.proofs.Walking.{at-bounds, any-bounds}
+use Rattle.marks.specs.Positions.{number-at, tail-at, after-at}
+use Rattle.marks.specs.Marked.{marking, Dropped}
+use Rattle.marks.proofs.Reading.{Read, read-option}
+use Rattle.counting.specs.Nesting.{NestsAny}
+use Rattle.classes.specs.Holds.{Holds, Since}
+use Rattle.classes.proofs.Laws.{since-refl, since-trans, holds-frame, since-frame}
+use Rattle.quick.specs.declared.step.Step.{Step}
+use Rattle.quick.specs.declared.step.Step.the-variants.{Stands, Fails}
+use Rattle.quick.specs.Taken.{AmongAny, Inside, Free}
+use Rattle.quick.specs.Entered.{Entering}
+use Rattle.quick.specs.Settled.{Alternating}
+use Rattle.quick.specs.Clear.{Outside}
+use Rattle.quick.specs.Stepped.{kept-below, total, Fewer, Off, Moved, Tried, Tries, Sifted, Sifts}
+use Rattle.quick.proofs.Certain.{free-narrow}
+use Rattle.quick.proofs.Mirror.{sift-dropped, sift-kept}
+
+-- ---- how many are kept
+below-same : (k : Marking) (x c : ℕ) → c ≤ x → kept-below (drop x k) c ≡ kept-below k c
+below-same k x zero h = refl
+below-same k x (suc c) h = ap (λ (b : Bool). elim b [ true ↦ suc (kept-below (drop x k) c) | false ↦ kept-below (drop x k) c ]) (drop-other x k c (λ e. omega arith)) ∙ ap (λ (r : ℕ). elim (k c) [ true ↦ suc r | false ↦ r ]) (below-same k x c (omega arith))
+
+below-drop : (k : Marking) (x c : ℕ) → x < c → k x ≡ true → kept-below (drop x k) c + 1 ≡ kept-below k c
+below-drop k x zero h e = absurd (omega arith)
+below-drop k x (suc c) h e = go (eqb x c) refl (below-drop k x c)
+  where
+    step : (b : Bool) (r s : ℕ) → r + 1 ≡ s → elim b [ true ↦ suc r | false ↦ r ] + 1 ≡ elim b [ true ↦ suc s | false ↦ s ]
+    step true r s f = omega arith
+    step false r s f = f
+
+    go : (b : Bool) → eqb x c ≡ b → (x < c → k x ≡ true → kept-below (drop x k) c + 1 ≡ kept-below k c) → kept-below (drop x k) (suc c) + 1 ≡ kept-below k (suc c)
+    go true f on =
+        let s : c ≡ x = sym (eqb-true x c f) in
+        let a : kept-below (drop x k) (suc c) ≡ kept-below (drop x k) c = ap (λ (b : Bool). elim b [ true ↦ suc (kept-below (drop x k) c) | false ↦ kept-below (drop x k) c ]) (ap (drop x k) s ∙ drop-self x k) in
+        let b : kept-below k (suc c) ≡ suc (kept-below k c) = ap (λ (b : Bool). elim b [ true ↦ suc (kept-below k c) | false ↦ kept-below k c ]) (ap k s ∙ e) in
+        let d = below-same k x c (omega arith) in
+        omega arith
+    go false f on =
+        let n = eqb-false x c f in
+        let l : x < c = omega arith in
+        ap (λ (b : Bool). elim b [ true ↦ suc (kept-below (drop x k) c) | false ↦ kept-below (drop x k) c ] + 1) (drop-other x k c (λ q. n (sym q))) ∙ step (k c) (kept-below (drop x k) c) (kept-below k c) (on l e)
+
+total-drop : (k : Marking) (x : ℕ) → x < 1024 → k x ≡ true → total (drop x k) + 1 ≡ total k
+unfolding total
+total-drop k x h e = below-drop k x 1024 h e
+
+below-small : (k : Marking) (c : ℕ) → kept-below k c ≤ c
+below-small k zero = omega arith
+below-small k (suc c) = go (k c) (below-small k c)
+  where
+    go : (b : Bool) → kept-below k c ≤ c → elim b [ true ↦ suc (kept-below k c) | false ↦ kept-below k c ] ≤ suc c
+    go true h = omega arith
+    go false h = omega arith
+
+pub total-small : (k : Marking) → total k ≤ 1024
+unfolding total
+total-small k = below-small k 1024
+
+-- ---- steps one after the other
+pub fewer-none : (k : Marking) → Fewer 0 k k
+fewer-none k = record { same = λ z. refl; fewer = omega arith }
+
+pub fewer-trans : (i j : ℕ) (k l m : Marking) → Fewer i k l → Fewer j l m → Fewer (i + j) k m
+fewer-trans i j k l m p q = record {
+  same = λ z. q .same (omega arith) ∙ p .same (omega arith);
+  fewer = let a = p .fewer in let b = q .fewer in omega arith;
+}
+
+pub moved-trans : (a : ℕ) (u : List ℕ) (b : ℕ) (v : List ℕ) (c : ℕ) (w : List ℕ) → Moved a u b v → Moved b v c w → Moved a u c w
+moved-trans a u b v c w p q = record { len = q .len ∙ p .len; rest = λ j h. q .rest j h ∙ p .rest j h; since = since-trans a u b v c w (p .since) (q .since) }
+
+pub moved-words : (k : ℕ) (w : List ℕ) (k' : ℕ) (w' : List ℕ) → 16384 ≤ length w → Moved k w k' w' → words w' ≡ words w
+moved-words k w k' w' room m = words-same w w' room (m .len) (λ j a b. m .since .same j a b)
+
+pub moved-dropped : (k : ℕ) (w : List ℕ) (k' : ℕ) (w' : List ℕ) (x : ℕ) (w₃ : List ℕ) → x < 1024 → 16384 ≤ length w' → Moved k w k' w' → Dropped w' x w₃ → Moved k w k' w₃
+moved-dropped k w k' w' x w₃ low room m d = record {
+  len = d .len ∙ m .len;
+  rest = λ j h. d .rest j (λ e. omega arith) ∙ m .rest j h;
+  since = since-frame k w k' w' w₃ (d .len) room (λ j h. d .rest j (λ e. omega arith)) (m .since);
+}
+
+-- what a turn does at the alternative x
+pub data Turn (n k : ℕ) (w₁ : List ℕ) (at x left drops drops' : ℕ) (w₂ : List ℕ) : Type 0 where
+  skipped : marking w₁ x ≡ false → w₂ ≡ w₁ → drops' ≡ drops → Turn n k w₁ at x left drops drops' w₂
+  stood : (r : Step) (j i : ℕ) (w' : List ℕ) → marking w₁ x ≡ true → Tries n k w₁ at left r w' → r ≡ Stands j i → w₂ ≡ w' → drops' ≡ drops + i → Turn n k w₁ at x left drops drops' w₂
+  failed : (r : Step) (w' w'' : List ℕ) → marking w₁ x ≡ true → Tries n k w₁ at left r w' → r ≡ Fails → Dropped w' x w'' → w₂ ≡ w'' → drops' ≡ drops + 1 → Turn n k w₁ at x left drops drops' w₂
+
+module _ (n k : ℕ) (w : List ℕ) (p count left : ℕ) where
+  -- `rest` alternatives are left, from `at` on
+  pub record Sifting (c : Alternating n k w p count left) (rest at : ℕ) (w₁ : List ℕ) : Type 0 where
+    pub b : Options
+    pub l : ℕ
+    pub stand : AtAny (c .t) at l b (c .end) (c .to)
+    pub within : at ≤ length (c .t)
+    pub many : options b ≡ rest
+    pub nests : NestsAny b left
+    pub among : AmongAny (c .U) (c .t) at l b (c .end) (c .to) stand
+    pub above : c .from ≤ l
+    pub holds : Holds n (c .es) k w₁
+    pub off : Off (c .from) (c .to) (marking w) (marking w₁)
+    pub is : sift-at (graphs (c .es)) (marking w) (c .a) ≡ sift-at (graphs (c .es)) (marking w₁) b
+
+  pub sift-start : (c : Alternating n k w p count left) → Sifting c count p w
+  sift-start c = record { b = c .a; l = c .from; stand = c .at; within = c .within; many = c .many; nests = c .nests; among = c .among; above = omega arith; holds = c .holds; off = λ y h. refl; is = refl }
+
+  pub moved-none : Alternating n k w p count left → Moved k w k w
+  moved-none c = record { len = refl; rest = λ j h. refl; since = since-refl n (c .es) k w (c .holds) }
+
+  pub sift-done : (c : Alternating n k w p count left) (rest at : ℕ) (w₁ : List ℕ) → Sifting c rest at w₁ → rest ≤ 0 → Sifted n k w p count left w₁ c
+  unfolding sift-at
+  sift-done c rest at w₁ s h = record { holds' = s .holds; off = s .off; is = go (s .b) (s .many) (s .is) }
+    where
+      go : (b : Options) → options b ≡ rest → sift-at (graphs (c .es)) (marking w) (c .a) ≡ sift-at (graphs (c .es)) (marking w₁) b → sift-at (graphs (c .es)) (marking w) (c .a) ≡ marking w₁
+      go no-more e f = f
+      go (option x d b) e f = absurd (omega arith)
+
+  module _ (c : Alternating n k w p count left) (rest at : ℕ) (w₁ : List ℕ) (m : Moved k w k w₁) (s : Sifting c rest at w₁) (h : 0 < rest) where
+    loaded₁ : words w₁ ≡ c .t
+    loaded₁ = moved-words k w k w₁ (c .holds .long) m ∙ c .loaded
+
+    -- the next alternative
+    record Next : Type 0 where
+      x : ℕ
+      d : Placed
+      a : Options
+      o : AtAny (c .t) at (s .l) (option x d a) (c .end) (c .to)
+      nested : NestsAny (option x d a) left
+      amongst : AmongAny (c .U) (c .t) at (s .l) (option x d a) (c .end) (c .to) o
+      later : options a + 1 ≡ rest
+      whole : sift-at (graphs (c .es)) (marking w) (c .a) ≡ sift-at (graphs (c .es)) (marking w₁) (option x d a)
+
+    next : Next
+    next = go (s .b) (s .stand) (s .many) (s .nests) (s .among) (s .is)
+      where
+        go : (b : Options) (o : AtAny (c .t) at (s .l) b (c .end) (c .to)) → options b ≡ rest → NestsAny b left → AmongAny (c .U) (c .t) at (s .l) b (c .end) (c .to) o → sift-at (graphs (c .es)) (marking w) (c .a) ≡ sift-at (graphs (c .es)) (marking w₁) b → Next
+        go no-more o e f u q = absurd (omega arith)
+        go (option x d a) o e f u q = record { x = x; d = d; a = a; o = o; nested = f; amongst = u; later = omega arith; whole = q }
+
+    low : c .to < number-step
+    low = omega (arith, c .low, c .ground .few)
+
+    read : (w₂ : List ℕ) → 16384 ≤ length w₂ → words w₂ ≡ c .t → Read w₂ at (next .x) (next .o .0)
+    read w₂ room e = read-option w₂ room (next .x) (next .d) (next .a) at (s .l) (c .end) (c .to) (subst (λ (t : List ℕ). AtAny t at (s .l) (option (next .x) (next .d) (next .a)) (c .end) (c .to)) (sym e) (next .o)) low .0
+
+    first : (at < next .o .0) × (next .o .0 ≤ length (c .t)) × (s .l < next .o .1)
+    first = at-bounds (c .t) (next .d) at (s .l) (next .o .0) (next .o .1) (next .o .3)
+
+    last : next .o .1 ≤ c .to
+    last = any-bounds (c .t) (next .a) (next .o .0) (next .o .1) (c .end) (c .to) (first .1) (next .o .4) .2
+
+    room₁ : 16384 ≤ length w₁
+    room₁ = omega (arith, m .len, c .holds .long)
+
+    pub sift-here : (at < 2048) × (number-at w₁ at < 1024) × (tail-at w₁ at < 2048)
+    sift-here =
+        let r = read w₁ room₁ loaded₁ in
+        let a = r .low in
+        let b = r .number in
+        (r .here, omega arith, r .inside)
+
+    abbrev asks : Entering n k w₁ at left
+    asks = record {
+      t = c .t;
+      loaded = loaded₁;
+      U = c .U;
+      ground = c .ground;
+      d = next .d;
+      from = s .l;
+      end = next .o .0;
+      to = next .o .1;
+      at = next .o .3;
+      low = omega (arith, last, c .low);
+      nests = next .nested .0;
+      among = next .amongst .0;
+      es = c .es;
+      holds = s .holds;
+      inside = c .inside;
+      free = free-narrow (c .from) (c .to) (s .l) (next .o .1) (c .es) (s .above) last (c .free);
+    }
+
+    pub sift-asks : Entering n k w₁ at left
+    sift-asks = asks
+
+    module _ (x : ℕ) (is-x : x ≡ number-at w₁ at) where
+      own : x ≡ next .x
+      own = is-x ∙ read w₁ room₁ loaded₁ .number
+
+      inner-number : s .l ≡ x
+      inner-number = sym (own ∙ next .o .2)
+
+      low-x : x < 1024
+      low-x = omega (arith, own, read w₁ room₁ loaded₁ .low)
+
+      -- the mark of an alternative that was tried is as it was
+      still : (w' : List ℕ) → Off (s .l + 1) (next .o .1) (marking w₁) (marking w') → marking w₁ x ≡ true → marking w' x ≡ true
+      still w' off e = off x (inl (omega (arith, inner-number))) ∙ e
+
+      module _ (drops drops' : ℕ) (w₂ : List ℕ) (turn : Turn n k w₁ at x left drops drops' w₂) where
+        pub turn-moved : Moved k w k w₂
+        turn-moved = go turn
+          where
+            go : Turn n k w₁ at x left drops drops' w₂ → Moved k w k w₂
+            go (skipped e f q) = subst (λ (v : List ℕ). Moved k w k v) (sym f) m
+            go (stood r j i w' e u y f q) = subst (λ (v : List ℕ). Moved k w k v) (sym f) (moved-trans k w k w₁ k w' m (u .moved))
+            go (failed r w' w'' e u y d f q) = subst (λ (v : List ℕ). Moved k w k v) (sym f) (moved-dropped k w k w' x w'' low-x (omega (arith, u .moved .len, room₁)) (moved-trans k w k w₁ k w' m (u .moved)) d)
+
+        pub turn-fewer : Fewer drops (marking w) (marking w₁) → Fewer drops' (marking w) (marking w₂)
+        turn-fewer p = go turn
+          where
+            go : Turn n k w₁ at x left drops drops' w₂ → Fewer drops' (marking w) (marking w₂)
+            go (skipped e f q) = subst (λ (v : List ℕ). Fewer drops' (marking w) (marking v)) (sym f) (subst (λ (i : ℕ). Fewer i (marking w) (marking w₁)) (sym q) p)
+            go (stood r j i w' e u y f q) = subst (λ (v : List ℕ). Fewer drops' (marking w) (marking v)) (sym f) (subst (λ (i : ℕ). Fewer i (marking w) (marking w')) (sym q) (fewer-trans drops i (marking w) (marking w₁) (marking w') p (u .standing j i y .0)))
+            go (failed r w' w'' e u y d f q) =
+                let told = u .failing y in
+                let up = total-drop (marking w') x low-x (still w' (told .1 asks .off) e) in
+                let same : total (marking w'') ≡ total (drop x (marking w')) = ap total (d .marks) in
+                let one : Fewer 1 (marking w₁) (marking w'') = record { same = λ z. absurd (omega arith); fewer = omega (arith, told .0) } in
+                subst (λ (v : List ℕ). Fewer drops' (marking w) (marking v)) (sym f) (subst (λ (i : ℕ). Fewer i (marking w) (marking w'')) (sym q) (fewer-trans drops 1 (marking w) (marking w₁) (marking w'') p one))
+
+        pub turn-inside : tail-at w₂ at < 2048
+        turn-inside = read w₂ (omega (arith, turn-moved .len, c .holds .long)) (moved-words k w k w₂ (c .holds .long) turn-moved ∙ c .loaded) .inside
+
+        -- past the alternative
+        past : (v : List ℕ) (at' : ℕ) → Moved k w k v → at' ≡ after-at v at → Holds n (c .es) k v → Off (s .l) (next .o .1) (marking w₁) (marking v) → sift-at (graphs (c .es)) (marking w₁) (option (next .x) (next .d) (next .a)) ≡ sift-at (graphs (c .es)) (marking v) (next .a) → Sifting c (rest - 1) at' v
+        past v at' mv e held off is =
+            let r = read v (omega (arith, mv .len, c .holds .long)) (moved-words k w k v (c .holds .long) mv ∙ c .loaded) in
+            let count = next .later in
+            let low = s .above in
+            let near = first .2 in
+            let high = last in
+            subst (λ (j : ℕ). Sifting c (rest - 1) j v) (sym (e ∙ r .after)) (record {
+              b = next .a;
+              l = next .o .1;
+              stand = next .o .4;
+              within = first .1;
+              many = omega arith;
+              nests = next .nested .1;
+              among = next .amongst .1;
+              above = omega arith;
+              holds = held;
+              off = λ y h. off y (⊎-elim (λ b. inl (omega arith)) (λ b. inr (omega arith)) h) ∙ s .off y h;
+              is = next .whole ∙ is;
+            })
+
+        pub turn-on : (at' : ℕ) → at' ≡ after-at w₂ at → Sifting c (rest - 1) at' w₂
+        turn-on at' z = go turn
+          where
+            kept-x : (b : Bool) → marking w₁ x ≡ b → marking w₁ (next .x) ≡ b
+            kept-x b e = ap (marking w₁) (sym own) ∙ e
+
+            wide : (v : List ℕ) → Off (s .l + 1) (next .o .1) (marking w₁) (marking v) → Off (s .l) (next .o .1) (marking w₁) (marking v)
+            wide v off y h = off y (⊎-elim (λ b. inl (omega arith)) (λ b. inr b) h)
+
+            go : Turn n k w₁ at x left drops drops' w₂ → Sifting c (rest - 1) at' w₂
+            go (skipped e f q) = past w₂ at' turn-moved z (subst (Holds n (c .es) k) (sym f) (s .holds)) (λ y h. ap (λ (v : List ℕ). marking v y) f)
+                (sift-dropped (graphs (c .es)) (marking w₁) (next .x) (next .d) (next .a) (kept-x false e) ∙ ap (λ (v : List ℕ). sift-at (graphs (c .es)) (marking v) (next .a)) (sym f))
+            go (stood r j i w' e u y f q) =
+                let told = u .standing j i y .1 asks .1 in
+                past w₂ at' turn-moved z (subst (Holds n (c .es) k) (sym f) (told .holds')) (subst (λ (v : List ℕ). Off (s .l) (next .o .1) (marking w₁) (marking v)) (sym f) (wide w' (told .off)))
+                (sift-kept (graphs (c .es)) (marking w₁) (next .x) (next .d) (next .a) (kept-x true e) ∙ ap (λ (o : quickly.Step). sift-at (graphs (c .es)) (tried (next .x) o) (next .a)) (told .is) ∙ ap (λ (v : List ℕ). sift-at (graphs (c .es)) (marking v) (next .a)) (sym f))
+            go (failed r w' w'' e u y d f q) =
+                let told = u .failing y .1 asks in
+                let room : 16384 ≤ length w' = omega (arith, u .moved .len, room₁) in
+                let lx = low-x in
+                let held = holds-frame n (c .es) k w' (told .holds') w'' (d .len) (λ j h. d .rest j (λ e. omega arith)) in
+                let near = first .2 in
+                let at-x = inner-number in
+                past w₂ at' turn-moved z (subst (Holds n (c .es) k) (sym f) held)
+                (subst (λ (v : List ℕ). Off (s .l) (next .o .1) (marking w₁) (marking v)) (sym f) (λ y h. ap (λ (k : Marking). k y) (d .marks) ∙ drop-other x (marking w') y (λ q. ⊎-elim (λ b. omega arith) (λ b. omega arith) h) ∙ wide w' (told .off) y h))
+                (sift-kept (graphs (c .es)) (marking w₁) (next .x) (next .d) (next .a) (kept-x true e) ∙ ap (λ (o : quickly.Step). sift-at (graphs (c .es)) (tried (next .x) o) (next .a)) (told .is) ∙ ap (λ (j : ℕ). sift-at (graphs (c .es)) (drop j (marking w')) (next .a)) (sym own) ∙ ap (λ (k : Marking). sift-at (graphs (c .es)) k (next .a)) (sym (d .marks)) ∙ ap (λ (v : List ℕ). sift-at (graphs (c .es)) (marking v) (next .a)) (sym f))
+
+-- drops are few
+pub fewer-small : (i : ℕ) (k k' : Marking) → Fewer i k k' → i ≤ 1024
+fewer-small i k k' f = omega (arith, f .fewer, total-small k)

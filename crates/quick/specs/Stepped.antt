@@ -1,0 +1,159 @@
+-- What narrowing asks and what it does: engine's steps, on the area.
+-- Assumes nothing: these are definitions.
+use Prim.Native.Nat.{ℕ, zero, suc, _+_, _≤_, _<_}
+use mathlib.Core.Path.{_≡_}
+use mathlib.Core.Logic.{_⊎_}
+use mathlib.Core.Bool.{true, false}
+use mathlib.Core.List.{List, List·Memᴰ}
+use lib.ListN.{length, getD}
+use Rattle.theory.specs.Net.{Graph}
+use Rattle.area.specs.Map.{RESULT}
+use Rattle.area.specs.Region.{words}
+use Rattle.engine.specs.Placed.{Placed, Options}
+use Rattle.engine.specs.Marks.{Marking}
+use Rattle.engine.specs.Quickly as quickly
+use Rattle.engine.specs.Quickly.{fails, stands, try-at, any-at, inside-at, sift-at}
+use Rattle.loading.specs.Entry.{Entry, graphs}
+use Rattle.loading.specs.Numbered.{options}
+use Rattle.loading.specs.At.{At, AtAny}
+use Rattle.marks.specs.Marked.{marking}
+use Rattle.counting.specs.Nesting.{Nests, NestsAny}
+use Rattle.classes.specs.Holds.{Holds, Since}
+use Rattle.quick.specs.declared.step.Step.{Step}
+use Rattle.quick.specs.declared.step.Step.the-variants.{Stands, Fails}
+use Rattle.quick.specs.Taken.{Among, AmongAny, Inside}
+use Rattle.quick.specs.Ground.{Ground}
+use Rattle.quick.specs.Entered.{Entering}
+use Rattle.quick.specs.Settled.{Alternating}
+use Rattle.quick.specs.Clear.{Outside, Clear, ClearAny}
+
+-- ---- marks
+-- how many of the numbers below c are kept
+abbrev pub kept-below : Marking → ℕ → ℕ
+kept-below k zero = 0
+kept-below k (suc c) = elim (k c) [ true ↦ suc (kept-below k c) | false ↦ kept-below k c ]
+
+-- how many of all
+unfoldable pub total : Marking → ℕ
+total k = kept-below k 1024
+
+-- at least i alternatives were dropped, and none where i is 0
+pub record Fewer (i : ℕ) (k k' : Marking) : Type 0 where
+  pub same : i ≡ 0 → k' ≡ k
+  pub fewer : total k' + i ≤ total k
+
+-- only marks from n up to m changed
+abbrev pub Off : ℕ → ℕ → Marking → Marking → Type 0
+Off n m k k' = (y : ℕ) → Outside n m y → k' y ≡ k y
+
+-- ---- the area
+-- only what is pushed, what is remembered and marks changed, and the start is remembered
+pub record Moved (k : ℕ) (w : List ℕ) (k' : ℕ) (w' : List ℕ) : Type 0 where
+  pub len : length w' ≡ length w
+  pub rest : (j : ℕ) → RESULT ≤ j → getD w' j 0 ≡ getD w j 0
+  pub since : Since k w k' w'
+
+-- the graphs es' are pushed: those of es, and some with numbers from `from` up to `to`
+pub record Stood (n : ℕ) (U es : List Entry) (from to k' : ℕ) (w' : List ℕ) (es' : List Entry) : Type 0 where
+  pub holds : Holds n es' k' w'
+  pub inside : Inside U es'
+  pub old : (o : Entry) → List·Memᴰ o es → List·Memᴰ o es'
+  pub fresh : (o : Entry) → List·Memᴰ o es' → List·Memᴰ o es ⊎ ((from ≤ o .number) × (o .number < to))
+
+-- ---- the disjunctions of a description
+-- the graphs es are pushed, among them what is certain in the description that stands loaded at g
+pub record Narrowing (n k : ℕ) (w : List ℕ) (g left : ℕ) : Type 0 where
+  pub t : List ℕ
+  pub loaded : words w ≡ t
+  pub U : List Entry
+  pub ground : Ground n t U
+  pub d : Placed
+  pub from : ℕ
+  pub end : ℕ
+  pub to : ℕ
+  pub at : At t g from d end to
+  pub low : to ≤ n
+  pub nests : Nests d left
+  pub among : Among U t g from d end to at
+  pub es : List Entry
+  pub holds : Holds n es k w
+  pub inside : Inside U es
+  pub clear : Clear es t (marking w) g from d end to at
+
+pub record NarrowStands (n k : ℕ) (w : List ℕ) (g left k' : ℕ) (w' : List ℕ) (c : Narrowing n k w g left) : Type 0 where
+  pub es' : List Entry
+  pub stood : Stood n (c .U) (c .es) (c .from + 1) (c .to) k' w' es'
+  pub clear' : Clear es' (c .t) (marking w') g (c .from) (c .d) (c .end) (c .to) (c .at)
+  pub off : Off (c .from + 1) (c .to) (marking w) (marking w')
+  pub is : inside-at (graphs (c .es)) (marking w) (c .d) ≡ stands (graphs es') (marking w')
+
+pub record NarrowFails (n k : ℕ) (w : List ℕ) (g left : ℕ) (w' : List ℕ) (c : Narrowing n k w g left) : Type 0 where
+  pub holds' : Holds n (c .es) k w'
+  pub off : Off (c .from + 1) (c .to) (marking w) (marking w')
+  pub is : inside-at (graphs (c .es)) (marking w) (c .d) ≡ fails (marking w')
+
+-- engine's `inside-at`, which is `narrow-at` on the disjunctions
+pub record Narrows (n k : ℕ) (w : List ℕ) (g left : ℕ) (r : Step) (w' : List ℕ) : Type 0 where
+  pub standing : (k' i : ℕ) → r ≡ Stands k' i → Moved k w k' w' × Fewer i (marking w) (marking w') × ((c : Narrowing n k w g left) → NarrowStands n k w g left k' w' c)
+  pub failing : r ≡ Fails → Moved k w k w' × (total (marking w') ≤ total (marking w)) × ((c : Narrowing n k w g left) → NarrowFails n k w g left w' c)
+
+-- ---- one disjunction
+pub record Choosing (n k : ℕ) (w : List ℕ) (p count left : ℕ) : Type 0 where
+  pub t : List ℕ
+  pub loaded : words w ≡ t
+  pub U : List Entry
+  pub ground : Ground n t U
+  pub a : Options
+  pub from : ℕ
+  pub end : ℕ
+  pub to : ℕ
+  pub at : AtAny t p from a end to
+  pub within : p ≤ length t
+  pub low : to ≤ n
+  pub many : options a ≡ count
+  pub nests : NestsAny a left
+  pub among : AmongAny U t p from a end to at
+  pub es : List Entry
+  pub holds : Holds n es k w
+  pub inside : Inside U es
+  pub clear : ClearAny es t (marking w) p from a end to at
+
+pub record ChooseStands (n k : ℕ) (w : List ℕ) (p count left k' : ℕ) (w' : List ℕ) (c : Choosing n k w p count left) : Type 0 where
+  pub es' : List Entry
+  pub stood : Stood n (c .U) (c .es) (c .from) (c .to) k' w' es'
+  pub clear' : ClearAny es' (c .t) (marking w') p (c .from) (c .a) (c .end) (c .to) (c .at)
+  pub off : Off (c .from) (c .to) (marking w) (marking w')
+  pub is : any-at (graphs (c .es)) (marking w) (c .a) ≡ stands (graphs es') (marking w')
+
+pub record ChooseFails (n k : ℕ) (w : List ℕ) (p count left : ℕ) (w' : List ℕ) (c : Choosing n k w p count left) : Type 0 where
+  pub holds' : Holds n (c .es) k w'
+  pub off : Off (c .from) (c .to) (marking w) (marking w')
+  pub is : any-at (graphs (c .es)) (marking w) (c .a) ≡ fails (marking w')
+
+-- engine's `any-at`
+pub record Chooses (n k : ℕ) (w : List ℕ) (p count left : ℕ) (r : Step) (w' : List ℕ) : Type 0 where
+  pub standing : (k' i : ℕ) → r ≡ Stands k' i → Moved k w k' w' × Fewer i (marking w) (marking w') × ((c : Choosing n k w p count left) → ChooseStands n k w p count left k' w' c)
+  pub failing : r ≡ Fails → Moved k w k w' × (total (marking w') ≤ total (marking w)) × ((c : Choosing n k w p count left) → ChooseFails n k w p count left w' c)
+
+-- ---- an alternative that is tried
+pub record Tried (n k : ℕ) (w : List ℕ) (g left : ℕ) (w' : List ℕ) (c : Entering n k w g left) (s : quickly.Step) : Type 0 where
+  pub holds' : Holds n (c .es) k w'
+  pub off : Off (c .from + 1) (c .to) (marking w) (marking w')
+  pub is : try-at (graphs (c .es)) (marking w) (c .d) ≡ s
+
+-- engine's `try-at`; nothing that was pushed for it stays
+pub record Tries (n k : ℕ) (w : List ℕ) (g left : ℕ) (r : Step) (w' : List ℕ) : Type 0 where
+  pub moved : Moved k w k w'
+  pub standing : (k' i : ℕ) → r ≡ Stands k' i → Fewer i (marking w) (marking w') × ((c : Entering n k w g left) → (T : List Graph) × Tried n k w g left w' c (stands T (marking w')))
+  pub failing : r ≡ Fails → (total (marking w') ≤ total (marking w)) × ((c : Entering n k w g left) → Tried n k w g left w' c (fails (marking w')))
+
+-- ---- the alternatives of one disjunction are tried: engine's `sift-at`
+pub record Sifted (n k : ℕ) (w : List ℕ) (p count left : ℕ) (w' : List ℕ) (c : Alternating n k w p count left) : Type 0 where
+  pub holds' : Holds n (c .es) k w'
+  pub off : Off (c .from) (c .to) (marking w) (marking w')
+  pub is : sift-at (graphs (c .es)) (marking w) (c .a) ≡ marking w'
+
+pub record Sifts (n k : ℕ) (w : List ℕ) (p count left r : ℕ) (w' : List ℕ) : Type 0 where
+  pub moved : Moved k w k w'
+  pub fewer : Fewer r (marking w) (marking w')
+  pub sifted : (c : Alternating n k w p count left) → Sifted n k w p count left w' c

@@ -1,0 +1,6 @@
+// The quick step.
+pub mod enter;
+pub mod narrow;
+pub mod pass;
+pub mod settle;
+pub mod step;

@@ -1,0 +1,107 @@
+// Disjunctions are narrowed: alternatives that fail are dropped, and what becomes certain is pushed.
+use crate::enter::enter;
+use crate::settle::settle;
+use crate::step::Step;
+use classes::push::Pushed;
+use classes::push::back;
+use marks::marking::drop;
+use marks::marking::kept;
+use marks::positions::after_at;
+use marks::positions::alternatives_at;
+use marks::positions::disjunctions_at;
+use marks::positions::number_at;
+use marks::positions::tail_at;
+use marks::tally::count_kept;
+ghost use Rattle.quick.specs.Entered.{Entering};
+ghost use Rattle.quick.specs.Settled.{Alternating};
+ghost use Rattle.quick.specs.Stepped.{Narrowing, Narrows, Choosing, Chooses, Tries, Sifts};
+
+// Tries the alternative at g: it is entered and narrowed, and all that was pushed for it taken back.
+fn try_one(w: &mut [u32], k: usize, n: usize, g: usize, left: u32) -> Step
+    requires { ⌜ Entering n k (now w) g left ⌝ }
+    ensures { λ r. ⌜ Tries n k (now (w .entry)) g left r (now (w .exit)) ⌝ }
+{
+    let pushed = enter(w, k, n, g, left);
+    let Pushed::In(e) = pushed else {
+        return Step::Fails;
+    };
+    let step = narrow(w, e, n, g, left);
+    let Step::Stands(j, drops) = step else {
+        back(w, e, k);
+        return Step::Fails;
+    };
+    back(w, j, k);
+    Step::Stands(k, drops)
+}
+
+// Narrows the disjunctions of the description at g, in order.
+pub fn narrow(w: &mut [u32], k: usize, n: usize, g: usize, left: u32) -> Step
+    requires { ⌜ Narrowing n k (now w) g left ⌝ }
+    ensures { λ r. ⌜ Narrows n k (now (w .entry)) g left r (now (w .exit)) ⌝ }
+{
+    let e = tail_at(w, g);
+    let mut more = disjunctions_at(w, e);
+    let mut at = e + 1;
+    let mut log = k;
+    let mut drops: usize = 0;
+    while 0 < more {
+        let count = alternatives_at(w, at);
+        let one = narrow_one(w, log, n, at + 1, count, left - 1);
+        let Step::Stands(j, i) = one else {
+            back(w, log, k);
+            return Step::Fails;
+        };
+        log = j;
+        drops += i;
+        let tally = count_kept(w, at + 1, count);
+        at = tally.after;
+        more -= 1;
+    }
+    Step::Stands(log, drops)
+}
+
+// Narrows one disjunction, whose `count` alternatives stand from p on.
+fn narrow_one(w: &mut [u32], k: usize, n: usize, p: usize, count: usize, left: u32) -> Step
+    requires { ⌜ Choosing n k (now w) p count left ⌝ }
+    ensures { λ r. ⌜ Chooses n k (now (w .entry)) p count left r (now (w .exit)) ⌝ }
+{
+    let tally = count_kept(w, p, count);
+    if tally.kept == 0 {
+        return Step::Fails;
+    }
+    if tally.kept == 1 {
+        let first = tally.first;
+        return narrow(w, k, n, first, left);
+    }
+    let drops = sift(w, k, n, p, count, left);
+    let end = settle(w, k, n, p, count, left);
+    let Pushed::In(j) = end else {
+        return Step::Fails;
+    };
+    Step::Stands(j, drops)
+}
+
+// Tries each kept one of the `count` alternatives from p on, and drops those that fail. How many alternatives were dropped, at every depth.
+fn sift(w: &mut [u32], k: usize, n: usize, p: usize, count: usize, left: u32) -> usize
+    requires { ⌜ Alternating n k (now w) p count left ⌝ }
+    ensures { λ r. ⌜ Sifts n k (now (w .entry)) p count left r (now (w .exit)) ⌝ }
+{
+    let mut rest = count;
+    let mut at = p;
+    let mut drops: usize = 0;
+    while 0 < rest {
+        let x = number_at(w, at);
+        if kept(w, x) {
+            let step = try_one(w, k, n, at, left);
+            if let Step::Stands(_, i) = step {
+                drops += i;
+            } else {
+                drop(w, x);
+                drops += 1;
+            }
+        }
+        at = after_at(w, at);
+        rest -= 1;
+    }
+    drops
+}

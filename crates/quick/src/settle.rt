@@ -1,0 +1,21 @@
+// A disjunction is settled once its alternatives were tried.
+use crate::enter::enter;
+use classes::push::Pushed;
+use marks::tally::count_kept;
+ghost use Rattle.quick.specs.Settled.{Alternating, Settles};
+
+// Of the `count` alternatives from p on: with none left it fails, one that stands alone is entered, and several stay.
+pub fn settle(w: &mut [u32], k: usize, n: usize, p: usize, count: usize, left: u32) -> Pushed
+    requires { ⌜ Alternating n k (now w) p count left ⌝ }
+    ensures { λ r. ⌜ Settles n k (now (w .entry)) p count left r (now (w .exit)) ⌝ }
+{
+    let tally = count_kept(w, p, count);
+    if tally.kept == 0 {
+        return Pushed::Clashed;
+    }
+    if tally.kept == 1 {
+        let first = tally.first;
+        return enter(w, k, n, first, left);
+    }
+    Pushed::In(k)
+}
