@@ -72,10 +72,10 @@ module _ (a b : Placed) (ca : Can (strip a)) (cb : Can (strip b)) (pa : Proper (
       unfolding consistent
       full-consistent = full-number ∙ sym (ap (λ (o : Option Desc). elim o [ none ↦ 0 | some e ↦ readings e ]) j)
 
-      left-can : Can (strip (keep m d))
+      pub left-can : Can (strip (keep m d))
       left-can = part-can (strip d) (strip (keep m d)) (best .part) (cd .0)
 
-      left-sane : Sane (strip (keep m d))
+      pub left-sane : Sane (strip (keep m d))
       left-sane = stable-sane (strip (keep m d)) (nil ∷ []) left-can (fine-cons nil [] nil-canonical tt) (best .stable)
 
       -- what a writer puts out for the marks of each mode
