@@ -2,5 +2,6 @@
 pub mod enter;
 pub mod narrow;
 pub mod pass;
+pub mod quick;
 pub mod settle;
 pub mod step;

@@ -1,0 +1,76 @@
+-- Two inputs that stand loaded and whose definite graphs join: what theory and engine ask of them.
+-- Assumes nothing.
+use Prim.Native.Nat.{ℕ, _+_}
+use native.Mathlib.Omega.{arith}
+use mathlib.Core.Path.{_≡_, refl, sym, ap, subst, _∙_}
+use mathlib.Core.Option.{Option, none, some}
+use mathlib.Core.List.{List, [], _∷_}
+use Rattle.theory.specs.Limits.{depth-limit}
+use Rattle.theory.specs.Net.{Graph}
+use Rattle.theory.specs.Join.{join}
+use Rattle.theory.specs.Modes.{joined}
+use Rattle.theory.proofs.Mean.{Can}
+use Rattle.theory.proofs.Kept.{well-can}
+use Rattle.area.specs.Map.{SECOND}
+use Rattle.engine.specs.Placed.{Placed, place, strip, names, Apart, Distinct}
+use Rattle.engine.specs.Beside.{_next_, joined-placed}
+use Rattle.engine.proofs.Proper.{Proper, well-proper, Comes, joined-comes}
+use Rattle.engine.proofs.Beside.{strip-some, joined-strip, SomeDistinct, joined-distinct}
+use Rattle.loading.specs.Loaded.{nodes-in}
+use Rattle.loading.proofs.Names.{numbered-strip, between-apart, between-wide}
+use Rattle.loading.proofs.Walking.{at-names}
+use Rattle.counting.specs.Counted.{beside}
+use Rattle.quick.specs.Stage.{Pair}
+use Rattle.quick.proofs.Mirror.{at-distinct}
+
+-- the definite graph
+abbrev pub own : Placed → Graph
+own (place g ds) = g
+
+-- the joined description has the joined graph and the disjunctions of both
+pub joined-shape : (a b j : Placed) → joined-placed a b ≡ some j → (g : Graph) × ((join (own a ∷ own b ∷ []) ≡ some g) × (j ≡ place g (beside a b)))
+joined-shape (place g ds) (place h es) j e = go (join (g ∷ h ∷ [])) refl e
+  where
+    go : (o : Option Graph) → join (g ∷ h ∷ []) ≡ o → elim o [ none ↦ none | some k ↦ some (place k (ds next es)) ] ≡ some j → (k : Graph) × ((join (g ∷ h ∷ []) ≡ some k) × (j ≡ place k (ds next es)))
+    go none q z = let x : _≡_ {A = ℕ} 0 1 = cc in absurd (omega arith)
+    go (some k) q z = let f : place k (ds next es) ≡ j = cc in (k, (q, sym f))
+
+module _ (n : ℕ) (t : List ℕ) (p : Pair n t) where
+  pub strip-first : strip (p .inputs .a) ≡ p .d
+  strip-first = ap strip (p .first-is) ∙ numbered-strip 0 (p .d)
+
+  pub strip-second : strip (p .inputs .b) ≡ p .e
+  strip-second = ap strip (p .second-is) ∙ numbered-strip (nodes-in (p .d)) (p .e)
+
+  pub first-can : Can (strip (p .inputs .a))
+  first-can = subst Can (sym strip-first) (well-can (p .d) (p .first-well))
+
+  pub second-can : Can (strip (p .inputs .b))
+  second-can = subst Can (sym strip-second) (well-can (p .e) (p .second-well))
+
+  pub first-proper : Proper (strip (p .inputs .a))
+  first-proper = subst Proper (sym strip-first) (well-proper (p .d) depth-limit (p .first-well))
+
+  pub second-proper : Proper (strip (p .inputs .b))
+  second-proper = subst Proper (sym strip-second) (well-proper (p .e) depth-limit (p .second-well))
+
+  pub first-distinct : Distinct (p .inputs .a)
+  first-distinct = at-distinct t (p .inputs .a) 0 0 (p .inputs .end-a) (p .inputs .half) (p .inputs .at-a)
+
+  pub second-distinct : Distinct (p .inputs .b)
+  second-distinct = at-distinct t (p .inputs .b) SECOND (p .inputs .half) (p .inputs .end-b) n (p .inputs .at-b)
+
+  pub both-apart : Apart (names (p .inputs .a)) (names (p .inputs .b))
+  both-apart = between-apart 1 (p .inputs .half) n (names (p .inputs .a)) (names (p .inputs .b))
+      (between-wide (0 + 1) 1 (p .inputs .half) (p .inputs .half) (names (p .inputs .a)) (omega arith) (omega arith) (at-names t (p .inputs .a) 0 0 (p .inputs .end-a) (p .inputs .half) (p .inputs .at-a)))
+      (between-wide (p .inputs .half + 1) (p .inputs .half) n n (names (p .inputs .b)) (omega arith) (omega arith) (at-names t (p .inputs .b) SECOND (p .inputs .half) (p .inputs .end-b) n (p .inputs .at-b)))
+
+  -- mode 0, without the numbers
+  pub joined-is : joined (strip (p .inputs .a)) (strip (p .inputs .b)) ≡ some (strip (p .j))
+  joined-is = joined-strip (p .inputs .a) (p .inputs .b) ∙ ap strip-some (p .joined)
+
+  pub whole-comes : Can (strip (p .j)) × Proper (strip (p .j))
+  whole-comes = subst Comes joined-is (joined-comes (strip (p .inputs .a)) (strip (p .inputs .b)) first-can second-can first-proper second-proper)
+
+  pub whole-distinct : Distinct (p .j)
+  whole-distinct = subst SomeDistinct (p .joined) (joined-distinct (p .inputs .a) (p .inputs .b) first-distinct second-distinct both-apart)
