@@ -4,7 +4,7 @@ use Prim.Native.Nat.{ℕ, zero, suc, _+_, _*_, _-_, _≤_, _<_}
 use native.Mathlib.Omega.{arith}
 use mathlib.Core.Path.{_≡_, refl, sym, ap, subst, _∙_}
 use mathlib.Core.Logic.{_⊎_, inl, inr, ⊎-elim}
-use mathlib.Core.List.{List, [], _∷_, _++_, append-assoc, List·Memᴰ, List·Memᴰ·tail, List·Memᴰ·head, List·Memᴰ·not-nil, List·Memᴰ·cases-cons, Memᴰ·append-left, Memᴰ·append-right}
+use mathlib.Core.List.{List, [], _∷_, _++_, append-assoc, List·Memᴰ, List·Memᴰ·tail, List·Memᴰ·head, List·Memᴰ·not-nil, List·Memᴰ·cases-cons}
 use lib.ListN.{length, getD, take, drop, length-append, length-drop}
 use lib.Seq.{length-take-le, take-at, drop-at, getD-drop, getD-append-add}
 use Rattle.theory.specs.Limits.{input-limit, depth-limit}
@@ -16,7 +16,6 @@ use Rattle.theory.proofs.Sets.{clash-within}
 use Rattle.loading.specs.Entry.{Entry}
 use Rattle.loading.specs.Loaded.{nodes-in, loaded}
 use Rattle.loading.proofs.Names.{nodes-some}
-use Rattle.loading.proofs.Entries.{entries}
 use Rattle.area.specs.Map.{WORDS, MARKS, SIZE, SECOND}
 use Rattle.area.specs.Region.{region}
 use Rattle.area.proofs.Region.{region-ext}
@@ -26,7 +25,7 @@ use Rattle.classes.specs.declared.push.Pushed.{Pushed}
 use Rattle.classes.specs.declared.push.Pushed.the-variants.{In, Clashed}
 use Rattle.opening.specs.declared.Opened.the-variants as opened
 use Rattle.opening.specs.Opening.{Inputs, Read, Stand, Paired, Opening, definite, Told, Opens}
-use Rattle.opening.proofs.Universe.{universe, nodes-room, comes}
+use Rattle.opening.proofs.Universe.{universe, in-one, in-two, nodes-room, comes}
 
 -- ---- k words from p on, put back into the area
 module _ (p k : ℕ) (w t : List ℕ) (long : p + k ≤ length w) (size : length t ≡ k) where
@@ -57,9 +56,6 @@ at-definite p n (desc g ds) = refl
 
 number-definite : (p n : ℕ) (d : Desc) → definite p n d .number ≡ n
 number-definite p n (desc g ds) = refl
-
-in-entries : (p n : ℕ) (d : Desc) → List·Memᴰ (definite p n d) (entries p n d)
-in-entries p n (desc g ds) = List·Memᴰ·head refl
 
 -- a clash of the pushed graphs, as the opening tells it
 both : (w : List ℕ) (d e : Desc) → Clash (definite 0 0 d .graph ∷ definite SECOND (nodes-in d) e .graph ∷ []) → Told w d e opened.Clashed
@@ -105,12 +101,6 @@ module _ (w a b t : List ℕ) (o : Opening w a b) (n : ℕ) (p : Paired (take 20
     abbrev pub two : Entry
     two = definite SECOND (nodes-in d) e
 
-    in-one : List·Memᴰ one (universe d e)
-    in-one = Memᴰ·append-left (entries SECOND (nodes-in d) e) (in-entries 0 0 d)
-
-    in-two : List·Memᴰ two (universe d e)
-    in-two = Memᴰ·append-right (entries 0 0 d) (in-entries SECOND (nodes-in d) e)
-
     few : n ≤ 1024
     few = omega (arith, nodes-room w₂ d e n long₂ (r .first-well) (r .second-well) fd fe (stand w₂ refl (λ j h. refl)))
 
@@ -118,7 +108,7 @@ module _ (w a b t : List ℕ) (o : Opening w a b) (n : ℕ) (p : Paired (take 20
     empty = s .holds n few
 
     first-comes : Comes n [] one w₂
-    first-comes = comes w₂ d e n long₂ (r .first-well) (r .second-well) fd fe (stand w₂ refl (λ j h. refl)) [] 0 empty (λ x i. absurd (List·Memᴰ·not-nil i)) one in-one (λ x i. absurd (List·Memᴰ·not-nil i))
+    first-comes = comes w₂ d e n long₂ (r .first-well) (r .second-well) fd fe (stand w₂ refl (λ j h. refl)) [] 0 empty (λ x i. absurd (List·Memᴰ·not-nil i)) one (in-one d e) (λ x i. absurd (List·Memᴰ·not-nil i))
 
     pub first-pushing : Pushing n 0 w₂ 0
     first-pushing = record { es = []; e = one; is = at-definite 0 0 d; holds = empty; comes = first-comes }
@@ -145,7 +135,7 @@ module _ (w a b t : List ℕ) (o : Opening w a b) (n : ℕ) (p : Paired (take 20
 
       second-comes : Comes n (one ∷ []) two w₃
       second-comes = comes w₃ d e n long₃ (r .first-well) (r .second-well) fd fe stand₃ (one ∷ []) k held
-          (λ x i. subst (λ (y : Entry). List·Memᴰ y (universe d e)) (sym (only-one x i)) in-one) two in-two
+          (λ x i. subst (λ (y : Entry). List·Memᴰ y (universe d e)) (sym (only-one x i)) (in-one d e)) two (in-two d e)
           (λ x i q. apart (q ∙ ap (λ (y : Entry). y .number) (only-one x i)))
 
       pub second-pushing : Pushing n k w₃ SECOND

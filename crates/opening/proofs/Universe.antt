@@ -25,7 +25,7 @@ use Rattle.area.proofs.Region.{getD-region, length-region}
 use Rattle.classes.specs.Entry.{Lies, Aside, Comes}
 use Rattle.classes.specs.Holds.{Holds}
 use Rattle.classes.proofs.Room.{room-enough}
-use Rattle.opening.specs.Opening.{Stand}
+use Rattle.opening.specs.Opening.{Stand, definite}
 
 -- what stands at p, word by word
 stands-get : (ws xs : List ℕ) (p q j : ℕ) → Stands ws p xs q → j < length xs → getD ws (p + j) 0 ≡ getD xs j 0
@@ -83,6 +83,16 @@ after-aside e f b = let x = b .0 in let y = b .1 in (inr (omega arith), inr (ome
 -- the graphs of both inputs, in reading order
 abbrev pub universe : Desc → Desc → List Entry
 universe d e = entries 0 0 d ++ entries SECOND (nodes-in d) e
+
+-- both definite graphs are among them
+in-entries : (p n : ℕ) (d : Desc) → List·Memᴰ (definite p n d) (entries p n d)
+in-entries p n (desc g ds) = List·Memᴰ·head refl
+
+pub in-one : (d e : Desc) → List·Memᴰ (definite 0 0 d) (universe d e)
+in-one d e = Memᴰ·append-left (entries SECOND (nodes-in d) e) (in-entries 0 0 d)
+
+pub in-two : (d e : Desc) → List·Memᴰ (definite SECOND (nodes-in d) e) (universe d e)
+in-two d e = Memᴰ·append-right (entries 0 0 d) (in-entries SECOND (nodes-in d) e)
 
 module _ (w : List ℕ) (d e : Desc) (n : ℕ) (long : SIZE ≤ length w) (wd : WellFormed d depth-limit) (we : WellFormed e depth-limit) (fd : length (words d) ≤ input-limit) (fe : length (words e) ≤ input-limit) (s : Stand (region WORDS 2048 w) d e n) where
   abbrev t : List ℕ
