@@ -1,0 +1,156 @@
+-- The first stage: both inputs stand loaded, their definite graphs are pushed, and all alternatives are kept.
+-- Assumes nothing.
+use Prim.Native.Nat.{ℕ, _+_, _≤_}
+use native.Mathlib.Omega.{arith}
+use mathlib.Core.Path.{_≡_, refl, sym, ap, subst, _∙_}
+use mathlib.Core.Logic.{_⊎_, inl, inr, ⊎-elim}
+use mathlib.Core.Option.{Option, none, some}
+use mathlib.Core.List.{List, [], _∷_, List·Memᴰ, List·Memᴰ·head, List·Memᴰ·not-nil, List·Memᴰ·cases-cons, Memᴰ·append-left, Memᴰ·append-right}
+use lib.ListN.{length}
+use Rattle.theory.specs.Limits.{input-limit, depth-limit}
+use Rattle.theory.specs.Net.{Graph}
+use Rattle.theory.specs.Join.{join}
+use Rattle.theory.specs.Descr.{Desc, desc}
+use Rattle.theory.specs.Layout as layout
+use Rattle.theory.specs.Layout.{WellFormed}
+use Rattle.theory.proofs.Mean.{Ctx, Fine}
+use Rattle.theory.proofs.Live.{Agrees}
+use Rattle.theory.proofs.Kept.{well-can}
+use Rattle.area.specs.Map.{SECOND, SIZE}
+use Rattle.area.specs.Region.{words}
+use Rattle.engine.specs.Placed.{Placed, place, strip, strip-all}
+use Rattle.engine.specs.Marks.{Marking, all-kept, keep}
+use Rattle.engine.specs.Certain.{flat}
+use Rattle.engine.specs.Beside.{joined-placed}
+use Rattle.engine.proofs.Entail.{fine-cons}
+use Rattle.engine.proofs.Proper.{Proper, proper-sure}
+use Rattle.engine.proofs.Marks.{keep-all-marked}
+use Rattle.engine.proofs.Stack.{Same}
+use Rattle.engine.proofs.Loop.{joined-same}
+use Rattle.loading.specs.Entry.{Entry, graphs}
+use Rattle.loading.specs.Loaded.{nodes-in}
+use Rattle.loading.specs.Numbered.{numbered}
+use Rattle.loading.specs.At.{At}
+use Rattle.loading.proofs.Names.{nodes-some}
+use Rattle.loading.proofs.Loads.{loaded-at}
+use Rattle.loading.proofs.Entries.{entries}
+use Rattle.marks.specs.Marked.{marking}
+use Rattle.counting.specs.Counted.{beside}
+use Rattle.counting.proofs.Whole.{well-nests}
+use Rattle.classes.specs.Holds.{Holds}
+use Rattle.classes.proofs.Laws.{holds-agree}
+use Rattle.opening.specs.Opening.{Stand, definite}
+use Rattle.opening.proofs.Universe.{universe, in-one, in-two}
+use Rattle.quick.specs.Taken.{taken}
+use Rattle.quick.specs.Clear.{Outside}
+use Rattle.quick.specs.Passed.{Inputs, Ready}
+use Rattle.quick.specs.Stage.{Pair, Stage}
+use Rattle.quick.proofs.Clearing.{clear-taken}
+use Rattle.quick.proofs.Grounds.{ground, numbered-among}
+use Rattle.quick.proofs.Pairs.{own, whole-comes}
+use Rattle.quick.proofs.Rounds.{agree-joins}
+
+-- ---- definite graphs
+number-definite : (p n : ℕ) (d : Desc) → definite p n d .number ≡ n
+number-definite p n (desc g ds) = refl
+
+definite-taken : (t : List ℕ) (k : Marking) (d : Desc) (p n q m : ℕ) (at : At t p n (numbered n d) q m) → List·Memᴰ (definite p n d) (taken t k p n (numbered n d) q m at)
+definite-taken t k (desc g ds) p n q m at = List·Memᴰ·head refl
+
+both-fine : (d e : Desc) (p q m n left : ℕ) → WellFormed d left → WellFormed e left → Fine (graphs (definite p m d ∷ definite q n e ∷ []))
+both-fine (desc g ds) (desc h es) p q m n left a b = fine-cons g (h ∷ []) (a .0) (b .0, tt)
+
+both-joined : (d e : Desc) (p q m n : ℕ) (G : Graph) → join (graphs (definite p m d ∷ definite q n e ∷ [])) ≡ some G → joined-placed (numbered m d) (numbered n e) ≡ some (place G (beside (numbered m d) (numbered n e)))
+both-joined (desc g ds) (desc h es) p q m n G z = ap {B = Option Placed} (λ (o : Option Graph). elim o [ none ↦ none | some k ↦ some (place k (beside (numbered m (desc g ds)) (numbered n (desc h es)))) ]) z
+
+both-same : (d e : Desc) (p q m n left : ℕ) → WellFormed d left → WellFormed e left → (G : Graph) → join (graphs (definite p m d ∷ definite q n e ∷ [])) ≡ some G → Same (graphs (definite p m d ∷ definite q n e ∷ [])) (G ∷ [])
+both-same (desc g ds) (desc h es) p q m n left a b G z = joined-same g h G (a .0) (b .0) z
+
+-- where every disjunction has two or more alternatives, its own graph is all that is certain
+flat-proper : (d : Placed) → Proper (strip d) → flat (strip d) ≡ own d ∷ []
+flat-proper (place g ds) p = ap (λ (l : Ctx). g ∷ l) (proper-sure (strip-all ds) p)
+
+-- of two, the first or the second
+two-cases : (P : Entry → Type 0) (x y : Entry) → P x → P y → (o : Entry) → List·Memᴰ o (x ∷ y ∷ []) → P o
+two-cases P x y a b o i = ⊎-elim (λ e. subst P (sym e) a) (λ j. ⊎-elim (λ e. subst P (sym e) b) (λ l. absurd (List·Memᴰ·not-nil l)) (List·Memᴰ·cases-cons j)) (List·Memᴰ·cases-cons i)
+
+module _ (w : List ℕ) (d e : Desc) (n : ℕ) (long : SIZE ≤ length w) (wd : WellFormed d depth-limit) (we : WellFormed e depth-limit) (fd : length (layout.words d) ≤ input-limit) (fe : length (layout.words e) ≤ input-limit) (s : Stand (words w) d e n) where
+  abbrev t : List ℕ
+  t = words w
+
+  abbrev half : ℕ
+  half = nodes-in d
+
+  abbrev a : Placed
+  a = numbered 0 d
+
+  abbrev b : Placed
+  b = numbered half e
+
+  abbrev end-a : ℕ
+  end-a = length (layout.words d)
+
+  abbrev end-b : ℕ
+  end-b = SECOND + length (layout.words e)
+
+  at-a : At t 0 0 a end-a half
+  at-a = let z : 0 + half ≡ half = omega arith in subst (λ (m : ℕ). At t 0 0 a end-a m) z (loaded-at t d 0 0 end-a (well-can d wd) (s .first))
+
+  at-b : At t SECOND half b end-b n
+  at-b = subst (λ (m : ℕ). At t SECOND half b end-b m) (sym (s .count)) (loaded-at t e SECOND half end-b (well-can e we) (s .second))
+
+  abbrev inputs : Inputs n t
+  inputs = record {
+    U = universe d e;
+    ground = ground w d e n long wd we fd fe s;
+    a = a;
+    b = b;
+    end-a = end-a;
+    end-b = end-b;
+    half = half;
+    at-a = at-a;
+    at-b = at-b;
+    nests-a = well-nests d 0 depth-limit wd;
+    nests-b = well-nests e half depth-limit we;
+    among-a = numbered-among t (universe d e) d 0 0 0 end-a half refl at-a (λ x i. Memᴰ·append-left (entries SECOND half e) i);
+    among-b = numbered-among t (universe d e) e SECOND half half end-b n refl at-b (λ x i. Memᴰ·append-right (entries 0 0 d) i);
+  }
+
+  abbrev both : List Entry
+  both = definite 0 0 d ∷ definite SECOND half e ∷ []
+
+  module _ (k : ℕ) (held : Holds n both k w) where
+    ready : Ready n t inputs k w both
+    ready = record {
+      loaded = refl;
+      holds = held;
+      inside = two-cases (λ o. List·Memᴰ o (universe d e)) (definite 0 0 d) (definite SECOND half e) (in-one d e) (in-two d e);
+      clear-a = clear-taken t (marking w) both 0 0 a end-a half at-a (two-cases (λ o. Outside 0 half (o .number) ⊎ List·Memᴰ o (taken t (marking w) 0 0 a end-a half at-a)) (definite 0 0 d) (definite SECOND half e) (inr (definite-taken t (marking w) d 0 0 end-a half at-a)) (let z = number-definite SECOND half e in inl (inr (omega arith))));
+      clear-b = clear-taken t (marking w) both SECOND half b end-b n at-b (two-cases (λ o. Outside half n (o .number) ⊎ List·Memᴰ o (taken t (marking w) SECOND half b end-b n at-b)) (definite 0 0 d) (definite SECOND half e) (let z = number-definite 0 0 d in let m = nodes-some d (well-can d wd) in inl (inl (omega arith))) (inr (definite-taken t (marking w) e SECOND half end-b n at-b)));
+    }
+
+    joins : Agrees (graphs both)
+    joins = agree-joins (graphs both) (both-fine d e 0 SECOND 0 half depth-limit wd we) (holds-agree n both k w held)
+
+    abbrev pair : Pair n t
+    pair = record {
+      d = d;
+      e = e;
+      first-well = wd;
+      second-well = we;
+      first-few = fd;
+      second-few = fe;
+      inputs = inputs;
+      first-is = refl;
+      second-is = refl;
+      j = place (joins .0) (beside a b);
+      joined = both-joined d e 0 SECOND 0 half (joins .0) (joins .1);
+    }
+
+    same : marking w ≡ all-kept → Same (graphs both) (flat (strip (keep (marking w) (pair .j))))
+    same every =
+        let z : flat (strip (keep (marking w) (pair .j))) ≡ joins .0 ∷ [] = ap (λ (m : Marking). flat (strip (keep m (pair .j)))) every ∙ ap (λ (z : Placed). flat (strip z)) (keep-all-marked (pair .j)) ∙ flat-proper (pair .j) (whole-comes n t pair .1) in
+        subst (λ (l : Ctx). Same (graphs both) l) (sym z) (both-same d e 0 SECOND 0 half depth-limit wd we (joins .0) (joins .1))
+
+    pub first-stage : marking w ≡ all-kept → (p : Pair n (words w)) × ((p .d ≡ d) × ((p .e ≡ e) × Stage n (words w) p k w))
+    first-stage every = (pair, (refl, (refl, record { es = both; ready = ready; same = same every })))
