@@ -1,2 +1,4 @@
 pub mod Token
 pub mod Call
+pub mod Answer
+pub mod Going
