@@ -1,17 +1,23 @@
--- Lines of an answer: words one by one, the second line after 0 only, and how long an answer is.
+-- Lines of an answer: words one by one, the second line after 0 only, how long an answer is, and that words read back.
 -- Assumes nothing.
 use Prim.Native.Nat.{ℕ, zero, suc, _+_, _*_, _≤_, _<_}
 use native.Mathlib.Omega.{arith}
 use native.Mathlib.Numerals.{add-one}
 use mathlib.Core.Path.{_≡_, refl, sym, ap, _∙_}
 use mathlib.Core.Bool.{Bool, true, false}
-use mathlib.Core.List.{List, [], _∷_, _++_, append-nil}
-use lib.ListN.{length, getD, drop, drop-of-length-le, length-append}
-use lib.Seq.{drop-cons}
+use mathlib.Core.Option.{some}
+use mathlib.Core.List.{List, [], _∷_, _++_, append-assoc}
+use lib.ListN.{length, getD, take, drop, drop-of-length-le, length-append}
+use lib.Seq.{drop-cons, take-at}
 use lib.Dec.{eqb}
-use borrow.Author.Tests.{eq-eqb, ne-eqb, eqb-true}
-use Rattle.meet_text.specs.Answer.{decimal, after-spaces, spaced, newline, answer-label, words-label, readings-label, labelled, first-line, second-line, answer-text}
-use Rattle.meet_text.proofs.Decimals.{decimal-most}
+use borrow.Author.Tests.{eq-eqb, ne-eqb}
+use Rattle.meet_text.specs.declared.line.Written.{Written}
+use Rattle.meet_text.specs.declared.line.Written.the-variants.{Bytes, NoRoom}
+use Rattle.meet_text.specs.Token.{blank, largest, token, is}
+use Rattle.meet_text.specs.Call.{before, words-in}
+use Rattle.meet_text.specs.Answer.{decimal, after-spaces, spaced, newline, answer-label, words-label, readings-label, labelled, first-line, second-line, answer-text, Wrote}
+use Rattle.meet_text.proofs.Decimals.{decimal-most, Parted, reads-back}
+use Rattle.meet_text.proofs.Runs.{words-zero, words-is}
 
 -- ---- a run of bytes or of words from a position on
 pub next : (l : List ℕ) (i : ℕ) → i < length l → drop i l ≡ getD l i 0 ∷ drop (i + 1) l
@@ -46,35 +52,32 @@ module _ (number : ℕ) (ws : List ℕ) where
   second-none e = sym (ap {B = List ℕ} (λ (t : Bool). elim t [ true ↦ spaced ws ++ newline | false ↦ [] ]) (ne-eqb number 0 e))
 
 -- ---- how long an answer is
-abbrev pub word-limit : ℕ
-word-limit = 4294967296
-
-ten-digits : (v : ℕ) → v < word-limit → length (decimal v) ≤ 10
+ten-digits : (v : ℕ) → v ≤ largest → length (decimal v) ≤ 10
 ten-digits v h = decimal-most 9 v (omega arith)
 
-labelled-most : (label : List ℕ) (v : ℕ) → v < word-limit → length (labelled label v) ≤ length label + 10
+labelled-most : (label : List ℕ) (v : ℕ) → v ≤ largest → length (labelled label v) ≤ length label + 10
 unfolding labelled
 labelled-most label v h = let d = ten-digits v h in let e = length-append label (decimal v) in omega arith
 
-spaces-most : (ws : List ℕ) → ((i : ℕ) → getD ws i 0 < word-limit) → length (after-spaces ws) ≤ 11 * length ws
+spaces-most : (ws : List ℕ) → ((i : ℕ) → i < length ws → getD ws i 0 ≤ largest) → length (after-spaces ws) ≤ 11 * length ws
 unfolding after-spaces
 spaces-most [] h = omega arith
 spaces-most (w ∷ ws) h =
-    let d = ten-digits w (h 0) in
+    let d = ten-digits w (h 0 (omega arith)) in
     let e = length-append (decimal w) (after-spaces ws) in
-    let i = spaces-most ws (λ i. h (suc i)) in
+    let i = spaces-most ws (λ i l. h (suc i) (omega arith)) in
     omega arith
 
-spaced-most : (ws : List ℕ) → ((i : ℕ) → getD ws i 0 < word-limit) → length (spaced ws) ≤ 11 * length ws
+spaced-most : (ws : List ℕ) → ((i : ℕ) → i < length ws → getD ws i 0 ≤ largest) → length (spaced ws) ≤ 11 * length ws
 unfolding spaced
 spaced-most [] h = omega arith
 spaced-most (w ∷ ws) h =
-    let d = ten-digits w (h 0) in
+    let d = ten-digits w (h 0 (omega arith)) in
     let e = length-append (decimal w) (after-spaces ws) in
-    let i = spaces-most ws (λ i. h (suc i)) in
+    let i = spaces-most ws (λ i l. h (suc i) (omega arith)) in
     omega arith
 
-module _ (number count readings : ℕ) (few : number < word-limit) (short : count < word-limit) (known : readings < word-limit) where
+module _ (number count readings : ℕ) (few : number ≤ largest) (short : count ≤ largest) (known : readings ≤ largest) where
   first-most : length (first-line number count readings) ≤ 55
   unfolding first-line
   first-most =
@@ -86,7 +89,7 @@ module _ (number count readings : ℕ) (few : number < word-limit) (short : coun
       let z = length-append (labelled readings-label readings) newline in
       omega arith
 
-  module _ (ws : List ℕ) (fits : (i : ℕ) → getD ws i 0 < word-limit) where
+  module _ (ws : List ℕ) (fits : (i : ℕ) → i < length ws → getD ws i 0 ≤ largest) where
     second-most : length (second-line number ws) ≤ 11 * length ws + 1
     unfolding second-line
     second-most = go (eqb number 0)
@@ -103,3 +106,47 @@ module _ (number count readings : ℕ) (few : number < word-limit) (short : coun
         let b = second-most in
         let e = length-append (first-line number count readings) (second-line number ws) in
         omega arith
+
+-- ---- what an answer of the writer says
+module _ (text dst : List ℕ) where
+  -- what is written is the text
+  pub wrote-text : (dst′ : List ℕ) (n : ℕ) → Wrote text dst dst′ (Bytes n) → take n dst′ ≡ text
+  wrote-text dst′ n w = ap (take n) (w .2) ∙ take-at text (drop n dst) n (sym (w .0))
+
+  -- where there is room, the text is written
+  pub wrote-fits : (dst′ : List ℕ) (r : Written) → Wrote text dst dst′ r → length text ≤ length dst → (r ≡ Bytes (length text)) × (dst′ ≡ text ++ drop (length text) dst)
+  wrote-fits dst′ (Bytes n) w h = (ap Bytes (w .0), w .2 ∙ ap (λ (k : ℕ). text ++ drop k dst) (w .0))
+  wrote-fits dst′ NoRoom w h = absurd (omega arith)
+
+  -- one answer only is allowed
+  pub wrote-one : (d e : List ℕ) (r s : Written) → Wrote text dst d r → Wrote text dst e s → r ≡ s
+  wrote-one d e (Bytes n) s v w = ap Bytes (v .0) ∙ sym (wrote-fits e s w (let q = v .0 in let z = v .1 in omega arith) .0)
+  wrote-one d e NoRoom (Bytes k) v w = absurd (let q = w .0 in let z = w .1 in omega arith)
+  wrote-one d e NoRoom NoRoom v w = refl
+
+-- ---- reading back
+after-parted : (ws rest : List ℕ) → Parted rest → Parted (after-spaces ws ++ rest)
+unfolding after-spaces blank
+after-parted [] rest p = p
+after-parted (w ∷ ws) rest p = refl
+
+space-skipped : (cs : List ℕ) → token (32 ∷ cs) ≡ token cs
+unfolding token blank
+space-skipped cs = refl
+
+after-back : (ws rest : List ℕ) → ((i : ℕ) → i < length ws → getD ws i 0 ≤ largest) → Parted rest → words-in (length ws) (after-spaces ws ++ rest) ≡ some (ws, rest)
+unfolding after-spaces
+after-back [] rest h p = words-zero rest
+after-back (w ∷ ws) rest h p =
+    let left : List ℕ = after-spaces ws ++ rest in
+    let e : token (32 ∷ ((decimal w ++ after-spaces ws) ++ rest)) ≡ is w left = space-skipped ((decimal w ++ after-spaces ws) ++ rest) ∙ ap token (append-assoc (decimal w) (after-spaces ws) rest) ∙ reads-back w left (h 0 (omega arith)) (after-parted ws rest p) in
+    words-is (length ws) (32 ∷ ((decimal w ++ after-spaces ws) ++ rest)) w left e ∙ ap (before (w ∷ [])) (after-back ws rest (λ i l. h (suc i) (omega arith)) p)
+
+-- words that are written read back as themselves
+pub words-back : (ws rest : List ℕ) → ((i : ℕ) → i < length ws → getD ws i 0 ≤ largest) → Parted rest → words-in (length ws) (spaced ws ++ rest) ≡ some (ws, rest)
+unfolding spaced
+words-back [] rest h p = words-zero rest
+words-back (w ∷ ws) rest h p =
+    let left : List ℕ = after-spaces ws ++ rest in
+    let e : token ((decimal w ++ after-spaces ws) ++ rest) ≡ is w left = ap token (append-assoc (decimal w) (after-spaces ws) rest) ∙ reads-back w left (h 0 (omega arith)) (after-parted ws rest p) in
+    words-is (length ws) ((decimal w ++ after-spaces ws) ++ rest) w left e ∙ ap (before (w ∷ [])) (after-back ws rest (λ i l. h (suc i) (omega arith)) p)

@@ -22,11 +22,11 @@ before-nil : (o : Option Taken) → before [] o ≡ o
 before-nil none = refl
 before-nil (some p) = refl
 
-words-zero : (cs : List ℕ) → words-in 0 cs ≡ some ([], cs)
+pub words-zero : (cs : List ℕ) → words-in 0 cs ≡ some ([], cs)
 unfolding words-in
 words-zero cs = refl
 
-words-is : (n : ℕ) (cs : List ℕ) (v : ℕ) (rest : List ℕ) → token cs ≡ is v rest → words-in (suc n) cs ≡ before (v ∷ []) (words-in n rest)
+pub words-is : (n : ℕ) (cs : List ℕ) (v : ℕ) (rest : List ℕ) → token cs ≡ is v rest → words-in (suc n) cs ≡ before (v ∷ []) (words-in n rest)
 unfolding words-in
 words-is n cs v rest e = ap {B = Option Taken} (λ (s : Start). elim s [ is v rest ↦ before (v ∷ []) (words-in n rest) | over ↦ none | bad ↦ none ]) e
 

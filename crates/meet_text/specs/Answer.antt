@@ -60,7 +60,7 @@ answer-text number length readings words = first-line number length readings ++ 
 abbrev pub bad-text : List ℕ
 bad-text = 98 ∷ 97 ∷ 100 ∷ 32 ∷ 105 ∷ 110 ∷ 112 ∷ 117 ∷ 116 ∷ 10 ∷ []
 
--- the text stands at the start of dst, and what follows it there stays; or it is longer than dst, of which then nothing more is said than its length
+-- the text stands at the start of dst, and what stood after it stays; or the text is longer than dst, and what dst then holds is not said
 abbrev pub Wrote : List ℕ → List ℕ → List ℕ → Written → Type 0
 Wrote text dst dst′ (Bytes n) = (n ≡ length text) × (n ≤ length dst) × (dst′ ≡ text ++ drop n dst)
 Wrote text dst dst′ NoRoom = length dst < length text

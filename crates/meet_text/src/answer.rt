@@ -4,16 +4,10 @@ use crate::line::put;
 use crate::line::put_labelled;
 use crate::line::put_run;
 use crate::line::put_words_line;
-ghost use mathlib.Core.Path.{_≡_};
+use crate::line::wide;
 ghost use mathlib.Core.List.{_++_};
 ghost use Rattle.meet_text.specs.Answer.{first-line, labelled, readings-label, newline, answer-text, bad-text, Wrote};
 ghost use Rattle.meet_text.specs.Going.{Appends};
-
-fn wide(x: u32) -> u64
-    ensures { λ r. ⌜ r ≡ x ⌝ }
-{
-    x as u64
-}
 
 // Writes how many readings there are, and ends the line.
 fn put_readings(dst: &mut [u8], at: usize, readings: u32) -> Written

@@ -13,7 +13,7 @@ pub enum Written {
 }
 
 // Writes one byte.
-pub fn put(dst: &mut [u8], at: usize, byte: u8) -> Written
+pub(crate) fn put(dst: &mut [u8], at: usize, byte: u8) -> Written
     ensures { λ r. ⌜ Appends (byte ∷ []) (now (dst .entry)) at (now (dst .exit)) r ⌝ }
 {
     if at < dst.len() {
@@ -24,7 +24,7 @@ pub fn put(dst: &mut [u8], at: usize, byte: u8) -> Written
 }
 
 // Writes a run of bytes.
-pub fn put_run(dst: &mut [u8], at: usize, run: &[u8]) -> Written
+pub(crate) fn put_run(dst: &mut [u8], at: usize, run: &[u8]) -> Written
     ensures { λ r. ⌜ Appends (now (run .entry)) (now (dst .entry)) at (now (dst .exit)) r ⌝ }
 {
     let mut end = at;
@@ -54,7 +54,7 @@ fn digit_byte(d: u64) -> u8
 }
 
 // Writes a number in decimal: what stands before its last digit, and that digit.
-pub fn put_decimal(dst: &mut [u8], at: usize, value: u64) -> Written
+fn put_decimal(dst: &mut [u8], at: usize, value: u64) -> Written
     ensures { λ r. ⌜ Appends (decimal value) (now (dst .entry)) at (now (dst .exit)) r ⌝ }
 {
     if value < 10 {
@@ -68,7 +68,7 @@ pub fn put_decimal(dst: &mut [u8], at: usize, value: u64) -> Written
 }
 
 // Writes a label and a number.
-pub fn put_labelled(dst: &mut [u8], at: usize, label: &[u8], value: u64) -> Written
+pub(crate) fn put_labelled(dst: &mut [u8], at: usize, label: &[u8], value: u64) -> Written
     ensures { λ r. ⌜ Appends (labelled (now (label .entry)) value) (now (dst .entry)) at (now (dst .exit)) r ⌝ }
 {
     let front = put_run(dst, at, label);
@@ -78,7 +78,7 @@ pub fn put_labelled(dst: &mut [u8], at: usize, label: &[u8], value: u64) -> Writ
     put_decimal(dst, next, value)
 }
 
-fn wide(x: u32) -> u64
+pub(crate) fn wide(x: u32) -> u64
     ensures { λ r. ⌜ r ≡ x ⌝ }
 {
     x as u64
@@ -118,7 +118,7 @@ fn put_others(dst: &mut [u8], at: usize, words: &[u32]) -> Written
 }
 
 // Writes the words parted by single spaces.
-pub fn put_words(dst: &mut [u8], at: usize, words: &[u32]) -> Written
+fn put_words(dst: &mut [u8], at: usize, words: &[u32]) -> Written
     ensures { λ r. ⌜ Appends (spaced (now (words .entry))) (now (dst .entry)) at (now (dst .exit)) r ⌝ }
 {
     if 0 < words.len() {
@@ -133,7 +133,7 @@ pub fn put_words(dst: &mut [u8], at: usize, words: &[u32]) -> Written
 }
 
 // Writes a line of words.
-pub fn put_words_line(dst: &mut [u8], at: usize, words: &[u32]) -> Written
+pub(crate) fn put_words_line(dst: &mut [u8], at: usize, words: &[u32]) -> Written
     ensures { λ r. ⌜ Appends (spaced (now (words .entry)) ++ newline) (now (dst .entry)) at (now (dst .exit)) r ⌝ }
 {
     let front = put_words(dst, at, words);
