@@ -1,0 +1,128 @@
+-- One disjunction is put out: the disjunctions of the alternative that stands alone, or the number of kept alternatives and each of them.
+-- Assumes nothing.
+use Prim.Native.Nat.{ℕ, suc, _+_, _≤_, _<_}
+use native.Mathlib.Omega.{arith}
+use mathlib.Core.Path.{_≡_, refl, sym, ap, subst, _∙_}
+use mathlib.Core.Bool.{Bool, true, false}
+use mathlib.Core.List.{List, [], _∷_, _++_, append-nil}
+use lib.ListN.{length, set}
+use Rattle.theory.specs.Descr.{Disjs, end, _and_, Alts, fail, _or_, disjs, alts}
+use Rattle.theory.specs.Layout.{disjs-words, alts-words}
+use Rattle.theory.proofs.Mean.{CanAny}
+use Rattle.area.specs.Map.{RESULT}
+use Rattle.area.specs.Region.{words}
+use Rattle.area.proofs.Region.{words-many}
+use Rattle.engine.specs.Placed.{Placed, Options, no-more, option, strip, strip-any}
+use Rattle.engine.specs.Marks.{Marking, kept-of, keep, keep-any}
+use Rattle.engine.specs.Shown.{shown-all, shown-any}
+use Rattle.engine.proofs.Marks.{kept-alts}
+use Rattle.engine.proofs.Sane.{SaneAny}
+use Rattle.loading.specs.Numbered.{options}
+use Rattle.loading.specs.At.{AtAny}
+use Rattle.loading.proofs.Walking.{any-bounds, any-counts}
+use Rattle.marks.specs.Marked.{marking}
+use Rattle.marks.specs.Tallied.{from-kept, Alternatives, Tallied}
+use Rattle.quick.proofs.Certain.{Lone, lone-at}
+use Rattle.showing.specs.Putting.{Written, left-all, Disjoining, Disjoins, folded, Varying, Varies, Offering, Offers}
+use Rattle.showing.proofs.Written.{written-append, written-word, based}
+use Rattle.showing.proofs.Leaving.{shown-alone, shown-several, shown-count}
+use Rattle.showing.proofs.Describing.{inner-can, inner-sane}
+
+kept-few : (m : Marking) (a : Options) → kept-of m a ≤ options a
+kept-few m no-more = omega arith
+kept-few m (option x d a) = go (m x) (kept-few m a)
+  where
+    go : (b : Bool) → kept-of m a ≤ options a → elim b [ true ↦ suc (kept-of m a) | false ↦ kept-of m a ] ≤ suc (options a)
+    go true h = omega arith
+    go false h = omega arith
+
+module _ (n : ℕ) (w : List ℕ) (p of left o : ℕ) (c : Varying n w p of left o) where
+  abbrev m : Marking
+  m = c .base .m
+
+  abbrev t : List ℕ
+  t = c .base .t
+
+  abbrev rest : Alts
+  rest = strip-any (keep-any m (c .lies .a))
+
+  abbrev counted : Alternatives w p of
+  counted = record {
+    room = c .base .holds .long;
+    a = c .lies .a;
+    n = c .lies .from;
+    q = c .lies .end;
+    m = c .lies .to;
+    at = subst (λ (s : List ℕ). AtAny s p (c .lies .from) (c .lies .a) (c .lies .end) (c .lies .to)) (sym (c .base .loaded)) (c .lies .at);
+    low = omega (arith, c .lies .low, c .base .ground .few);
+    many = c .lies .many;
+  }
+
+  pub vary-counts : Alternatives w p of
+  vary-counts = counted
+
+  module _ (kept first after : ℕ) (tally : (s : Alternatives w p of) → Tallied w s kept first after) where
+    told : Tallied w counted kept first after
+    told = tally counted
+
+    kept-is : kept ≡ kept-of m (c .lies .a)
+    kept-is = told .kept-are ∙ ap (λ (k : Marking). kept-of k (c .lies .a)) (c .base .marks)
+
+    pub vary-small : kept ≤ 2048
+    vary-small = omega (arith, kept-is, kept-few m (c .lies .a), any-counts t (c .lies .a) p (c .lies .from) (c .lies .end) (c .lies .to) (c .lies .within) (c .lies .at), any-bounds t (c .lies .a) p (c .lies .from) (c .lies .end) (c .lies .to) (c .lies .within) (c .lies .at) .1, words-many w (c .base .holds .long), ap length (c .base .loaded))
+
+    -- ---- one stands alone
+    module _ (one : kept ≡ 1) where
+      abbrev lone : Lone (c .base .U) t m left p (c .lies .from) (c .lies .a) (c .lies .end) (c .lies .to) (c .lies .at) first
+      lone = lone-at (c .base .U) t (words w) m left (c .lies .a) p (c .lies .from) (c .lies .end) (c .lies .to) (c .lies .within) (c .lies .at) (c .lies .among) (c .lies .nests) (sym kept-is ∙ one) first (told .first-is .0)
+          (subst (λ (k : Marking). AtAny (words w) first (told .first-is .0) (from-kept k (c .lies .a)) (c .lies .end) (c .lies .to)) (c .base .marks) (told .first-is .1))
+
+      alone : folded m (c .lies .a) ≡ shown-all (left-all m (lone .d))
+      alone = ap (λ (x : Alts). shown-all (x and end)) (lone .left-is) ∙ shown-alone (lone .d) m
+
+      pub vary-inner : Disjoining n w first left o
+      vary-inner = record {
+        base = c .base;
+        lies = record { d = lone .d; from = lone .from; end = lone .end; to = lone .to; at = lone .here; low = omega (arith, c .lies .low, lone .high); nests = lone .nests; among = lone .among };
+        can = inner-can (lone .d) m (subst CanAny (lone .left-is) (c .can) .0);
+        sane = inner-sane (lone .d) m (subst SaneAny (lone .left-is) (c .sane) .0);
+        room = omega (arith, c .room, ap (λ (x : Disjs). length (disjs-words x)) alone);
+      }
+
+      pub vary-one : (r count : ℕ) (w₁ : List ℕ) → Disjoins n w first left o r count w₁ → Written n w o (disjs-words (folded m (c .lies .a))) r w₁ × (count ≡ disjs (folded m (c .lies .a))) × (after ≡ c .lies .end)
+      unfolding vary-inner
+      vary-one r count w₁ u = let x = u vary-inner in (subst (λ (y : Disjs). Written n w o (disjs-words y) r w₁) (sym alone) (x .0), x .1 ∙ ap disjs (sym alone), told .after-is)
+
+    -- ---- none or several are kept
+    module _ (not-one : kept ≡ 1 → ⊥) where
+      several : folded m (c .lies .a) ≡ shown-any rest and end
+      several = shown-several rest (λ e. not-one (kept-is ∙ kept-alts m (c .lies .a) ∙ e))
+
+      number : kept ≡ alts (shown-any rest)
+      number = kept-is ∙ kept-alts m (c .lies .a) ∙ sym (shown-count rest)
+
+      spread : disjs-words (folded m (c .lies .a)) ≡ kept ∷ alts-words (shown-any rest)
+      spread = ap disjs-words several ∙ append-nil (alts (shown-any rest) ∷ alts-words (shown-any rest)) ∙ ap (λ (k : ℕ). k ∷ alts-words (shown-any rest)) (sym number)
+
+      pub vary-room : (o < 2048) × (RESULT + o < length w)
+      vary-room = (omega (arith, c .room, ap length spread), omega (arith, c .room, ap length spread, c .base .holds .long))
+
+      word : Written n w o (kept ∷ []) (o + 1) (set w (RESULT + o) kept)
+      word = written-word n w o kept (vary-room .0) (c .base .holds)
+
+      pub vary-offers : Offering n (set w (RESULT + o) kept) p of left (o + 1)
+      vary-offers = record {
+        base = based n w (c .base) o (kept ∷ []) (o + 1) (set w (RESULT + o) kept) word;
+        lies = c .lies;
+        can = c .can;
+        sane = c .sane;
+        room = omega (arith, c .room, ap length spread);
+      }
+
+      pub vary-several : (r : ℕ) (w₁ : List ℕ) → Offers n (set w (RESULT + o) kept) p of left (o + 1) r w₁ → Written n w o (disjs-words (folded m (c .lies .a))) r w₁ × (1 ≡ disjs (folded m (c .lies .a))) × (after ≡ c .lies .end)
+      unfolding vary-offers
+      vary-several r w₁ u = (
+        subst (λ (xs : List ℕ). Written n w o xs r w₁) (sym spread) (written-append n w o (kept ∷ []) (o + 1) (set w (RESULT + o) kept) (alts-words (shown-any rest)) r w₁ word (u vary-offers)),
+        sym (ap disjs several),
+        told .after-is,
+      )

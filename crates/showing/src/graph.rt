@@ -1,0 +1,20 @@
+// The graph of a description, joined with all that is certain in it.
+use classes::push::Pushed;
+use classes::push::back;
+use quick::enter::enter;
+use writing::graph::write_graph;
+ghost use Rattle.showing.specs.Putting.{Describing, Leads};
+
+// Writes the graph of the description at g at o of the result. Where it ends.
+pub fn put_graph(w: &mut [u32], n: usize, g: usize, left: u32, o: usize) -> usize
+    requires { ⌜ Describing n (now w) g left o ⌝ }
+    ensures { λ r. ⌜ Leads n (now (w .entry)) g left o r (now (w .exit)) ⌝ }
+{
+    let pushed = enter(w, 0, n, g, left);
+    let Pushed::In(k) = pushed else {
+        return o;
+    };
+    let r = write_graph(w, k, n, o);
+    back(w, k, 0);
+    r
+}
