@@ -7,3 +7,4 @@ pub mod Disjoining
 pub mod Varying
 pub mod Offering
 pub mod Showing
+pub mod Fitting
