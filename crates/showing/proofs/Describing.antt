@@ -2,7 +2,7 @@
 -- Assumes nothing.
 use Prim.Native.Nat.{ℕ, _+_, _≤_, _<_}
 use native.Mathlib.Omega.{arith}
-use mathlib.Core.Path.{_≡_, sym, ap, subst, _∙_}
+use mathlib.Core.Path.{_≡_, sym, subst, _∙_}
 use mathlib.Core.List.{List, _∷_, _++_}
 use lib.ListN.{length, set}
 use Rattle.theory.specs.Descr.{Disjs, disjs}
@@ -54,9 +54,6 @@ module _ (n : ℕ) (w : List ℕ) (g left o e : ℕ) (w₁ : List ℕ) (u : Lead
 
     pub later-long : RESULT + e < length w₂
     later-long = omega (arith, told .0 .holds .long, near)
-
-    pub later-same : length w₂ ≡ length w
-    later-same = told .0 .len ∙ u c .len
 
     pub described : Written n w o (graph-words (lead (strip (keep (c .base .m) (c .lies .d)))) ++ disjs later ∷ disjs-words later) r (set w₂ (RESULT + e) count)
     described = subst (λ (k : ℕ). Written n w o (graph-words (lead (strip (keep (c .base .m) (c .lies .d)))) ++ k ∷ disjs-words later) r (set w₂ (RESULT + e) count)) (told .1)

@@ -3,9 +3,9 @@
 use Prim.Native.Nat.{ℕ, _+_, _-_, _≤_, _<_}
 use native.Mathlib.Omega.{arith}
 use mathlib.Core.Path.{_≡_, refl, sym, ap, subst, _∙_}
-use mathlib.Core.List.{List, [], _∷_, _++_, append-nil, append-assoc}
+use mathlib.Core.List.{List, [], _++_, append-nil, append-assoc}
 use lib.ListN.{length, length-append}
-use Rattle.theory.specs.Descr.{Disjs, end, _and_, _then_, Alts, disjs}
+use Rattle.theory.specs.Descr.{Disjs, end, _and_, disjs}
 use Rattle.theory.specs.Layout.{disjs-words}
 use Rattle.theory.proofs.Mean.{CanAll, CanAny}
 use Rattle.area.specs.Region.{words}
@@ -22,7 +22,7 @@ use Rattle.marks.specs.Positions.{tail-at, disjunctions-at, alternatives-at}
 use Rattle.marks.proofs.Reading.{read-at, tail-is, disjunctions-is, alternatives-is}
 use Rattle.counting.specs.Nesting.{Nests, NestsAll, NestsAny}
 use Rattle.quick.specs.Taken.{Among, AmongAll, AmongAny}
-use Rattle.showing.specs.Putting.{Written, Base, left-all, Disjoining, Disjoins, folded, Varying, Varies}
+use Rattle.showing.specs.Putting.{Written, Base, left-all, Disjoining, folded, Varying, Varies}
 use Rattle.showing.proofs.Written.{written-none, written-order, written-append, based}
 use Rattle.showing.proofs.Leaving.{then-words, then-count, shown-first, few-disjunctions, nothing-left}
 

@@ -1,36 +1,36 @@
 -- The graph of a description: what is entered joins to it.
 -- Assumes nothing.
-use Prim.Native.Nat.{ℕ, suc, _+_, _≤_, _<_}
+use Prim.Native.Nat.{ℕ, suc, _+_, _≤_}
 use native.Mathlib.Omega.{arith}
 use mathlib.Core.Path.{_≡_, refl, sym, ap, subst, _∙_}
 use mathlib.Core.Option.{Option, none, some}
-use mathlib.Core.List.{List, [], _∷_, _++_, List·Memᴰ·not-nil}
+use mathlib.Core.List.{List, [], _∷_, List·Memᴰ·not-nil}
 use lib.ListN.{length, length-append}
 use Rattle.theory.specs.Net.{Graph, Clash, Joined}
 use Rattle.theory.specs.Join.{join}
 use Rattle.theory.specs.Descr.{Desc, desc, disjs}
-use Rattle.theory.specs.Layout.{nodes-words, disjs-words}
+use Rattle.theory.specs.Layout.{disjs-words}
 use Rattle.theory.proofs.Instance.{join-some, none-join}
 use Rattle.theory.proofs.Mean.{Ctx, Fine}
-use Rattle.theory.proofs.Live.{Agrees, not-none}
+use Rattle.theory.proofs.Live.{not-none}
 use Rattle.theory.proofs.Weight.{weight}
-use Rattle.area.specs.Map.{WORDS, RESULT}
+use Rattle.area.specs.Map.{RESULT}
 use Rattle.layout.specs.Standing.{graph-words}
-use Rattle.engine.specs.Placed.{Placed, place, strip}
+use Rattle.engine.specs.Placed.{strip}
 use Rattle.engine.specs.Marks.{Marking, keep}
-use Rattle.engine.specs.Certain.{flat, sure}
+use Rattle.engine.specs.Certain.{flat}
 use Rattle.engine.specs.Shown.{or-else, shown-all}
 use Rattle.engine.proofs.Sane.{Sane, fine-flat}
-use Rattle.loading.specs.Entry.{Entry, graphs}
+use Rattle.loading.specs.Entry.{graphs}
 use Rattle.loading.proofs.Putting.{stands-frame}
 use Rattle.marks.specs.Marked.{marking}
-use Rattle.classes.specs.Holds.{Holds, Since, Backs, Remembers}
+use Rattle.classes.specs.Holds.{Backs, Remembers}
 use Rattle.classes.specs.declared.push.Pushed.{Pushed}
 use Rattle.classes.specs.declared.push.Pushed.the-variants.{In, Clashed}
 use Rattle.quick.specs.Entered.{Entering, entered, Enters}
 use Rattle.quick.proofs.Certain.{taken-flat}
 use Rattle.writing.specs.Writing.{Writing, Writes}
-use Rattle.showing.specs.Putting.{Written, Base, Describing, Leads, lead, left-all}
+use Rattle.showing.specs.Putting.{Written, Describing, lead, left-all}
 use Rattle.showing.proofs.Leaving.{description-words}
 
 -- what agrees joins to the graph that a description leads with

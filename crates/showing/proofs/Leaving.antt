@@ -2,20 +2,20 @@
 -- Assumes nothing.
 use Prim.Native.Nat.{ℕ, suc, _+_, _≤_}
 use native.Mathlib.Omega.{arith}
-use mathlib.Core.Path.{_≡_, refl, sym, ap, ap₂, _∙_}
-use mathlib.Core.List.{List, [], _∷_, _++_, append-nil, append-assoc}
-use lib.ListN.{length, length-append}
-use Rattle.theory.specs.Descr.{Desc, desc, Disjs, end, _and_, Alts, fail, _or_, _then_, disjs, alts}
-use Rattle.theory.specs.Layout.{nodes-words, words, disjs-words, alts-words}
+use mathlib.Core.Path.{_≡_, refl, sym, ap, _∙_}
+use mathlib.Core.List.{List, [], _∷_, _++_, append-assoc}
+use lib.ListN.{length}
+use Rattle.theory.specs.Descr.{Desc, Disjs, end, _and_, Alts, fail, _or_, _then_, disjs, alts}
+use Rattle.theory.specs.Layout.{words, disjs-words, alts-words}
 use Rattle.theory.proofs.Mean.{CanAll}
 use Rattle.layout.specs.Standing.{graph-words}
-use Rattle.engine.specs.Placed.{Placed, place, Places, stop, _also_, strip, strip-all, strip-any}
+use Rattle.engine.specs.Placed.{Placed, place, Places, stop, _also_, strip, strip-all}
 use Rattle.engine.specs.Marks.{Marking, keep, keep-all, keep-any}
 use Rattle.engine.specs.Beside.{_next_}
 use Rattle.engine.specs.Shown.{shown, shown-all, shown-then, shown-any, shown-in}
 use Rattle.engine.proofs.Sane.{SaneAll}
 use Rattle.loading.proofs.Sizes.{weights-fit-all}
-use Rattle.showing.specs.Putting.{lead, later, left-all}
+use Rattle.showing.specs.Putting.{lead, left-all}
 
 -- ---- disjunctions one after the other
 pub then-words : (x y : Disjs) → disjs-words (x then y) ≡ disjs-words x ++ disjs-words y

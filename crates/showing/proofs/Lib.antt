@@ -8,3 +8,7 @@ pub mod Varying
 pub mod Offering
 pub mod Showing
 pub mod Fitting
+pub mod Nodes
+pub mod Copying
+pub mod Looking
+pub mod Owning

@@ -4,7 +4,7 @@ use Prim.Native.Nat.{ℕ, _+_, _-_, _≤_, _<_}
 use native.Mathlib.Omega.{arith}
 use mathlib.Core.Path.{_≡_, refl, sym, ap, subst, _∙_}
 use mathlib.Core.Bool.{Bool, true, false}
-use mathlib.Core.List.{List, [], _∷_, _++_, append-nil, append-assoc}
+use mathlib.Core.List.{List, [], _++_, append-nil, append-assoc}
 use lib.ListN.{length, length-append}
 use Rattle.theory.specs.Descr.{Alts, _or_}
 use Rattle.theory.specs.Layout.{alts-words}
@@ -25,7 +25,7 @@ use Rattle.marks.specs.Marked.{marking}
 use Rattle.marks.proofs.Reading.{Read, read-option}
 use Rattle.counting.specs.Nesting.{NestsAny}
 use Rattle.quick.specs.Taken.{AmongAny}
-use Rattle.showing.specs.Putting.{Written, Base, Describing, Describes, Offering, Offers}
+use Rattle.showing.specs.Putting.{Written, Base, Describing, Describes, Offering}
 use Rattle.showing.proofs.Written.{written-none, written-order, written-append, based}
 use Rattle.showing.proofs.Leaving.{any-words, no-words}
 

@@ -2,25 +2,25 @@
 -- Assumes nothing.
 use Prim.Native.Nat.{ℕ, _+_, _≤_, _<_}
 use native.Mathlib.Omega.{arith}
-use mathlib.Core.Path.{_≡_, refl, sym, ap, ap₂, subst, _∙_}
+use mathlib.Core.Path.{_≡_, sym, ap, ap₂, subst, _∙_}
 use mathlib.Core.Option.{Option, none, some}
 use mathlib.Core.List.{List, [], _∷_, _++_}
 use lib.ListN.{length, getD, set, length-append}
 use Rattle.theory.specs.Limits.{depth-limit}
 use Rattle.theory.specs.Net.{Graph, Joined}
 use Rattle.theory.specs.Join.{join}
-use Rattle.theory.specs.Descr.{Desc, Disjs, _then_, disjs}
+use Rattle.theory.specs.Descr.{Disjs, _then_, disjs}
 use Rattle.theory.specs.Layout.{disjs-words}
 use Rattle.theory.specs.Layout as layout
 use Rattle.theory.proofs.Mean.{CanAll}
-use Rattle.area.specs.Map.{WORDS, RESULT, SECOND}
+use Rattle.area.specs.Map.{RESULT, SECOND}
 use Rattle.area.specs.Region.{words}
 use Rattle.layout.specs.Standing.{Stands, graph-words}
-use Rattle.engine.specs.Placed.{Placed, place, Places, strip, strip-all}
+use Rattle.engine.specs.Placed.{Placed, place, strip, strip-all}
 use Rattle.engine.specs.Marks.{Marking, keep, keep-all}
 use Rattle.engine.specs.Beside.{_next_, joined-placed}
 use Rattle.engine.specs.Certain.{flat}
-use Rattle.engine.specs.Shown.{shown, shown-all}
+use Rattle.engine.specs.Shown.{shown-all}
 use Rattle.engine.proofs.Entail.{join-both}
 use Rattle.engine.proofs.Sane.{SaneAll}
 use Rattle.engine.proofs.Beside.{strip-next}

@@ -2,28 +2,27 @@
 -- Assumes nothing.
 use Prim.Native.Nat.{ℕ, suc, _+_, _≤_, _<_}
 use native.Mathlib.Omega.{arith}
-use mathlib.Core.Path.{_≡_, refl, sym, ap, subst, _∙_}
+use mathlib.Core.Path.{_≡_, sym, ap, subst, _∙_}
 use mathlib.Core.Bool.{Bool, true, false}
-use mathlib.Core.List.{List, [], _∷_, _++_, append-nil}
+use mathlib.Core.List.{List, [], _∷_, append-nil}
 use lib.ListN.{length, set}
-use Rattle.theory.specs.Descr.{Disjs, end, _and_, Alts, fail, _or_, disjs, alts}
+use Rattle.theory.specs.Descr.{Disjs, end, _and_, Alts, _or_, disjs, alts}
 use Rattle.theory.specs.Layout.{disjs-words, alts-words}
 use Rattle.theory.proofs.Mean.{CanAny}
 use Rattle.area.specs.Map.{RESULT}
 use Rattle.area.specs.Region.{words}
 use Rattle.area.proofs.Region.{words-many}
-use Rattle.engine.specs.Placed.{Placed, Options, no-more, option, strip, strip-any}
-use Rattle.engine.specs.Marks.{Marking, kept-of, keep, keep-any}
+use Rattle.engine.specs.Placed.{Options, no-more, option, strip-any}
+use Rattle.engine.specs.Marks.{Marking, kept-of, keep-any}
 use Rattle.engine.specs.Shown.{shown-all, shown-any}
 use Rattle.engine.proofs.Marks.{kept-alts}
 use Rattle.engine.proofs.Sane.{SaneAny}
 use Rattle.loading.specs.Numbered.{options}
 use Rattle.loading.specs.At.{AtAny}
 use Rattle.loading.proofs.Walking.{any-bounds, any-counts}
-use Rattle.marks.specs.Marked.{marking}
 use Rattle.marks.specs.Tallied.{from-kept, Alternatives, Tallied}
 use Rattle.quick.proofs.Certain.{Lone, lone-at}
-use Rattle.showing.specs.Putting.{Written, left-all, Disjoining, Disjoins, folded, Varying, Varies, Offering, Offers}
+use Rattle.showing.specs.Putting.{Written, left-all, Disjoining, Disjoins, folded, Varying, Offering, Offers}
 use Rattle.showing.proofs.Written.{written-append, written-word, based}
 use Rattle.showing.proofs.Leaving.{shown-alone, shown-several, shown-count}
 use Rattle.showing.proofs.Describing.{inner-can, inner-sane}

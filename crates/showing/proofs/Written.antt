@@ -2,11 +2,11 @@
 -- Assumes nothing.
 use Prim.Native.Nat.{ℕ, _+_, _≤_, _<_}
 use native.Mathlib.Omega.{arith}
-use mathlib.Core.Path.{_≡_, refl, sym, subst, _∙_}
+use mathlib.Core.Path.{_≡_, refl, subst, _∙_}
 use mathlib.Core.List.{List, [], _∷_, _++_}
 use lib.ListN.{length, getD, set, length-set}
 use lib.Seq.{getD-set-same, getD-set-other}
-use Rattle.area.specs.Map.{WORDS, MARKS, RESULT, SIZE}
+use Rattle.area.specs.Map.{RESULT}
 use Rattle.area.specs.Region.{words}
 use Rattle.area.proofs.Region.{words-same}
 use Rattle.layout.specs.Standing.{Stands}

@@ -1,12 +1,14 @@
 // The graph of a description, joined with all that is certain in it.
+use crate::copy::copy_graph;
+use crate::lone::lone;
 use classes::push::Pushed;
 use classes::push::back;
 use quick::enter::enter;
 use writing::graph::write_graph;
 ghost use Rattle.showing.specs.Putting.{Describing, Leads};
 
-// Writes the graph of the description at g at o of the result. Where it ends.
-pub fn put_graph(w: &mut [u32], n: usize, g: usize, left: u32, o: usize) -> usize
+// Writes all that is certain in the description at g, joined: it is entered and taken back.
+fn join_graph(w: &mut [u32], n: usize, g: usize, left: u32, o: usize) -> usize
     requires { ⌜ Describing n (now w) g left o ⌝ }
     ensures { λ r. ⌜ Leads n (now (w .entry)) g left o r (now (w .exit)) ⌝ }
 {
@@ -17,4 +19,15 @@ pub fn put_graph(w: &mut [u32], n: usize, g: usize, left: u32, o: usize) -> usiz
     let r = write_graph(w, k, n, o);
     back(w, k, 0);
     r
+}
+
+// Writes the graph of the description at g at o of the result. Where it ends. A graph that nothing is joined to is copied, at the cost of its own words.
+pub fn put_graph(w: &mut [u32], n: usize, g: usize, left: u32, o: usize) -> usize
+    requires { ⌜ Describing n (now w) g left o ⌝ }
+    ensures { λ r. ⌜ Leads n (now (w .entry)) g left o r (now (w .exit)) ⌝ }
+{
+    if lone(w, g) {
+        return join_graph(w, n, g, left, o);
+    }
+    copy_graph(w, g, o)
 }

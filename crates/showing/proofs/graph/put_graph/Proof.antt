@@ -1,53 +1,44 @@
--- `showing::graph::put_graph` meets its contract: the description is entered, its joined graph written, and all taken back.
+-- `showing::graph::put_graph` meets its contract: the graph is joined with what is certain beside it, or copied.
 -- Assumes nothing.
-use mathlib.Core.Path.{_∙_}
+use Rattle.showing.proofs.Owning.{asks-look, asks-copy, owned}
 use borrow.Author.Needs.{needs}
-use Rattle.showing.proofs.Leading.{asks-enter, not-clashed, asks-write, asks-back, led}
 use Rattle.showing.proofs.graph.put_graph.Statement.{statement}
 use Rattle.showing.proofs.graph.put_graph.Tie as tie
 use Rattle.showing.proofs.graph.put_graph.Reads as reads
 use Rattle.showing.proofs.graph.put_graph.Lts as lts
-use Rattle.classes.proofs.push.back.Reads as back-reads
-use Rattle.quick.proofs.enter.enter.Reads as enter-reads
-use Rattle.writing.proofs.graph.write_graph.Reads as write-graph-reads
+use Rattle.showing.proofs.copy.copy_graph.Reads as copy-graph-reads
+use Rattle.showing.proofs.graph.join_graph.Reads as join-graph-reads
+use Rattle.showing.proofs.lone.lone.Reads as lone-reads
 
-enter-requires : tie.Need-enter-requires
-enter-requires c κs = asks-enter _ _ _ _ _ (c .before .before .pre)
+lone-requires : tie.Need-lone-requires
+lone-requires c κs = asks-look _ _ _ _ _ (c .before .before .pre)
 
-enum-known-pushed : tie.Need-enum-known-pushed
-enum-known-pushed c = search needs
-
-enum-told : tie.Need-enum-told
-enum-told c = search needs
+join-graph-requires : tie.Need-join-graph-requires
+join-graph-requires c κs = search needs
 
 same-length : tie.Need-same-length
 same-length c = search needs
 
 returns : tie.Need-returns
-returns c = λ d. absurd (not-clashed _ _ _ _ _ d _ _ (c .before .before .before .before .enter .ensures) (c .enum-told .given .1))
+returns c = search needs
 
-write-graph-requires : tie.Need-write-graph-requires
-write-graph-requires c κs = asks-write _ _ _ _ _ (c .before .before .before .before .before .before .before .before .before .pre) _ _ (c .before .before .before .before .before .before .enter .ensures) _ (c .before .before .pushed .given .1)
-
-back-requires : tie.Need-back-requires
-back-requires c κs = asks-back _ _ _ _ _ (c .before .before .before .before .before .before .before .before .before .before .before .before .before .pre) _ _ (c .before .before .before .before .before .before .before .before .before .before .enter .ensures) _ (c .before .before .before .before .before .before .pushed .given .1) _ _ (c .before .before .before .write-graph .ensures)
+copy-graph-requires : tie.Need-copy-graph-requires
+copy-graph-requires c κs = asks-copy _ _ _ _ _ (c .before .before .before .before .before .pre) _ (c .before .before .lone .ensures) (cc)
 
 same-length-2 : tie.Need-same-length-2
-same-length-2 c = search needs
+same-length-2 c = owned _ _ _ _ _ (c .before .before .before .before .before .before .before .before .pre) _ (c .before .before .before .before .before .lone .ensures) (cc) _ _ (c .before .before .copy-graph .ensures) .len
 
 returns-2 : tie.Need-returns-2
-returns-2 c = λ d. led _ _ _ _ _ d _ _ (c .before .before .before .before .before .before .before .before .before .before .before .before .before .enter .ensures) _ (c .before .before .before .before .before .before .before .before .before .pushed .given .1) _ _ (c .before .before .before .before .before .before .write-graph .ensures) _ (c .before .before .back .ensures)
+returns-2 c = λ d. owned _ _ _ _ _ d _ (c .before .before .before .before .before .lone .ensures) (cc) _ _ (c .before .before .copy-graph .ensures)
 
 pub put-graph-spec : {M : Type 1} → statement M
 put-graph-spec =
     tie.close
     (tie.spec
-    enter-requires
-    enum-known-pushed
-    enum-told
+    lone-requires
+    join-graph-requires
     same-length
     returns
-    write-graph-requires
-    back-requires
+    copy-graph-requires
     same-length-2
     returns-2)

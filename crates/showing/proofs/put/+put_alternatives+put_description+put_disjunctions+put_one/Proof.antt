@@ -2,12 +2,9 @@
 -- Assumes nothing.
 use Prim.Native.Nat.{ℕ, _+_, _*_, _<_}
 use native.Mathlib.Omega.{arith}
-use mathlib.Core.Path.{sym, _∙_}
 use mathlib.Core.Logic.{⊎-elim}
-use lib.ListN.{length-set}
-use borrow.Author.Needs.{needs}
 use Rattle.showing.specs.Putting.{Disjoining, Offering}
-use Rattle.showing.proofs.Describing.{graph-end, asks-later, later-few, later-long, later-same, describes}
+use Rattle.showing.proofs.Describing.{graph-end, asks-later, later-few, later-long, describes}
 use Rattle.showing.proofs.Disjoining as disjoining
 use Rattle.showing.proofs.Disjoining.{go-reads, go-start, go-done, go-small, go-same, go-here, go-deep, go-asks, go-few, go-on}
 use Rattle.showing.proofs.Varying.{vary-counts, vary-small, vary-inner, vary-one, vary-room, vary-offers, vary-several}

@@ -1,0 +1,173 @@
+-- A graph is copied node by node: what is still to be copied goes on to the whole.
+-- Assumes nothing.
+use Prim.Native.Nat.{ℕ, _+_, _-_, _%_, _≤_, _<_}
+use native.Mathlib.Omega.{arith}
+use mathlib.Core.Path.{_≡_, refl, sym, ap, subst, _∙_}
+use mathlib.Core.List.{List, [], _∷_, _++_, append-nil, append-assoc}
+use lib.ListN.{length, getD, set, length-set, length-append}
+use Rattle.theory.specs.Net.{Node, atom, arcs, Graph}
+use Rattle.theory.specs.Layout.{node-words, nodes-words}
+use Rattle.theory.proofs.Weight.{arc-length}
+use Rattle.area.specs.Map.{RESULT}
+use Rattle.area.specs.Region.{words}
+use Rattle.area.proofs.Region.{words-many}
+use Rattle.layout.specs.Standing.{Stands, graph-words}
+use Rattle.layout.proofs.Standing.{stands-append, stands-length, stands-within}
+use Rattle.engine.specs.Placed.{Placed, place}
+use Rattle.loading.specs.Loaded.{extent, number-step, moved-arcs, moved-node, located}
+use Rattle.loading.specs.Loading.{Put}
+use Rattle.loading.specs.At.{At}
+use Rattle.loading.proofs.Sizes.{moved-length}
+use Rattle.loading.proofs.Putting.{put-nil, put-append, put-one}
+use Rattle.loading.proofs.Walking.{at-header, at-counts}
+use Rattle.marks.specs.Positions.{number-at}
+use Rattle.marks.proofs.Reading.{read-at}
+use Rattle.showing.specs.Copying.{a-node, its-nodes, Copying, Copies, own, Graphing}
+use Rattle.showing.proofs.Nodes.{put-words, put-end}
+
+node-extent : (n : ℕ) (v : Node) → length (node-words (moved-node n v)) ≡ length (node-words v)
+node-extent n (atom a) = refl
+node-extent n (arcs l) = omega (arith, arc-length l, arc-length (moved-arcs n l), moved-length n l)
+
+module _ (w : List ℕ) (number p count o : ℕ) (c : Copying (its-nodes count) w number p o) where
+  -- `left` nodes are still to be copied, from `at` to `out`
+  pub record Nodes (left at out : ℕ) (w₁ : List ℕ) : Type 0 where
+    pub vs : Graph
+    pub many : length vs ≡ left
+    pub within : at ≤ length (words w)
+    pub stand : Stands (words w) at (located number vs) (c .q)
+    pub done : List ℕ
+    pub put : Put w w₁ (RESULT + o) done (RESULT + out)
+    pub is : nodes-words (c .x) ≡ done ++ nodes-words vs
+
+  pub nodes-start : Nodes count p o w
+  nodes-start = record { vs = c .x; many = c .fine; within = omega (arith, c .within, words-many w (c .long)); stand = c .stands; done = []; put = put-nil w (RESULT + o); is = refl }
+
+  module _ (left at out : ℕ) (w₁ : List ℕ) (v : Nodes left at out w₁) where
+    pub nodes-done : left ≤ 0 → Put w w₁ (RESULT + o) (nodes-words (c .x)) (RESULT + out)
+    nodes-done h = go (v .vs) (v .many) (v .is)
+      where
+        go : (vs : Graph) → length vs ≡ left → nodes-words (c .x) ≡ v .done ++ nodes-words vs → Put w w₁ (RESULT + o) (nodes-words (c .x)) (RESULT + out)
+        go [] e f = subst (λ (xs : List ℕ). Put w w₁ (RESULT + o) xs (RESULT + out)) (sym (f ∙ append-nil (v .done))) (v .put)
+        go (x ∷ l) e f = absurd (omega arith)
+
+    pub nodes-same : length w₁ ≡ length w
+    nodes-same = v .put .same
+
+    module _ (h : 0 < left) where
+      -- the next node
+      record Next : Type 0 where
+        x : Node
+        vs : Graph
+        later : length vs + 1 ≡ left
+        q : ℕ
+        first : Stands (words w) at (node-words (moved-node number x)) q
+        stand : Stands (words w) q (located number vs) (c .q)
+        whole : nodes-words (c .x) ≡ (v .done ++ node-words x) ++ nodes-words vs
+
+      next : Next
+      next = go (v .vs) (v .many) (v .stand) (v .is)
+        where
+          go : (vs : Graph) → length vs ≡ left → Stands (words w) at (located number vs) (c .q) → nodes-words (c .x) ≡ v .done ++ nodes-words vs → Next
+          go [] e s f = absurd (omega arith)
+          go (x ∷ vs) e s f =
+              let parts = stands-append (words w) (node-words (moved-node number x)) (located number vs) at (c .q) .0 s in
+              record { x = x; vs = vs; later = omega arith; q = parts .0; first = parts .1; stand = parts .2; whole = f ∙ sym (append-assoc (v .done) (node-words x) (nodes-words vs)) }
+
+      loaded : words w₁ ≡ words w
+      loaded = put-words w w₁ o (v .done) (RESULT + out) (c .long) (v .put)
+
+      pub nodes-asks : Copying a-node w₁ number at out
+      nodes-asks =
+          let x = next in
+          let long = c .long in
+          let same = v .put .same in
+          record {
+            long = omega arith;
+            x = x .x;
+            fine = tt;
+            q = x .q;
+            within = omega (arith, v .within, words-many w (c .long));
+            stands = subst (λ (u : List ℕ). Stands u at (node-words (moved-node number (x .x))) (x .q)) (sym loaded) (x .first);
+            room = omega (arith, c .room, put-end w w₁ o (v .done) out (v .put), ap length (x .whole), length-append (v .done ++ node-words (x .x)) (nodes-words (x .vs)), length-append (v .done) (node-words (x .x)));
+          }
+
+      module _ (r : ℕ) (w₂ : List ℕ) (u : Copies a-node w₁ number at out r w₂) where
+        told : Put w₁ w₂ (RESULT + out) (node-words (next .x)) (RESULT + r)
+        unfolding nodes-asks
+        told = u nodes-asks
+
+        far : next .q ≡ at + (r - out)
+        far = omega (arith, stands-length (words w) (node-words (moved-node number (next .x))) at (next .q) (next .first), put-end w₁ w₂ out (node-words (next .x)) r told, node-extent number (next .x))
+
+        inside : next .q ≤ length (words w)
+        inside = stands-within (words w) (node-words (moved-node number (next .x))) at (next .q) (v .within) (next .first)
+
+        pub nodes-near : (out ≤ r) × (at + (r - out) ≤ 2048)
+        nodes-near = (omega (arith, put-end w₁ w₂ out (node-words (next .x)) r told), omega (arith, far, inside, words-many w (c .long)))
+
+        pub nodes-on : Nodes (left - 1) (at + (r - out)) r w₂
+        nodes-on =
+            let x = next in
+            let k = x .later in
+            subst (λ (j : ℕ). Nodes (left - 1) j r w₂) far (record {
+              vs = x .vs;
+              many = omega arith;
+              within = inside;
+              stand = x .stand;
+              done = v .done ++ node-words (x .x);
+              put = put-append w w₁ w₂ (v .done) (node-words (x .x)) (RESULT + o) (RESULT + out) (RESULT + r) (v .put) told;
+              is = x .whole;
+            })
+
+-- ---- a graph
+module _ (w : List ℕ) (g o : ℕ) (c : Graphing w g o) where
+  -- what is read of its header
+  pub graph-here : (g + 1 < 2048) × (number-at w g ≡ c .from) × (getD (words w) g 0 % number-step ≡ length (own (c .d))) × (c .from < number-step) × (length (own (c .d)) < number-step)
+  graph-here = go (c .d) (c .at)
+    where
+      go : (d : Placed) → At (words w) g (c .from) d (c .end) (c .to) → (g + 1 < 2048) × (number-at w g ≡ c .from) × (getD (words w) g 0 % number-step ≡ length (own d)) × (c .from < number-step) × (length (own d) < number-step)
+      go (place K ds) at =
+          let r = read-at w (c .long) (place K ds) g (c .from) (c .end) (c .to) at (c .low) in
+          let counts = at-counts (words w) K ds g (c .from) (c .end) (c .to) at in
+          let few = counts .2 in
+          let near = counts .1 in
+          let end = r .end in
+          let low = c .low in
+          (omega arith, r .number, at-header (words w) K ds g (c .from) (c .end) (c .to) at (c .low) .0, omega arith, omega arith)
+
+  pub graph-room : (o < 2048) × (RESULT + o < length w)
+  graph-room = let r = c .room in let l = c .long in (omega arith, omega arith)
+
+  module _ (count : ℕ) (is : count ≡ length (own (c .d))) where
+    one : Put w (set w (RESULT + o) count) (RESULT + o) (count ∷ []) (RESULT + (o + 1))
+    one =
+        let far = graph-room .1 in
+        let end : RESULT + o + 1 ≡ RESULT + (o + 1) = omega arith in
+        subst (λ (j : ℕ). Put w (set w (RESULT + o) count) (RESULT + o) (count ∷ []) j) end (put-one w count (RESULT + o) far)
+
+    stand : Stands (words w) (g + 1) (located (c .from) (own (c .d))) (g + extent (own (c .d)))
+    stand = go (c .d) (c .at)
+      where
+        go : (d : Placed) → At (words w) g (c .from) d (c .end) (c .to) → Stands (words w) (g + 1) (located (c .from) (own d)) (g + extent (own d))
+        go (place K ds) at = at .3
+
+    pub graph-asks : (number : ℕ) → number ≡ c .from → Copying (its-nodes count) (set w (RESULT + o) count) number (g + 1) (o + 1)
+    graph-asks number e =
+        let long = c .long in
+        let room = c .room in
+        let same = length-set w (RESULT + o) count in
+        record {
+          long = omega arith;
+          x = own (c .d);
+          fine = sym is;
+          q = g + extent (own (c .d));
+          within = (let h = graph-here .0 in omega arith);
+          stands = subst (λ (n : ℕ). Stands (words (set w (RESULT + o) count)) (g + 1) (located n (own (c .d))) (g + extent (own (c .d)))) (sym e)
+              (subst (λ (u : List ℕ). Stands u (g + 1) (located (c .from) (own (c .d))) (g + extent (own (c .d)))) (sym (put-words w (set w (RESULT + o) count) o (count ∷ []) (RESULT + (o + 1)) (c .long) one)) stand);
+          room = omega arith;
+        }
+
+    pub graph-copied : (number : ℕ) → number ≡ c .from → (r : ℕ) (w₁ : List ℕ) → Copies (its-nodes count) (set w (RESULT + o) count) number (g + 1) (o + 1) r w₁ → Put w w₁ (RESULT + o) (graph-words (own (c .d))) (RESULT + r)
+    unfolding graph-asks
+    graph-copied number e r w₁ u = subst (λ (k : ℕ). Put w w₁ (RESULT + o) (k ∷ nodes-words (own (c .d))) (RESULT + r)) is (put-append w (set w (RESULT + o) count) w₁ (count ∷ []) (nodes-words (own (c .d))) (RESULT + o) (RESULT + (o + 1)) (RESULT + r) one (u (graph-asks number e)))

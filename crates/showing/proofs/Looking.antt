@@ -1,0 +1,122 @@
+-- The disjunctions of a description are looked through for one with one alternative left.
+-- Assumes nothing.
+use Prim.Native.Nat.{ℕ, _+_, _-_, _≤_, _<_}
+use native.Mathlib.Omega.{arith}
+use mathlib.Core.Path.{_≡_, refl, sym, ap, subst, _∙_}
+use mathlib.Core.List.{List, [], _++_}
+use lib.ListN.{length}
+use Rattle.theory.specs.Net.{Graph}
+use Rattle.theory.specs.Descr.{Alts, fail, _or_, alts}
+use Rattle.area.specs.Region.{words}
+use Rattle.area.proofs.Region.{words-many}
+use Rattle.engine.specs.Placed.{Placed, place, Places, stop, _also_, Options, strip-all, strip-any}
+use Rattle.engine.specs.Marks.{Marking, keep-all, keep-any}
+use Rattle.engine.specs.Certain.{sure, sure-any}
+use Rattle.engine.proofs.Marks.{kept-alts}
+use Rattle.loading.specs.Loaded.{extent}
+use Rattle.loading.specs.Numbered.{places, options}
+use Rattle.loading.specs.At.{At, AtAll, AtAny}
+use Rattle.loading.proofs.Walking.{all-bounds, any-bounds}
+use Rattle.marks.specs.Positions.{tail-at, disjunctions-at, alternatives-at}
+use Rattle.marks.specs.Marked.{marking}
+use Rattle.marks.specs.Tallied.{Alternatives, Tallied}
+use Rattle.marks.proofs.Reading.{read-at, tail-is, disjunctions-is, alternatives-is}
+use Rattle.showing.specs.Putting.{left-all}
+use Rattle.showing.specs.Alone.{Looking}
+
+-- none is certain where none or several are left
+several-sure : (a : Alts) → (alts a ≡ 1 → ⊥) → sure-any a ≡ []
+several-sure fail h = refl
+several-sure (d or fail) h = absurd (h refl)
+several-sure (d or (e or b)) h = refl
+
+module _ (w : List ℕ) (g : ℕ) (c : Looking w g) where
+  abbrev m : Marking
+  m = marking w
+
+  abbrev certain-of : Places → List Graph
+  certain-of ds = sure (strip-all (keep-all m ds))
+
+  -- `more` disjunctions are left, from `at` on
+  pub record Going (more at : ℕ) : Type 0 where
+    pub ds : Places
+    pub from : ℕ
+    pub stand : AtAll (words w) at from ds (c .end) (c .to)
+    pub within : at ≤ length (words w)
+    pub many : places ds ≡ more
+    pub is : sure (left-all m (c .d)) ≡ certain-of ds
+
+  pub look-reads : (g < 2048) × (tail-at w g < 2048)
+  look-reads = let r = read-at w (c .long) (c .d) g (c .from) (c .end) (c .to) (c .at) (c .low) in (r .here, r .inside)
+
+  pub look-start : (e more : ℕ) → e ≡ tail-at w g → more ≡ disjunctions-at w e → Going more (e + 1)
+  look-start e more f h = go (c .d) (c .at) refl
+    where
+      go : (d : Placed) → At (words w) g (c .from) d (c .end) (c .to) → sure (left-all m (c .d)) ≡ sure (left-all m d) → Going more (e + 1)
+      go (place K ds) at same =
+          let tail : e ≡ g + extent K = f ∙ tail-is w (c .long) K ds g (c .from) (c .end) (c .to) at (c .low) in
+          let far = at .4 in
+          subst (λ (p : ℕ). Going more (p + 1)) (sym tail) (record {
+            ds = ds;
+            from = c .from + length K;
+            stand = at .6;
+            within = omega arith;
+            many = sym (h ∙ ap (disjunctions-at w) tail ∙ disjunctions-is w (c .long) K ds g (c .from) (c .end) (c .to) at (c .low));
+            is = same;
+          })
+
+  module _ (more at : ℕ) (v : Going more at) where
+    pub look-done : more ≤ 0 → sure (left-all m (c .d)) ≡ []
+    look-done h = go (v .ds) (v .many) (v .is)
+      where
+        go : (ds : Places) → places ds ≡ more → sure (left-all m (c .d)) ≡ certain-of ds → sure (left-all m (c .d)) ≡ []
+        go stop e f = f
+        go (a also ds) e f = absurd (omega arith)
+
+    module _ (h : 0 < more) where
+      -- the next disjunction
+      record Next : Type 0 where
+        a : Options
+        ds : Places
+        q : ℕ
+        l : ℕ
+        there : at < length (words w)
+        any : AtAny (words w) (at + 1) (v .from) a q l
+        all : AtAll (words w) q l ds (c .end) (c .to)
+        within : q ≤ length (words w)
+        high : l ≤ c .to
+        count-are : alternatives-at w at ≡ options a
+        many-later : places ds + 1 ≡ more
+        whole : sure (left-all m (c .d)) ≡ sure-any (strip-any (keep-any m a)) ++ certain-of ds
+
+      next : Next
+      next = go (v .ds) (v .stand) (v .many) (v .is)
+        where
+          go : (ds : Places) → AtAll (words w) at (v .from) ds (c .end) (c .to) → places ds ≡ more → sure (left-all m (c .d)) ≡ certain-of ds → Next
+          go stop s e f = absurd (omega arith)
+          go (a also ds) s e f =
+              let there = s .2 in
+              let first = any-bounds (words w) a (at + 1) (v .from) (s .0) (s .1) (omega arith) (s .4) in
+              record { a = a; ds = ds; q = s .0; l = s .1; there = there; any = s .4; all = s .5; within = first .1; high = all-bounds (words w) ds (s .0) (s .1) (c .end) (c .to) (first .1) (s .5) .2; count-are = alternatives-is w a ds at (v .from) (c .end) (c .to) s; many-later = omega arith; whole = f }
+
+      pub look-here : at < 2048
+      look-here = omega (arith, next .there, words-many w (c .long))
+
+      module _ (of : ℕ) (f : of ≡ alternatives-at w at) where
+        pub look-counts : Alternatives w (at + 1) of
+        look-counts = record { room = c .long; a = next .a; n = v .from; q = next .q; m = next .l; at = next .any; low = omega (arith, next .high, c .low); many = sym (f ∙ next .count-are) }
+
+        pub look-on : (kept first after : ℕ) → ((s : Alternatives w (at + 1) of) → Tallied w s kept first after) → (kept ≡ 1 → ⊥) → Going (more - 1) after
+        unfolding look-counts
+        look-on kept first after tally several =
+            let told = tally look-counts in
+            let k = next .many-later in
+            let none = several-sure (strip-any (keep-any m (next .a))) (λ e. several (told .kept-are ∙ kept-alts m (next .a) ∙ e)) in
+            subst (λ (p : ℕ). Going (more - 1) p) (sym (told .after-is)) (record {
+              ds = next .ds;
+              from = next .l;
+              stand = next .all;
+              within = next .within;
+              many = omega arith;
+              is = next .whole ∙ ap (λ (x : List Graph). x ++ certain-of (next .ds)) none;
+            })

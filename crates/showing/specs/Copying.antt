@@ -1,0 +1,64 @@
+-- What copying a graph as it was loaded asks, and what then stands in the result.
+-- Assumes nothing: these are definitions.
+use Prim.Native.Nat.{ℕ, _+_, _≤_, _<_}
+use mathlib.Core.Path.{_≡_}
+use mathlib.Core.List.{List}
+use lib.ListN.{length}
+use Rattle.theory.specs.Net.{Node, Graph}
+use Rattle.theory.specs.Layout.{arc-words, node-words, nodes-words}
+use Rattle.area.specs.Map.{RESULT, SIZE}
+use Rattle.area.specs.Region.{words}
+use Rattle.layout.specs.Standing.{Stands, graph-words}
+use Rattle.engine.specs.Placed.{Placed, place}
+use Rattle.loading.specs.Loaded.{number-step, moved-arcs, moved-node, located}
+use Rattle.loading.specs.Loading.{Put}
+use Rattle.loading.specs.At.{At}
+
+-- a kind of thing: when it may come, its words, and what they are loaded as where node 0 has a number
+pub record Kind : Type 1 where
+  pub Thing : Type 0
+  pub Fine : Thing → Type 0
+  pub text : Thing → List ℕ
+  pub image : ℕ → Thing → List ℕ
+
+-- k arcs
+abbrev pub its-arcs : ℕ → Kind
+its-arcs k = record { Thing = List (ℕ × ℕ); Fine = λ l. length l ≡ k; text = arc-words; image = λ n l. arc-words (moved-arcs n l) }
+
+abbrev pub a-node : Kind
+a-node = record { Thing = Node; Fine = λ v. Unit {0}; text = node-words; image = λ n v. node-words (moved-node n v) }
+
+-- k nodes
+abbrev pub its-nodes : ℕ → Kind
+its-nodes k = record { Thing = Graph; Fine = λ g. length g ≡ k; text = nodes-words; image = located }
+
+-- a thing of the kind stands loaded at p, and there is room for its words at o
+pub record Copying (K : Kind) (w : List ℕ) (number p o : ℕ) : Type 0 where
+  pub long : SIZE ≤ length w
+  pub x : K .Thing
+  pub fine : K .Fine x
+  pub q : ℕ
+  pub within : p ≤ 2048
+  pub stands : Stands (words w) p (K .image number x) q
+  pub room : o + length (K .text x) ≤ 2048
+
+-- its words stand in the result, and no other word has changed
+abbrev pub Copies : (K : Kind) (w : List ℕ) (number p o r : ℕ) (w' : List ℕ) → Type 0
+Copies K w number p o r w' = (c : Copying K w number p o) → Put w w' (RESULT + o) (K .text (c .x)) (RESULT + r)
+
+-- the graph of a description, by itself
+abbrev pub own : Placed → Graph
+own (place g ds) = g
+
+pub record Graphing (w : List ℕ) (g o : ℕ) : Type 0 where
+  pub long : SIZE ≤ length w
+  pub d : Placed
+  pub from : ℕ
+  pub end : ℕ
+  pub to : ℕ
+  pub at : At (words w) g from d end to
+  pub low : to < number-step
+  pub room : o + length (graph-words (own d)) ≤ 2048
+
+abbrev pub Graphs : (w : List ℕ) (g o r : ℕ) (w' : List ℕ) → Type 0
+Graphs w g o r w' = (c : Graphing w g o) → Put w w' (RESULT + o) (graph-words (own (c .d))) (RESULT + r)
