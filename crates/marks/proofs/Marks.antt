@@ -2,9 +2,9 @@
 -- Assumes nothing.
 use Prim.Native.Nat.{ℕ, zero, _+_, _-_, _≤_, _<_}
 use native.Mathlib.Omega.{arith}
-use mathlib.Core.Path.{_≡_, refl, ap, _∙_}
+use mathlib.Core.Path.{_≡_, refl, ap, sym, _∙_}
 use mathlib.Core.Logic.{_⊎_, inl, inr, ⊎-elim}
-use mathlib.Core.Bool.{Bool, true, false, not}
+use mathlib.Core.Bool.{Bool, true, false, not, _||_}
 use mathlib.Core.List.{List}
 use borrow.Author.Tests.{ltb-true, ltb-false, eqb-true, eqb-false}
 use lib.Dec.{eqb, ltb}
@@ -14,7 +14,7 @@ use Rattle.area.specs.Map.{MARKS, RESULT}
 use Rattle.area.specs.Region.{region, words}
 use Rattle.area.proofs.Region.{length-region, getD-region, region-set-same, region-ext, words-same}
 use Rattle.engine.specs.Marks.{Marking}
-use Rattle.marks.specs.Marked.{marking, Dropped, Cleared}
+use Rattle.marks.specs.Marked.{marking, lights, Dropped, Cleared, Lighted}
 
 -- markings are equal where their marks are
 pub same-marking : (m n : Marking) → ((y : ℕ) → m y ≡ n y) → m ≡ n
@@ -48,6 +48,50 @@ dropped w x h room = record {
         let there : x < length marks = omega (arith, length-region MARKS 1024 w (omega arith)) in
         ap (λ (v : ℕ). not (eqb v 1)) (ap (λ (j : ℕ). getD (set marks x 1) j 0) same ∙ getD-set-same marks x 1 0 there)
     go y false e = ap (λ (v : ℕ). not (eqb v 1)) (getD-set-other marks x y 1 0 (eqb-false y x e))
+
+pub light-at : (w : List ℕ) (x : ℕ) → x < 1024 → lights w x ≡ eqb (getD w (MARKS + x) 0) 2
+unfolding lights
+light-at w x h = ap (λ (v : ℕ). eqb v 2) (getD-region MARKS 1024 w x h)
+
+pub lights-frame : (w w' : List ℕ) → 16384 ≤ length w → length w' ≡ length w → ((j : ℕ) → MARKS ≤ j → j < RESULT → getD w' j 0 ≡ getD w j 0) → lights w' ≡ lights w
+unfolding lights
+lights-frame w w' h len same =
+    let e : region MARKS 1024 w' ≡ region MARKS 1024 w = region-ext MARKS 1024 w' w (omega arith) len (λ j l. same (MARKS + j) (omega arith) (omega arith)) in
+    ap {B = Marking} (λ (r : List ℕ) (x : ℕ). eqb (getD r x 0) 2) e
+
+pub lighted : (w : List ℕ) (x : ℕ) → x < 1024 → 16384 ≤ length w → Lighted w x (set w (MARKS + x) 2)
+unfolding marking lights
+lighted w x h room = record {
+  len = length-set w (MARKS + x) 2;
+  found = λ y. ap (λ (r : List ℕ). eqb (getD r y 0) 2) (region-set-same MARKS 1024 x w 2 h) ∙ found y (eqb y x) refl;
+  marks = λ k. ap {B = Marking} (λ (r : List ℕ) (y : ℕ). not (eqb (getD r y 0) 1)) (region-set-same MARKS 1024 x w 2 h) ∙ same-marking _ _ (λ y. kept y k (eqb y x) refl);
+  rest = λ j n. getD-set-other w (MARKS + x) j 2 0 n;
+}
+  where
+    marks : List ℕ
+    marks = region MARKS 1024 w
+
+    own : (y : ℕ) → eqb y x ≡ true → getD (set marks x 2) y 0 ≡ 2
+    own y e =
+        let same : y ≡ x = eqb-true y x e in
+        let there : x < length marks = omega (arith, length-region MARKS 1024 w (omega arith)) in
+        ap (λ (j : ℕ). getD (set marks x 2) j 0) same ∙ getD-set-same marks x 2 0 there
+
+    either : (b : Bool) → true ≡ (b || true)
+    either true = refl
+    either false = refl
+
+    neither : (b : Bool) → b ≡ (b || false)
+    neither true = refl
+    neither false = refl
+
+    found : (y : ℕ) (t : Bool) → eqb y x ≡ t → eqb (getD (set marks x 2) y 0) 2 ≡ (eqb (getD marks y 0) 2 || t)
+    found y true e = ap (λ (v : ℕ). eqb v 2) (own y e) ∙ either (eqb (getD marks y 0) 2)
+    found y false e = ap (λ (v : ℕ). eqb v 2) (getD-set-other marks x y 2 0 (eqb-false y x e)) ∙ neither (eqb (getD marks y 0) 2)
+
+    kept : (y : ℕ) → not (eqb (getD marks x 0) 1) ≡ true → (t : Bool) → eqb y x ≡ t → not (eqb (getD (set marks x 2) y 0) 1) ≡ not (eqb (getD marks y 0) 1)
+    kept y k true e = ap (λ (v : ℕ). not (eqb v 1)) (own y e) ∙ sym (ap (λ (j : ℕ). not (eqb (getD marks j 0) 1)) (eqb-true y x e) ∙ k)
+    kept y k false e = ap (λ (v : ℕ). not (eqb v 1)) (getD-set-other marks x y 2 0 (eqb-false y x e))
 
 -- the loaded words stay
 pub dropped-words : (w : List ℕ) (x : ℕ) (w' : List ℕ) → 16384 ≤ length w → Dropped w x w' → words w' ≡ words w

@@ -1,9 +1,9 @@
-// The marks, a word for each alternative under the number of its node 0: 1 where it is dropped, 0 or 2 where it is kept.
+// The marks, a word for each alternative under the number of its node 0: 1 where it is dropped, 0 or 2 where it is kept, 2 where it was found to stand in a consistent choice.
 use area::map::MARKS;
 ghost use mathlib.Core.Path.{_≡_};
 ghost use Prim.Native.Nat.{_≤_, _<_};
 ghost use lib.ListN.{length};
-ghost use Rattle.marks.specs.Marked.{marking, Dropped, Cleared};
+ghost use Rattle.marks.specs.Marked.{marking, Dropped, Cleared, Lighted, dimmed, LitKept};
 
 // Is the alternative x kept?
 pub fn kept(w: &[u32], x: usize) -> bool
@@ -30,5 +30,32 @@ pub fn clear_marks(w: &mut [u32])
     while 0 < left {
         left -= 1;
         w[MARKS + left] = 0;
+    }
+}
+
+// The alternative x, which is kept, was found.
+pub fn light(w: &mut [u32], x: usize)
+    requires { ⌜ (x < 1024) × (16384 ≤ length (now w)) ⌝ }
+    ensures { λ _. ⌜ Lighted (now (w .entry)) x (now (w .exit)) ⌝ }
+{
+    w[MARKS + x] = 2;
+}
+
+// A mark, once only those found are kept.
+fn dim(v: u32) -> u32
+    ensures { λ r. ⌜ r ≡ dimmed v ⌝ }
+{
+    if v == 2 { 2 } else { 1 }
+}
+
+// Of the alternatives below n only those found are kept.
+pub fn keep_lit(w: &mut [u32], n: usize)
+    requires { ⌜ (n ≤ 1024) × (16384 ≤ length (now w)) ⌝ }
+    ensures { λ _. ⌜ LitKept (now (w .entry)) n (now (w .exit)) ⌝ }
+{
+    let mut left = n;
+    while 0 < left {
+        left -= 1;
+        w[MARKS + left] = dim(w[MARKS + left]);
     }
 }
