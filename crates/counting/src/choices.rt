@@ -16,7 +16,7 @@ ghost use Rattle.counting.specs.Counted.{Countable, Counted, CountedBoth
 pub const CHOICE_STOP: u32 = 4097;
 
 // The lesser of x and the stop.
-fn capped(x: u32) -> u32
+pub fn capped(x: u32) -> u32
     ensures { λ r. ⌜ r ≡ min x choice-stop ⌝ }
 {
     if x < CHOICE_STOP { x } else { CHOICE_STOP }

@@ -12,7 +12,7 @@ use Rattle.theory.specs.Descr.{Alts, fail, _or_, alts}
 use Rattle.engine.specs.Placed.{Placed, place, Places, stop, _also_, Options, no-more, option, strip, strip-all, strip-any}
 use Rattle.engine.specs.Marks.{Marking, kept-of, keep, keep-all, keep-any}
 use Rattle.engine.specs.Certain.{flat, sure, sure-any}
-use Rattle.engine.proofs.Marks.{keep-true, keep-false, kept-alts}
+use Rattle.engine.proofs.Marks.{kept-alts, keep-true, keep-false}
 use Rattle.loading.specs.Entry.{Entry, graphs}
 use Rattle.loading.specs.Loaded.{extent}
 use Rattle.loading.specs.At.{At, AtAll, AtAny}
@@ -84,7 +84,7 @@ module _ (t : List ℕ) (k : Marking) where
         (λ j. taken-inside U p n d (at .0) (at .1) (at .3) (u .0) o j) (λ j. taken-any-inside U (at .0) (at .1) a q m (at .4) (u .1) o j) i
 
   mutual
-    taken-between : (p n : ℕ) (d : Placed) (q m : ℕ) (at : At t p n d q m) (o : Entry) → List·Memᴰ o (taken t k p n d q m at) → (n ≤ o .number) × (o .number < m)
+    pub taken-between : (p n : ℕ) (d : Placed) (q m : ℕ) (at : At t p n d q m) (o : Entry) → List·Memᴰ o (taken t k p n d q m at) → (n ≤ o .number) × (o .number < m)
     taken-between p n (place g ds) q m at o i =
         let some = at .0 in
         let room = at .4 in
@@ -125,12 +125,13 @@ module _ (t t′ : List ℕ) where
     any-span no-more p n q m p′ n′ q′ m′ a b = let e = a .0 in let f = b .0 in omega arith
     any-span (option x d o) p n q m p′ n′ q′ m′ a b = omega (arith, at-span d p n (a .0) (a .1) p′ n′ (b .0) (b .1) (a .3) (b .3), any-span o (a .0) (a .1) q m (b .0) (b .1) q′ m′ (a .4) (b .4))
 
-none-left : (k : Marking) (a : Options) → kept-of k a ≡ 0 → strip-any (keep-any k a) ≡ fail
-none-left k a z = go (strip-any (keep-any k a)) (sym (kept-alts k a) ∙ z)
+none-left : (k : Marking) (a : Options) → kept-of k a ≡ 0 → keep-any k a ≡ no-more
+none-left k no-more z = refl
+none-left k (option x d a) z = go (k x) refl (none-left k a)
   where
-    go : (b : Alts) → alts b ≡ 0 → b ≡ fail
-    go fail e = refl
-    go (d or b) e = absurd (omega arith)
+    go : (b : Bool) → k x ≡ b → (kept-of k a ≡ 0 → keep-any k a ≡ no-more) → keep-any k (option x d a) ≡ no-more
+    go true e on = absurd (omega (arith, kept-true k x d a e))
+    go false e on = keep-false k x d a e ∙ on (sym (kept-false k x d a e) ∙ z)
 
 -- the alternative at `first` is the one of a that is kept, and what is taken of a is taken of it
 pub record Lone (U : List Entry) (t : List ℕ) (k : Marking) (left p n : ℕ) (a : Options) (q m : ℕ) (at : AtAny t p n a q m) (first : ℕ) : Type 0 where
@@ -144,7 +145,8 @@ pub record Lone (U : List Entry) (t : List ℕ) (k : Marking) (left p n : ℕ) (
   pub nests : Nests d left
   pub among : Among U t first from d end to here
   pub same : taken-any t k p n a q m at ≡ taken t k first from d end to here
-  pub left-is : strip-any (keep-any k a) ≡ strip (keep k d) or fail
+  pub kept : k from ≡ true
+  pub alone : keep-any k a ≡ option from (keep k d) no-more
   pub any : (S : List Graph) → any-at S k a ≡ inside-at S k d
   pub opens : (E : List Entry) → ClearLone E t k p n a q m at → Clear E t k first from d end to here
   pub closes : (E : List Entry) (k′ : Marking) → ((y : ℕ) → n ≤ y → y < m → (y ≤ from) ⊎ (to ≤ y) → k′ y ≡ k y) → Clear E t k′ first from d end to here → (kept-of k′ a ≡ 1) × ClearLone E t k′ p n a q m at
@@ -166,7 +168,8 @@ module _ (U : List Entry) (t t′ : List ℕ) (k : Marking) (left : ℕ) where
         nests = s .0;
         among = u .0;
         same = ap (λ (b : Bool). elim b [ true ↦ elim (kept-of k a) [ zero ↦ one | suc l ↦ [] ] | false ↦ taken-any t k (at .0) (at .1) a q m (at .4) ]) e ∙ ap (λ (c : ℕ). elim c [ zero ↦ one | suc l ↦ [] ]) z;
-        left-is = ap strip-any (keep-true k x d a e) ∙ ap (λ (b : Alts). strip (keep k d) or b) (none-left k a z);
+        kept = ap k (sym (at .2)) ∙ e;
+        alone = keep-true k x d a e ∙ ap (option x (keep k d)) (none-left k a z) ∙ ap (λ (y : ℕ). option y (keep k d) no-more) (at .2);
         any = λ S. any-alone S k x d a e z;
         opens = λ E y. subst (λ (b : Bool). ByMark b (Clear E t k p n d (at .0) (at .1) (at .3)) (ClearLone E t k (at .0) (at .1) a q m (at .4))) e y;
         closes = λ E k′ off y.
@@ -192,7 +195,8 @@ module _ (U : List Entry) (t t′ : List ℕ) (k : Marking) (left : ℕ) where
         nests = l .nests;
         among = l .among;
         same = ap (λ (b : Bool). elim b [ true ↦ elim (kept-of k a) [ zero ↦ taken t k p n d (at .0) (at .1) (at .3) | suc l ↦ [] ] | false ↦ taken-any t k (at .0) (at .1) a q m (at .4) ]) e ∙ l .same;
-        left-is = ap strip-any (keep-false k x d a e) ∙ l .left-is;
+        kept = l .kept;
+        alone = keep-false k x d a e ∙ l .alone;
         any = λ S. any-dropped S k x d a e ∙ l .any S;
         opens = λ E y. l .opens E (subst (λ (b : Bool). ByMark b (Clear E t k p n d (at .0) (at .1) (at .3)) (ClearLone E t k (at .0) (at .1) a q m (at .4))) e y);
         closes = λ E k′ off y.

@@ -50,19 +50,19 @@ module _ (n k : ℕ) (w : List ℕ) (g left : ℕ) where
     abbrev list : List Entry
     list = taken (c .t) (marking w) g (c .from) (c .d) (c .end) (c .to) (c .at)
 
-    entered-graphs : graphs (entered c) ≡ graphs (c .es) ++ flat (strip (keep (marking w) (c .d)))
+    pub entered-graphs : graphs (entered c) ≡ graphs (c .es) ++ flat (strip (keep (marking w) (c .d)))
     entered-graphs = graphs-append (c .es) list ∙ ap (λ (l : List Graph). graphs (c .es) ++ l) (taken-flat (c .t) (marking w) g (c .from) (c .d) (c .end) (c .to) (c .at))
 
-    entered-inside : Inside (c .U) (entered c)
+    pub entered-inside : Inside (c .U) (entered c)
     entered-inside = inside-append (c .U) (c .es) list (c .inside) (taken-inside (c .t) (marking w) (c .U) g (c .from) (c .d) (c .end) (c .to) (c .at) (c .among))
 
-    fine : Fine (graphs (c .es) ++ flat (strip (keep (marking w) (c .d))))
+    pub fine : Fine (graphs (c .es) ++ flat (strip (keep (marking w) (c .d))))
     fine =
         let some = some-taken (c .t) (marking w) g (c .from) (c .d) (c .end) (c .to) (c .at) in
         subst Fine entered-graphs ((rw (graphs-append (c .es) list) (simp length-append (omega arith))), canonical-all n (c .t) (c .U) (entered c) (c .ground) entered-inside)
 
     -- the stack is clear in it
-    entered-clear : Clear (entered c) (c .t) (marking w) g (c .from) (c .d) (c .end) (c .to) (c .at)
+    pub entered-clear : Clear (entered c) (c .t) (marking w) g (c .from) (c .d) (c .end) (c .to) (c .at)
     entered-clear = clear-taken (c .t) (marking w) (entered c) g (c .from) (c .d) (c .end) (c .to) (c .at) (λ o i. ⊎-elim (λ j. inl (c .free o j)) (λ j. inr j) (List·Memᴰ·append-cases (c .es) i))
 
   module _ (o : Pushed) (w₁ : List ℕ) (u : Enters n k w g left o w₁) (c₀ : Entering n k w g left) where
