@@ -140,6 +140,8 @@ pub record Lone (U : List Entry) (t : List ℕ) (k : Marking) (left p n : ℕ) (
   pub end : ℕ
   pub to : ℕ
   pub here : At t first from d end to
+  pub near : p ≤ first
+  pub far : end ≤ q
   pub low : n ≤ from
   pub high : to ≤ m
   pub nests : Nests d left
@@ -155,7 +157,8 @@ module _ (U : List Entry) (t t′ : List ℕ) (k : Marking) (left : ℕ) where
   lone-here : (x : ℕ) (d : Placed) (a : Options) (p n q m : ℕ) → p ≤ length t → (at : AtAny t p n (option x d a) q m) → AmongAny U t p n (option x d a) q m at → NestsAny (option x d a) left → k x ≡ true → kept-of k a ≡ 0 → Lone U t k left p n (option x d a) q m at p
   lone-here x d a p n q m h at u s e z =
       let first = at-bounds t d p n (at .0) (at .1) (at .3) in
-      let far = any-bounds t a (at .0) (at .1) q m (first .1) (at .4) .2 in
+      let last = any-bounds t a (at .0) (at .1) q m (first .1) (at .4) in
+      let far = last .2 in
       let one = taken t k p n d (at .0) (at .1) (at .3) in
       record {
         d = d;
@@ -163,6 +166,8 @@ module _ (U : List Entry) (t t′ : List ℕ) (k : Marking) (left : ℕ) where
         end = at .0;
         to = at .1;
         here = at .3;
+        near = omega arith;
+        far = last .0;
         low = omega arith;
         high = far;
         nests = s .0;
@@ -182,7 +187,8 @@ module _ (U : List Entry) (t t′ : List ℕ) (k : Marking) (left : ℕ) where
 
   lone-later : (x : ℕ) (d : Placed) (a : Options) (p n q m : ℕ) → p ≤ length t → (at : AtAny t p n (option x d a) q m) → k x ≡ false → (first : ℕ) → Lone U t k left (at .0) (at .1) a q m (at .4) first → Lone U t k left p n (option x d a) q m at first
   lone-later x d a p n q m h at e first l =
-      let near = at-bounds t d p n (at .0) (at .1) (at .3) .2 in
+      let bounds = at-bounds t d p n (at .0) (at .1) (at .3) in
+      let near = bounds .2 in
       let low = l .low in
       record {
         d = l .d;
@@ -190,6 +196,8 @@ module _ (U : List Entry) (t t′ : List ℕ) (k : Marking) (left : ℕ) where
         end = l .end;
         to = l .to;
         here = l .here;
+        near = omega (arith, bounds .0, l .near);
+        far = l .far;
         low = omega arith;
         high = l .high;
         nests = l .nests;
