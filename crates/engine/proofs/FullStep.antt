@@ -20,7 +20,7 @@ use Rattle.engine.specs.Search.{Found, search, lit, full-left, full-read
 use Rattle.engine.specs.Shown.{fold-some, shown, shown-some}
 use Rattle.engine.proofs.Entail.{fine-cons}
 use Rattle.engine.proofs.Stable.{Best, Hopeless, part-can}
-use Rattle.engine.proofs.Sane.{stable-sane}
+use Rattle.engine.proofs.Sane.{Sane, stable-sane}
 use Rattle.engine.proofs.Greatest.{TidiedBest}
 use Rattle.engine.proofs.Tidy.{tidy-best}
 use Rattle.engine.proofs.Proper.{Proper, proper-sane, proper-fold, tidies-passed}
@@ -105,6 +105,18 @@ module _ (d : Placed) (c : Can (strip d)) (p : Proper (strip d)) (w : Distinct d
       go zero t v e = refl
       go (suc n) true (one-does r i a) e = ap some (pruned-shown (strip (keep (lit (search (keep m d))) d)) (marks-left r i a) r i a)
       go (suc n) false v e = absurd (false-true (sym e))
+
+  -- what is left can be folded
+  pub full-sane : (n : ℕ) → length (search (keep m d)) ≡ suc n → Can (strip (keep (lit (search (keep m d))) d)) × Sane (strip (keep (lit (search (keep m d))) d))
+  unfolding full-readings-by readings
+  full-sane n found = go (some-agree (choices (strip d))) (some-view (choices (strip d))) (ap any-left (sym found ∙ full-count) ∙ agreeing-some (choices (strip d)))
+    where
+      go : (t : Bool) → Some (choices (strip d)) t → true ≡ t → Can (strip (keep (lit (search (keep m d))) d)) × Sane (strip (keep (lit (search (keep m d))) d))
+      go true (one-does r i a) e =
+          let p : Desc = prune whole (strip d) in
+          let cp : Can p = prune-can (strip d) c whole in
+          subst (λ (z : Desc). Can z × Sane z) (sym (marks-left r i a)) (cp, stable-sane p (nil ∷ []) cp (fine-cons nil [] nil-canonical tt) (pruned-stable (strip d) c r i a))
+      go false v e = absurd (false-true (sym e))
 
 -- where the quick step fails, no choice agrees
 pub hopeless-full : (d : Desc) → Can d → Hopeless (nil ∷ []) d → full-of d ≡ none

@@ -20,5 +20,6 @@ pub mod Counting
 pub mod Agenda
 pub mod SearchStack
 pub mod Beside
+pub mod Joined
 pub mod Whole
 pub mod Cases

@@ -3,9 +3,10 @@
 use mathlib.Core.Path.{_≡_, ap, sym, _∙_, subst}
 use mathlib.Core.Option.{Option, none, some}
 use mathlib.Core.List.{[], _∷_}
-use Prim.Native.Nat.{ℕ, _≤_, min}
+use Prim.Native.Nat.{ℕ, suc, _≤_, min}
 use native.Mathlib.Omega.{arith}
 use lib.Dec.{ltb}
+use lib.ListN.{length}
 use Rattle.theory.specs.Limits.{choice-limit, choice-stop}
 use Rattle.theory.specs.Descr.{Desc, readings, number}
 use Rattle.theory.specs.Modes.{joined, quick, full, fold}
@@ -18,7 +19,7 @@ use Rattle.engine.specs.Marks.{Marking, keep, left-by}
 use Rattle.engine.specs.Beside.{joined-placed}
 use Rattle.engine.specs.Quickly.{quick-at, Leaves}
 use Rattle.engine.specs.Counting.{count-at}
-use Rattle.engine.specs.Search.{full-left, full-readings-by}
+use Rattle.engine.specs.Search.{search, lit, full-left, full-readings-by}
 use Rattle.engine.specs.Shown.{shown, fold-some, shown-some}
 use Rattle.engine.proofs.Entail.{fine-cons}
 use Rattle.engine.proofs.Stable.{part-can, Best}
@@ -27,7 +28,7 @@ use Rattle.engine.proofs.Passes.{Passed}
 use Rattle.engine.proofs.Proper.{Proper, Comes, joined-comes, quick-best}
 use Rattle.engine.proofs.QuickStep.{quick-passed}
 use Rattle.engine.proofs.Shown.{shown-ok}
-use Rattle.engine.proofs.FullStep.{full-of, full-joined, full-count, full-result, full-writes, hopeless-full}
+use Rattle.engine.proofs.FullStep.{full-of, full-joined, full-count, full-result, full-writes, full-sane, hopeless-full}
 use Rattle.engine.proofs.Counting.{number-fold, count-left}
 use Rattle.engine.proofs.Beside.{strip-some, joined-strip, SomeDistinct, joined-distinct}
 
@@ -71,6 +72,10 @@ module _ (a b : Placed) (ca : Can (strip a)) (cb : Can (strip b)) (pa : Proper (
       pub full-consistent : full-readings-by m d ≡ consistent (strip a) (strip b)
       unfolding consistent
       full-consistent = full-number ∙ sym (ap (λ (o : Option Desc). elim o [ none ↦ 0 | some e ↦ readings e ]) j)
+
+      -- what it leaves can be folded
+      pub full-can : (n : ℕ) → length (search (keep m d)) ≡ suc n → Can (strip (keep (lit (search (keep m d))) d)) × Sane (strip (keep (lit (search (keep m d))) d))
+      full-can n found = full-sane d (cd .0) (cd .1) wd m best n found
 
       pub left-can : Can (strip (keep m d))
       left-can = part-can (strip d) (strip (keep m d)) (best .part) (cd .0)
