@@ -77,14 +77,14 @@ module _ (n : ℕ) (w : List ℕ) (p of left o : ℕ) (c : Varying n w p of left
           (subst (λ (k : Marking). AtAny (words w) first (told .first-is .0) (from-kept k (c .lies .a)) (c .lies .end) (c .lies .to)) (c .base .marks) (told .first-is .1))
 
       alone : folded m (c .lies .a) ≡ shown-all (left-all m (lone .d))
-      alone = ap (λ (x : Alts). shown-all (x and end)) (lone .left-is) ∙ shown-alone (lone .d) m
+      alone = ap (λ (x : Alts). shown-all (x and end)) (ap strip-any (lone .alone)) ∙ shown-alone (lone .d) m
 
       pub vary-inner : Disjoining n w first left o
       vary-inner = record {
         base = c .base;
         lies = record { d = lone .d; from = lone .from; end = lone .end; to = lone .to; at = lone .here; low = omega (arith, c .lies .low, lone .high); nests = lone .nests; among = lone .among };
-        can = inner-can (lone .d) m (subst CanAny (lone .left-is) (c .can) .0);
-        sane = inner-sane (lone .d) m (subst SaneAny (lone .left-is) (c .sane) .0);
+        can = inner-can (lone .d) m (subst CanAny (ap strip-any (lone .alone)) (c .can) .0);
+        sane = inner-sane (lone .d) m (subst SaneAny (ap strip-any (lone .alone)) (c .sane) .0);
         room = omega (arith, c .room, ap (λ (x : Disjs). length (disjs-words x)) alone);
       }
 

@@ -1,5 +1,5 @@
-use native.Mathlib.Omega.{arith}
 -- `marks::marking::dim` meets its contract. Assumes nothing.
+use native.Mathlib.Omega.{arith}
 use Rattle.marks.proofs.Lighting.{dimmed-found, dimmed-other}
 use mathlib.Core.Path.{sym}
 use Rattle.marks.proofs.marking.dim.Statement.{statement}

@@ -1,0 +1,206 @@
+-- The kept ones of several alternatives are taken in order; engine's `each-at`: what was found and what is still to be taken is the whole.
+-- Assumes nothing.
+use Prim.Native.Nat.{ℕ, zero, suc, _+_, _-_, _≤_, _<_, min}
+use native.Mathlib.Omega.{arith}
+use mathlib.Core.Path.{_≡_, refl, sym, ap, subst, _∙_}
+use mathlib.Core.Logic.{_⊎_, inl, inr, ⊎-elim}
+use mathlib.Core.Bool.{Bool, true, false}
+use mathlib.Core.List.{List, [], _∷_, _++_, append-nil, append-assoc}
+use lib.ListN.{length}
+use Rattle.theory.specs.Limits.{choice-stop}
+use Rattle.theory.specs.Net.{Graph}
+use Rattle.area.specs.Region.{words}
+use Rattle.engine.specs.Placed.{Placed, Places, Options, no-more, option}
+use Rattle.engine.specs.Marks.{Marking}
+use Rattle.engine.specs.Search.{Found, taking}
+use Rattle.engine.specs.Agenda.{dive-at, each-at}
+use Rattle.engine.proofs.Agenda.{each-at-none, each-at-dropped, each-at-kept}
+use Rattle.loading.specs.Entry.{graphs}
+use Rattle.loading.specs.Loaded.{number-step}
+use Rattle.loading.specs.Numbered.{options}
+use Rattle.loading.specs.At.{AtAny}
+use Rattle.loading.proofs.Walking.{at-bounds, any-bounds}
+use Rattle.marks.specs.Positions.{number-at, tail-at, after-at}
+use Rattle.marks.specs.Marked.{marking}
+use Rattle.marks.proofs.Reading.{Read, read-option}
+use Rattle.counting.specs.Nesting.{NestsAny}
+use Rattle.classes.proofs.Laws.{since-refl}
+use Rattle.quick.specs.Taken.{AmongAny}
+use Rattle.quick.specs.Stepped.{Moved}
+use Rattle.quick.proofs.Certain.{free-narrow}
+use Rattle.quick.proofs.Sifting.{moved-trans, moved-words}
+use Rattle.search.specs.declared.agenda.Agenda.{Agenda}
+use Rattle.search.specs.Frames.{Frames, plan}
+use Rattle.search.specs.Searched.{Standing, Finds, Taking, taken-with, Takes, Choosing, chosen, Chooses}
+use Rattle.search.proofs.Planning.{frames-bound, frames-wide}
+use Rattle.search.proofs.Finding.{finds-none, finds-same, finds-small, finds-append}
+
+-- what a turn does at the alternative x
+pub data Turn (n k : ℕ) (w₁ : List ℕ) (at x : ℕ) (a : Agenda) (sum sum' : ℕ) (w₂ : List ℕ) : Type 0 where
+  skipped : marking w₁ x ≡ false → w₂ ≡ w₁ → sum' ≡ sum → Turn n k w₁ at x a sum sum' w₂
+  took : (r : ℕ) (w' : List ℕ) → marking w₁ x ≡ true → Takes n k w₁ at a r w' → w₂ ≡ w' → sum' ≡ min (sum + r) choice-stop → Turn n k w₁ at x a sum sum' w₂
+
+module _ (n k : ℕ) (w : List ℕ) (p count : ℕ) (a : Agenda) where
+  abbrev left-of : Choosing n k w p count a → List Places
+  left-of c = plan n (c .s .t) (c .s .U) (c .s .es) (c .s .m) (c .l) (c .end) (c .to) (c .frames)
+
+  -- `left` alternatives are to be taken, from `at` on
+  pub record Going (c : Choosing n k w p count a) (left at sum : ℕ) (w₁ : List ℕ) : Type 0 where
+    pub b : Options
+    pub l : ℕ
+    pub stand : AtAny (c .s .t) at l b (c .end) (c .to)
+    pub within : at ≤ length (c .s .t)
+    pub many : options b ≡ left
+    pub nests : NestsAny b (c .left)
+    pub among : AmongAny (c .s .U) (c .s .t) at l b (c .end) (c .to) stand
+    pub above : c .from ≤ l
+    pub on : p ≤ at
+    pub f : Found
+    pub is : chosen c ≡ f ++ each-at (c .s .m) (graphs (c .s .es)) b (left-of c)
+    pub finds : Finds n k w (c .s .es) f sum w₁
+
+  pub choose-moved : Choosing n k w p count a → Moved k w k w
+  choose-moved c = record { len = refl; rest = λ j h. refl; since = since-refl n (c .s .es) k w (c .s .holds) }
+
+  pub choose-start : (c : Choosing n k w p count a) → Going c count p 0 w
+  choose-start c = record { b = c .o; l = c .from; stand = c .at; within = c .within; many = c .many; nests = c .nests; among = c .among; above = omega arith; on = omega arith; f = []; is = refl; finds = finds-none n k w (c .s .es) (c .s .holds) }
+
+  pub choose-done : (c : Choosing n k w p count a) (left at sum : ℕ) (w₁ : List ℕ) → Going c left at sum w₁ → left ≤ 0 → Finds n k w (c .s .es) (chosen c) sum w₁
+  choose-done c left at sum w₁ s h = finds-same n k w (c .s .es) (s .f) (chosen c) sum w₁ (go (s .b) (s .many) (s .is)) (s .finds)
+    where
+      go : (b : Options) → options b ≡ left → chosen c ≡ s .f ++ each-at (c .s .m) (graphs (c .s .es)) b (left-of c) → chosen c ≡ s .f
+      go no-more e q = q ∙ ap (λ (z : Found). s .f ++ z) (each-at-none (c .s .m) (graphs (c .s .es)) (left-of c)) ∙ append-nil (s .f)
+      go (option x d b) e q = absurd (omega arith)
+
+  pub choose-small : (c : Choosing n k w p count a) (left at sum : ℕ) (w₁ : List ℕ) → Going c left at sum w₁ → sum ≤ choice-stop
+  choose-small c left at sum w₁ s = finds-small n k w (c .s .es) (s .f) sum w₁ (s .finds)
+
+  module _ (c : Choosing n k w p count a) (left at sum : ℕ) (w₁ : List ℕ) (mv : Moved k w k w₁) (s : Going c left at sum w₁) (h : 0 < left) where
+    -- the next alternative
+    record Next : Type 0 where
+      x : ℕ
+      d : Placed
+      b : Options
+      o : AtAny (c .s .t) at (s .l) (option x d b) (c .end) (c .to)
+      nested : NestsAny (option x d b) (c .left)
+      amongst : AmongAny (c .s .U) (c .s .t) at (s .l) (option x d b) (c .end) (c .to) o
+      later : options b + 1 ≡ left
+      whole : chosen c ≡ s .f ++ each-at (c .s .m) (graphs (c .s .es)) (option x d b) (left-of c)
+
+    next : Next
+    next = go (s .b) (s .stand) (s .many) (s .nests) (s .among) (s .is)
+      where
+        go : (b : Options) (o : AtAny (c .s .t) at (s .l) b (c .end) (c .to)) → options b ≡ left → NestsAny b (c .left) → AmongAny (c .s .U) (c .s .t) at (s .l) b (c .end) (c .to) o → chosen c ≡ s .f ++ each-at (c .s .m) (graphs (c .s .es)) b (left-of c) → Next
+        go no-more o e f u q = absurd (omega arith)
+        go (option x d b) o e f u q = record { x = x; d = d; b = b; o = o; nested = f; amongst = u; later = omega arith; whole = q }
+
+    low : c .to < number-step
+    low = omega (arith, frames-bound n (c .s .t) (c .s .U) (c .s .m) (c .s .es) (c .l) (c .end) (c .to) (c .frames) .1, c .s .ground .few)
+
+    first : (at < next .o .0) × (next .o .0 ≤ length (c .s .t)) × (s .l < next .o .1)
+    first = at-bounds (c .s .t) (next .d) at (s .l) (next .o .0) (next .o .1) (next .o .3)
+
+    last : (next .o .0 ≤ c .end) × (c .end ≤ length (c .s .t)) × (next .o .1 ≤ c .to)
+    last = any-bounds (c .s .t) (next .b) (next .o .0) (next .o .1) (c .end) (c .to) (first .1) (next .o .4)
+
+    read : (v : List ℕ) → 16384 ≤ length v → words v ≡ c .s .t → Read v at (next .x) (next .o .0)
+    read v room e = read-option v room (next .x) (next .d) (next .b) at (s .l) (c .end) (c .to) (subst (λ (t : List ℕ). AtAny t at (s .l) (option (next .x) (next .d) (next .b)) (c .end) (c .to)) (sym e) (next .o)) low .0
+
+    room₁ : 16384 ≤ length w₁
+    room₁ = omega (arith, mv .len, c .s .holds .long)
+
+    words₁ : words w₁ ≡ words w
+    words₁ = moved-words k w k w₁ (c .s .holds .long) mv
+
+    loaded₁ : words w₁ ≡ c .s .t
+    loaded₁ = words₁ ∙ c .s .loaded
+
+    pub choose-here : (at < 2048) × (number-at w₁ at < 1024) × (16384 ≤ length w₁)
+    choose-here = let r = read w₁ room₁ loaded₁ in (r .here, omega (arith, r .number, r .low), room₁)
+
+    module _ (x : ℕ) (is-x : x ≡ number-at w₁ at) where
+      own : x ≡ next .x
+      own = is-x ∙ read w₁ room₁ loaded₁ .number
+
+      -- the marks of w₁ are those of c
+      mark-is : (b : Bool) → marking w₁ x ≡ b → c .s .m (next .x) ≡ b
+      mark-is b e = ap (λ (m : Marking). m (next .x)) (sym (s .finds .marks ∙ c .s .marks)) ∙ ap (marking w₁) (sym own) ∙ e
+
+      abbrev after-it : (G : Frames n (c .s .t) (c .s .U) (c .s .es) (c .s .m) (c .l) (next .o .0) (next .o .1)) × (plan n (c .s .t) (c .s .U) (c .s .es) (c .s .m) (c .l) (next .o .0) (next .o .1) G ≡ left-of c)
+      after-it = frames-wide n (c .s .t) (c .s .U) (c .s .m) (c .s .es) (c .l) (c .end) (c .to) (next .o .0) (next .o .1) (last .0) (last .2) (c .frames)
+
+      abbrev asks : marking w₁ x ≡ true → Taking n k w₁ at a
+      asks e = record {
+        s = record { t = c .s .t; loaded = loaded₁; m = c .s .m; marks = s .finds .marks ∙ c .s .marks; U = c .s .U; ground = c .s .ground; es = c .s .es; holds = s .finds .holds; inside = c .s .inside };
+        d = next .d;
+        from = s .l;
+        end = next .o .0;
+        to = next .o .1;
+        at = next .o .3;
+        among = next .amongst .0;
+        free = free-narrow (c .from) (c .to) (s .l) (next .o .1) (c .s .es) (s .above) (last .2) (c .free);
+        kept = ap (c .s .m) (sym (next .o .2)) ∙ mark-is true e;
+        left = c .left;
+        shallow = c .shallow;
+        nests = next .nested .0;
+        l = c .l;
+        lists = c .lists;
+        deep = c .deep;
+        frames = after-it .0;
+      }
+
+      pub choose-asks : marking w₁ x ≡ true → Taking n k w₁ at a
+      choose-asks e = asks e
+
+      taken-is : (e : marking w₁ x ≡ true) → taken-with (asks e) ≡ taking (next .x) (dive-at (c .s .m) (graphs (c .s .es)) (next .d) (left-of c))
+      taken-is e = ap (λ (y : ℕ). taking y (dive-at (c .s .m) (graphs (c .s .es)) (next .d) (plan n (c .s .t) (c .s .U) (c .s .es) (c .s .m) (c .l) (next .o .0) (next .o .1) (after-it .0)))) (sym (next .o .2)) ∙ ap (λ (fs : List Places). taking (next .x) (dive-at (c .s .m) (graphs (c .s .es)) (next .d) fs)) (after-it .1)
+
+      module _ (sum' : ℕ) (w₂ : List ℕ) (turn : Turn n k w₁ at x a sum sum' w₂) where
+        pub turn-moved : Moved k w k w₂
+        turn-moved = go turn
+          where
+            go : Turn n k w₁ at x a sum sum' w₂ → Moved k w k w₂
+            go (skipped e f q) = subst (Moved k w k) (sym f) mv
+            go (took r w' e u f q) = subst (Moved k w k) (sym f) (moved-trans k w k w₁ k w' mv (u .moved))
+
+        room₂ : 16384 ≤ length w₂
+        room₂ = omega (arith, turn-moved .len, c .s .holds .long)
+
+        loaded₂ : words w₂ ≡ c .s .t
+        loaded₂ = moved-words k w k w₂ (c .s .holds .long) turn-moved ∙ c .s .loaded
+
+        pub turn-inside : ((at < 2048) × (16384 ≤ length w₂)) × (tail-at w₂ at < 2048)
+        turn-inside = let r = read w₂ room₂ loaded₂ in ((r .here, room₂), r .inside)
+
+        pub turn-on : (at' : ℕ) → at' ≡ after-at w₂ at → Going c (left - 1) at' sum' w₂
+        turn-on at' z = subst (λ (j : ℕ). Going c (left - 1) j sum' w₂) (sym (z ∙ read w₂ room₂ loaded₂ .after)) (record {
+          b = next .b;
+          l = next .o .1;
+          stand = next .o .4;
+          within = first .1;
+          many = (let e = next .later in omega arith);
+          nests = next .nested .1;
+          among = next .amongst .1;
+          above = (let e = s .above in let r = first .2 in omega arith);
+          on = (let e = s .on in let r = first .0 in omega arith);
+          f = more turn;
+          is = next .whole ∙ whole turn;
+          finds = finds turn;
+        })
+          where
+            each : List Graph → Options → Found
+            each S b = each-at (c .s .m) S b (left-of c)
+
+            more : Turn n k w₁ at x a sum sum' w₂ → Found
+            more (skipped e f q) = s .f
+            more (took r w' e u f q) = s .f ++ taken-with (asks e)
+
+            whole : (y : Turn n k w₁ at x a sum sum' w₂) → s .f ++ each-at (c .s .m) (graphs (c .s .es)) (option (next .x) (next .d) (next .b)) (left-of c) ≡ more y ++ each-at (c .s .m) (graphs (c .s .es)) (next .b) (left-of c)
+            whole (skipped e f q) = ap (λ (y : Found). s .f ++ y) (each-at-dropped (c .s .m) (graphs (c .s .es)) (next .x) (next .b) (left-of c) (next .d) (mark-is false e))
+            whole (took r w' e u f q) =
+                ap (λ (y : Found). s .f ++ y) (each-at-kept (c .s .m) (graphs (c .s .es)) (next .x) (next .b) (left-of c) (next .d) (mark-is true e) ∙ ap (λ (y : Found). y ++ each-at (c .s .m) (graphs (c .s .es)) (next .b) (left-of c)) (sym (taken-is e)))
+                ∙ sym (append-assoc (s .f) (taken-with (asks e)) (each-at (c .s .m) (graphs (c .s .es)) (next .b) (left-of c)))
+
+            finds : (y : Turn n k w₁ at x a sum sum' w₂) → Finds n k w (c .s .es) (more y) sum' w₂
+            finds (skipped e f q) = subst (λ (v : List ℕ). Finds n k w (c .s .es) (s .f) sum' v) (sym f) (subst (λ (i : ℕ). Finds n k w (c .s .es) (s .f) i w₁) (sym q) (s .finds))
+            finds (took r w' e u f q) = subst (λ (v : List ℕ). Finds n k w (c .s .es) (s .f ++ taken-with (asks e)) sum' v) (sym f) (finds-append n k w (c .s .es) (s .f) (taken-with (asks e)) sum r sum' w₁ w' (s .finds) (u .found (asks e)) q)

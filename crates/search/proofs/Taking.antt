@@ -1,0 +1,217 @@
+-- An alternative is taken: it is entered, what is left is gone through after it, and it is taken back; engine's `dive-at`, return by return.
+-- Assumes nothing.
+use Prim.Native.Nat.{ℕ, zero, suc, _+_, _≤_, _<_}
+use native.Mathlib.Omega.{arith}
+use mathlib.Core.Path.{_≡_, refl, sym, ap, subst, _∙_}
+use mathlib.Core.Logic.{_⊎_, inl, inr, ⊎-elim}
+use mathlib.Core.Bool.{Bool, true, false}
+use mathlib.Core.List.{List, [], _∷_, _++_, List·Memᴰ, List·Memᴰ·append-cases}
+use lib.ListN.{length}
+use Rattle.theory.specs.Limits.{depth-limit}
+use Rattle.theory.specs.Net.{Graph, Clash, Agree}
+use Rattle.theory.specs.Descr.{agree}
+use Rattle.area.specs.Map.{WORDS, MARKS, RESULT}
+use Rattle.area.specs.Region.{words}
+use Rattle.area.proofs.Region.{words-same, words-many}
+use Rattle.engine.specs.Placed.{Placed, place, Places, strip}
+use Rattle.engine.specs.Marks.{Marking, keep}
+use Rattle.engine.specs.Certain.{flat}
+use Rattle.engine.specs.Search.{Found, taking}
+use Rattle.engine.specs.Agenda.{resume-at, dive-at}
+use Rattle.engine.proofs.Agenda.{dive-at-clash, dive-at-push}
+use Rattle.loading.specs.Entry.{Entry, graphs}
+use Rattle.loading.specs.Loaded.{number-step}
+use Rattle.loading.specs.At.{At}
+use Rattle.marks.specs.Positions.{number-at, tail-at, disjunctions-at}
+use Rattle.marks.specs.Marked.{marking, lights}
+use Rattle.marks.proofs.Marks.{marking-frame, lights-frame}
+use Rattle.marks.proofs.Reading.{Read, read-at}
+use Rattle.classes.specs.Holds.{Holds, Since, Remembers, Backs}
+use Rattle.classes.specs.declared.push.Pushed.{Pushed}
+use Rattle.classes.specs.declared.push.Pushed.the-variants.{In, Clashed}
+use Rattle.classes.proofs.Laws.{holds-agree, since-trans}
+use Rattle.quick.specs.Taken.{taken, Inside}
+use Rattle.quick.specs.Entered.{Entering, entered, Enters}
+use Rattle.quick.specs.Clear.{Clear}
+use Rattle.quick.specs.Stepped.{Moved}
+use Rattle.quick.proofs.Certain.{taken-between}
+use Rattle.quick.proofs.Settling.{agrees-true, clash-false}
+use Rattle.quick.proofs.Trying.{entered-graphs, entered-inside, entered-clear, fine}
+use Rattle.quick.proofs.Sifting.{moved-words}
+use Rattle.search.specs.declared.agenda.Agenda.{Agenda}
+use Rattle.search.specs.Frames.{Slot, slots, Lists, onto, Frames, plan}
+use Rattle.search.specs.Searched.{Noting, Notes, Standing, Finds, Resuming, resumed, Resumes, Taking, taken-with, Takes}
+use Rattle.search.proofs.Planning.{nests-more, inner, reach, frames-bound, frames-reach, frames-wide, frames-pushed, Opened, opened, open-here, open-room}
+use Rattle.search.proofs.Finding.{finds-none, finds-same, finds-under, finds-taking, moved-noted}
+
+dive-pushed : (m : Marking) (S : List Graph) (d : Placed) (fs : List Places) → agree (S ++ flat (strip (keep m d))) ≡ true → dive-at m S d fs ≡ resume-at m (inner d ∷ fs) (S ++ flat (strip (keep m d)))
+dive-pushed m S (place K ds) fs e = dive-at-push m S K ds fs e
+
+dive-clashed : (m : Marking) (S : List Graph) (d : Placed) (fs : List Places) → agree (S ++ flat (strip (keep m d))) ≡ false → dive-at m S d fs ≡ []
+dive-clashed m S (place K ds) fs e = dive-at-clash m S K ds fs e
+
+module _ (n k : ℕ) (w : List ℕ) (g : ℕ) (a : Agenda) where
+  module _ (c : Taking n k w g a) where
+    abbrev left-of : List Places
+    left-of = plan n (c .s .t) (c .s .U) (c .s .es) (c .s .m) (c .l) (c .end) (c .to) (c .frames)
+
+    pub take-low : c .to ≤ n
+    take-low = frames-bound n (c .s .t) (c .s .U) (c .s .m) (c .s .es) (c .l) (c .end) (c .to) (c .frames) .1
+
+    small : c .to < number-step
+    small = omega (arith, take-low, c .s .ground .few)
+
+    abbrev pub asks-enter : Entering n k w g depth-limit
+    asks-enter = record {
+      t = c .s .t;
+      loaded = c .s .loaded;
+      U = c .s .U;
+      ground = c .s .ground;
+      d = c .d;
+      from = c .from;
+      end = c .end;
+      to = c .to;
+      at = c .at;
+      low = take-low;
+      nests = nests-more (c .d) (c .left) depth-limit (c .shallow) (c .nests);
+      among = c .among;
+      es = c .s .es;
+      holds = c .s .holds;
+      inside = c .s .inside;
+      free = c .free;
+    }
+
+    abbrev pushed-all : List Entry
+    pushed-all = entered asks-enter
+
+    all-graphs : graphs pushed-all ≡ graphs (c .s .es) ++ flat (strip (keep (c .s .m) (c .d)))
+    all-graphs = entered-graphs n k w g depth-limit asks-enter ∙ ap (λ (m : Marking). graphs (c .s .es) ++ flat (strip (keep m (c .d)))) (c .s .marks)
+
+    agree-is : (b : Bool) → agree (graphs (c .s .es) ++ flat (strip (keep (marking w) (c .d)))) ≡ b → agree (graphs (c .s .es) ++ flat (strip (keep (c .s .m) (c .d)))) ≡ b
+    agree-is b e = ap (λ (m : Marking). agree (graphs (c .s .es) ++ flat (strip (keep m (c .d))))) (sym (c .s .marks)) ∙ e
+
+    -- what is read of it
+    read : (v : List ℕ) → 16384 ≤ length v → words v ≡ c .s .t → Read v g (c .from) (c .end)
+    read v room e = read-at v room (c .d) g (c .from) (c .end) (c .to) (subst (λ (t : List ℕ). At t g (c .from) (c .d) (c .end) (c .to)) (sym e) (c .at)) small
+
+  module _ (o : Pushed) (w₁ : List ℕ) (u : Enters n k w g depth-limit o w₁) (c₀ : Taking n k w g a) where
+    marks₁ : marking w₁ ≡ marking w
+    marks₁ = marking-frame w w₁ (c₀ .s .holds .long) (u .len) (λ j x y. u .rest j (omega arith))
+
+    lights₁ : lights w₁ ≡ lights w
+    lights₁ = lights-frame w w₁ (c₀ .s .holds .long) (u .len) (λ j x y. u .rest j (omega arith))
+
+    words₁ : words w₁ ≡ words w
+    words₁ = words-same w w₁ (c₀ .s .holds .long) (u .len) (λ j x y. u .rest j x)
+
+    room₁ : 16384 ≤ length w₁
+    room₁ = omega (arith, u .len, c₀ .s .holds .long)
+
+    -- a clash: nothing is found
+    pub takes-clash : o ≡ Clashed → Takes n k w g a 0 w₁
+    takes-clash z = record {
+      moved = record { len = u .len; rest = λ j h. u .rest j (omega arith); since = u .clashed z .0 };
+      found = λ c.
+          let told = u .clashed z .1 (asks-enter c) in
+          let bad = agree-is c false (clash-false (graphs (c .s .es) ++ flat (strip (keep (marking w) (c .d)))) (fine n k w g depth-limit (asks-enter c)) (subst Clash (entered-graphs n k w g depth-limit (asks-enter c)) (told .0))) in
+          finds-same n k w (c .s .es) [] (taken-with c) 0 w₁ (ap (taking (c .from)) (dive-clashed (c .s .m) (graphs (c .s .es)) (c .d) (left-of c) bad))
+          (finds-under n k k w w₁ w₁ w₁ (c .s .es) (c .s .es) [] 0 lights₁ marks₁ (finds-none n k w₁ (c .s .es) (told .1)) refl refl (told .1));
+    }
+
+    module _ (e : ℕ) (z : o ≡ In e) where
+      abbrev standing₁ : (c : Taking n k w g a) → Standing n e w₁
+      standing₁ c = record {
+        t = c .s .t;
+        loaded = words₁ ∙ c .s .loaded;
+        m = c .s .m;
+        marks = marks₁ ∙ c .s .marks;
+        U = c .s .U;
+        ground = c .s .ground;
+        es = pushed-all c;
+        holds = u .pushed e z .1 (asks-enter c);
+        inside = entered-inside n k w g depth-limit (asks-enter c);
+      }
+
+      abbrev later : (c : Taking n k w g a) → (G : Frames n (c .s .t) (c .s .U) (pushed-all c) (c .s .m) (c .l) (c .end) (c .to)) × (plan n (c .s .t) (c .s .U) (pushed-all c) (c .s .m) (c .l) (c .end) (c .to) G ≡ left-of c)
+      later c = frames-pushed n (c .s .t) (c .s .U) (c .s .m) (c .s .es) (pushed-all c) (c .l) (c .end) (c .to)
+          (λ o i. ⊎-elim (λ j. inl j) (λ j. inr (taken-between (c .s .t) (marking w) g (c .from) (c .d) (c .end) (c .to) (c .at) o j .1)) (List·Memᴰ·append-cases (c .s .es) i)) (c .frames)
+
+      clear₁ : (c : Taking n k w g a) → Clear (pushed-all c) (c .s .t) (c .s .m) g (c .from) (c .d) (c .end) (c .to) (c .at)
+      clear₁ c = subst (λ (m : Marking). Clear (pushed-all c) (c .s .t) m g (c .from) (c .d) (c .end) (c .to) (c .at)) (c .s .marks) (entered-clear n k w g depth-limit (asks-enter c))
+
+      opened₁ : (c : Taking n k w g a) → Opened n (c .s .t) (c .s .U) (c .s .m) (pushed-all c) g (c .from) (c .end) (c .to) (c .d) (c .at) (c .left) (c .nests) (c .among) (clear₁ c) (c .l) (c .end) (c .to) (later c .0) (omega arith) (omega arith) (c .deep) w₁ room₁ (words₁ ∙ c .s .loaded) (small c)
+      opened₁ c = opened n (c .s .t) (c .s .U) (c .s .m) (pushed-all c) g (c .from) (c .end) (c .to) (c .d) (c .at) (c .left) (c .nests) (c .among) (clear₁ c) (c .l) (c .end) (c .to) (later c .0) (omega arith) (omega arith) (c .deep) w₁ room₁ (words₁ ∙ c .s .loaded) (small c)
+
+      pub take-opens : ((g < 2048) × (16384 ≤ length w₁)) × ((tail-at w₁ g < 2048) × ((disjunctions-at w₁ (tail-at w₁ g) ≡ 0) ⊎ (a .frames < 5)))
+      take-opens =
+          let c = c₀ in
+          let h = open-here n (c .s .t) (c .s .U) (c .s .m) (pushed-all c) g (c .from) (c .end) (c .to) (c .d) (c .at) (c .left) (c .nests) (c .among) (clear₁ c) (c .l) (c .end) (c .to) (later c .0) (omega arith) (omega arith) (c .deep) w₁ room₁ (words₁ ∙ c .s .loaded) (small c) in
+          ((h .0, room₁), (h .1, open-room n (c .s .t) (c .s .U) (c .s .m) (pushed-all c) g (c .from) (c .end) (c .to) (c .d) (c .at) (c .left) (c .nests) (c .among) (clear₁ c) (c .l) (c .end) (c .to) (later c .0) (omega arith) (omega arith) (c .deep) w₁ room₁ (words₁ ∙ c .s .loaded) (small c) a (c .lists)))
+
+      module _ (b : Agenda) (lists : (l : List Slot) → Lists a l → Lists b (onto (tail-at w₁ g + 1) (disjunctions-at w₁ (tail-at w₁ g)) l)) where
+        abbrev slots₁ : (c : Taking n k w g a) → List Slot
+        slots₁ c = onto (tail-at w₁ g + 1) (disjunctions-at w₁ (tail-at w₁ g)) (c .l)
+
+        abbrev wide₁ : (c : Taking n k w g a) → (G : Frames n (c .s .t) (c .s .U) (pushed-all c) (c .s .m) (slots₁ c) 0 0) × (plan n (c .s .t) (c .s .U) (pushed-all c) (c .s .m) (slots₁ c) 0 0 G ≡ plan n (c .s .t) (c .s .U) (pushed-all c) (c .s .m) (slots₁ c) (g + 1) (c .from) (opened₁ c .frames))
+        wide₁ c = frames-wide n (c .s .t) (c .s .U) (c .s .m) (pushed-all c) (slots₁ c) (g + 1) (c .from) 0 0 (omega arith) (omega arith) (opened₁ c .frames)
+
+        abbrev resuming₁ : Taking n k w g a → Resuming n e w₁ b
+        resuming₁ c = record { s = standing₁ c; l = slots₁ c; lists = lists (c .l) (c .lists); frames = wide₁ c .0 }
+
+        pub take-asks : Resuming n e w₁ b
+        take-asks = resuming₁ c₀
+
+        pub take-falls : g < reach (slots b)
+        take-falls =
+            let c = c₀ in
+            let many : length (c .s .t) ≡ 2048 = ap length (sym (c .s .loaded)) ∙ words-many w (c .s .holds .long) in
+            let r = frames-reach n (c .s .t) (c .s .U) (c .s .m) (pushed-all c) many (slots₁ c) (g + 1) (c .from) (opened₁ c .frames) in
+            let e : reach (slots b) ≡ reach (slots₁ c) = ap reach (lists (c .l) (c .lists) .is) in
+            omega arith
+
+        -- what is found after it
+        resumed-is : (c : Taking n k w g a) → taken-with c ≡ taking (c .from) (resumed (resuming₁ c))
+        resumed-is c =
+            let S = graphs (pushed-all c) in
+            let m = c .s .m in
+            let good = agree-is c true (agrees-true (graphs (c .s .es) ++ flat (strip (keep (marking w) (c .d)))) (fine n k w g depth-limit (asks-enter c)) (subst Agree (entered-graphs n k w g depth-limit (asks-enter c)) (holds-agree n (pushed-all c) e w₁ (u .pushed e z .1 (asks-enter c))))) in
+            ap (taking (c .from)) (
+            dive-pushed m (graphs (c .s .es)) (c .d) (left-of c) good
+            ∙ ap (resume-at m (inner (c .d) ∷ left-of c)) (sym (all-graphs c))
+            ∙ ap (λ (fs : List Places). resume-at m (inner (c .d) ∷ fs) S) (sym (later c .1))
+            ∙ sym (opened₁ c .is S)
+            ∙ ap (λ (fs : List Places). resume-at m fs S) (sym (wide₁ c .1))
+            )
+
+        module _ (r : ℕ) (w₂ : List ℕ) (v : Resumes n e w₁ b r w₂) where
+          since₂ : Since k w e w₂
+          since₂ = since-trans k w e w₁ e w₂ (u .pushed e z .0) (v .moved .since)
+
+          pub take-back : Remembers k e w₂
+          take-back = record { w₀ = w; since = since₂ }
+
+          module _ (w₃ : List ℕ) (q : Backs k e w₂ w₃) where
+            room₂ : 16384 ≤ length w₂
+            room₂ = omega (arith, v .moved .len, room₁)
+
+            moved₃ : Moved k w k w₃
+            moved₃ = record { len = q .len ∙ v .moved .len ∙ u .len; rest = λ j h. q .rest j (omega arith) ∙ v .moved .rest j h ∙ u .rest j (omega arith); since = q .since w since₂ }
+
+            room₃ : 16384 ≤ length w₃
+            room₃ = omega (arith, q .len, room₂)
+
+            words₃ : words w₃ ≡ words w
+            words₃ = moved-words k w k w₃ (c₀ .s .holds .long) moved₃
+
+            pub take-notes : Noting w₃ g
+            take-notes = let x = read c₀ w₃ room₃ (words₃ ∙ c₀ .s .loaded) in record { room = room₃; here = x .here; low = omega (arith, x .number, x .low) }
+
+            found₃ : (c : Taking n k w g a) → Finds n k w (c .s .es) (resumed (resuming₁ c)) r w₃
+            found₃ c = finds-under n k e w w₁ w₂ w₃ (c .s .es) (pushed-all c) (resumed (resuming₁ c)) r lights₁ marks₁ (v .found (resuming₁ c)) (lights-frame w₂ w₃ room₂ (q .len) (λ j x y. q .rest j (omega arith))) (marking-frame w₂ w₃ room₂ (q .len) (λ j x y. q .rest j (omega arith))) (q .holds n (c .s .es) w (c .s .holds) since₂)
+
+            pub takes-found : (w₄ : List ℕ) → Notes w₃ g r w₄ → Takes n k w g a r w₄
+            takes-found w₄ y = record {
+              moved = moved-noted k w k w₃ w₄ g r room₃ moved₃ y;
+              found = λ c. finds-same n k w (c .s .es) (taking (c .from) (resumed (resuming₁ c))) (taken-with c) r w₄ (resumed-is c)
+                  (finds-taking n k w (c .s .es) (c .from) (resumed (resuming₁ c)) g r w₃ w₄ room₃ (found₃ c) y (read c w₃ room₃ (words₃ ∙ c .s .loaded) .number) (ap (λ (m : Marking). m (c .from)) (c .s .marks) ∙ c .kept));
+            }

@@ -1,0 +1,55 @@
+-- What is left to go through, as the code has it, and the disjunctions that stand there.
+-- Assumes nothing: these are definitions.
+use Prim.Native.Nat.{ℕ, zero, suc, _+_, _-_, _≤_, _<_}
+use mathlib.Core.Path.{_≡_}
+use mathlib.Core.List.{List, [], _∷_}
+use lib.ListN.{length, take}
+use Rattle.engine.specs.Placed.{Places}
+use Rattle.engine.specs.Marks.{Marking}
+use Rattle.loading.specs.Entry.{Entry}
+use Rattle.loading.specs.Numbered.{places}
+use Rattle.loading.specs.At.{AtAll}
+use Rattle.counting.specs.Nesting.{NestsAll}
+use Rattle.quick.specs.Taken.{AmongAll}
+use Rattle.quick.specs.Clear.{ClearAll}
+use Rattle.search.specs.declared.agenda.Agenda.{Agenda}
+
+-- a frame: where its next disjunction stands, and how many are left in it
+abbrev pub Slot : Type 0
+Slot = ℕ × ℕ
+
+unfoldable pub slots : Agenda → List Slot
+slots a = take (a .frames) ((a .at0, a .more0) ∷ (a .at1, a .more1) ∷ (a .at2, a .more2) ∷ (a .at3, a .more3) ∷ (a .at4, a .more4) ∷ [])
+
+-- the frames of a are l
+pub record Lists (a : Agenda) (l : List Slot) : Type 0 where
+  pub few : a .frames ≤ 5
+  pub is : slots a ≡ l
+
+-- a frame before others; one with nothing left is none
+abbrev pub onto : ℕ → ℕ → List Slot → List Slot
+onto at zero l = l
+onto at (suc more) l = (at, suc more) ∷ l
+
+-- `more` disjunctions stand loaded from `at` on; of what is certain in them all is among the graphs es, of the rest nothing
+pub record Frame (t : List ℕ) (U es : List Entry) (m : Marking) (at more left : ℕ) : Type 0 where
+  pub ds : Places
+  pub from : ℕ
+  pub end : ℕ
+  pub to : ℕ
+  pub stand : AtAll t at from ds end to
+  pub within : at ≤ length t
+  pub many : places ds ≡ more
+  pub nests : NestsAll ds left
+  pub among : AmongAll U t at from ds end to stand
+  pub clear : ClearAll es t m at from ds end to stand
+
+-- the frames stand one after the other, from the position `pos` and the number `lo` on; the more of them, the less deep the first nests
+abbrev pub Frames : (n : ℕ) (t : List ℕ) (U es : List Entry) (m : Marking) → List Slot → ℕ → ℕ → Type 0
+Frames n t U es m [] pos lo = (pos ≤ length t) × (lo ≤ n)
+Frames n t U es m (s ∷ l) pos lo = (f : Frame t U es m (s .0) (s .1) (5 - length l)) × (0 < s .1) × (pos ≤ s .0) × (lo ≤ f .from) × Frames n t U es m l (f .end) (f .to)
+
+-- their disjunctions: engine's agenda
+abbrev pub plan : (n : ℕ) (t : List ℕ) (U es : List Entry) (m : Marking) (l : List Slot) (pos lo : ℕ) → Frames n t U es m l pos lo → List Places
+plan n t U es m [] pos lo F = []
+plan n t U es m (s ∷ l) pos lo F = F .0 .ds ∷ plan n t U es m l (F .0 .end) (F .0 .to) (F .4)

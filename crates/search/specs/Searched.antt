@@ -1,0 +1,140 @@
+-- What the search asks, and what it does: engine's search by its agenda, on the area.
+-- Assumes nothing: these are definitions.
+use Prim.Native.Nat.{ℕ, _+_, _≤_, _<_, min}
+use mathlib.Core.Path.{_≡_}
+use mathlib.Core.Logic.{_⊎_}
+use mathlib.Core.Bool.{true, false, _||_, _&&_}
+use mathlib.Core.List.{List}
+use lib.Dec.{eqb, ltb}
+use lib.ListN.{length, getD}
+use Rattle.theory.specs.Limits.{depth-limit, choice-stop}
+use Rattle.area.specs.Map.{MARKS, RESULT}
+use Rattle.area.specs.Region.{words}
+use Rattle.engine.specs.Placed.{Placed, Options}
+use Rattle.engine.specs.Marks.{Marking, keep}
+use Rattle.engine.specs.Search.{Found, taking, lit}
+use Rattle.engine.specs.Search as engine
+use Rattle.engine.specs.Agenda.{resume-at, dive-at, each-at}
+use Rattle.loading.specs.Entry.{Entry, graphs}
+use Rattle.loading.specs.Numbered.{options}
+use Rattle.loading.specs.At.{At, AtAny}
+use Rattle.marks.specs.Marked.{marking, lights}
+use Rattle.marks.specs.Positions.{number-at}
+use Rattle.counting.specs.Nesting.{Nests, NestsAny}
+use Rattle.classes.specs.Holds.{Holds}
+use Rattle.quick.specs.Taken.{Among, AmongAny, Inside, Free}
+use Rattle.quick.specs.Ground.{Ground}
+use Rattle.quick.specs.Stepped.{Moved}
+use Rattle.quick.specs.Stage.{Pair, Stage}
+use Rattle.search.specs.declared.agenda.Agenda.{Agenda}
+use Rattle.search.specs.Frames.{Slot, Lists, Frames, plan}
+
+-- ---- an alternative is found
+pub record Noting (w : List ℕ) (g : ℕ) : Type 0 where
+  pub room : 16384 ≤ length w
+  pub here : g < 2048
+  pub low : number-at w g < 1024
+
+pub record Notes (w : List ℕ) (g found : ℕ) (w' : List ℕ) : Type 0 where
+  pub len : length w' ≡ length w
+  pub rest : (j : ℕ) → (j < MARKS) ⊎ (RESULT ≤ j) → getD w' j 0 ≡ getD w j 0
+  pub seen : (y : ℕ) → lights w' y ≡ (lights w y || (ltb 0 found && eqb y (number-at w g)))
+  pub marks : marking w (number-at w g) ≡ true → marking w' ≡ marking w
+
+-- ---- what is found
+-- the graphs es are pushed, and the marks are m
+pub record Standing (n k : ℕ) (w : List ℕ) : Type 0 where
+  pub t : List ℕ
+  pub loaded : words w ≡ t
+  pub m : Marking
+  pub marks : marking w ≡ m
+  pub U : List Entry
+  pub ground : Ground n t U
+  pub es : List Entry
+  pub holds : Holds n es k w
+  pub inside : Inside U es
+
+-- the choices f were found: they are counted, stopping at 4,097, and what they take is marked; what was pushed is as it was
+pub record Finds (n k : ℕ) (w : List ℕ) (es : List Entry) (f : Found) (r : ℕ) (w' : List ℕ) : Type 0 where
+  pub count : r ≡ min (length f) choice-stop
+  pub seen : (y : ℕ) → lights w' y ≡ (lights w y || lit f y)
+  pub marks : marking w' ≡ marking w
+  pub holds : Holds n es k w'
+
+-- ---- what is left
+pub record Resuming (n k : ℕ) (w : List ℕ) (a : Agenda) : Type 0 where
+  pub s : Standing n k w
+  pub l : List Slot
+  pub lists : Lists a l
+  pub frames : Frames n (s .t) (s .U) (s .es) (s .m) l 0 0
+
+abbrev pub resumed : {n k : ℕ} {w : List ℕ} {a : Agenda} → Resuming n k w a → Found
+resumed {n} {k} {w} {a} c = resume-at (c .s .m) (plan n (c .s .t) (c .s .U) (c .s .es) (c .s .m) (c .l) 0 0 (c .frames)) (graphs (c .s .es))
+
+pub record Resumes (n k : ℕ) (w : List ℕ) (a : Agenda) (r : ℕ) (w' : List ℕ) : Type 0 where
+  pub moved : Moved k w k w'
+  pub found : (c : Resuming n k w a) → Finds n k w (c .s .es) (resumed c) r w'
+
+-- ---- an alternative that stands loaded at g, and then what is left
+pub record Taking (n k : ℕ) (w : List ℕ) (g : ℕ) (a : Agenda) : Type 0 where
+  pub s : Standing n k w
+  pub d : Placed
+  pub from : ℕ
+  pub end : ℕ
+  pub to : ℕ
+  pub at : At (s .t) g from d end to
+  pub among : Among (s .U) (s .t) g from d end to at
+  pub free : Free from to (s .es)
+  pub kept : s .m from ≡ true
+  pub left : ℕ
+  pub shallow : left ≤ depth-limit
+  pub nests : Nests d left
+  pub l : List Slot
+  pub lists : Lists a l
+  pub deep : length l + left ≤ 5
+  pub frames : Frames n (s .t) (s .U) (s .es) (s .m) l end to
+
+abbrev pub taken-with : {n k : ℕ} {w : List ℕ} {g : ℕ} {a : Agenda} → Taking n k w g a → Found
+taken-with {n} {k} {w} {g} {a} c = taking (c .from) (dive-at (c .s .m) (graphs (c .s .es)) (c .d) (plan n (c .s .t) (c .s .U) (c .s .es) (c .s .m) (c .l) (c .end) (c .to) (c .frames)))
+
+pub record Takes (n k : ℕ) (w : List ℕ) (g : ℕ) (a : Agenda) (r : ℕ) (w' : List ℕ) : Type 0 where
+  pub moved : Moved k w k w'
+  pub found : (c : Taking n k w g a) → Finds n k w (c .s .es) (taken-with c) r w'
+
+-- ---- `count` alternatives that stand loaded from p on, and then what is left
+pub record Choosing (n k : ℕ) (w : List ℕ) (p count : ℕ) (a : Agenda) : Type 0 where
+  pub s : Standing n k w
+  pub o : Options
+  pub from : ℕ
+  pub end : ℕ
+  pub to : ℕ
+  pub at : AtAny (s .t) p from o end to
+  pub within : p ≤ length (s .t)
+  pub many : options o ≡ count
+  pub among : AmongAny (s .U) (s .t) p from o end to at
+  pub free : Free from to (s .es)
+  pub left : ℕ
+  pub shallow : left ≤ depth-limit
+  pub nests : NestsAny o left
+  pub l : List Slot
+  pub lists : Lists a l
+  pub deep : length l + left ≤ 5
+  pub frames : Frames n (s .t) (s .U) (s .es) (s .m) l end to
+
+abbrev pub chosen : {n k : ℕ} {w : List ℕ} {p count : ℕ} {a : Agenda} → Choosing n k w p count a → Found
+chosen {n} {k} {w} {p} {count} {a} c = each-at (c .s .m) (graphs (c .s .es)) (c .o) (plan n (c .s .t) (c .s .U) (c .s .es) (c .s .m) (c .l) (c .end) (c .to) (c .frames))
+
+pub record Chooses (n k : ℕ) (w : List ℕ) (p count : ℕ) (a : Agenda) (r : ℕ) (w' : List ℕ) : Type 0 where
+  pub moved : Moved k w k w'
+  pub found : (c : Choosing n k w p count a) → Finds n k w (c .s .es) (chosen c) r w'
+
+-- ---- both inputs
+pub record Searching (n k : ℕ) (w : List ℕ) : Type 0 where
+  pub t : List ℕ
+  pub p : Pair n t
+  pub stage : Stage n t p k w
+
+-- what is found is what engine's search finds in what the marks leave of the joined description
+pub record Searches (n k : ℕ) (w : List ℕ) (r : ℕ) (w' : List ℕ) : Type 0 where
+  pub moved : Moved k w k w'
+  pub found : (c : Searching n k w) → Finds n k w (c .stage .es) (engine.search (keep (marking w) (c .p .j))) r w'

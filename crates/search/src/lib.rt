@@ -1,0 +1,3 @@
+// The full step's search: the choices over the kept alternatives, depth first, by push and undo.
+pub mod agenda;
+pub mod search;

@@ -1,0 +1,106 @@
+// The choices are searched depth first. Each alternative that stands in a consistent choice is found on the way back.
+use crate::agenda::Agenda;
+use crate::agenda::after;
+use crate::agenda::before;
+use crate::agenda::descend;
+use crate::agenda::nothing;
+use area::map::SECOND;
+use classes::push::Pushed;
+use classes::push::back;
+use counting::choices::capped;
+use marks::marking::kept;
+use marks::marking::light;
+use marks::positions::after_at;
+use marks::positions::alternatives_at;
+use marks::positions::number_at;
+use marks::tally::count_kept;
+use quick::enter::enter;
+ghost use Rattle.search.specs.Searched.{Noting, Notes, Resuming, Resumes, Taking, Takes, Choosing, Chooses, Searching, Searches};
+
+// "Alternatives may be nested at most 4 deep"
+const DEPTH: u32 = 4;
+
+// Where anything was found with it, the alternative at g is found.
+fn note(w: &mut [u32], g: usize, found: u32)
+    requires { ⌜ Noting (now w) g ⌝ }
+    ensures { λ _. ⌜ Notes (now (w .entry)) g found (now (w .exit)) ⌝ }
+{
+    let x = number_at(w, g);
+    if 0 < found {
+        light(w, x);
+    }
+}
+
+// How many consistent choices there are of what is left, stopping at 4,097.
+fn resume(w: &mut [u32], k: usize, n: usize, a: Agenda) -> u32
+    requires { ⌜ Resuming n k (now w) a ⌝ }
+    ensures { λ r. ⌜ Resumes n k (now (w .entry)) a r (now (w .exit)) ⌝ }
+{
+    if a.frames == 0 {
+        return 1;
+    }
+    let at = a.at0;
+    let more = a.more0;
+    let count = alternatives_at(w, at);
+    let tally = count_kept(w, at + 1, count);
+    let later = after(a);
+    let rest = before(tally.after, more - 1, later);
+    if tally.kept == 0 {
+        return 0;
+    }
+    if tally.kept == 1 {
+        let first = tally.first;
+        let inner = descend(w, first, rest);
+        let found = resume(w, k, n, inner);
+        note(w, first, found);
+        return found;
+    }
+    choose(w, k, n, at + 1, count, rest)
+}
+
+// The same with one of the `count` alternatives from p on, which are several.
+fn choose(w: &mut [u32], k: usize, n: usize, p: usize, count: usize, a: Agenda) -> u32
+    requires { ⌜ Choosing n k (now w) p count a ⌝ }
+    ensures { λ r. ⌜ Chooses n k (now (w .entry)) p count a r (now (w .exit)) ⌝ }
+{
+    let mut left = count;
+    let mut at = p;
+    let mut sum: u32 = 0;
+    while 0 < left {
+        let x = number_at(w, at);
+        if kept(w, x) {
+            let found = take(w, k, n, at, a);
+            sum = capped(sum + found);
+        }
+        at = after_at(w, at);
+        left -= 1;
+    }
+    sum
+}
+
+// The same with the alternative at g, which is entered and taken back.
+fn take(w: &mut [u32], k: usize, n: usize, g: usize, a: Agenda) -> u32
+    requires { ⌜ Taking n k (now w) g a ⌝ }
+    ensures { λ r. ⌜ Takes n k (now (w .entry)) g a r (now (w .exit)) ⌝ }
+{
+    let pushed = enter(w, k, n, g, DEPTH);
+    let Pushed::In(e) = pushed else {
+        return 0;
+    };
+    let inner = descend(w, g, a);
+    let found = resume(w, e, n, inner);
+    back(w, e, k);
+    note(w, g, found);
+    found
+}
+
+// How many consistent choices there are of both inputs over the kept alternatives, stopping at 4,097; every alternative in one of them is found.
+pub fn search(w: &mut [u32], k: usize, n: usize) -> u32
+    requires { ⌜ Searching n k (now w) ⌝ }
+    ensures { λ r. ⌜ Searches n k (now (w .entry)) r (now (w .exit)) ⌝ }
+{
+    let none = nothing();
+    let second = descend(w, SECOND, none);
+    let both = descend(w, 0, second);
+    resume(w, k, n, both)
+}
