@@ -25,7 +25,7 @@ pub data Writes (room : ℕ) (r : Answer) : Type 0 where
 not-zero : (n : ℕ) → 0 < n → n ≡ 0 → ⊥
 not-zero n h e = omega arith
 
-given-writes : (mode : ℕ) (a b : List ℕ) (room work : ℕ) (r : Answer) → Given mode a b room work r → Writes room r
+pub given-writes : (mode : ℕ) (a b : List ℕ) (room work : ℕ) (r : Answer) → Given mode a b room work r → Writes room r
 given-writes mode a b room work r (one h) = nothing (not-zero 1 (omega arith)) refl
 given-writes mode a b room work r (two m h) = nothing (not-zero 2 (omega arith)) refl
 given-writes mode a b room work r (three m w h) = nothing (not-zero 3 (omega arith)) refl
@@ -55,16 +55,16 @@ wiped-length : (n : ℕ) (w : List ℕ) → n ≤ length w → length (wiped n w
 unfolding wiped
 wiped-length n w h = let e = length-append (replicate n 0) (drop n w) in let f = length-replicate {A = ℕ} n 0 in let g = length-drop n w in omega (arith, e, f, g)
 
-worked-same : (n : ℕ) (w : List ℕ) → 1 ≤ n → n ≤ 5 → worked n w ≡ w
+pub worked-same : (n : ℕ) (w : List ℕ) → 1 ≤ n → n ≤ 5 → worked n w ≡ w
 unfolding worked
 worked-same zero w h k = absurd (omega arith)
 worked-same (suc n) w h k = let e = lt-ltb n 5 (omega arith) in rw (e, worked)
 
-worked-zero : (w : List ℕ) → worked 0 w ≡ wiped working-size w
+pub worked-zero : (w : List ℕ) → worked 0 w ≡ wiped working-size w
 unfolding worked
 worked-zero w = refl
 
-worked-more : (n : ℕ) (w : List ℕ) → 6 ≤ n → worked n w ≡ wiped working-size w
+pub worked-more : (n : ℕ) (w : List ℕ) → 6 ≤ n → worked n w ≡ wiped working-size w
 unfolding worked
 worked-more zero w h = absurd (omega arith)
 worked-more (suc n) w h = let e = le-ltb n 5 (omega arith) in rw (e, worked)
