@@ -1,6 +1,6 @@
 -- The two inputs side by side, by marks: what they keep, what is certain in both, and the search of both.
 -- Assumes nothing.
-use mathlib.Core.Path.{_≡_, refl, ap, ap₂, sym, _∙_, subst}
+use mathlib.Core.Path.{_≡_, refl, ap, sym, _∙_}
 use mathlib.Core.Bool.{Bool, true, false}
 use mathlib.Core.Option.{Option, none, some}
 use mathlib.Core.List.{List, [], _∷_, _++_, append-assoc, List·Memᴰ, List·Memᴰ·head, List·Memᴰ·tail, List·Memᴰ·not-nil, Memᴰ·append-right}
@@ -12,12 +12,11 @@ use Rattle.theory.proofs.Instance.{AllCanonical}
 use Rattle.theory.proofs.Mean.{Ctx, Fine, Can, CanAll, CanAny, canon-append, fine-append, in-l, in-r, join-canonical}
 use Rattle.engine.specs.Placed.{Placed, place, Places, stop, _also_, Options, no-more, option, strip, strip-all, strip-any}
 use Rattle.engine.specs.Marks.{Marking, keep, keep-all, keep-any}
-use Rattle.engine.specs.Certain.{flat, sure, sure-any, certain, certain-any}
+use Rattle.engine.specs.Certain.{certain, certain-any}
 use Rattle.engine.specs.Beside.{_next_, joined-placed}
 use Rattle.engine.specs.Search.{Found, dive, dive-all, dive-any}
 use Rattle.engine.specs.Agenda.{resume, resume-at}
 use Rattle.engine.proofs.Entail.{SaysAll, w-self, w-right, w-tail, w-cons, fine-cons, says-within, says-trans, says-append, says-cons, says-here, says-there, says-none, join-says, says-join}
-use Rattle.engine.proofs.Stable.{sure-can}
 use Rattle.engine.proofs.Stack.{Same}
 
 -- what is kept is canonical where all is

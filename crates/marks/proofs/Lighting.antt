@@ -12,7 +12,7 @@ use lib.ListN.{length, getD, set, length-set}
 use lib.Seq.{getD-set-same, getD-set-other}
 use Rattle.theory.proofs.Close.{eqb-no}
 use Rattle.area.specs.Map.{MARKS}
-use Rattle.marks.specs.Marked.{marking, lights, dimmed, LitKept}
+use Rattle.marks.specs.Marked.{dimmed, LitKept}
 use Rattle.marks.proofs.Marks.{mark-at, light-at}
 
 pub dimmed-found : (v : ℕ) → v ≡ 2 → dimmed v ≡ 2

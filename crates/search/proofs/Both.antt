@@ -9,41 +9,38 @@ use mathlib.Core.Option.{some}
 use mathlib.Core.List.{List, [], _∷_}
 use lib.ListN.{length}
 use Rattle.theory.specs.Limits.{depth-limit}
-use Rattle.theory.specs.Net.{Graph}
 use Rattle.theory.specs.Descr.{Desc, agree}
 use Rattle.theory.specs.Modes.{joined}
 use Rattle.theory.proofs.Kept.{well-can}
-use Rattle.theory.proofs.Live.{Agrees, not-none}
-use Rattle.theory.proofs.Mean.{Ctx, Can, can-then, join-canonical}
+use Rattle.theory.proofs.Live.{Agrees}
+use Rattle.theory.proofs.Mean.{Ctx, Can}
 use Rattle.area.specs.Map.{SECOND}
 use Rattle.engine.specs.Placed.{Placed, place, Places, strip}
 use Rattle.engine.specs.Marks.{Marking, keep}
-use Rattle.engine.specs.Certain.{flat, certain}
+use Rattle.engine.specs.Certain.{flat}
 use Rattle.engine.specs.Beside.{_next_, joined-placed}
-use Rattle.engine.specs.Search.{Found}
 use Rattle.engine.specs.Search as engine
 use Rattle.engine.specs.Agenda.{resume-at}
-use Rattle.engine.proofs.Passes.{Agreeing, can, cannot, agreeing-view}
+use Rattle.engine.proofs.Passes.{Agreeing, can, agreeing-view}
 use Rattle.engine.proofs.Stack.{Same}
 use Rattle.engine.proofs.Proper.{Comes, joined-comes, well-proper}
 use Rattle.engine.proofs.Beside.{joined-strip, strip-some}
-use Rattle.engine.proofs.Joined.{keep-can, Joins, joined-is, resume-at-after, resume-at-next}
+use Rattle.engine.proofs.Joined.{keep-can, joined-is, resume-at-after, resume-at-next}
 use Rattle.engine.proofs.SearchStack.{search-standing}
-use Rattle.loading.specs.Entry.{Entry, graphs}
+use Rattle.loading.specs.Entry.{graphs}
 use Rattle.loading.specs.Loaded.{number-step, nodes-in}
-use Rattle.loading.specs.Numbered.{numbered}
 use Rattle.loading.specs.At.{At}
 use Rattle.loading.proofs.Names.{numbered-strip}
 use Rattle.loading.proofs.Walking.{at-bounds}
 use Rattle.marks.specs.Positions.{tail-at, disjunctions-at}
 use Rattle.marks.specs.Marked.{marking}
 use Rattle.classes.proofs.Laws.{holds-agree}
-use Rattle.quick.specs.Stage.{Pair, Stage}
+use Rattle.quick.specs.Stage.{Pair}
 use Rattle.quick.proofs.Grounds.{numbered-end}
 use Rattle.quick.proofs.Settling.{agrees-true}
 use Rattle.search.specs.declared.agenda.Agenda.{Agenda}
 use Rattle.search.specs.Frames.{Slot, Lists, onto, Frames, plan}
-use Rattle.search.specs.Searched.{Standing, Finds, Resuming, resumed, Resumes, Searching, Searches}
+use Rattle.search.specs.Searched.{Standing, Resuming, resumed, Resumes, Searching, Searches}
 use Rattle.search.proofs.Planning.{inner, frames-wide, Opened, opened, open-here, open-room}
 use Rattle.search.proofs.Finding.{finds-same}
 

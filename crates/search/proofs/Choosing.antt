@@ -1,11 +1,10 @@
 -- The kept ones of several alternatives are taken in order; engine's `each-at`: what was found and what is still to be taken is the whole.
 -- Assumes nothing.
-use Prim.Native.Nat.{ℕ, zero, suc, _+_, _-_, _≤_, _<_, min}
+use Prim.Native.Nat.{ℕ, _+_, _-_, _≤_, _<_, min}
 use native.Mathlib.Omega.{arith}
 use mathlib.Core.Path.{_≡_, refl, sym, ap, subst, _∙_}
-use mathlib.Core.Logic.{_⊎_, inl, inr, ⊎-elim}
 use mathlib.Core.Bool.{Bool, true, false}
-use mathlib.Core.List.{List, [], _∷_, _++_, append-nil, append-assoc}
+use mathlib.Core.List.{List, [], _++_, append-nil, append-assoc}
 use lib.ListN.{length}
 use Rattle.theory.specs.Limits.{choice-stop}
 use Rattle.theory.specs.Net.{Graph}
@@ -31,7 +30,7 @@ use Rattle.quick.proofs.Certain.{free-narrow}
 use Rattle.quick.proofs.Sifting.{moved-trans, moved-words}
 use Rattle.search.specs.declared.agenda.Agenda.{Agenda}
 use Rattle.search.specs.Frames.{Frames, plan}
-use Rattle.search.specs.Searched.{Standing, Finds, Taking, taken-with, Takes, Choosing, chosen, Chooses}
+use Rattle.search.specs.Searched.{Finds, Taking, taken-with, Takes, Choosing, chosen}
 use Rattle.search.proofs.Planning.{frames-bound, frames-wide}
 use Rattle.search.proofs.Finding.{finds-none, finds-same, finds-small, finds-append}
 

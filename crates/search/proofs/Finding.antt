@@ -1,16 +1,15 @@
 -- What was found: nothing, a leaf, one after the other, and with an alternative.
 -- Assumes nothing.
-use Prim.Native.Nat.{ℕ, zero, suc, _+_, _≤_, _<_, min}
+use Prim.Native.Nat.{ℕ, _+_, _≤_, _<_, min}
 use native.Mathlib.Omega.{arith}
 use mathlib.Core.Path.{_≡_, refl, sym, ap, ap₂, subst, _∙_}
 use mathlib.Core.Logic.{inl, inr, ⊎-elim}
 use mathlib.Core.Bool.{Bool, true, false, _||_, _&&_}
 use mathlib.Core.List.{List, [], _∷_, _++_}
 use lib.Dec.{eqb, ltb}
-use lib.ListN.{length, getD, length-append}
+use lib.ListN.{length, length-append}
 use borrow.Author.Tests.{ltb-true, ltb-false}
 use Rattle.theory.specs.Limits.{choice-stop}
-use Rattle.area.specs.Map.{WORDS, MARKS, RESULT}
 use Rattle.engine.specs.Search.{Found, taking, lit}
 use Rattle.engine.specs.Agenda.{any-found}
 use Rattle.engine.specs.Marks.{Marking}
@@ -18,8 +17,7 @@ use Rattle.engine.proofs.Agenda.{taking-count, lit-append, lit-taking}
 use Rattle.loading.specs.Entry.{Entry}
 use Rattle.marks.specs.Marked.{marking, lights, Lighted}
 use Rattle.marks.specs.Positions.{number-at}
-use Rattle.marks.proofs.Marks.{marking-frame, lights-frame}
-use Rattle.classes.specs.Holds.{Holds, Since}
+use Rattle.classes.specs.Holds.{Holds}
 use Rattle.classes.proofs.Laws.{holds-frame, since-frame}
 use Rattle.quick.specs.Stepped.{Moved}
 use Rattle.search.specs.Searched.{Noting, Notes, Finds}

@@ -8,21 +8,19 @@ use mathlib.Core.List.{List, [], _∷_, List·Memᴰ}
 use lib.ListN.{length}
 use Rattle.theory.specs.Net.{Graph}
 use Rattle.area.specs.Region.{words}
-use Rattle.area.proofs.Region.{words-many}
 use Rattle.engine.specs.Placed.{Placed, place, Places, stop, _also_, Options, no-more, option}
 use Rattle.engine.specs.Marks.{Marking}
-use Rattle.engine.specs.Search.{Found}
 use Rattle.engine.specs.Agenda.{resume-at}
 use Rattle.engine.proofs.Agenda.{resume-at-stop}
 use Rattle.loading.specs.Entry.{Entry}
 use Rattle.loading.specs.Loaded.{extent, number-step}
 use Rattle.loading.specs.Numbered.{places}
-use Rattle.loading.specs.At.{At, AtAll}
-use Rattle.loading.proofs.Walking.{at-bounds, all-bounds}
+use Rattle.loading.specs.At.{At}
+use Rattle.loading.proofs.Walking.{all-bounds}
 use Rattle.marks.specs.Positions.{tail-at, disjunctions-at}
 use Rattle.marks.proofs.Reading.{tail-is, disjunctions-is, read-at}
 use Rattle.counting.specs.Nesting.{Nests, NestsAll, NestsAny}
-use Rattle.quick.specs.Taken.{Among, AmongAll}
+use Rattle.quick.specs.Taken.{Among}
 use Rattle.quick.specs.Clear.{Clear, ClearAll}
 use Rattle.quick.proofs.Clearing.{all-alike}
 use Rattle.search.specs.declared.agenda.Agenda.{Agenda}

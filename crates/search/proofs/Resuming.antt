@@ -3,10 +3,9 @@
 use Prim.Native.Nat.{ℕ, zero, suc, _+_, _-_, _≤_, _<_}
 use native.Mathlib.Omega.{arith}
 use mathlib.Core.Path.{_≡_, refl, sym, ap, subst, _∙_}
-use mathlib.Core.Logic.{_⊎_, inl, inr, ⊎-elim}
-use mathlib.Core.List.{List, [], _∷_, _++_}
+use mathlib.Core.Logic.{_⊎_, inr}
+use mathlib.Core.List.{List, [], _∷_}
 use lib.ListN.{length}
-use Rattle.theory.specs.Limits.{depth-limit}
 use Rattle.theory.specs.Net.{Graph}
 use Rattle.theory.specs.Descr.{alts}
 use Rattle.area.specs.Region.{words}
@@ -17,17 +16,16 @@ use Rattle.engine.specs.Search.{Found, taking, dive, dive-any, dive-each}
 use Rattle.engine.specs.Agenda.{resume, resume-at, choose-at, each-at}
 use Rattle.engine.proofs.Marks.{kept-alts}
 use Rattle.engine.proofs.Agenda.{resume-at-leaf, resume-at-more, choose-at-none}
-use Rattle.loading.specs.Entry.{Entry, graphs}
+use Rattle.loading.specs.Entry.{graphs}
 use Rattle.loading.specs.Loaded.{number-step}
 use Rattle.loading.specs.Numbered.{places, options}
 use Rattle.loading.specs.At.{At, AtAll, AtAny}
-use Rattle.loading.proofs.Walking.{at-bounds, all-bounds, any-bounds}
-use Rattle.marks.specs.Positions.{number-at, tail-at, disjunctions-at, alternatives-at}
-use Rattle.marks.specs.Marked.{marking}
+use Rattle.loading.proofs.Walking.{all-bounds, any-bounds}
+use Rattle.marks.specs.Positions.{tail-at, disjunctions-at, alternatives-at}
 use Rattle.marks.specs.Tallied.{from-kept, Alternatives, Tallied}
 use Rattle.marks.proofs.Reading.{Read, read-at, alternatives-is}
-use Rattle.marks.proofs.First.{First, first-kept}
-use Rattle.counting.specs.Nesting.{NestsAll, NestsAny}
+use Rattle.marks.proofs.First.{first-kept}
+use Rattle.counting.specs.Nesting.{NestsAll}
 use Rattle.classes.proofs.Laws.{since-refl}
 use Rattle.quick.specs.Taken.{AmongAll, Free}
 use Rattle.quick.specs.Clear.{ByCount, Clear, ClearAll, ClearLone}
@@ -35,8 +33,8 @@ use Rattle.quick.specs.Stepped.{Moved}
 use Rattle.quick.proofs.Certain.{Lone, lone-at}
 use Rattle.quick.proofs.Sifting.{moved-words}
 use Rattle.search.specs.declared.agenda.Agenda.{Agenda}
-use Rattle.search.specs.Frames.{Slot, slots, Lists, onto, Frame, Frames, plan}
-use Rattle.search.specs.Searched.{Noting, Notes, Standing, Finds, Resuming, resumed, Resumes, Choosing, chosen, Chooses}
+use Rattle.search.specs.Frames.{Slot, slots, Lists, onto, Frames, plan}
+use Rattle.search.specs.Searched.{Noting, Notes, Resuming, resumed, Resumes, Choosing, chosen, Chooses}
 use Rattle.search.proofs.Slots.{lists-none, lists-size, lists-first}
 use Rattle.search.proofs.Planning.{inner, reach, frames-bound, frames-reach, frames-wide, frames-onto, Opened, opened, open-here, open-room}
 use Rattle.search.proofs.Finding.{finds-none, finds-leaf, finds-same, finds-taking, moved-noted}

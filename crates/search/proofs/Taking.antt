@@ -1,36 +1,34 @@
 -- An alternative is taken: it is entered, what is left is gone through after it, and it is taken back; engine's `dive-at`, return by return.
 -- Assumes nothing.
-use Prim.Native.Nat.{ℕ, zero, suc, _+_, _≤_, _<_}
+use Prim.Native.Nat.{ℕ, _+_, _≤_, _<_}
 use native.Mathlib.Omega.{arith}
 use mathlib.Core.Path.{_≡_, refl, sym, ap, subst, _∙_}
 use mathlib.Core.Logic.{_⊎_, inl, inr, ⊎-elim}
 use mathlib.Core.Bool.{Bool, true, false}
-use mathlib.Core.List.{List, [], _∷_, _++_, List·Memᴰ, List·Memᴰ·append-cases}
+use mathlib.Core.List.{List, [], _∷_, _++_, List·Memᴰ·append-cases}
 use lib.ListN.{length}
 use Rattle.theory.specs.Limits.{depth-limit}
 use Rattle.theory.specs.Net.{Graph, Clash, Agree}
 use Rattle.theory.specs.Descr.{agree}
-use Rattle.area.specs.Map.{WORDS, MARKS, RESULT}
 use Rattle.area.specs.Region.{words}
 use Rattle.area.proofs.Region.{words-same, words-many}
 use Rattle.engine.specs.Placed.{Placed, place, Places, strip}
 use Rattle.engine.specs.Marks.{Marking, keep}
 use Rattle.engine.specs.Certain.{flat}
-use Rattle.engine.specs.Search.{Found, taking}
+use Rattle.engine.specs.Search.{taking}
 use Rattle.engine.specs.Agenda.{resume-at, dive-at}
 use Rattle.engine.proofs.Agenda.{dive-at-clash, dive-at-push}
 use Rattle.loading.specs.Entry.{Entry, graphs}
 use Rattle.loading.specs.Loaded.{number-step}
 use Rattle.loading.specs.At.{At}
-use Rattle.marks.specs.Positions.{number-at, tail-at, disjunctions-at}
+use Rattle.marks.specs.Positions.{tail-at, disjunctions-at}
 use Rattle.marks.specs.Marked.{marking, lights}
 use Rattle.marks.proofs.Marks.{marking-frame, lights-frame}
 use Rattle.marks.proofs.Reading.{Read, read-at}
-use Rattle.classes.specs.Holds.{Holds, Since, Remembers, Backs}
+use Rattle.classes.specs.Holds.{Since, Remembers, Backs}
 use Rattle.classes.specs.declared.push.Pushed.{Pushed}
 use Rattle.classes.specs.declared.push.Pushed.the-variants.{In, Clashed}
 use Rattle.classes.proofs.Laws.{holds-agree, since-trans}
-use Rattle.quick.specs.Taken.{taken, Inside}
 use Rattle.quick.specs.Entered.{Entering, entered, Enters}
 use Rattle.quick.specs.Clear.{Clear}
 use Rattle.quick.specs.Stepped.{Moved}

@@ -6,7 +6,6 @@ use Rattle.search.proofs.Slots.{opens}
 use borrow.Author.Needs.{needs}
 use Rattle.search.proofs.agenda.descend.Statement.{statement}
 use Rattle.search.proofs.agenda.descend.Tie as tie
-use Rattle.search.proofs.agenda.descend.Reads as reads
 
 tail-at-requires : tie.Need-tail-at-requires
 tail-at-requires c κs = search needs

@@ -4,7 +4,6 @@ use native.Mathlib.Omega.{arith}
 use borrow.Author.Needs.{needs}
 use Rattle.search.proofs.search.note.Statement.{statement}
 use Rattle.search.proofs.search.note.Tie as tie
-use Rattle.search.proofs.search.note.Reads as reads
 
 number-at-requires : tie.Need-number-at-requires
 number-at-requires c κs = search needs

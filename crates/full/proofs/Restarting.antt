@@ -1,0 +1,128 @@
+-- All that is certain in both inputs is pushed anew: the first, then the second.
+-- Assumes nothing.
+use Prim.Native.Nat.{ℕ, _≤_, _<_}
+use native.Mathlib.Omega.{arith}
+use mathlib.Core.Path.{_≡_, ap, subst, _∙_}
+use mathlib.Core.Logic.{inl}
+use mathlib.Core.List.{List, [], _++_, List·Memᴰ·not-nil}
+use lib.ListN.{length}
+use Rattle.theory.specs.Limits.{depth-limit}
+use Rattle.theory.specs.Net.{Clash}
+use Rattle.area.specs.Map.{SECOND}
+use Rattle.area.specs.Region.{words}
+use Rattle.area.proofs.Region.{words-same}
+use Rattle.engine.specs.Marks.{Marking}
+use Rattle.loading.specs.Entry.{Entry, graphs}
+use Rattle.loading.proofs.Walking.{at-bounds}
+use Rattle.marks.specs.Marked.{marking}
+use Rattle.marks.proofs.Marks.{marking-frame}
+use Rattle.classes.specs.Holds.{Holds, Starts}
+use Rattle.classes.specs.declared.push.Pushed.{Pushed}
+use Rattle.classes.specs.declared.push.Pushed.the-variants.{In, Clashed}
+use Rattle.quick.specs.Taken.{taken, Inside}
+use Rattle.quick.specs.Entered.{Entering, entered, Enters}
+use Rattle.quick.specs.Passed.{Inputs}
+use Rattle.quick.proofs.Certain.{taken-between, taken-inside}
+use Rattle.quick.proofs.Entering.{inside-append, clash-more}
+use Rattle.full.specs.Restarted.{Restarting, certain-both, Restarts}
+
+-- what is certain in both is among the graphs that lie in the words
+pub certain-inside : (n : ℕ) (t : List ℕ) (i : Inputs n t) (m : Marking) → Inside (i .U) (certain-both i m)
+certain-inside n t i m = inside-append (i .U) (taken t m 0 0 (i .a) (i .end-a) (i .half) (i .at-a)) (taken t m SECOND (i .half) (i .b) (i .end-b) n (i .at-b)) (taken-inside t m (i .U) 0 0 (i .a) (i .end-a) (i .half) (i .at-a) (i .among-a)) (taken-inside t m (i .U) SECOND (i .half) (i .b) (i .end-b) n (i .at-b) (i .among-b))
+
+module _ (n : ℕ) (w w₁ : List ℕ) (s : Starts w w₁) where
+  module _ (c : Restarting n w) where
+    abbrev one : List Entry
+    one = taken (c .t) (marking w) 0 0 (c .inputs .a) (c .inputs .end-a) (c .inputs .half) (c .inputs .at-a)
+
+    abbrev two : List Entry
+    two = taken (c .t) (marking w) SECOND (c .inputs .half) (c .inputs .b) (c .inputs .end-b) n (c .inputs .at-b)
+
+    marks₁ : marking w₁ ≡ marking w
+    marks₁ = marking-frame w w₁ (c .room) (s .len) (λ j a b. s .rest j (omega arith))
+
+    loaded₁ : words w₁ ≡ c .t
+    loaded₁ = words-same w w₁ (c .room) (s .len) (λ j a b. s .rest j a) ∙ c .loaded
+
+    half-low : c .inputs .half < n
+    half-low = at-bounds (c .t) (c .inputs .b) SECOND (c .inputs .half) (c .inputs .end-b) n (c .inputs .at-b) .2
+
+    abbrev first : Entering n 0 w₁ 0 depth-limit
+    first = record {
+      t = c .t;
+      loaded = loaded₁;
+      U = c .inputs .U;
+      ground = c .inputs .ground;
+      d = c .inputs .a;
+      from = 0;
+      end = c .inputs .end-a;
+      to = c .inputs .half;
+      at = c .inputs .at-a;
+      low = omega (arith, half-low);
+      nests = c .inputs .nests-a;
+      among = c .inputs .among-a;
+      es = [];
+      holds = s .holds n (omega (arith, c .inputs .ground .few));
+      inside = λ o i. absurd (List·Memᴰ·not-nil i);
+      free = λ o i. absurd (List·Memᴰ·not-nil i);
+    }
+
+    pub restart-first : Entering n 0 w₁ 0 depth-limit
+    restart-first = first
+
+    first-is : entered first ≡ one
+    first-is = ap (λ (m : Marking). taken (c .t) m 0 0 (c .inputs .a) (c .inputs .end-a) (c .inputs .half) (c .inputs .at-a)) marks₁
+
+  module _ (o : Pushed) (w₂ : List ℕ) (u : Enters n 0 w₁ 0 depth-limit o w₂) where
+    pub restarts-clash : o ≡ Clashed → Restarts n w Clashed w₂
+    restarts-clash z = record {
+      len = u .len ∙ s .len;
+      rest = λ j h. u .rest j h ∙ s .rest j h;
+      pushed = λ k y c. let x : _≡_ {A = ℕ} 0 1 = cc in absurd (omega arith);
+      clashed = λ y c. clash-more n (c .t) (c .inputs .U) (one c) (two c) (c .inputs .ground) (certain-inside n (c .t) (c .inputs) (marking w)) (subst (λ (l : List Entry). Clash (graphs l)) (first-is c) (u .clashed z .1 (first c) .0));
+    }
+
+    module _ (j : ℕ) (z : o ≡ In j) where
+      module _ (c : Restarting n w) where
+        room₁ : 16384 ≤ length w₁
+        room₁ = omega (arith, s .len, c .room)
+
+        marks₂ : marking w₂ ≡ marking w
+        marks₂ = marking-frame w₁ w₂ room₁ (u .len) (λ j a b. u .rest j (omega arith)) ∙ marks₁ c
+
+        loaded₂ : words w₂ ≡ c .t
+        loaded₂ = words-same w₁ w₂ room₁ (u .len) (λ j a b. u .rest j a) ∙ loaded₁ c
+
+        abbrev second : Entering n j w₂ SECOND depth-limit
+        second = record {
+          t = c .t;
+          loaded = loaded₂;
+          U = c .inputs .U;
+          ground = c .inputs .ground;
+          d = c .inputs .b;
+          from = c .inputs .half;
+          end = c .inputs .end-b;
+          to = n;
+          at = c .inputs .at-b;
+          low = omega arith;
+          nests = c .inputs .nests-b;
+          among = c .inputs .among-b;
+          es = one c;
+          holds = subst (λ (l : List Entry). Holds n l j w₂) (first-is c) (u .pushed j z .1 (first c));
+          inside = taken-inside (c .t) (marking w) (c .inputs .U) 0 0 (c .inputs .a) (c .inputs .end-a) (c .inputs .half) (c .inputs .at-a) (c .inputs .among-a);
+          free = λ o i. inl (taken-between (c .t) (marking w) 0 0 (c .inputs .a) (c .inputs .end-a) (c .inputs .half) (c .inputs .at-a) o i .1);
+        }
+
+        pub restart-second : Entering n j w₂ SECOND depth-limit
+        restart-second = second
+
+        second-is : entered second ≡ certain-both (c .inputs) (marking w)
+        second-is = ap (λ (m : Marking). one c ++ taken (c .t) m SECOND (c .inputs .half) (c .inputs .b) (c .inputs .end-b) n (c .inputs .at-b)) marks₂
+
+      pub restarts : (r : Pushed) (w₃ : List ℕ) → Enters n j w₂ SECOND depth-limit r w₃ → Restarts n w r w₃
+      restarts r w₃ v = record {
+        len = v .len ∙ u .len ∙ s .len;
+        rest = λ i h. v .rest i h ∙ u .rest i h ∙ s .rest i h;
+        pushed = λ k y c. subst (λ (l : List Entry). Holds n l k w₃) (second-is c) (v .pushed k y .1 (second c));
+        clashed = λ y c. subst (λ (l : List Entry). Clash (graphs l)) (second-is c) (v .clashed y .1 (second c) .0);
+      }

@@ -1,0 +1,110 @@
+-- What is certain in both inputs, pushed anew, is a stage of what the marks leave; and it does not clash where that can be folded.
+-- Assumes nothing.
+use Prim.Native.Nat.{ℕ, _<_}
+use native.Mathlib.Omega.{arith}
+use mathlib.Core.Path.{_≡_, refl, sym, ap, ap₂, subst, _∙_}
+use mathlib.Core.Logic.{inl, inr, ⊎-elim}
+use mathlib.Core.Bool.{Bool, true, false}
+use mathlib.Core.Option.{some}
+use mathlib.Core.List.{List, _∷_, _++_, List·Memᴰ·append-cases}
+use Rattle.theory.specs.Net.{Graph, Clash}
+use Rattle.theory.specs.Descr.{Desc, desc, agree}
+use Rattle.theory.proofs.Mean.{Ctx, Can}
+use Rattle.theory.proofs.Live.{Agrees, not-none}
+use Rattle.area.specs.Map.{SECOND}
+use Rattle.area.specs.Region.{words}
+use Rattle.engine.specs.Placed.{Placed, place, Places, stop, _also_, strip, strip-all}
+use Rattle.engine.specs.Marks.{Marking, keep, keep-all, keep-any}
+use Rattle.engine.specs.Certain.{flat, certain}
+use Rattle.engine.specs.Beside.{_next_, joined-placed}
+use Rattle.engine.proofs.Entail.{agrees-says}
+use Rattle.engine.proofs.Sane.{Sane}
+use Rattle.engine.proofs.Stack.{Same}
+use Rattle.engine.proofs.Stable.{sure-can}
+use Rattle.engine.proofs.Passes.{Agreeing, cannot, agreeing-view}
+use Rattle.engine.proofs.Marks.{keep-same}
+use Rattle.engine.proofs.Joined.{keep-can, joined-is, certain-next, joined-same}
+use Rattle.loading.specs.Entry.{Entry, graphs}
+use Rattle.loading.proofs.Walking.{at-bounds, at-names}
+use Rattle.marks.specs.Marked.{marking}
+use Rattle.classes.specs.Holds.{Holds}
+use Rattle.classes.proofs.Comings.{graphs-append}
+use Rattle.quick.specs.Taken.{taken}
+use Rattle.quick.specs.Clear.{Clear}
+use Rattle.quick.specs.Stage.{Pair, Stage}
+use Rattle.quick.proofs.Certain.{taken-flat, taken-between}
+use Rattle.quick.proofs.Clearing.{clear-taken}
+use Rattle.quick.proofs.Settling.{clash-false}
+use Rattle.full.specs.Restarted.{certain-both}
+use Rattle.full.proofs.Premises.{first-can, second-can}
+use Rattle.full.proofs.Restarting.{certain-inside}
+
+-- ---- what is certain in both says what is certain in the joined description
+both-same : (a b j : Placed) → joined-placed a b ≡ some j → Can (strip a) → Can (strip b) → (m : Marking) → Same (flat (strip (keep m a)) ++ flat (strip (keep m b))) (flat (strip (keep m j)))
+both-same (place g ds) (place h es) j e ca cb m =
+    let x = joined-is g h ds es j e in
+    let cx = keep-can m (place g ds) ca .1 in
+    let cy = keep-can m (place h es) cb .1 in
+    subst (λ (z : Placed). Same (flat (strip (keep m (place g ds))) ++ flat (strip (keep m (place h es)))) (flat (strip (keep m z)))) (x .is)
+    (subst (λ (l : List Graph). Same (flat (strip (keep m (place g ds))) ++ flat (strip (keep m (place h es)))) (x .k ∷ l)) (sym (certain-next m ds es)) (joined-same g h (x .k) (certain m ds) (certain m es) (ca .0) (cb .0) (sure-can (strip-all (keep-all m ds)) cx) (sure-can (strip-all (keep-all m es)) cy) (x .joins)))
+
+sane-agrees : (d : Desc) → Sane d → Agrees (flat d)
+sane-agrees (desc g ds) s = s .0
+
+no-clash : (gs : Ctx) → agree gs ≡ false → Agrees gs → ⊥
+no-clash gs e a = go (agree gs) (agreeing-view gs) e
+  where
+    go : (b : Bool) → Agreeing gs b → b ≡ false → ⊥
+    go true v e = let z : _≡_ {A = ℕ} 0 1 = cc in omega arith
+    go false (cannot z) e = not-none gs a z
+
+-- ---- marks that are the same below n keep the same
+keep-next : (m : Marking) (ds es : Places) → keep-all m (ds next es) ≡ keep-all m ds next keep-all m es
+keep-next m stop es = refl
+keep-next m (a also ds) es = ap (λ (l : Places). keep-any m a also l) (keep-next m ds es)
+
+inner-of : Placed → Places
+inner-of (place g ds) = ds
+
+keep-both : (a b j : Placed) → joined-placed a b ≡ some j → (m m′ : Marking) → keep m a ≡ keep m′ a → keep m b ≡ keep m′ b → keep m j ≡ keep m′ j
+unfolding inner-of
+keep-both (place g ds) (place h es) j e m m′ p q =
+    let x = joined-is g h ds es j e in
+    let same : keep-all m ds next keep-all m es ≡ keep-all m′ ds next keep-all m′ es = ap₂ {C = Places} _next_ (ap inner-of p) (ap inner-of q) in
+    subst (λ (z : Placed). keep m z ≡ keep m′ z) (x .is) (ap (place (x .k)) (keep-next m ds es ∙ same ∙ sym (keep-next m′ ds es)))
+
+module _ (n : ℕ) (t : List ℕ) (p : Pair n t) where
+  pub pair-keeps : (m m′ : Marking) → ((y : ℕ) → y < n → m y ≡ m′ y) → keep m (p .j) ≡ keep m′ (p .j)
+  pair-keeps m m′ h = keep-both (p .inputs .a) (p .inputs .b) (p .j) (p .joined) m m′
+      (keep-same (p .inputs .a) m m′ (λ y i. h y (omega (arith, at-names t (p .inputs .a) 0 0 (p .inputs .end-a) (p .inputs .half) (p .inputs .at-a) y i .1, at-bounds t (p .inputs .b) SECOND (p .inputs .half) (p .inputs .end-b) n (p .inputs .at-b) .2))))
+      (keep-same (p .inputs .b) m m′ (λ y i. h y (at-names t (p .inputs .b) SECOND (p .inputs .half) (p .inputs .end-b) n (p .inputs .at-b) y i .1)))
+
+  module _ (m : Marking) where
+    abbrev both : List Entry
+    both = certain-both (p .inputs) m
+
+    both-graphs : graphs both ≡ flat (strip (keep m (p .inputs .a))) ++ flat (strip (keep m (p .inputs .b)))
+    both-graphs =
+        graphs-append (taken t m 0 0 (p .inputs .a) (p .inputs .end-a) (p .inputs .half) (p .inputs .at-a)) (taken t m SECOND (p .inputs .half) (p .inputs .b) (p .inputs .end-b) n (p .inputs .at-b))
+        ∙ ap₂ {C = List Graph} _++_ (taken-flat t m 0 0 (p .inputs .a) (p .inputs .end-a) (p .inputs .half) (p .inputs .at-a)) (taken-flat t m SECOND (p .inputs .half) (p .inputs .b) (p .inputs .end-b) n (p .inputs .at-b))
+
+    same : Same (graphs both) (flat (strip (keep m (p .j))))
+    same = subst (λ (l : List Graph). Same l (flat (strip (keep m (p .j))))) (sym both-graphs) (both-same (p .inputs .a) (p .inputs .b) (p .j) (p .joined) (first-can n t p) (second-can n t p) m)
+
+    pub both-agrees : Sane (strip (keep m (p .j))) → Clash (graphs both) → ⊥
+    both-agrees s z = no-clash (graphs both) (clash-false (graphs both) (same .fine₁) z) (agrees-says (flat (strip (keep m (p .j)))) (graphs both) (same .fine₂) (same .fine₁) (same .from) (sane-agrees (strip (keep m (p .j))) s))
+
+    pub both-stage : (k : ℕ) (w : List ℕ) → words w ≡ t → marking w ≡ m → Holds n both k w → Stage n t p k w
+    both-stage k w loaded marks holds = record {
+      es = both;
+      ready = record {
+        loaded = loaded;
+        holds = holds;
+        inside = certain-inside n t (p .inputs) m;
+        clear-a = subst (λ (x : Marking). Clear both t x 0 0 (p .inputs .a) (p .inputs .end-a) (p .inputs .half) (p .inputs .at-a)) (sym marks) (clear-taken t m both 0 0 (p .inputs .a) (p .inputs .end-a) (p .inputs .half) (p .inputs .at-a)
+            (λ o i. ⊎-elim (λ j. inr j) (λ j. inl (inr (taken-between t m SECOND (p .inputs .half) (p .inputs .b) (p .inputs .end-b) n (p .inputs .at-b) o j .0))) (List·Memᴰ·append-cases (taken t m 0 0 (p .inputs .a) (p .inputs .end-a) (p .inputs .half) (p .inputs .at-a)) i)));
+        clear-b = subst (λ (x : Marking). Clear both t x SECOND (p .inputs .half) (p .inputs .b) (p .inputs .end-b) n (p .inputs .at-b)) (sym marks) (clear-taken t m both SECOND (p .inputs .half) (p .inputs .b) (p .inputs .end-b) n (p .inputs .at-b)
+            (λ o i. ⊎-elim (λ j. inl (inl (taken-between t m 0 0 (p .inputs .a) (p .inputs .end-a) (p .inputs .half) (p .inputs .at-a) o j .1))) (λ j. inr j) (List·Memᴰ·append-cases (taken t m 0 0 (p .inputs .a) (p .inputs .end-a) (p .inputs .half) (p .inputs .at-a)) i)));
+      };
+      same = subst (λ (x : Marking). Same (graphs both) (flat (strip (keep x (p .j))))) (sym marks) same;
+    }

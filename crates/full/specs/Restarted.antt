@@ -1,0 +1,35 @@
+-- What pushing all that is certain in both inputs asks, and what it does.
+-- Assumes nothing: these are definitions.
+use Prim.Native.Nat.{ℕ, _≤_}
+use mathlib.Core.Path.{_≡_}
+use mathlib.Core.List.{List, _++_}
+use lib.ListN.{length, getD}
+use Rattle.theory.specs.Net.{Clash}
+use Rattle.area.specs.Map.{WORDS, SECOND, SIZE}
+use Rattle.area.specs.Region.{words}
+use Rattle.loading.specs.Entry.{Entry, graphs}
+use Rattle.marks.specs.Marked.{marking}
+use Rattle.engine.specs.Marks.{Marking}
+use Rattle.classes.specs.Holds.{Holds}
+use Rattle.classes.specs.declared.push.Pushed.{Pushed}
+use Rattle.classes.specs.declared.push.Pushed.the-variants.{In, Clashed}
+use Rattle.quick.specs.Taken.{taken}
+use Rattle.quick.specs.Passed.{Inputs}
+
+-- both inputs stand loaded
+pub record Restarting (n : ℕ) (w : List ℕ) : Type 0 where
+  pub room : SIZE ≤ length w
+  pub t : List ℕ
+  pub loaded : words w ≡ t
+  pub inputs : Inputs n t
+
+-- all that is certain in both, where the marks are m
+abbrev pub certain-both : {n : ℕ} {t : List ℕ} → Inputs n t → Marking → List Entry
+certain-both {n} {t} i m = taken t m 0 0 (i .a) (i .end-a) (i .half) (i .at-a) ++ taken t m SECOND (i .half) (i .b) (i .end-b) n (i .at-b)
+
+-- all of it is pushed, or it clashes
+pub record Restarts (n : ℕ) (w : List ℕ) (r : Pushed) (w' : List ℕ) : Type 0 where
+  pub len : length w' ≡ length w
+  pub rest : (j : ℕ) → WORDS ≤ j → getD w' j 0 ≡ getD w j 0
+  pub pushed : (k : ℕ) → r ≡ In k → (c : Restarting n w) → Holds n (certain-both (c .inputs) (marking w)) k w'
+  pub clashed : r ≡ Clashed → (c : Restarting n w) → Clash (graphs (certain-both (c .inputs) (marking w)))

@@ -1,0 +1,57 @@
+// The full step, on marks that the quick step left.
+use area::map::SECOND;
+use classes::push::Pushed;
+use classes::push::start;
+use counting::choices::count_both;
+use marks::marking::keep_lit;
+use quick::enter::enter;
+use search::search::search;
+ghost use Rattle.full.specs.Restarted.{Restarting, Restarts};
+ghost use Rattle.full.specs.Fulled.{Fulling, Fulls};
+
+// "Alternatives may be nested at most 4 deep"
+const DEPTH: u32 = 4;
+
+// "over 4,096 choices"
+const CHOICE_LIMIT: u32 = 4096;
+
+// There are too many choices; or none is consistent; or only alternatives in consistent choices are left, with so many entries in the log and so many readings.
+pub enum Fully {
+    Over,
+    Nothing,
+    Left(usize, u32),
+}
+
+// Pushes all that is certain in both inputs, and nothing else.
+fn restart(w: &mut [u32], n: usize) -> Pushed
+    requires { ⌜ Restarting n (now w) ⌝ }
+    ensures { λ r. ⌜ Restarts n (now (w .entry)) r (now (w .exit)) ⌝ }
+{
+    start(w);
+    let first = enter(w, 0, n, 0, DEPTH);
+    let Pushed::In(j) = first else {
+        return Pushed::Clashed;
+    };
+    enter(w, j, n, SECOND, DEPTH)
+}
+
+// Drops every alternative that stands in no consistent choice, where k entries in the log are what is certain after the quick step.
+pub fn full(w: &mut [u32], k: usize, n: usize) -> Fully
+    requires { ⌜ Fulling n k (now w) ⌝ }
+    ensures { λ r. ⌜ Fulls n k (now (w .entry)) r (now (w .exit)) ⌝ }
+{
+    let choices = count_both(w, DEPTH);
+    if CHOICE_LIMIT < choices {
+        return Fully::Over;
+    }
+    let readings = search(w, k, n);
+    if readings == 0 {
+        return Fully::Nothing;
+    }
+    keep_lit(w, n);
+    let end = restart(w, n);
+    let Pushed::In(log) = end else {
+        return Fully::Nothing;
+    };
+    Fully::Left(log, readings)
+}

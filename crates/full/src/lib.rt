@@ -1,0 +1,2 @@
+// The full step: the limit on choices, the search, and what is certain after it.
+pub mod full;
