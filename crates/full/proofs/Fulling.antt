@@ -78,9 +78,6 @@ module _ (n k : ℕ) (w : List ℕ) where
     abbrev searching : Searching n k w
     searching = record { t = c .t; p = c .p; stage = c .stage }
 
-    pub full-searches : Searching n k w
-    full-searches = searching
-
     abbrev found : Found
     found = engine.search (keep (marking w) (c .p .j))
 
@@ -119,9 +116,6 @@ module _ (n k : ℕ) (w : List ℕ) where
       }
 
       module _ (more : r ≡ 0 → ⊥) where
-        pub full-dims : Fulling n k w → (n ≤ 1024) × (16384 ≤ length w₁)
-        full-dims c = (omega (arith, c .p .inputs .ground .few), omega (arith, v .moved .len, c .stage .ready .holds .long))
-
         one-more : (c : Fulling n k w) → (i : ℕ) × (length (found c) ≡ suc i)
         one-more c = go (length (found c)) (readings-is c)
           where

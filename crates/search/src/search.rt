@@ -20,6 +20,9 @@ ghost use Rattle.search.specs.Searched.{Noting, Notes, Resuming, Resumes
 // "Alternatives may be nested at most 4 deep"
 const DEPTH: u32 = 4;
 
+// The consistent choices with an alternative that clashes.
+const NONE: u32 = 0;
+
 // Where anything was found with it, the alternative at g is found.
 fn note(w: &mut [u32], g: usize, found: u32)
     requires { ⌜ Noting (now w) g ⌝ }
@@ -85,7 +88,7 @@ fn take(w: &mut [u32], k: usize, n: usize, g: usize, a: Agenda) -> u32
 {
     let pushed = enter(w, k, n, g, DEPTH);
     let Pushed::In(e) = pushed else {
-        return 0;
+        return NONE;
     };
     let inner = descend(w, g, a);
     let found = resume(w, e, n, inner);

@@ -1,5 +1,5 @@
 -- `full::full::full` meets its contract: the choices are counted, then searched, and what is certain is pushed anew. Assumes nothing.
-use Rattle.full.proofs.Fulling.{full-counts, full-searches, fulls-over, fulls-nothing, full-dims, full-restarts, fulls-never, fulls-left}
+use Rattle.full.proofs.Fulling.{full-counts, fulls-over, fulls-nothing, full-restarts, fulls-never, fulls-left}
 use native.Mathlib.Omega.{arith}
 use borrow.Author.Needs.{needs}
 use Rattle.full.proofs.full.full.Statement.{statement}
@@ -15,7 +15,7 @@ returns : tie.Need-returns
 returns c = fulls-over _ _ _ _ (c .before .count-both .ensures) (omega arith)
 
 search-requires : tie.Need-search-requires
-search-requires c κs = full-searches _ _ _ (c .before .before .before .before .before .pre)
+search-requires c κs = search needs
 
 same-length-2 : tie.Need-same-length-2
 same-length-2 c = search needs
@@ -24,7 +24,7 @@ returns-2 : tie.Need-returns-2
 returns-2 c = fulls-nothing _ _ _ _ (c .before .before .before .before .before .before .count-both .ensures) (omega arith) _ _ (c .before .before .before .search .ensures) (omega arith)
 
 keep-lit-requires : tie.Need-keep-lit-requires
-keep-lit-requires c κs = full-dims _ _ _ _ (c .before .before .before .before .before .before .before .count-both .ensures) (omega arith) _ _ (c .before .before .before .before .search .ensures) (λ e. omega arith) (c .before .before .before .before .before .before .before .before .before .before .pre)
+keep-lit-requires c κs = search needs
 
 restart-requires : tie.Need-restart-requires
 restart-requires c κs = full-restarts _ _ _ _ (c .before .before .before .before .before .before .before .before .before .before .before .count-both .ensures) (omega arith) _ _ (c .before .before .before .before .before .before .before .before .search .ensures) (λ e. omega arith) _ (c .before .before .before .keep-lit .ensures) (c .before .before .before .before .before .before .before .before .before .before .before .before .before .before .pre)
