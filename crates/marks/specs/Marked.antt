@@ -48,3 +48,14 @@ pub record LitKept (w : List ℕ) (n : ℕ) (w' : List ℕ) : Type 0 where
   pub len : length w' ≡ length w
   pub marks : (y : ℕ) → y < n → marking w' y ≡ lights w y
   pub rest : (j : ℕ) → (j < MARKS) ⊎ (MARKS + n ≤ j) → getD w' j 0 ≡ getD w j 0
+
+-- the mark of an alternative once none is found
+unfoldable pub doused : ℕ → ℕ
+doused v = elim (eqb v 1) [ true ↦ 1 | false ↦ 0 ]
+
+-- w' is w where none is found, and no word but marks changed
+pub record Doused (w w' : List ℕ) : Type 0 where
+  pub len : length w' ≡ length w
+  pub marks : marking w' ≡ marking w
+  pub dark : (y : ℕ) → lights w' y ≡ false
+  pub rest : (j : ℕ) → (j < MARKS) ⊎ (RESULT ≤ j) → getD w' j 0 ≡ getD w j 0

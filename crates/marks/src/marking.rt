@@ -3,7 +3,7 @@ use area::map::MARKS;
 ghost use mathlib.Core.Path.{_≡_};
 ghost use Prim.Native.Nat.{_≤_, _<_};
 ghost use lib.ListN.{length};
-ghost use Rattle.marks.specs.Marked.{marking, Dropped, Cleared, Lighted, dimmed, LitKept};
+ghost use Rattle.marks.specs.Marked.{marking, Dropped, Cleared, Lighted, dimmed, LitKept, doused, Doused};
 
 // Is the alternative x kept?
 pub fn kept(w: &[u32], x: usize) -> bool
@@ -57,5 +57,24 @@ pub fn keep_lit(w: &mut [u32], n: usize)
     while 0 < left {
         left -= 1;
         w[MARKS + left] = dim(w[MARKS + left]);
+    }
+}
+
+// A mark, where none is found.
+fn doused(v: u32) -> u32
+    ensures { λ r. ⌜ r ≡ doused v ⌝ }
+{
+    if v == 1 { 1 } else { 0 }
+}
+
+// Of all alternatives none is found.
+pub fn douse(w: &mut [u32])
+    requires { ⌜ 16384 ≤ length (now w) ⌝ }
+    ensures { λ _. ⌜ Doused (now (w .entry)) (now (w .exit)) ⌝ }
+{
+    let mut left: usize = 1024;
+    while 0 < left {
+        left -= 1;
+        w[MARKS + left] = doused(w[MARKS + left]);
     }
 }

@@ -1,12 +1,12 @@
 -- The first stage: both inputs stand loaded, their definite graphs are pushed, and all alternatives are kept.
 -- Assumes nothing.
-use Prim.Native.Nat.{ℕ, _+_, _≤_}
+use Prim.Native.Nat.{ℕ, _+_, _≤_, _<_}
 use native.Mathlib.Omega.{arith}
 use mathlib.Core.Path.{_≡_, refl, sym, ap, subst, _∙_}
 use mathlib.Core.Logic.{_⊎_, inl, inr, ⊎-elim}
 use mathlib.Core.Option.{Option, none, some}
 use mathlib.Core.List.{List, [], _∷_, List·Memᴰ, List·Memᴰ·head, List·Memᴰ·not-nil, List·Memᴰ·cases-cons, Memᴰ·append-left, Memᴰ·append-right}
-use lib.ListN.{length}
+use lib.ListN.{length, getD}
 use Rattle.theory.specs.Limits.{input-limit, depth-limit}
 use Rattle.theory.specs.Net.{Graph}
 use Rattle.theory.specs.Join.{join}
@@ -16,8 +16,9 @@ use Rattle.theory.specs.Layout.{WellFormed}
 use Rattle.theory.proofs.Mean.{Ctx, Fine}
 use Rattle.theory.proofs.Live.{Agrees}
 use Rattle.theory.proofs.Kept.{well-can}
-use Rattle.area.specs.Map.{SECOND, SIZE}
+use Rattle.area.specs.Map.{SECOND, MARKS, SIZE}
 use Rattle.area.specs.Region.{words}
+use Rattle.area.proofs.Region.{words-same}
 use Rattle.engine.specs.Placed.{Placed, place, strip, strip-all}
 use Rattle.engine.specs.Marks.{Marking, all-kept, keep}
 use Rattle.engine.specs.Certain.{flat}
@@ -38,11 +39,11 @@ use Rattle.marks.specs.Marked.{marking}
 use Rattle.counting.specs.Counted.{beside}
 use Rattle.counting.proofs.Whole.{well-nests}
 use Rattle.classes.specs.Holds.{Holds}
-use Rattle.classes.proofs.Laws.{holds-agree}
+use Rattle.classes.proofs.Laws.{holds-agree, holds-frame}
 use Rattle.opening.specs.Opening.{Stand, definite}
 use Rattle.opening.proofs.Universe.{universe, in-one, in-two}
 use Rattle.quick.specs.Taken.{taken}
-use Rattle.quick.specs.Clear.{Outside}
+use Rattle.quick.specs.Clear.{Outside, Clear}
 use Rattle.quick.specs.Passed.{Inputs, Ready}
 use Rattle.quick.specs.Stage.{Pair, Stage}
 use Rattle.quick.proofs.Clearing.{clear-taken}
@@ -154,3 +155,17 @@ module _ (w : List ℕ) (d e : Desc) (n : ℕ) (long : SIZE ≤ length w) (wd : 
 
     pub first-stage : marking w ≡ all-kept → (p : Pair n (words w)) × ((p .d ≡ d) × ((p .e ≡ e) × Stage n (words w) p k w))
     first-stage every = (pair, (refl, (refl, record { es = both; ready = ready; same = same every })))
+
+-- a stage is where it was when only marks have changed, and none of these for what is kept
+pub stage-again : (n : ℕ) (t : List ℕ) (p : Pair n t) (k : ℕ) (w : List ℕ) (s : Stage n t p k w) (w′ : List ℕ) → length w′ ≡ length w → ((j : ℕ) → j < MARKS → getD w′ j 0 ≡ getD w j 0) → marking w′ ≡ marking w → Stage n t p k w′
+stage-again n t p k w s w′ len same m = record {
+  es = s .es;
+  ready = record {
+    loaded = words-same w w′ (s .ready .holds .long) len (λ j a b. same j b) ∙ s .ready .loaded;
+    holds = holds-frame n (s .es) k w (s .ready .holds) w′ len same;
+    inside = s .ready .inside;
+    clear-a = subst (λ (z : Marking). Clear (s .es) t z 0 0 (p .inputs .a) (p .inputs .end-a) (p .inputs .half) (p .inputs .at-a)) (sym m) (s .ready .clear-a);
+    clear-b = subst (λ (z : Marking). Clear (s .es) t z SECOND (p .inputs .half) (p .inputs .b) (p .inputs .end-b) n (p .inputs .at-b)) (sym m) (s .ready .clear-b);
+  };
+  same = subst (λ (z : Marking). Same (graphs (s .es)) (flat (strip (keep z (p .j))))) (sym m) (s .same);
+}

@@ -1,17 +1,18 @@
 -- `marks::marking::keep_lit` meets its contract: from the last mark down, each is dimmed. Assumes nothing.
-use Rattle.marks.proofs.Lighting.{Lighting, light-none, light-one, light-all}
+use Rattle.marks.proofs.Lighting.{Changing, change-none, change-one, light-all}
 use native.Mathlib.Omega.{arith}
+use Rattle.marks.specs.Marked.{dimmed}
 use Rattle.marks.proofs.marking.keep_lit.Statement.{statement}
 use Rattle.marks.proofs.marking.keep_lit.Tie as tie
 
 abbrev Inv-loop : tie.InvT-loop
-Inv-loop w₀ n left₀ w left = Lighting w₀ n left w
+Inv-loop w₀ n left₀ w left = Changing dimmed w₀ n left w
 
 abbrev μ-loop : tie.MeasureT-loop
 μ-loop w₀ n left₀ w left = left
 
 loop-holds : tie.Need-loop-holds Inv-loop μ-loop
-loop-holds c = light-none _ _ (c .before .pre .0) (c .before .pre .1)
+loop-holds c = change-none _ _ _ (c .before .pre .0) (c .before .pre .1)
 
 sub-left : tie.Need-sub-left Inv-loop μ-loop
 sub-left c = omega arith
@@ -41,7 +42,7 @@ loop-less : tie.Need-loop-less Inv-loop μ-loop
 loop-less c = omega arith
 
 loop-again : tie.Need-loop-again Inv-loop μ-loop
-loop-again c = light-one _ _ (c .before .before .before .before .before .pre .0) (c .before .before .before .before .before .pre .1) _ _ _ (c .before .before .before .loop .inv) (omega arith) (c .dim .ensures)
+loop-again c = change-one _ _ _ (c .before .before .before .before .before .pre .0) (c .before .before .before .before .before .pre .1) _ _ _ (c .before .before .before .loop .inv) (omega arith) (c .dim .ensures)
 
 same-length : tie.Need-same-length Inv-loop μ-loop
 same-length c = c .before .loop .inv .len

@@ -1,0 +1,32 @@
+// The entry points for C, which include/bublastyr.h declares.
+ghost use mathlib.Core.Path.{_≡_};
+ghost use lib.ListN.{getD};
+ghost use Rattle.theory.specs.FitTest.{FitGiven};
+ghost use Rattle.theory.specs.Outcome.{Areas, Outcome};
+
+// Unifies two descriptions. Answers document 01's number; length and readings go to `told`.
+#[no_mangle]
+pub extern "C" fn bublastyr_unify(
+    mode: u32,
+    first: &[u32],
+    second: &[u32],
+    result: &mut [u32],
+    working: &mut [u32],
+    told: &mut [u32; 2],
+) -> u32
+    ensures { λ r. ⌜ Outcome mode (now (first .entry)) (now (second .entry)) (record { result = now (result .entry); working = now (working .entry) }) r (getD (now (told .exit)) 0 0) (getD (now (told .exit)) 1 0) (record { result = now (result .exit); working = now (working .exit) }) ⌝ }
+{
+    let answer = unify::unify(mode, first, second, result, working);
+    let row = unify::told(answer);
+    *told = [row.length as u32, row.readings];
+    row.number
+}
+
+// Tells whether the structure satisfies the description: document 01's number.
+#[no_mangle]
+pub extern "C" fn bublastyr_fit(structure: &[u32], description: &[u32]) -> u32
+    ensures { λ r. ⌜ FitGiven (now (structure .entry)) (now (description .entry)) r ⌝ }
+{
+    let verdict = fit::fit(structure, description);
+    fit::number(verdict)
+}

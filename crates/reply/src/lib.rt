@@ -1,0 +1,94 @@
+// From the text that `meet` reads to the text that it prints.
+use meet_text::answer::write_answer;
+use meet_text::answer::write_bad;
+use meet_text::call::Call;
+use meet_text::call::read_call;
+use meet_text::line::Written;
+use unify::told;
+use unify::unify;
+ghost use mathlib.Core.Path.{_≡_};
+ghost use Prim.Native.Nat.{min};
+ghost use lib.ListN.{length};
+ghost use Rattle.meet_text.specs.Answer.{Wrote};
+ghost use Rattle.reply.specs.Printed.{spoken, printed};
+
+// "Its result area has 2,048 words", and so have the inputs at most.
+fn space() -> [u32; 2048]
+    ensures { λ r. ⌜ length r ≡ 2048 ⌝ }
+{
+    [0; 2048]
+}
+
+// "its working area 16,384"
+fn working_space() -> [u32; 16384]
+    ensures { λ r. ⌜ length r ≡ 16384 ⌝ }
+{
+    [0; 16384]
+}
+
+// The lesser of n and the words that an input has room for.
+fn within(n: usize) -> usize
+    ensures { λ r. ⌜ r ≡ min n 2048 ⌝ }
+{
+    if n < 2048 { n } else { 2048 }
+}
+
+// Unifies two inputs in these areas, and writes the answer to the start of out.
+fn answer_in(
+    mode: u32,
+    first: &[u32],
+    second: &[u32],
+    result: &mut [u32],
+    working: &mut [u32],
+    out: &mut [u8],
+) -> Written
+    requires { ⌜ (length (now result) ≡ 2048) × (length (now working) ≡ 16384) ⌝ }
+    ensures { λ r. ⌜ Wrote (spoken mode (now (first .entry)) (now (second .entry))) (now (out .entry)) (now (out .exit)) r ⌝ }
+{
+    let came = unify(mode, first, second, result, working);
+    let row = told(came);
+    let number = row.number;
+    let length = row.length;
+    let readings = row.readings;
+    if number == 0 {
+        return write_answer(out, number, length, readings, &result[..length]);
+    }
+    write_answer(out, number, length, readings, &result[..0])
+}
+
+// Unifies two inputs, and writes the answer to the start of out.
+fn answer(mode: u32, first: &[u32], second: &[u32], out: &mut [u8]) -> Written
+    ensures { λ r. ⌜ Wrote (spoken mode (now (first .entry)) (now (second .entry))) (now (out .entry)) (now (out .exit)) r ⌝ }
+{
+    let mut result = space();
+    let mut working = working_space();
+    answer_in(mode, first, second, &mut result, &mut working, out)
+}
+
+// Answers the call that the text is, whose inputs are read into these, and writes what `meet` prints to the start of out.
+fn reply_in(text: &[u8], first: &mut [u32], second: &mut [u32], out: &mut [u8]) -> Written
+    requires { ⌜ (length (now first) ≡ 2048) × (length (now second) ≡ 2048) ⌝ }
+    ensures { λ r. ⌜ Wrote (printed (now (text .entry))) (now (out .entry)) (now (out .exit)) r ⌝ }
+{
+    let call = read_call(text, first, second);
+    let Call::Good {
+        mode,
+        first: n,
+        second: m,
+    } = call
+    else {
+        return write_bad(out);
+    };
+    let i = within(n);
+    let k = within(m);
+    answer(mode, &first[..i], &second[..k], out)
+}
+
+// Answers the call that the text is, and writes what `meet` prints to the start of out.
+pub fn reply(text: &[u8], out: &mut [u8]) -> Written
+    ensures { λ r. ⌜ Wrote (printed (now (text .entry))) (now (out .entry)) (now (out .exit)) r ⌝ }
+{
+    let mut first = space();
+    let mut second = space();
+    reply_in(text, &mut first, &mut second, out)
+}

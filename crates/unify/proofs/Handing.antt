@@ -1,0 +1,29 @@
+-- What was made is handed over. Assumes nothing.
+use mathlib.Core.Path.{_≡_, refl, subst}
+use mathlib.Core.Logic.{_⊎_, inl, inr}
+use mathlib.Core.List.{List, _++_}
+use Prim.Native.Nat.{ℕ, _+_, _≤_, _<_}
+use lib.ListN.{length, drop}
+use Rattle.area.specs.Map.{RESULT}
+use Rattle.area.specs.Region.{region}
+use Rattle.unify.specs.declared.making.Made.{Made}
+use Rattle.unify.specs.declared.making.Made.the-variants as made
+use Rattle.unify.specs.declared.Answer.the-variants.{Done, Clash, TooMany, NoRoom}
+use Rattle.unify.specs.Handing.{Room, Handed}
+
+pub handed-room : (w : List ℕ) (m : Made) (n k : ℕ) → m ≡ made.Ready n k → Room w m → RESULT + n ≤ length w
+handed-room w m n k e h = subst (Room w) e h
+
+module _ (w s : List ℕ) where
+  pub handed-clash : (m : Made) → m ≡ made.Clash → Handed w s m Clash s
+  handed-clash m e = rw e (refl, refl)
+
+  pub handed-many : (m : Made) → m ≡ made.TooMany → Handed w s m TooMany s
+  handed-many m e = rw e (refl, refl)
+
+  module _ (m : Made) (n k : ℕ) (e : m ≡ made.Ready n k) where
+    pub handed-short : length s < n → Handed w s m (NoRoom n) s
+    handed-short h = rw e (inl (h, refl, refl))
+
+    pub handed-done : (s′ : List ℕ) → n ≤ length s → s′ ≡ region RESULT n w ++ drop n s → Handed w s m (Done n k) s′
+    handed-done s′ h q = rw e (inr (h, refl, q))

@@ -1,0 +1,47 @@
+-- `unify::hand_over` meets its contract. Assumes nothing.
+use borrow.Author.Needs.{needs}
+use native.Mathlib.Omega.{arith}
+use Rattle.unify.proofs.Handing.{handed-clash, handed-many, handed-short, handed-room, handed-done}
+use Rattle.unify.proofs.hand_over.Statement.{statement}
+use Rattle.unify.proofs.hand_over.Tie as tie
+
+enum-told : tie.Need-enum-told
+enum-told c = search needs
+
+enum-told-2 : tie.Need-enum-told-2
+enum-told-2 c = search needs
+
+enum-known-made : tie.Need-enum-known-made
+enum-known-made c = search needs
+
+returns : tie.Need-returns
+returns c = handed-short _ _ _ _ _ (c .before .before .made .given .1) (omega arith)
+
+copy-out-requires : tie.Need-copy-out-requires
+copy-out-requires c κs = (handed-room _ _ _ _ (c .before .before .before .made .given .1) (c .before .before .before .before .before .before .before .pre), omega arith)
+
+returns-2 : tie.Need-returns-2
+returns-2 c = handed-clash _ _ (c .before .before .before .before .args .made) (cc)
+
+returns-3 : tie.Need-returns-3
+returns-3 c = handed-many _ _ (c .before .before .before .before .args .made) (cc)
+
+same-length : tie.Need-same-length
+same-length c = search needs
+
+returns-4 : tie.Need-returns-4
+returns-4 c = handed-done _ _ _ _ _ (c .before .before .before .before .before .before .made .given .1) _ (omega arith) (c .before .before .copy-out .ensures)
+
+pub hand-over-spec : {M : Type 1} → statement M
+hand-over-spec =
+    tie.close
+    (tie.spec
+    enum-told
+    enum-told-2
+    enum-known-made
+    returns
+    copy-out-requires
+    returns-2
+    returns-3
+    same-length
+    returns-4)

@@ -1,0 +1,25 @@
+-- How what a mode made is handed over.
+-- Assumes nothing: these are definitions.
+use Prim.Native.Nat.{ℕ, _+_, _≤_, _<_}
+use mathlib.Core.Path.{_≡_}
+use mathlib.Core.Logic.{_⊎_}
+use mathlib.Core.List.{List, _++_}
+use lib.ListN.{length, drop}
+use Rattle.area.specs.Map.{RESULT}
+use Rattle.area.specs.Region.{region}
+use Rattle.unify.specs.declared.making.Made.{Made}
+use Rattle.unify.specs.declared.making.Made.the-variants as made
+use Rattle.unify.specs.declared.Answer.{Answer}
+use Rattle.unify.specs.declared.Answer.the-variants.{Done, Clash, TooMany, NoRoom}
+
+-- the result lies inside the working area
+abbrev pub Room : List ℕ → Made → Type 0
+Room w (made.Ready n r) = RESULT + n ≤ length w
+Room w made.Clash = Unit {0}
+Room w made.TooMany = Unit {0}
+
+-- "8 | result longer than the result area", "Result area: only number 0 writes, the first so many words; the rest stays."
+abbrev pub Handed : List ℕ → List ℕ → Made → Answer → List ℕ → Type 0
+Handed w s made.Clash r s′ = (r ≡ Clash) × (s′ ≡ s)
+Handed w s made.TooMany r s′ = (r ≡ TooMany) × (s′ ≡ s)
+Handed w s (made.Ready n k) r s′ = ((length s < n) × (r ≡ NoRoom n) × (s′ ≡ s)) ⊎ ((n ≤ length s) × (r ≡ Done n k) × (s′ ≡ region RESULT n w ++ drop n s))

@@ -1,0 +1,57 @@
+// Bublastyr: unification of disjunctive feature descriptions, and the fit test. Both are proved to answer
+// exactly what document 01 says, for every input and every size of the areas.
+#ifndef BUBLASTYR_H
+#define BUBLASTYR_H
+
+#include <stddef.h>
+#include <stdint.h>
+
+#ifdef __cplusplus
+extern "C" {
+#endif
+
+// The numbers that come back. A refused call has decided nothing: only 0 is a pass.
+enum {
+    BUBLASTYR_DONE = 0,             // unified; or: the structure satisfies the description
+    BUBLASTYR_BAD_MODE = 1,         // the mode is above 2
+    BUBLASTYR_SMALL_AREA = 2,       // the working area has fewer than 16,384 words
+    BUBLASTYR_TOO_LONG = 3,         // an input has more than 1,024 words
+    BUBLASTYR_BAD_FIRST = 4,        // the first input is malformed; in the fit test, the structure
+    BUBLASTYR_BAD_SECOND = 5,       // the second input is malformed; in the fit test, the description
+    BUBLASTYR_CLASH = 6,            // no structure satisfies both; or: it does not satisfy the description
+    BUBLASTYR_TOO_MANY = 7,         // mode 2: over 4,096 choices are left to search
+    BUBLASTYR_NO_ROOM = 8,          // the result is longer than the result area
+    BUBLASTYR_HAS_DISJUNCTIONS = 9, // the fit test's structure has disjunctions
+};
+
+// The words that a working area must have.
+#define BUBLASTYR_WORKING 16384
+
+// The words that a result has at most. A result of over 1,024 words is refused with 3 when it comes in again.
+#define BUBLASTYR_LONGEST_RESULT 2045
+
+// Unifies two descriptions in mode 0 (join), 1 (quick) or 2 (full), and answers one of the numbers 0 to 8.
+// The checks run in the order of the numbers 1 to 5, 6, 7, 8.
+//
+// told[0] is the length: the words written after 0, the words needed after 8, else 0.
+// told[1] is the number of readings: after 0 in mode 2 the consistent choices, else 0.
+//
+// The result area: only 0 writes to it, the first told[0] words; the rest stays, and so does all of it after
+// any other number. The working area need not be cleared before a call: after 1 to 5 it is as it was, after
+// 6, 7, 8 and 0 its first 16,384 words are zero and later ones are as they were.
+//
+// The areas, the inputs and told must not overlap. A pointer may be null where its length is 0.
+uint32_t bublastyr_unify(uint32_t mode, const uint32_t *first, size_t first_len, const uint32_t *second,
+                         size_t second_len, uint32_t *result, size_t result_len, uint32_t *working,
+                         size_t working_len, uint32_t told[2]);
+
+// Tells whether a structure, a description with no disjunctions, satisfies a description. Answers 3, 4, 5, 9,
+// 0 or 6, checked in that order. Writes nothing.
+uint32_t bublastyr_fit(const uint32_t *structure, size_t structure_len, const uint32_t *description,
+                       size_t description_len);
+
+#ifdef __cplusplus
+}
+#endif
+
+#endif
