@@ -18,7 +18,7 @@ use Rattle.classes.specs.State.{Pile, Done, Same, Clashes, Chain, Seg, F
 use Rattle.area.proofs.Region.{length-region, region-ext}
 use Rattle.area.proofs.Undo.{later-refl, later-trans, later-scratch, put-at, put-off, put-region}
 use Rattle.classes.proofs.Wood.{tops-link, tops-pos}
-use Rattle.classes.proofs.Links.{chain-same, chain-zero, seg-link, seg-chain, first-way, first-mem, first-feature, frames-same}
+use Rattle.classes.proofs.Links.{calm-refl, chain-same, chain-zero, seg-link, seg-chain, first-way, first-mem, first-feature, frames-same}
 use Rattle.classes.proofs.Fuse.{fused, short, Fuses, Ma, Mb, Na, Ca, fuse-state}
 
 module _ (n k s : ℕ) (w : List ℕ) (a b : ℕ) (lt : a < b) (hb : b < n) (hn : n ≤ 1024) (hw : SIZE ≤ length w) (ra : getD (region PARENT n w) a 0 ≡ a) (rb : getD (region PARENT n w) b 0 ≡ b) (g : Ready n k s w) where
@@ -74,6 +74,7 @@ module _ (n k s : ℕ) (w : List ℕ) (a b : ℕ) (lt : a < b) (hb : b < n) (hn 
       stack = stack1;
       count = let t = less w1 par1 in omega arith;
       grow = grow1;
+      calm = λ h. (refl, record { nexts = next1; firsts = λ c l z. off1 c (λ e. omega arith) (inl (omega arith)) });
       fine = λ z G H F T fs u same. fuse-state G H F T n k s fs w (omega arith) hw u a b lt hb ra rb r s [] w1 same (fuses G H F T fs u);
       clash = λ z. let y : _≡_ {A = ℕ} 0 1 = cc in absurd (omega arith);
     }
@@ -126,6 +127,7 @@ module _ (n k s : ℕ) (w : List ℕ) (a b : ℕ) (lt : a < b) (hb : b < n) (hn 
         stack = frames-same w w2 s (λ j x y. off2 j (λ e. omega arith) (λ e. omega arith) (inr x));
         count = let t = less w2 par2 in omega arith;
         grow = λ j h x. next2 j h;
+        calm = λ h. (refl, record { nexts = next2; firsts = λ c l z. off2 c (λ e. omega arith) (λ e. z (ap (λ (i : ℕ). getD w i 0) e ∙ e0)) (inl (omega arith)) });
         fine = λ z G H F T fs u same. fuse-state G H F T n k s fs w (omega arith) hw u a b lt hb ra rb t s [] w2 same (fuses G H F T fs u);
         clash = λ z. let y : _≡_ {A = ℕ} 0 1 = cc in absurd (omega arith);
       }
@@ -230,6 +232,7 @@ module _ (n k s : ℕ) (w : List ℕ) (a b : ℕ) (lt : a < b) (hb : b < n) (hn 
         stack = stack4;
         count = let t = less w4 par4 in omega arith;
         grow = grow4;
+        calm = λ h. let i = r3-is in absurd (omega arith);
         fine = λ q G H F T fs u same. fuse-state G H F T n k s fs w (omega arith) hw u a b lt hb ra rb r3 (s + 1) ((x, y) ∷ []) w4 same (fuses G H F T fs u);
         clash = λ q. let y : _≡_ {A = ℕ} 0 1 = cc in absurd (omega arith);
       }
@@ -322,6 +325,7 @@ module _ (n k s : ℕ) (w : List ℕ) (a b : ℕ) (lt : a < b) (hb : b < n) (hn 
     stack = refl;
     count = omega arith;
     grow = λ j h x. refl;
+    calm = λ h. (refl, calm-refl w);
     fine = λ z. let y : _≡_ {A = ℕ} 0 1 = cc in absurd (omega arith);
     clash = λ z G H F T fs u same. told G H F T fs u same (decLt 2048 (getD w b 0)) (decLt 2048 (getD w a 0));
   }

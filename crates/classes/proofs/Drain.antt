@@ -11,7 +11,7 @@ use Rattle.area.specs.Map.{PARENT, NEXT, STACK}
 use Rattle.area.specs.Region.{region}
 use Rattle.area.specs.Log.{Logged, Later}
 use Rattle.classes.specs.Forest.{tops}
-use Rattle.classes.specs.State.{Pile, Done, Same, Seg, Near, State, Met, frames, withPair, Walk, Working, Told, Turned, Drained, Stacked, Settled, United}
+use Rattle.classes.specs.State.{Pile, Done, Same, Seg, Near, State, Calm, Met, frames, withPair, Walk, Working, Told, Turned, Drained, Stacked, Settled, United}
 use Rattle.area.proofs.Undo.{later-refl, later-trans}
 
 pub walk-refl : (F T : List ℕ) (n k s : ℕ) (w : List ℕ) (x to : ℕ) → Logged k w → Walk F T n k s w x to k s w x
@@ -118,10 +118,11 @@ lower G H F T n k s s' fs w h u = record {
 pub record Settling (F T : List ℕ) (n k s : ℕ) (w : List ℕ) (e h : ℕ) (w' : List ℕ) : Type 0 where
   pub later : Later k w e w'
   pub count : h + tops 0 (region PARENT n w') ≤ s + tops 0 (region PARENT n w)
+  pub still : s ≡ 0 → (h ≡ 0) × (w' ≡ w)
   pub go : (G : Pile) (H : Done) → State G H F T n k s (frames w s) w → State G H F T n e h (frames w' h) w'
 
 pub settle-start : (F T : List ℕ) (n k s : ℕ) (w : List ℕ) → Logged k w → Settling F T n k s w k s w
-settle-start F T n k s w g = record { later = later-refl k w g; count = omega arith; go = λ G H u. u }
+settle-start F T n k s w g = record { later = later-refl k w g; count = omega arith; still = λ z. (z, refl); go = λ G H u. u }
 
 -- the frame on top
 pop : (G : Pile) (H : Done) (F T : List ℕ) (n k h : ℕ) (w : List ℕ) (from to : ℕ) → 0 < h → from ≡ getD w (STACK + (h - 1)) 0 % 4096 → to ≡ getD w (STACK + (h - 1)) 0 / 4096 → State G H F T n k h (frames w h) w → State G H F T n k (h - 1) ((from, to) ∷ frames w (h - 1)) w
@@ -148,6 +149,7 @@ settle-turn F T n k s w e h w' from to e2 h2 bad w2 p l a b q z =
     record {
       later = later-trans k w e w' e2 w2 (p .later) (y .later);
       count = omega arith;
+      still = λ i. let j = p .still i .0 in absurd (omega arith);
       go = λ G H u. subst (λ (f : List (ℕ × ℕ)). State G H F T n e2 h2 f w2) (sym (y .stack)) (finish G H F T n e2 h2 to (y .new ++ frames w' (h - 1)) w2 (y .go G H (frames w' (h - 1)) (pop G H F T n e h w' from to l a b (p .go G H u))));
     }
 
@@ -158,6 +160,7 @@ pub settled-bad : (F T : List ℕ) (n k s : ℕ) (w : List ℕ) (e h : ℕ) (w' 
     → Drained F T n e (h - 1) w' from to e2 h2 bad w2 → bad ≡ true → Settled F T n k s w e2 true w2
 settled-bad F T n k s w e h w' from to e2 h2 bad w2 p l a b q z = record {
   later = later-trans k w e w' e2 w2 (p .later) (q .later);
+  still = λ i. let j = p .still i .0 in absurd (omega arith);
   fine = λ y. let x : _≡_ {A = ℕ} 0 1 = cc in absurd (omega arith);
   clash = λ y G H u. q .clash z G H (frames w' (h - 1)) (pop G H F T n e h w' from to l a b (p .go G H u));
 }
@@ -166,6 +169,7 @@ pub settled-end : (F T : List ℕ) (n k s : ℕ) (w : List ℕ) (e h : ℕ) (w' 
 unfolding frames
 settled-end F T n k s w e h w' p z = record {
   later = p .later;
+  still = λ i. p .still i .1;
   fine = λ y G H u. rw z at (p .go G H u);
   clash = λ y. let x : _≡_ {A = ℕ} 0 1 = cc in absurd (omega arith);
 }
@@ -175,6 +179,7 @@ pub united : (F T : List ℕ) (n k : ℕ) (w : List ℕ) (x y k1 s1 : ℕ) (b1 :
 unfolding frames
 united F T n k w x y k1 s1 b1 w1 k2 b2 w2 m z q = record {
   later = later-trans k w k1 w1 k2 w2 (m .later) (q .later);
+  calm = λ h. let l = q .later .more in let c = m .calm (omega arith) in subst (Calm w) (sym (q .still (c .0))) (c .1);
   fine = λ v G H u r. q .fine v G (withPair H x y) (on G H u r);
   clash = λ v G H u r. q .clash v G (withPair H x y) (on G H u r);
 }
@@ -185,6 +190,7 @@ united F T n k w x y k1 s1 b1 w1 k2 b2 w2 m z q = record {
 pub united-bad : (F T : List ℕ) (n k : ℕ) (w : List ℕ) (x y k1 s1 : ℕ) (b1 : Bool) (w1 : List ℕ) → Met n k 0 w x y k1 s1 b1 w1 → b1 ≡ true → United F T n k w x y k1 true w1
 united-bad F T n k w x y k1 s1 b1 w1 m z = record {
   later = m .later;
+  calm = λ h. m .calm h .1;
   fine = λ y. let x : _≡_ {A = ℕ} 0 1 = cc in absurd (omega arith);
   clash = λ v G H u r. m .clash z G H F T [] u r;
 }

@@ -7,6 +7,8 @@ pub mod Wood
 pub mod Words
 pub mod Links
 pub mod Walks
+pub mod Places
+pub mod Splice
 pub mod Fuse
 pub mod Cases
 pub mod Turns

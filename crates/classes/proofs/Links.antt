@@ -8,7 +8,7 @@ use native.Mathlib.Decide.{ℕ-discrete}
 use lib.ListN.{length, set, getD}
 use borrow.Author.Tests.{eq-eqb, ne-eqb}
 use Rattle.area.specs.Map.{NEXT, STACK}
-use Rattle.classes.specs.State.{Chain, Seg, First, None, Way, steps, hops, Grow, total, frames}
+use Rattle.classes.specs.State.{Chain, Seg, First, None, Way, steps, hops, Grow, Calm, total, frames}
 
 -- ---- a chain
 pub chain-same : (w w' : List ℕ) (x : ℕ) (xs : List ℕ) → ((q : ℕ) → List·Memᴰ q xs → getD w' (NEXT + q) 0 ≡ getD w (NEXT + q) 0) → Chain w x xs → Chain w' x xs
@@ -40,6 +40,10 @@ chain-next w x (h ∷ xs) j i c m e = ⊎-elim
     head-of : (ys : List ℕ) → Chain w (suc i) ys → List·Memᴰ i ys
     head-of [] d = absurd (omega arith)
     head-of (y ∷ ys) d = let u : i ≡ y = let v = d .0 in omega arith in List·Memᴰ·head u
+
+-- nothing has changed
+pub calm-refl : (w : List ℕ) → Calm w w
+calm-refl w = record { nexts = λ j h. refl; firsts = λ c h z. refl }
 
 -- ---- the last arc of a chain gets one after it
 pub seg-link : (w w' : List ℕ) (z h x : ℕ) (xs : List ℕ) → Chain w x xs → List·Memᴰ z xs → getD w (NEXT + z) 0 ≡ 0 → getD w' (NEXT + z) 0 ≡ h

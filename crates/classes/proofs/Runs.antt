@@ -1,93 +1,94 @@
 -- Many arcs, and many nodes. Assumes nothing.
-use mathlib.Core.Path.{_≡_, refl, sym, _∙_, subst}
+use mathlib.Core.Path.{_≡_, refl, sym, ap, _∙_, subst}
 use mathlib.Core.Bool.{Bool, true, false}
 use mathlib.Core.List.{List, [], _∷_, List·Memᴰ, List·Memᴰ·cases-cons, List·Memᴰ·head, List·Memᴰ·tail}
 use mathlib.Core.Logic.{_⊎_, inl, inr, ⊎-elim}
 use Prim.Native.Nat.{ℕ, zero, suc, _+_, _*_, _-_, _≤_, _<_}
 use native.Mathlib.Omega.{arith}
 use native.Mathlib.Numerals.{add-one}
+use native.Mathlib.Decide.{ℕ-discrete}
 use lib.ListN.{length, getD}
 use Rattle.theory.specs.Net.{Node, atom, arcs, Graph}
 use Rattle.area.specs.Log.{Logged, Later}
 use Rattle.area.proofs.Undo.{later-refl, later-trans}
-use Rattle.classes.specs.State.{Pile, Done, Clashes, State, Fresh, Coming, Visited, Bearing, Marking, Marked}
+use Rattle.classes.specs.State.{Pile, Done, Clashes, State, Fresh, Coming, Bearing, Marking, Marked}
+use Rattle.classes.specs.Order.{Ordered, Taken}
 use Rattle.classes.specs.Nodes.{strung, grown, Batch, Batched, Run, span, AtomAt, ArcsAt, NodeAt, Ahead, noded, Noding, Noded, spans, NodesAt, listed, Listing, Listed}
 
 -- ---- the list that grows
 pub strung-length : (l : List ℕ) (t d : ℕ) → length (strung l t d) ≡ length l + d
 strung-length l t zero = omega arith
-strung-length l t (suc d) = let r = strung-length l (t + 2) d in omega arith
+strung-length l t (suc d) = let r = strung-length l t d in omega arith
 
 pub strung-cases : (l : List ℕ) (t d q : ℕ) → List·Memᴰ q (strung l t d) → List·Memᴰ q l ⊎ ((i : ℕ) × ((i < d) × (q ≡ t + 2 * i)))
 strung-cases l t zero q m = inl m
 strung-cases l t (suc d) q m = ⊎-elim
-    (λ e. inr (0, (omega arith, omega arith)))
-    (λ z. ⊎-elim (λ a. inl a) (λ a. let i = a .0 in let h : i < d = a .1 .0 in let e : q ≡ t + 2 + 2 * i = a .1 .1 in inr (suc i, (omega arith, omega arith))) (strung-cases l (t + 2) d q z))
+    (λ e. inr (d, (omega arith, e)))
+    (λ z. ⊎-elim (λ a. inl a) (λ a. let i = a .0 in let h : i < d = a .1 .0 in inr (i, (omega arith, a .1 .1))) (strung-cases l t d q z))
     (List·Memᴰ·cases-cons m)
 
 pub strung-old : (l : List ℕ) (t d q : ℕ) → List·Memᴰ q l → List·Memᴰ q (strung l t d)
 strung-old l t zero q m = m
-strung-old l t (suc d) q m = List·Memᴰ·tail (strung-old l (t + 2) d q m)
+strung-old l t (suc d) q m = List·Memᴰ·tail (strung-old l t d q m)
 
 pub strung-new : (l : List ℕ) (t d i : ℕ) → i < d → List·Memᴰ (t + 2 * i) (strung l t d)
 strung-new l t zero i h = absurd (omega arith)
-strung-new l t (suc d) zero h = let e : t + 2 * 0 ≡ t = omega arith in List·Memᴰ·head e
-strung-new l t (suc d) (suc i) h = let e : t + 2 * suc i ≡ t + 2 + 2 * i = omega arith in rw e (List·Memᴰ·tail (strung-new l (t + 2) d i (omega arith)))
+strung-new l t (suc d) i h = go (strung-new l t d i) (ℕ-discrete i d)
+  where
+    go : (i < d → List·Memᴰ (t + 2 * i) (strung l t d)) → Dec (i ≡ d) → List·Memᴰ (t + 2 * i) (strung l t (suc d))
+    go r (yes e) = List·Memᴰ·head (ap (λ (z : ℕ). t + 2 * z) e)
+    go r (no n) = List·Memᴰ·tail (r (omega arith))
 
--- ---- the arcs from `left` on are visited
-pub record Stringing (F T : List ℕ) (n k : ℕ) (w : List ℕ) (x from d left e : ℕ) (w' : List ℕ) : Type 0 where
-  pub below : left ≤ d
+-- ---- the first `done` arcs are visited
+pub record Stringing (F T : List ℕ) (n k : ℕ) (w : List ℕ) (x from d done e at : ℕ) (w' : List ℕ) : Type 0 where
+  pub below : done ≤ d
   pub later : Later k w e w'
-  pub go : (G : Pile) (H : Done) → State G H F T n k 0 [] w → Batch G H n x from d → State G (grown H (from + 2 * left) (d - left)) F T n e 0 [] w'
+  pub order : Ordered F n w' x at
+  pub go : (G : Pile) (H : Done) → State G H F T n k 0 [] w → Batch G H n x from d → State G (grown H from done) F T n e 0 [] w'
 
-pub stringing-start : (F T : List ℕ) (n k : ℕ) (w : List ℕ) (x from d : ℕ) → Logged k w → Stringing F T n k w x from d d k w
-stringing-start F T n k w x from d g = record { below = omega arith; later = later-refl k w g; go = λ G H u b. let e : d - d ≡ 0 = omega arith in rw e u }
+pub stringing-start : (F T : List ℕ) (n k : ℕ) (w : List ℕ) (x from d at : ℕ) → Logged k w → Ordered F n w x at → Stringing F T n k w x from d 0 k at w
+stringing-start F T n k w x from d at g o = record { below = omega arith; later = later-refl k w g; order = o; go = λ G H u b. u }
 
-module _ (F T : List ℕ) (n k : ℕ) (w : List ℕ) (x from d left e : ℕ) (w' : List ℕ) (p : Stringing F T n k w x from d left e w') (h : 0 < left) where
-  abbrev at : ℕ
-  at = from + 2 * (left - 1)
+module _ (F T : List ℕ) (n k : ℕ) (w : List ℕ) (x from d done e at : ℕ) (w' : List ℕ) (p : Stringing F T n k w x from d done e at w') (h : done < d) where
+  abbrev here : ℕ
+  here = from + 2 * done
 
-  fresh : (G : Pile) (H : Done) → Batch G H n x from d → Fresh G (grown H (from + 2 * left) (d - left)) n x at
+  fresh : (G : Pile) (H : Done) → Batch G H n x from d → Fresh G (grown H from done) n x here
   fresh G H b =
-      let c = p .below in
-      let l : length (strung (H .K) (from + 2 * left) (d - left)) ≡ length (H .K) + (d - left) = strung-length (H .K) (from + 2 * left) (d - left) in
+      let l : length (strung (H .K) from done) ≡ length (H .K) + done = strung-length (H .K) from done in
       let r = b .room in
       record {
-        arc = b .arcs (left - 1) (omega arith) .0;
-        new = λ m. ⊎-elim (λ a. b .new (left - 1) (omega arith) a) (λ a. let i = a .0 in let q : at ≡ from + 2 * left + 2 * i = a .1 .1 in omega arith) (strung-cases (H .K) (from + 2 * left) (d - left) at m);
-        is = b .arcs (left - 1) (omega arith) .1;
+        arc = b .arcs done h .0;
+        new = λ m. ⊎-elim (λ a. b .new done h a) (λ a. let i = a .0 in let y : i < done = a .1 .0 in let q : here ≡ from + 2 * i = a .1 .1 in omega arith) (strung-cases (H .K) from done here m);
+        is = b .arcs done h .1;
         room = omega arith;
       }
 
-  pub stringing-coming : Batched F T n k w x from d → Coming F T n e w' x at
-  stringing-coming g = record { G = g .G; H = grown (g .H) (from + 2 * left) (d - left); state = p .go (g .G) (g .H) (g .state) (g .batch); fresh = fresh (g .G) (g .H) (g .batch) }
+  pub stringing-coming : Batched F T n k w x from d → Coming F T n e w' x here
+  stringing-coming g = record { G = g .G; H = grown (g .H) from done; state = p .go (g .G) (g .H) (g .state) (g .batch); fresh = fresh (g .G) (g .H) (g .batch) }
 
-  module _ (e2 : ℕ) (bad : Bool) (w2 : List ℕ) (v : Visited F T n e w' x at e2 bad w2) where
-    pub stringing-turn : bad ≡ false → Stringing F T n k w x from d (left - 1) e2 w2
-    stringing-turn z =
-        let c = p .below in
-        let f : d - (left - 1) ≡ suc (d - left) = omega arith in
-        let g : from + 2 * (left - 1) + 2 ≡ from + 2 * left = omega arith in
-        record {
-          below = omega arith;
-          later = later-trans k w e w' e2 w2 (p .later) (v .later);
-          go = λ G H u b. rw (f, g) (v .fine z G (grown H (from + 2 * left) (d - left)) (p .go G H u b) (fresh G H b));
-        }
+  module _ (e2 at2 : ℕ) (bad : Bool) (w2 : List ℕ) (v : Taken F T n e w' x here e2 at2 bad w2) where
+    pub stringing-turn : bad ≡ false → Stringing F T n k w x from d (done + 1) e2 at2 w2
+    stringing-turn z = record {
+      below = omega arith;
+      later = later-trans k w e w' e2 w2 (p .later) (v .visited .later);
+      order = v .next z;
+      go = λ G H u b. rw (add-one done) (v .visited .fine z G (grown H from done) (p .go G H u b) (fresh G H b));
+    }
 
     pub run-bad : bad ≡ true → Run F T n k w x from d e2 true w2
     run-bad z = record {
-      later = later-trans k w e w' e2 w2 (p .later) (v .later);
+      later = later-trans k w e w' e2 w2 (p .later) (v .visited .later);
       fine = λ y. let x : _≡_ {A = ℕ} 0 1 = cc in absurd (omega arith);
-      clash = λ y G H u b. v .clash z G (grown H (from + 2 * left) (d - left)) (p .go G H u b) (fresh G H b);
+      clash = λ y G H u b. v .visited .clash z G (grown H from done) (p .go G H u b) (fresh G H b);
     }
 
-pub run-end : (F T : List ℕ) (n k : ℕ) (w : List ℕ) (x from d left e : ℕ) (w' : List ℕ) → Stringing F T n k w x from d left e w' → left ≡ 0 → Run F T n k w x from d e false w'
-run-end F T n k w x from d left e w' p z =
-    let a : from + 2 * left ≡ from = omega arith in
-    let b : d - left ≡ d = omega arith in
+pub run-end : (F T : List ℕ) (n k : ℕ) (w : List ℕ) (x from d done e at : ℕ) (w' : List ℕ) → Stringing F T n k w x from d done e at w' → d ≤ done → Run F T n k w x from d e false w'
+run-end F T n k w x from d done e at w' p z =
+    let b : done ≡ d = let l = p .below in omega arith in
     record {
       later = p .later;
-      fine = λ y G H u c. rw (a, b) at (p .go G H u c);
+      fine = λ y G H u c. rw b at (p .go G H u c);
       clash = λ y. let x : _≡_ {A = ℕ} 0 1 = cc in absurd (omega arith);
     }
 

@@ -14,7 +14,7 @@ use Rattle.classes.specs.Forest.{Root, tops}
 use Rattle.classes.specs.State.{Pile, Done, Same, Chain, Seg, First, Way, Near, Framed, State, Met, Grow, Looked, Runs, hops, withPair, Working, Turned}
 use Rattle.area.proofs.Region.{length-region}
 use Rattle.area.proofs.Undo.{later-refl}
-use Rattle.classes.proofs.Links.{chain-from, first-mem, first-feature, none-first, way-first, way-grow, seg-grow, hops-is, first-way}
+use Rattle.classes.proofs.Links.{calm-refl, chain-from, first-mem, first-feature, none-first, way-first, way-grow, seg-grow, hops-is, first-way}
 use Rattle.classes.proofs.Fuse.{low, top, chain-of, short}
 
 -- ---- the same state with other pairs
@@ -122,6 +122,7 @@ module _ (n k s : ℕ) (w : List ℕ) (x y : ℕ) (hx : x < n) (hy : y < n) (hn 
     stack = refl;
     count = omega arith;
     grow = λ j h z. refl;
+    calm = λ h. (refl, calm-refl w);
     fine = λ z G H F T fs u r. hold-pair G H F T n k s fs w u x y (p .is (u .M) (u .forest) ∙ e ∙ sym (q .is (u .M) (u .forest)));
     clash = λ z. let y : _≡_ {A = ℕ} 0 1 = cc in absurd (omega arith);
   }
@@ -147,6 +148,7 @@ module _ (n k s : ℕ) (w : List ℕ) (x y : ℕ) (hx : x < n) (hy : y < n) (hn 
       stack = m .stack;
       count = m .count;
       grow = m .grow;
+      calm = m .calm;
       fine = λ z G H F T fs u r. drawn G H F T (m .new ++ fs) a b (inl (refl, refl)) (m .fine z G (withPair (withPair H x a) y b) F T fs (noted G H F T fs u) (same-roots G H F T fs u r));
       clash = λ z G H F T fs u r. m .clash z G H F T fs u (same-roots G H F T fs u r);
     }
@@ -158,6 +160,7 @@ module _ (n k s : ℕ) (w : List ℕ) (x y : ℕ) (hx : x < n) (hy : y < n) (hn 
       stack = m .stack;
       count = m .count;
       grow = m .grow;
+      calm = m .calm;
       fine = λ z G H F T fs u r. drawn G H F T (m .new ++ fs) b a (inr (refl, refl)) (m .fine z G (withPair (withPair H x a) y b) F T fs (noted G H F T fs u) (Same.back (same-roots G H F T fs u r)));
       clash = λ z G H F T fs u r. m .clash z G H F T fs u (Same.back (same-roots G H F T fs u r));
     }

@@ -2,8 +2,8 @@
 use mathlib.Core.Path.{_≡_, refl, sym, ap, _∙_, subst}
 use mathlib.Core.Bool.{Bool, true, false}
 use mathlib.Core.List.{List, [], _∷_, List·Memᴰ, List·Memᴰ·head, List·Memᴰ·tail, List·Memᴰ·not-nil, List·Memᴰ·cases-cons}
-use mathlib.Core.Logic.{inl, inr, ⊎-elim}
-use Prim.Native.Nat.{ℕ, suc, _+_, _≤_, _<_}
+use mathlib.Core.Logic.{_⊎_, inl, inr, ⊎-elim}
+use Prim.Native.Nat.{ℕ, suc, _+_, _-_, _≤_, _<_}
 use native.Mathlib.Numerals.{add-one}
 use native.Mathlib.Omega.{arith}
 use native.Mathlib.Decide.{ℕ-discrete, decLt}
@@ -14,10 +14,14 @@ use Rattle.area.specs.Region.{region}
 use Rattle.classes.specs.Labels.{Eq}
 use Rattle.area.specs.Log.{Logged, Put}
 use Rattle.classes.specs.Forest.{Root, tops}
-use Rattle.classes.specs.State.{Pile, Done, Same, Clashes, Chain, First, None, Near, Bears, State, Runs, Looked, withPair, withArc, withNode, Fresh, Visited, United, Bearing, Marked}
+use Rattle.classes.specs.State.{Pile, Done, Same, Clashes, Chain, First, None, Near, Bears, State, Runs, Calm, Looked, withPair, withArc, withNode, Fresh, Visited, United, Bearing, Marked}
+use Rattle.classes.specs.Order.{Rising, Risen, Between, Hint, Ordered, Located, Steady}
 use Rattle.area.proofs.Region.{length-region, region-ext}
 use Rattle.area.proofs.Undo.{later-refl, later-trans, put-at, put-off}
 use Rattle.classes.proofs.Links.{chain-same, chain-zero, first-mem, first-feature, none-first, total-set}
+use Rattle.classes.proofs.Walks.{some}
+use Rattle.classes.proofs.Places.{chain-det, chain-low, between-where}
+use Rattle.classes.proofs.Splice.{Grows, grows-front, lodge, lodge-grows, lodge-rising, lodge-chain}
 use Rattle.classes.proofs.Fuse.{low, top, short}
 use Rattle.classes.proofs.Turns.{hold-pair}
 
@@ -27,6 +31,31 @@ near-none F T M w (Near.old e) = e
 near-none F T M w (Near.owe {x} {y} {q} q' zs js m sg mq wy) = absurd (List·Memᴰ·not-nil m)
 near-none F T M w (Near.sym r) = sym (near-none F T M w r)
 near-none F T M w (Near.trans r t) = near-none F T M w r ∙ near-none F T M w t
+
+-- ---- what is known of the chain of x's class
+pub ordered-none : (F : List ℕ) (n : ℕ) (w : List ℕ) (x : ℕ) → Ordered F n w x 0
+ordered-none F n w x = record { hint = λ z. absurd (omega arith) }
+
+pub ordered-hint : (F : List ℕ) (n k : ℕ) (w : List ℕ) (x c at : ℕ) → Steady n k w → Root (region PARENT n w) x c → Hint F w c at → Ordered F n w x at
+ordered-hint F n k w x c at g r t = record {
+  hint = λ z d q. subst (λ (v : ℕ). Hint F w v at) (sym (r .is (g .state .M) (g .state .forest)) ∙ q .is (g .state .M) (g .state .forest)) t;
+}
+
+pub hint-first : (F w : List ℕ) (c : ℕ) (r : Bool) → Risen F w (getD w c 0) r → r ≡ true → Hint F w c 1
+hint-first F w c r u e = record { low = omega arith; up = u .up e; on = λ z. absurd (omega arith) }
+
+-- a union that leaves the chains as they are
+pub hint-calm : (F w w' : List ℕ) (f c at r : ℕ) → c < 1024 → 0 < r → r ≤ 2048 → Looked F w f (getD w c 0) r → Hint F w c at → Calm w w' → Hint F w' c (NEXT + (r - 1))
+hint-calm F w w' f c at r hc hr lr k t m =
+    let ri : r ≡ suc (r - 1) = omega arith in
+    let q : NEXT + (r - 1) - NEXT ≡ r - 1 = omega arith in
+    let e : getD w' c 0 ≡ getD w c 0 = m .firsts c hc (λ z. k .hit (r - 1) ri [] z) in
+    let was : (xs : List ℕ) → Chain w' (getD w' c 0) xs → Chain w (getD w c 0) xs = λ xs d. subst (λ (z : ℕ). Chain w z xs) e (chain-same w' w (getD w' c 0) xs (λ i b. sym (m .nexts i (chain-low w' (getD w' c 0) xs i d b))) d) in
+    record {
+      low = omega arith;
+      up = λ xs d. t .up xs (was xs d);
+      on = λ b xs d. rw q (first-mem F f xs (r - 1) (k .hit (r - 1) ri xs (was xs d)));
+    }
 
 -- ---- the class c of the node x
 module _ (F T : List ℕ) (n k : ℕ) (w : List ℕ) (hn : n ≤ 1024) (hw : SIZE ≤ length w) (x : ℕ) (hx : x < n) (c : ℕ) (root : Root (region PARENT n w) x c) where
@@ -137,114 +166,192 @@ module _ (F T : List ℕ) (n k : ℕ) (w : List ℕ) (hn : n ≤ 1024) (hw : SIZ
                 let d : Eq (v .M) (getD T t 0) (getD T i 0) = v .held (getD T t 0) (getD T i 0) (List·Memᴰ·head refl) in
                 (o .0, (subst (λ (a : ℕ). First F (getD F t 0) (getD (v .C) a []) (o .0)) e (subst (λ (a : ℕ). First F a (getD (v .C) (getD (v .M) (G .S i) 0) []) (o .0)) ef (o .1 .0)), Near.trans (o .1 .1) (Near.old (sym d))))
 
-  -- ---- the feature is not there: the arc goes onto the chain
-  module _ (t : ℕ) (ht : t < 2048) (lc : getD w c 0 ≤ 2048) (h : ℕ) (eh : h ≡ getD w c 0) (miss : Looked F w (getD F t 0) (getD w c 0) 0) (hk : k + 2 ≤ 4096)
-      (k1 k2 : ℕ) (w1 w2 : List ℕ) (p1 : Put k w (NEXT + t) h k1 w1) (p2 : Put k1 w1 c (t + 1) k2 w2) where
-    off : (j : ℕ) → (j ≡ NEXT + t → ⊥) → (j ≡ c → ⊥) → j < LOG → getD w2 j 0 ≡ getD w j 0
-    off j a b l = let e = p1 .next in put-off k1 w1 c (t + 1) k2 w2 p2 (omega arith) j b (inl l) ∙ put-off k w (NEXT + t) h k1 w1 p1 (omega arith) j a (inl l)
+  -- ---- the feature is not there: the arc goes onto the chain, after the link l
+  module _ (t : ℕ) (ht : t < 2048) (lc : getD w c 0 ≤ 2048) (at l : ℕ) (hint : 0 < at → Hint F w c at) (loc : Located F w (getD F t 0) c at l 0) (h : ℕ) (eh : h ≡ getD w l 0) (hk : k + 2 ≤ 4096)
+      (k1 k2 : ℕ) (w1 w2 : List ℕ) (p1 : Put k w (NEXT + t) h k1 w1) (p2 : Put k1 w1 l (t + 1) k2 w2) where
+    off : (j : ℕ) → (j ≡ NEXT + t → ⊥) → (j ≡ l → ⊥) → j < LOG → getD w2 j 0 ≡ getD w j 0
+    off j a b i = let e = p1 .next in put-off k1 w1 l (t + 1) k2 w2 p2 (omega arith) j b (inl i) ∙ put-off k w (NEXT + t) h k1 w1 p1 (omega arith) j a (inl i)
 
     len : length w2 ≡ length w
     len = p2 .later .len ∙ p1 .later .len
 
-    at-c : getD w2 c 0 ≡ suc t
-    at-c = let l = c-in in put-at k1 w1 c (t + 1) k2 w2 p2 (omega arith) (omega (arith, p1 .later .len)) ∙ add-one t
+    at-l : getD w2 l 0 ≡ suc t
+    at-l = let i = loc .low in put-at k1 w1 l (t + 1) k2 w2 p2 (omega arith) (omega (arith, p1 .later .len)) ∙ add-one t
 
-    at-t : getD w2 (NEXT + t) 0 ≡ getD w c 0
-    at-t = let l = c-in in let e = p1 .next in put-off k1 w1 c (t + 1) k2 w2 p2 (omega arith) (NEXT + t) (λ z. omega arith) (inl (omega arith)) ∙ put-at k w (NEXT + t) h k1 w1 p1 (omega arith) (omega arith) ∙ eh
+    module _ (G : Pile) (H : Done) (u : State G H F T n k 0 [] w) (f : Fresh G H n x t) where
+      abbrev xs : List ℕ
+      xs = getD (u .C) c []
 
-    par : region PARENT n w2 ≡ region PARENT n w
-    par = let l = c-in in region-ext PARENT n w2 w (omega (arith, len)) len (λ j b. off (PARENT + j) (λ e. omega arith) (λ e. omega arith) (omega arith))
+      cx : Chain w (getD w c 0) xs
+      cx = chain-c G H u lc
 
-    hung : (G : Pile) (H : Done) → State G H F T n k 0 [] w → Fresh G H n x t → State G (withArc H t) F T n k2 0 [] w2
-    hung G H u f =
-        let l = u .wide in let ci = c-in in
-        let ts = total-set (u .C) c (t ∷ getD (u .C) c []) (omega arith) in
-        let ua = u .all in let ur = u .room in let n1 = p1 .next in let n2 = p2 .next in
-        record {
-          logged = p2 .later .logged;
-          shape = rw par (u .shape);
-          room = rw par (omega arith);
-          few = f .room;
-          stack = rw par (u .stack);
-          arcs = u .arcs;
-          atoms = u .atoms;
-          M = u .M;
-          forest = rw par (u .forest);
-          C = set (u .C) c (t ∷ getD (u .C) c []);
-          wide = simp length-set (u .wide);
-          all = omega arith;
-          chain = λ d a b e. chains d a b e (ℕ-discrete d c);
-          bare = λ d a b e. bares d a b e (ℕ-discrete d c);
-          home = λ d q a m. homes d q a m (ℕ-discrete d c);
-          known = λ j m. ⊎-elim (λ e. subst (λ (a : ℕ). List·Memᴰ a (G .B)) (sym e) (f .arc)) (λ a. u .known j a) (List·Memᴰ·cases-cons m);
-          cover = λ j m. ⊎-elim (λ e. subst (λ (a : ℕ). (b : ℕ) × (First F (getD F a 0) (getD (set (u .C) c (t ∷ getD (u .C) c [])) (getD (u .M) (G .S a) 0) []) b × Near F T (u .M) w2 [] (getD T b 0) (getD T a 0))) (sym e) here) (λ a. covers j a (ℕ-discrete (getD (u .M) (G .S j) 0) c)) (List·Memᴰ·cases-cons m);
-          nodes = u .nodes;
-          met = λ i m a. off (getD (u .M) i 0) (λ e. let b = low G H F T n k 0 [] w (omega arith) hw u i (u .nodes i m .0) in omega arith) (λ e. let b : getD w (getD (u .M) i 0) 0 ≡ G .A i = u .met i m a in let d : getD w (getD (u .M) i 0) 0 ≡ getD w c 0 = ap (λ (v : ℕ). getD w v 0) e in let g = u .atoms i (u .nodes i m .1) a in omega arith) (let b = low G H F T n k 0 [] w (omega arith) hw u i (u .nodes i m .0) in omega arith) ∙ u .met i m a;
-          held = u .held;
-          sound = u .sound;
-          frame = λ a b m. absurd (List·Memᴰ·not-nil m);
-        }
-      where
-        C' : getD (set (u .C) c (t ∷ getD (u .C) c [])) c [] ≡ t ∷ getD (u .C) c []
-        C' = let l = u .wide in let ci = c-in in getD-set-same (u .C) c (t ∷ getD (u .C) c []) [] (omega arith)
+      between : 0 < at → Between F (getD F t 0) c l xs
+      between z = loc .place z refl xs cx
 
-        Co : (d : ℕ) → (d ≡ c → ⊥) → getD (set (u .C) c (t ∷ getD (u .C) c [])) d [] ≡ getD (u .C) d []
-        Co d a = getD-set-other (u .C) c d (t ∷ getD (u .C) c []) [] a
+      -- the link is that of the class, or of an arc on its chain
+      on : (l ≡ c) ⊎ ((q : ℕ) × (List·Memᴰ q xs × (l ≡ NEXT + q)))
+      on = go (ℕ-discrete at 0)
+        where
+          go : Dec (at ≡ 0) → (l ≡ c) ⊎ ((q : ℕ) × (List·Memᴰ q xs × (l ≡ NEXT + q)))
+          go (yes z) = inl (loc .front z)
+          go (no z) = between-where F (getD F t 0) c l xs (between (some at z))
 
-        keeps : (d q : ℕ) → d < n → List·Memᴰ q (getD (u .C) d []) → getD w2 (NEXT + q) 0 ≡ getD w (NEXT + q) 0
-        keeps d q a m =
-            let o = u .home d q a m .0 in
-            let b = u .arcs q (u .known q o) .0 in
-            let ci = c-in in
-            off (NEXT + q) (λ e. let z : t ≡ q = omega arith in f .new (subst (λ (v : ℕ). List·Memᴰ v (H .K)) (sym z) o)) (λ e. omega arith) (omega arith)
+      -- an arc of some chain is not the one that comes
+      other : (d q : ℕ) → d < n → List·Memᴰ q (getD (u .C) d []) → (q < 2047) × (q ≡ t → ⊥)
+      other d q a m = let o = u .home d q a m .0 in (u .arcs q (u .known q o) .0, λ e. f .new (subst (λ (v : ℕ). List·Memᴰ v (H .K)) e o))
 
-        chains : (d : ℕ) → d < n → getD (u .M) d 0 ≡ d → getD w2 d 0 ≤ 2048 → Dec (d ≡ c) → Chain w2 (getD w2 d 0) (getD (set (u .C) c (t ∷ getD (u .C) c [])) d [])
-        chains d a b e (yes z) =
-            subst (λ (v : ℕ). Chain w2 (getD w2 v 0) (getD (set (u .C) c (t ∷ getD (u .C) c [])) v [])) (sym z)
-            (subst (Chain w2 (getD w2 c 0)) (sym C') (at-c, (ht, subst (λ (v : ℕ). Chain w2 v (getD (u .C) c [])) (sym at-t) (chain-same w w2 (getD w c 0) (getD (u .C) c []) (λ q m. keeps c q c-in m) (chain-c G H u lc)))))
+      apart : NEXT + t ≡ l → ⊥
+      apart e = let i = c-in in ⊎-elim (λ o. omega arith) (λ o. let g : l ≡ NEXT + o .0 = o .1 .1 in other c (o .0) c-in (o .1 .0) .1 (omega arith)) on
+
+      -- a class, or a parent, is not the link of an arc
+      aside : (j : ℕ) → j < NEXT → (j ≡ c → ⊥) → j ≡ l → ⊥
+      aside j i d e = ⊎-elim (λ o. d (e ∙ o)) (λ o. let g : l ≡ NEXT + o .0 = o .1 .1 in omega arith) on
+
+      at-t : getD w2 (NEXT + t) 0 ≡ getD w l 0
+      at-t = let e = p1 .next in put-off k1 w1 l (t + 1) k2 w2 p2 (omega arith) (NEXT + t) apart (inl (omega arith)) ∙ put-at k w (NEXT + t) h k1 w1 p1 (omega arith) (omega arith) ∙ eh
+
+      par : region PARENT n w2 ≡ region PARENT n w
+      par = let i = c-in in region-ext PARENT n w2 w (omega (arith, len)) len (λ j b. off (PARENT + j) (λ e. omega arith) (aside (PARENT + j) (omega arith) (λ e. omega arith)) (omega arith))
+
+      keep : (q : ℕ) → List·Memᴰ q xs → (NEXT + q ≡ l → ⊥) → getD w2 (NEXT + q) 0 ≡ getD w (NEXT + q) 0
+      keep q m z = let o = other c q c-in m in let i = o .0 in off (NEXT + q) (λ e. o .1 (omega arith)) z (omega arith)
+
+      front : l ≡ c → Chain w2 (getD w2 c 0) (t ∷ xs)
+      front e =
+          let i = c-in in
+          (ap (λ (z : ℕ). getD w2 z 0) (sym e) ∙ at-l, (ht, subst (λ (z : ℕ). Chain w2 z xs) (ap (λ (z : ℕ). getD w z 0) (sym e) ∙ sym at-t) (chain-same w w2 (getD w c 0) xs (λ q m. keep q m (λ z. omega arith)) cx)))
+
+      lodged : (z : 0 < at) → Chain w2 (getD w2 c 0) (lodge F t c l xs (between z))
+      lodged z =
+          let i = c-in in
+          lodge-chain F t w w2 l at-l ht at-t c 0 xs (between z) (hint z .up xs cx) cx (λ j m e. omega arith) (λ e. off c (λ y. omega arith) e (omega arith)) keep
+
+      spliced : (L : List ℕ) × (Grows F t xs L × Chain w2 (getD w2 c 0) L)
+      spliced = go (ℕ-discrete at 0)
+        where
+          go : Dec (at ≡ 0) → (L : List ℕ) × (Grows F t xs L × Chain w2 (getD w2 c 0) L)
+          go (yes z) = (t ∷ xs, (grows-front F t xs, front (loc .front z)))
+          go (no z) = (lodge F t c l xs (between (some at z)), (lodge-grows F t c l xs (between (some at z)), lodged (some at z)))
+
+      c-small : getD w2 c 0 ≤ 2048
+      c-small = go (spliced .0) (spliced .1 .1)
+        where
+          go : (L : List ℕ) → Chain w2 (getD w2 c 0) L → getD w2 c 0 ≤ 2048
+          go [] e = omega arith
+          go (j ∷ L) e = let a = e .0 in let b = e .1 .0 in omega arith
+
+      module _ (L : List ℕ) (g : Grows F t xs L) (cL : Chain w2 (getD w2 c 0) L) where
+        C' : getD (set (u .C) c L) c [] ≡ L
+        C' = let i = u .wide in let ci = c-in in getD-set-same (u .C) c L [] (omega arith)
+
+        Co : (d : ℕ) → (d ≡ c → ⊥) → getD (set (u .C) c L) d [] ≡ getD (u .C) d []
+        Co d a = getD-set-other (u .C) c d L [] a
+
+        -- an arc of another chain
+        keeps : (d q : ℕ) → d < n → (d ≡ c → ⊥) → List·Memᴰ q (getD (u .C) d []) → getD w2 (NEXT + q) 0 ≡ getD w (NEXT + q) 0
+        keeps d q a z m =
+            let o = other d q a m in let b = o .0 in let ci = c-in in
+            off (NEXT + q) (λ e. o .1 (omega arith))
+            (λ e. ⊎-elim (λ i. omega arith) (λ i. let y : l ≡ NEXT + i .0 = i .1 .1 in let s : i .0 ≡ q = omega arith in z (sym (u .home d q a m .1) ∙ u .home c q c-in (subst (λ (v : ℕ). List·Memᴰ v xs) s (i .1 .0)) .1)) on)
+            (omega arith)
+
+        first : (d : ℕ) → d < n → (d ≡ c → ⊥) → getD w2 d 0 ≡ getD w d 0
+        first d a z = off d (λ i. omega arith) (aside d (omega arith) z) (omega arith)
+
+        chains : (d : ℕ) → d < n → getD (u .M) d 0 ≡ d → getD w2 d 0 ≤ 2048 → Dec (d ≡ c) → Chain w2 (getD w2 d 0) (getD (set (u .C) c L) d [])
+        chains d a b e (yes z) = subst (λ (v : ℕ). Chain w2 (getD w2 v 0) (getD (set (u .C) c L) v [])) (sym z) (subst (Chain w2 (getD w2 c 0)) (sym C') cL)
         chains d a b e (no z) =
-            let o : getD w2 d 0 ≡ getD w d 0 = off d (λ i. omega arith) z (omega arith) in
-            subst (Chain w2 (getD w2 d 0)) (sym (Co d z)) (subst (λ (v : ℕ). Chain w2 v (getD (u .C) d [])) (sym o) (chain-same w w2 (getD w d 0) (getD (u .C) d []) (λ q m. keeps d q a m) (u .chain d a b (omega arith))))
+            let o : getD w2 d 0 ≡ getD w d 0 = first d a z in
+            subst (Chain w2 (getD w2 d 0)) (sym (Co d z)) (subst (λ (v : ℕ). Chain w2 v (getD (u .C) d [])) (sym o) (chain-same w w2 (getD w d 0) (getD (u .C) d []) (λ q m. keeps d q a z m) (u .chain d a b (omega arith))))
 
-        bares : (d : ℕ) → d < n → getD (u .M) d 0 ≡ d → 2048 < getD w2 d 0 → Dec (d ≡ c) → (getD (set (u .C) c (t ∷ getD (u .C) c [])) d [] ≡ []) × Bears G n (u .M) d (getD w2 d 0)
-        bares d a b e (yes z) = let o : getD w2 d 0 ≡ suc t = ap (λ (v : ℕ). getD w2 v 0) z ∙ at-c in absurd (omega arith)
+        bares : (d : ℕ) → d < n → getD (u .M) d 0 ≡ d → 2048 < getD w2 d 0 → Dec (d ≡ c) → (getD (set (u .C) c L) d [] ≡ []) × Bears G n (u .M) d (getD w2 d 0)
+        bares d a b e (yes z) = let o : getD w2 d 0 ≡ getD w2 c 0 = ap (λ (v : ℕ). getD w2 v 0) z in let i = c-small in absurd (omega arith)
         bares d a b e (no z) =
-            let o : getD w2 d 0 ≡ getD w d 0 = off d (λ i. omega arith) z (omega arith) in
+            let o : getD w2 d 0 ≡ getD w d 0 = first d a z in
             let r = u .bare d a b (omega arith) in
             (Co d z ∙ r .0, subst (λ (v : ℕ). Bears G n (u .M) d v) (sym o) (r .1))
 
-        homes : (d q : ℕ) → d < n → List·Memᴰ q (getD (set (u .C) c (t ∷ getD (u .C) c [])) d []) → Dec (d ≡ c) → List·Memᴰ q (t ∷ H .K) × (getD (u .M) (G .S q) 0 ≡ d)
+        homes : (d q : ℕ) → d < n → List·Memᴰ q (getD (set (u .C) c L) d []) → Dec (d ≡ c) → List·Memᴰ q (t ∷ H .K) × (getD (u .M) (G .S q) 0 ≡ d)
         homes d q a m (yes z) = ⊎-elim
             (λ e. (List·Memᴰ·head e, ap (λ (v : ℕ). getD (u .M) (G .S v) 0) e ∙ ap (λ (v : ℕ). getD (u .M) v 0) (f .is) ∙ Mx G H u ∙ sym z))
             (λ b. let o = u .home c q c-in b in (List·Memᴰ·tail (o .0), o .1 ∙ sym z))
-            (List·Memᴰ·cases-cons (subst (List·Memᴰ q) (ap (λ (v : ℕ). getD (set (u .C) c (t ∷ getD (u .C) c [])) v []) z ∙ C') m))
+            (g .cases q (subst (List·Memᴰ q) (ap (λ (v : ℕ). getD (set (u .C) c L) v []) z ∙ C') m))
         homes d q a m (no z) = let o = u .home d q a (subst (List·Memᴰ q) (Co d z) m) in (List·Memᴰ·tail (o .0), o .1)
 
-        none : None F (getD F t 0) (getD (u .C) c [])
-        none = miss .miss refl (getD (u .C) c []) (chain-c G H u lc)
+        none : None F (getD F t 0) xs
+        none = loc .looked .miss refl xs cx
 
-        here : (b : ℕ) × (First F (getD F t 0) (getD (set (u .C) c (t ∷ getD (u .C) c [])) (getD (u .M) (G .S t) 0) []) b × Near F T (u .M) w2 [] (getD T b 0) (getD T t 0))
-        here = (t, (subst (λ (v : ℕ). First F (getD F t 0) (getD (set (u .C) c (t ∷ getD (u .C) c [])) v []) t) (sym (ap (λ (v : ℕ). getD (u .M) v 0) (f .is) ∙ Mx G H u)) (subst (λ (l : List ℕ). First F (getD F t 0) l t) (sym C') (inl (refl, refl))), Near.old refl))
+        here : (b : ℕ) × (First F (getD F t 0) (getD (set (u .C) c L) (getD (u .M) (G .S t) 0) []) b × Near F T (u .M) w2 [] (getD T b 0) (getD T t 0))
+        here = (t, (subst (λ (v : ℕ). First F (getD F t 0) (getD (set (u .C) c L) v []) t) (sym (ap (λ (v : ℕ). getD (u .M) v 0) (f .is) ∙ Mx G H u)) (subst (λ (y : List ℕ). First F (getD F t 0) y t) (sym C') (g .mine)), Near.old refl))
 
-        covers : (j : ℕ) → List·Memᴰ j (H .K) → Dec (getD (u .M) (G .S j) 0 ≡ c) → (b : ℕ) × (First F (getD F j 0) (getD (set (u .C) c (t ∷ getD (u .C) c [])) (getD (u .M) (G .S j) 0) []) b × Near F T (u .M) w2 [] (getD T b 0) (getD T j 0))
+        covers : (j : ℕ) → List·Memᴰ j (H .K) → Dec (getD (u .M) (G .S j) 0 ≡ c) → (b : ℕ) × (First F (getD F j 0) (getD (set (u .C) c L) (getD (u .M) (G .S j) 0) []) b × Near F T (u .M) w2 [] (getD T b 0) (getD T j 0))
         covers j m (yes z) =
             let o = u .cover j m in
-            let p : First F (getD F j 0) (getD (u .C) c []) (o .0) = subst (λ (v : ℕ). First F (getD F j 0) (getD (u .C) v []) (o .0)) z (o .1 .0) in (
+            let p : First F (getD F j 0) xs (o .0) = subst (λ (v : ℕ). First F (getD F j 0) (getD (u .C) v []) (o .0)) z (o .1 .0) in (
               o .0,
               (
-                subst (λ (v : ℕ). First F (getD F j 0) (getD (set (u .C) c (t ∷ getD (u .C) c [])) v []) (o .0)) (sym z) (subst (λ (l : List ℕ). First F (getD F j 0) l (o .0)) (sym C')
-                    (inr ((λ e. none-first F (getD F t 0) (getD (u .C) c []) (o .0) none (subst (λ (v : ℕ). First F v (getD (u .C) c []) (o .0)) (sym e) p)), p))),
+                subst (λ (v : ℕ). First F (getD F j 0) (getD (set (u .C) c L) v []) (o .0)) (sym z) (subst (λ (y : List ℕ). First F (getD F j 0) y (o .0)) (sym C')
+                    (g .old (getD F j 0) (o .0) (λ e. none-first F (getD F t 0) xs (o .0) none (subst (λ (v : ℕ). First F v xs (o .0)) (sym e) p)) p)),
                 Near.old (near-none F T (u .M) w (o .1 .1)),
               ),
             )
         covers j m (no z) =
             let o = u .cover j m in
-            (o .0, (subst (λ (l : List ℕ). First F (getD F j 0) l (o .0)) (sym (Co (getD (u .M) (G .S j) 0) z)) (o .1 .0), Near.old (near-none F T (u .M) w (o .1 .1))))
+            (o .0, (subst (λ (y : List ℕ). First F (getD F j 0) y (o .0)) (sym (Co (getD (u .M) (G .S j) 0) z)) (o .1 .0), Near.old (near-none F T (u .M) w (o .1 .1))))
+
+        hung : State G (withArc H t) F T n k2 0 [] w2
+        hung =
+            let i = u .wide in let ci = c-in in
+            let ts = total-set (u .C) c L (omega arith) in
+            let gs = g .size in
+            let ua = u .all in let ur = u .room in let n1 = p1 .next in let n2 = p2 .next in
+            record {
+              logged = p2 .later .logged;
+              shape = rw par (u .shape);
+              room = rw par (omega arith);
+              few = f .room;
+              stack = rw par (u .stack);
+              arcs = u .arcs;
+              atoms = u .atoms;
+              M = u .M;
+              forest = rw par (u .forest);
+              C = set (u .C) c L;
+              wide = simp length-set (u .wide);
+              all = omega arith;
+              chain = λ d a b e. chains d a b e (ℕ-discrete d c);
+              bare = λ d a b e. bares d a b e (ℕ-discrete d c);
+              home = λ d q a m. homes d q a m (ℕ-discrete d c);
+              known = λ j m. ⊎-elim (λ e. subst (λ (a : ℕ). List·Memᴰ a (G .B)) (sym e) (f .arc)) (λ a. u .known j a) (List·Memᴰ·cases-cons m);
+              cover = λ j m. ⊎-elim (λ e. subst (λ (a : ℕ). (b : ℕ) × (First F (getD F a 0) (getD (set (u .C) c L) (getD (u .M) (G .S a) 0) []) b × Near F T (u .M) w2 [] (getD T b 0) (getD T a 0))) (sym e) here) (λ a. covers j a (ℕ-discrete (getD (u .M) (G .S j) 0) c)) (List·Memᴰ·cases-cons m);
+              nodes = u .nodes;
+              met = λ i m a.
+                  let b = low G H F T n k 0 [] w (omega arith) hw u i (u .nodes i m .0) in
+                  first (getD (u .M) i 0) (omega arith) (λ e. let b : getD w (getD (u .M) i 0) 0 ≡ G .A i = u .met i m a in let d : getD w (getD (u .M) i 0) 0 ≡ getD w c 0 = ap (λ (v : ℕ). getD w v 0) e in let g = u .atoms i (u .nodes i m .1) a in omega arith) ∙ u .met i m a;
+              held = u .held;
+              sound = u .sound;
+              frame = λ a b m. absurd (List·Memᴰ·not-nil m);
+            }
+
+      -- the chain still rises, where it did
+      hung-hint : (z : 0 < at) → Hint F w2 c (NEXT + t)
+      hung-hint z =
+          let q : NEXT + t - NEXT ≡ t = omega arith in
+          let is : (ys : List ℕ) → Chain w2 (getD w2 c 0) ys → lodge F t c l xs (between z) ≡ ys = λ ys d. chain-det w2 (getD w2 c 0) (lodge F t c l xs (between z)) ys (lodged z) d in
+          record {
+            low = omega arith;
+            up = λ ys d. subst (Rising F 0) (is ys d) (lodge-rising F t c l 0 xs (between z) (omega arith) (hint z .up xs cx));
+            on = λ b ys d. rw q (subst (List·Memᴰ t) (is ys d) (first-mem F (getD F t 0) (lodge F t c l xs (between z)) t (lodge-grows F t c l xs (between z) .mine)));
+          }
+
+      pub hung-ordered : 0 < at → Ordered F n w2 x (NEXT + t)
+      hung-ordered z = record {
+        hint = λ y d r. let e : c ≡ d = sym (Mx G H u) ∙ (rw par at r) .is (u .M) (u .forest) in subst (λ (v : ℕ). Hint F w2 v (NEXT + t)) e (hung-hint z);
+      }
 
     pub visit-hung : Visited F T n k w x t k2 false w2
     visit-hung = record {
       later = later-trans k w k1 w1 k2 w2 (p1 .later) (p2 .later);
-      fine = λ z G H u f. hung G H u f;
+      fine = λ z G H u f. let s = spliced G H u f in hung G H u f (s .0) (s .1 .0) (s .1 .1);
       clash = λ z. let y : _≡_ {A = ℕ} 0 1 = cc in absurd (omega arith);
     }
 

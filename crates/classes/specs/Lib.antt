@@ -1,6 +1,7 @@
 pub mod Labels
 pub mod Forest
 pub mod State
+pub mod Order
 pub mod Nodes
 pub mod Entry
 pub mod Holds

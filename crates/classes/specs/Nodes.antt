@@ -10,10 +10,10 @@ use Rattle.area.specs.Log.{Later}
 use Rattle.classes.specs.State.{Pile, Done, Clashes, State, withNode}
 
 -- ---- the arcs of a node
--- the d arcs from t on, each two words after the one before
+-- the d arcs from t on, each two words after the one before, the last one first
 abbrev pub strung : List ℕ → ℕ → ℕ → List ℕ
 strung l t zero = l
-strung l t (suc d) = t ∷ strung l (t + 2) d
+strung l t (suc d) = (t + 2 * d) ∷ strung l t d
 
 abbrev pub grown : Done → ℕ → ℕ → Done
 grown H t d = record { K = strung (H .K) t d; U = H .U; E = H .E }

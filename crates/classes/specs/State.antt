@@ -175,13 +175,19 @@ withPair H x y = record { K = H .K; U = H .U; E = (x, y) ∷ H .E }
 abbrev pub Grow : List ℕ → List ℕ → Type 0
 Grow w w' = (j : ℕ) → j < 2048 → (getD w (NEXT + j) 0 ≡ 0 → ⊥) → getD w' (NEXT + j) 0 ≡ getD w (NEXT + j) 0
 
--- a merge of the classes of x and y
+-- no chain has changed, but one that went from a class to an empty one
+pub record Calm (w w' : List ℕ) : Type 0 where
+  pub nexts : (j : ℕ) → j < 2048 → getD w' (NEXT + j) 0 ≡ getD w (NEXT + j) 0
+  pub firsts : (c : ℕ) → c < 1024 → (getD w c 0 ≡ 0 → ⊥) → getD w' c 0 ≡ getD w c 0
+
+-- a merge of the classes of x and y; only where two chains meet does it take three entries
 pub record Met (n k s : ℕ) (w : List ℕ) (x y k' s' : ℕ) (bad : Bool) (w' : List ℕ) : Type 0 where
   pub later : Later k w k' w'
   pub new : List (ℕ × ℕ)
   pub stack : frames w' s' ≡ new ++ frames w s
   pub count : s' + tops 0 (region PARENT n w') ≤ s + tops 0 (region PARENT n w)
   pub grow : Grow w w'
+  pub calm : k' ≤ k + 2 → (s' ≡ s) × Calm w w'
   pub fine : bad ≡ false → (G : Pile) (H : Done) (F T : List ℕ) (fs : List (ℕ × ℕ)) → State G H F T n k s fs w → Same G F T x y → State G (withPair H x y) F T n k' s' (new ++ fs) w'
   pub clash : bad ≡ true → (G : Pile) (H : Done) (F T : List ℕ) (fs : List (ℕ × ℕ)) → State G H F T n k s fs w → Same G F T x y → Clashes G F T
 
@@ -222,11 +228,13 @@ pub record Stacked (F T : List ℕ) (n k s : ℕ) (w : List ℕ) : Type 0 where
 
 pub record Settled (F T : List ℕ) (n k s : ℕ) (w : List ℕ) (k' : ℕ) (bad : Bool) (w' : List ℕ) : Type 0 where
   pub later : Later k w k' w'
+  pub still : s ≡ 0 → w' ≡ w
   pub fine : bad ≡ false → (G : Pile) (H : Done) → State G H F T n k s (frames w s) w → State G H F T n k' 0 [] w'
   pub clash : bad ≡ true → (G : Pile) (H : Done) → State G H F T n k s (frames w s) w → Clashes G F T
 
 pub record United (F T : List ℕ) (n k : ℕ) (w : List ℕ) (x y k' : ℕ) (bad : Bool) (w' : List ℕ) : Type 0 where
   pub later : Later k w k' w'
+  pub calm : k' ≤ k + 2 → Calm w w'
   pub fine : bad ≡ false → (G : Pile) (H : Done) → State G H F T n k 0 [] w → Same G F T x y → State G (withPair H x y) F T n k' 0 [] w'
   pub clash : bad ≡ true → (G : Pile) (H : Done) → State G H F T n k 0 [] w → Same G F T x y → Clashes G F T
 

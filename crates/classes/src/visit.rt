@@ -1,6 +1,7 @@
 // The arcs and atoms of a graph meet the classes of its nodes.
 use crate::chain::loaded;
-use crate::chain::look;
+use crate::chain::locate;
+use crate::chain::rises;
 use crate::chain::target;
 use crate::forest::find;
 use crate::merge::Made;
@@ -14,40 +15,101 @@ ghost use Prim.Native.Nat.{_+_, _*_, _-_, _≤_, _<_};
 ghost use lib.ListN.{length};
 ghost use Rattle.area.specs.Map.{SIZE};
 ghost use Rattle.area.specs.Region.{words};
-ghost use Rattle.classes.specs.State.{targets, Coming, Visited, Marking, Marked};
+ghost use Rattle.classes.specs.State.{targets, Coming, Marking, Marked};
+ghost use Rattle.classes.specs.Order.{Ordered, Steady, Turning, Taken};
 ghost use Rattle.classes.specs.Nodes.{Batched, Run, Noding, Noded, Listing, Listed};
 
-// The arc t of the node x: it goes onto the chain of its class, or its target joins that of the arc there with its feature.
-fn visit(w: &mut [u32], k: usize, n: usize, x: usize, t: usize) -> Made
-    requires { ⌜ (n ≤ 1024) × (SIZE ≤ length (now w)) ⌝ }
-    requires { ⌜ (x < n) × (t < 2047) ⌝ }
-    requires { ⌜ Coming (words (now w)) (targets (now w)) n k (now w) x t ⌝ }
-    ensures { λ r. ⌜ Visited (words (now (w .entry))) (targets (now (w .entry))) n k (now (w .entry)) x t (r .k) (r .bad) (now (w .exit)) ⌝ }
+// The log's entries after an arc, the link to go on from with the next one, and whether there is a clash.
+// The link is 0 where the chain of the class is not known to rise, and 1 where the next arc is looked for from the first on.
+pub struct Came {
+    pub k: usize,
+    pub at: usize,
+    pub bad: bool,
+}
+
+// 1 where the chain of the class of x rises, or 0.
+fn afresh(w: &[u32], k: usize, n: usize, x: usize) -> usize
+    requires { ⌜ (x < n) × ((n ≤ 1024) × (SIZE ≤ length (now w))) ⌝ }
+    requires { ⌜ Steady n k (now w) ⌝ }
+    ensures { λ r. ⌜ Ordered (words (now (w .entry))) n (now (w .entry)) x r ⌝ }
 {
     let c = find(w, n, x);
     let h = w[c];
     if h > 2048 {
-        return Made {
+        return 0;
+    }
+    let up = rises(w, wide(h));
+    if up { 1 } else { 0 }
+}
+
+// The link to go on from after a union that took the log from k entries to e: where it took two at most, no chain has changed, and the arc r is still on that of the class c.
+fn onward(w: &[u32], k: usize, e: usize, n: usize, x: usize, c: usize, r: usize, at: usize) -> usize
+    requires { ⌜ (x < n) × ((n ≤ 1024) × (SIZE ≤ length (now w))) ⌝ }
+    requires { ⌜ (0 < r) × ((r ≤ 2048) × (k ≤ 4096)) ⌝ }
+    requires { ⌜ Turning (words (now w)) n k e (now w) c r at ⌝ }
+    ensures { λ r. ⌜ Ordered (words (now (w .entry))) n (now (w .entry)) x r ⌝ }
+{
+    if at == 0 {
+        return 0;
+    }
+    let d = find(w, n, x);
+    if d == c {
+        if e <= k + 2 {
+            return NEXT + (r - 1);
+        }
+    }
+    afresh(w, e, n, x)
+}
+
+// The arc t of the node x: it goes onto the chain of its class, or its target joins that of the arc there with its feature.
+fn visit(w: &mut [u32], k: usize, n: usize, x: usize, t: usize, at: usize) -> Came
+    requires { ⌜ (n ≤ 1024) × (SIZE ≤ length (now w)) ⌝ }
+    requires { ⌜ (x < n) × (t < 2047) ⌝ }
+    requires { ⌜ Coming (words (now w)) (targets (now w)) n k (now w) x t ⌝ }
+    requires { ⌜ Ordered (words (now w)) n (now w) x at ⌝ }
+    ensures { λ r. ⌜ Taken (words (now (w .entry))) (targets (now (w .entry))) n k (now (w .entry)) x t (r .k) (r .at) (r .bad) (now (w .exit)) ⌝ }
+{
+    let c = find(w, n, x);
+    let h = w[c];
+    if h > 2048 {
+        return Came {
             k: k,
-            s: 0,
+            at: 0,
             bad: true,
         };
     }
     let f = loaded(w, t);
-    let r = look(w, wide(h), f);
+    let s = locate(w, c, f, at);
+    let l = s.link;
+    let r = s.arc;
     if r == 0 {
-        let e = put(w, k, NEXT + t, h);
-        let d = put(w, e, c, (t + 1) as u32);
-        return Made {
+        let y = w[l];
+        let e = put(w, k, NEXT + t, y);
+        let d = put(w, e, l, (t + 1) as u32);
+        let a = if at == 0 { 0 } else { NEXT + t };
+        return Came {
             k: d,
-            s: 0,
+            at: a,
             bad: false,
         };
     }
-    let i = r - 1;
     let p = target(w, t);
-    let q = target(w, i);
-    unite(w, k, n, p, q)
+    let q = target(w, r - 1);
+    let m = unite(w, k, n, p, q);
+    let e = m.k;
+    if m.bad {
+        return Came {
+            k: e,
+            at: 0,
+            bad: true,
+        };
+    }
+    let a = onward(w, k, e, n, x, c, r, at);
+    Came {
+        k: e,
+        at: a,
+        bad: false,
+    }
 }
 
 // The atom's head v of the node x meets what its class holds.
@@ -81,7 +143,7 @@ fn mark(w: &mut [u32], k: usize, n: usize, x: usize, v: u32) -> Made
     }
 }
 
-// The d arcs of the node x that stand from `from` on, the last one first.
+// The d arcs of the node x that stand from `from` on.
 fn arcs(w: &mut [u32], k: usize, n: usize, x: usize, from: usize, d: usize) -> Made
     requires { ⌜ (n ≤ 1024) × (SIZE ≤ length (now w)) ⌝ }
     requires { ⌜ (x < n) × (from + 2 * d ≤ 2048) ⌝ }
@@ -89,11 +151,12 @@ fn arcs(w: &mut [u32], k: usize, n: usize, x: usize, from: usize, d: usize) -> M
     ensures { λ r. ⌜ Run (words (now (w .entry))) (targets (now (w .entry))) n k (now (w .entry)) x from d (r .k) (r .bad) (now (w .exit)) ⌝ }
 {
     let mut e = k;
-    let mut left = d;
-    while left != 0 {
-        left -= 1;
-        let m = visit(w, e, n, x, from + 2 * left);
+    let mut at = afresh(w, k, n, x);
+    let mut done: usize = 0;
+    while done < d {
+        let m = visit(w, e, n, x, from + 2 * done, at);
         e = m.k;
+        at = m.at;
         if m.bad {
             return Made {
                 k: e,
@@ -101,6 +164,7 @@ fn arcs(w: &mut [u32], k: usize, n: usize, x: usize, from: usize, d: usize) -> M
                 bad: true,
             };
         }
+        done += 1;
     }
     Made {
         k: e,

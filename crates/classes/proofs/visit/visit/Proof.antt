@@ -1,21 +1,21 @@
 -- `classes::visit::visit` meets its contract. Assumes nothing.
-use Prim.Native.Nat.{ℕ, suc, _-_, _<_}
+use Prim.Native.Nat.{ℕ, suc, _+_, _-_, _≤_, _<_}
 use mathlib.Core.Path.{_≡_, refl, sym, subst}
 use native.Mathlib.Omega.{arith}
-use lib.ListN.{getD}
+use lib.ListN.{getD, length}
+use Rattle.area.specs.Map.{NEXT}
 use Rattle.area.specs.Region.{words}
-use Rattle.classes.specs.State.{targets, Looked, Runs}
+use Rattle.classes.specs.State.{targets, Looked, withPair}
+use Rattle.classes.specs.Order.{Located, Ordered}
+use Rattle.classes.proofs.Words.{words-later}
 use Rattle.classes.proofs.Walks.{some}
-use Rattle.classes.proofs.Visits.{class-runs, visit-clash, visit-hung, visit-found, found-arc, found-same}
+use Rattle.classes.proofs.Visits.{ordered-none, hint-calm, class-runs, visit-clash, visit-hung, hung-ordered, visit-found, found-arc, found-same}
 use borrow.Author.Needs.{needs}
 use Rattle.classes.proofs.visit.visit.Statement.{statement}
 use Rattle.classes.proofs.visit.visit.Tie as tie
 
 find-requires : tie.Need-find-requires
-find-requires c κs =
-    let s = c .before .before in
-    let g = s .pre .1 .1 in
-    ((omega arith, (omega arith, omega arith)), g .state .shape)
+find-requires c κs = ((omega arith, (omega arith, omega arith)), c .before .before .pre .1 .1 .0 .state .shape)
 
 mul-h : tie.Need-mul-h
 mul-h c = search needs
@@ -28,42 +28,40 @@ same-length c = search needs
 
 returns : tie.Need-returns
 returns c =
-    let find = c .before .before .find in
-    let s = c .before .before .before .before .before in
-    let a = s .args in
+    let a = c .before .before .before .before .before .args in
     let wn = a .w .now in
-    let F = words wn in
-    let T = targets wn in
-    let g = s .pre .1 .1 in
-    visit-clash F T (a .n) (a .k) wn (omega arith) (omega arith) (a .x) (omega arith) (find .result) (find .ensures) (a .t) (g .state .logged) (c .if1 .taken)
+    let g = c .before .before .before .before .before .pre .1 .1 .0 in
+    record {
+      visited = visit-clash (words wn) (targets wn) (a .n) (a .k) wn (omega arith) (omega arith) (a .x) (omega arith) (c .before .before .find .result) (c .before .before .find .ensures) (a .t) (g .state .logged) (c .if1 .taken);
+      next = λ z. let y : _≡_ {A = ℕ} 0 1 = cc in absurd (omega arith);
+    }
 
 loaded-requires : tie.Need-loaded-requires
 loaded-requires c κs = search needs
 
-wide-requires : tie.Need-wide-requires
-wide-requires c κs = search needs
-
-look-requires : tie.Need-look-requires
-look-requires c κs =
-    let find = c .before .before .before .before .before .before .find in
-    let s = c .before .before .before .before .before .before .before .before .before in
-    let a = s .args in
+locate-requires : tie.Need-locate-requires
+locate-requires c κs =
+    let a = c .before .before .before .before .before .before .before .before .args in
     let wn = a .w .now in
-    let F = words wn in
-    let T = targets wn in
-    let g = s .pre .1 .1 in
-    (omega arith, subst (λ (v : ℕ). Runs wn v) (sym (c .wide .ensures)) (class-runs F T (a .n) (a .k) wn (omega arith) (omega arith) (a .x) (omega arith) (find .result) (find .ensures) (g .G) (g .H) (g .state) (c .before .before .before .before .if1 .left)))
+    let g = c .before .before .before .before .before .before .before .before .pre .1 .1 .0 in
+    let lw = c .before .before .before .before .before .find .ensures .low in
+    ((omega arith, omega arith), (class-runs (words wn) (targets wn) (a .n) (a .k) wn (omega arith) (omega arith) (a .x) (omega arith) (c .before .before .before .before .before .find .result) (c .before .before .before .before .before .find .ensures) (g .G) (g .H) (g .state) (c .before .before .before .if1 .left), λ z. c .before .before .before .before .before .before .before .before .pre .1 .1 .1 .hint z (c .before .before .before .before .before .find .result) (c .before .before .before .before .before .find .ensures)))
+
+mul-y : tie.Need-mul-y
+mul-y c = let l = c .before .locate .ensures .low in search needs
+
+slice-read-y : tie.Need-slice-read-y
+slice-read-y c = let l = c .before .before .locate .ensures .low in omega arith
 
 add-put : tie.Need-add-put
 add-put c = search needs
 
 put-requires : tie.Need-put-requires
 put-requires c κs =
-    let s = c .before .before .before .before .before .before .before .before .before .before .before .before in
-    let g = s .pre .1 .1 in
+    let g = c .before .before .before .before .before .before .before .before .before .before .before .before .pre .1 .1 .0 in
     let rr = g .fresh .room in
     let rq = g .state .room in
-    let lw = c .before .before .before .before .before .before .before .before .before .find .ensures .low in
+    let sm = g .state .logged .small (c .before .before .before .locate .result .link) (c .before .before .before .locate .ensures .low) in
     (g .state .logged, (omega arith, (omega arith, (omega arith, omega arith))))
 
 add-put-2 : tie.Need-add-put-2
@@ -75,109 +73,173 @@ cast-put c = search needs
 put-requires-2 : tie.Need-put-requires-2
 put-requires-2 c κs =
     let put = c .before .before .before .put in
-    let s = c .before .before .before .before .before .before .before .before .before .before .before .before .before .before .before .before in
-    let g = s .pre .1 .1 in
+    let g = c .before .before .before .before .before .before .before .before .before .before .before .before .before .before .before .before .pre .1 .1 .0 in
     let rr = g .fresh .room in
     let rq = g .state .room in
-    let lw = c .before .before .before .before .before .before .before .before .before .before .before .before .before .find .ensures .low in
+    let lw = c .before .before .before .before .before .before .before .locate .ensures .low in
     (put .ensures .later .logged, (omega arith, (omega (arith, put .ensures .next), (omega arith, omega (arith, put .ensures .later .len)))))
+
+add-a : tie.Need-add-a
+add-a c = search needs
 
 same-length-2 : tie.Need-same-length-2
 same-length-2 c = search needs
 
 returns-2 : tie.Need-returns-2
 returns-2 c =
-    let find = c .before .before .before .before .before .before .before .before .before .before .before .before .before .before .before .before .find in
-    let look = c .before .before .before .before .before .before .before .before .before .look in
-    let loaded = c .before .before .before .before .before .before .before .before .before .before .before .before .loaded in
-    let put = c .before .before .before .before .before .before .put in
-    let put2 = c .before .before .put2 in
-    let s = c .before .before .before .before .before .before .before .before .before .before .before .before .before .before .before .before .before .before .before in
-    let a = s .args in
+    let bn = c .before .before .before .before .before .before .before .before .before .before .before .before .before .before .before .before .before .before .before .before .pre .0 in
+    let bx = c .before .before .before .before .before .before .before .before .before .before .before .before .before .before .before .before .before .before .before .before .pre .1 .0 in
+    let find = c .before .before .before .before .before .before .before .before .before .before .before .before .before .before .before .before .before .find in
+    let a = c .before .before .before .before .before .before .before .before .before .before .before .before .before .before .before .before .before .before .before .before .args in
     let wn = a .w .now in
     let F = words wn in
     let T = targets wn in
-    let g = s .pre .1 .1 in
+    let g = c .before .before .before .before .before .before .before .before .before .before .before .before .before .before .before .before .before .before .before .before .pre .1 .1 .0 in
     let rr = g .fresh .room in
     let rq = g .state .room in
-    let lw = find .ensures .low in
-    let lk : Looked F wn (getD F (a .t) 0) (getD wn (find .result) 0) (look .result) = subst (λ (v : ℕ). Looked F wn v (getD wn (find .result) 0) (look .result)) (loaded .ensures) (subst (λ (v : ℕ). Looked F wn (loaded .result) v (look .result)) (c .before .before .before .before .before .before .before .before .before .before .wide .ensures) (look .ensures)) in
-    visit-hung F T (a .n) (a .k) wn (omega arith) (omega arith) (a .x) (omega arith) (find .result) (find .ensures) (a .t) (omega arith) (c .before .before .before .before .before .before .before .before .before .before .before .before .before .before .if1 .left) (getD wn (find .result) 0) refl (subst (λ (v : ℕ). Looked F wn (getD F (a .t) 0) (getD wn (find .result) 0) v) (c .before .before .before .before .before .before .before .before .if2 .taken) lk) (omega arith) (put .result) (put2 .result) (put .last .0) (put2 .last .0) (put .ensures) (put2 .ensures)
-
-sub-i : tie.Need-sub-i
-sub-i c =
-    let rp = some (c .before .look .result) (c .if2 .left) in
-    search needs
-
-target-requires : tie.Need-target-requires
-target-requires c κs = search needs
-
-target-requires-2 : tie.Need-target-requires-2
-target-requires-2 c κs =
-    let find = c .before .before .before .before .before .before .before .before .before .before .before .find in
-    let look = c .before .before .before .before .look in
-    let loaded = c .before .before .before .before .before .before .before .loaded in
-    let s = c .before .before .before .before .before .before .before .before .before .before .before .before .before .before in
-    let a = s .args in
-    let wn = a .w .now in
-    let F = words wn in
-    let T = targets wn in
-    let g = s .pre .1 .1 in
-    let lk : Looked F wn (getD F (a .t) 0) (getD wn (find .result) 0) (look .result) = subst (λ (v : ℕ). Looked F wn v (getD wn (find .result) 0) (look .result)) (loaded .ensures) (subst (λ (v : ℕ). Looked F wn (loaded .result) v (look .result)) (c .before .before .before .before .before .wide .ensures) (look .ensures)) in
-    let r = look .result in
-    let rp = some r (c .before .before .before .if2 .left) in
-    let ri : r ≡ suc (r - 1) = omega arith in
-    let fa = found-arc F T (a .n) (a .k) wn (omega arith) (omega arith) (a .x) (omega arith) (find .result) (find .ensures) (a .t) r (r - 1) (c .before .before .before .before .before .before .before .before .before .if1 .left) lk ri (g .G) (g .H) (g .state) in
-    let mi : r - 1 < 2047 = fa .1 in
-    (omega arith, omega arith)
-
-unite-requires : tie.Need-unite-requires
-unite-requires c κs =
-    let find = c .before .before .before .before .before .before .before .before .before .before .before .before .before .find in
-    let look = c .before .before .before .before .before .before .look in
-    let loaded = c .before .before .before .before .before .before .before .before .before .loaded in
-    let if1 = c .before .before .before .before .before .before .before .before .before .before .before .if1 in
-    let target = c .before .before .before .target in
-    let target2 = c .before .target2 in
-    let s = c .before .before .before .before .before .before .before .before .before .before .before .before .before .before .before .before in
-    let a = s .args in
-    let wn = a .w .now in
-    let F = words wn in
-    let T = targets wn in
-    let g = s .pre .1 .1 in
-    let lk : Looked F wn (getD F (a .t) 0) (getD wn (find .result) 0) (look .result) = subst (λ (v : ℕ). Looked F wn v (getD wn (find .result) 0) (look .result)) (loaded .ensures) (subst (λ (v : ℕ). Looked F wn (loaded .result) v (look .result)) (c .before .before .before .before .before .before .before .wide .ensures) (look .ensures)) in
-    let r = look .result in
-    let rp = some r (c .before .before .before .before .before .if2 .left) in
-    let ri : r ≡ suc (r - 1) = omega arith in
-    let fa = found-arc F T (a .n) (a .k) wn (omega arith) (omega arith) (a .x) (omega arith) (find .result) (find .ensures) (a .t) r (r - 1) (if1 .left) lk ri (g .G) (g .H) (g .state) in
-    let mi : r - 1 < 2047 = fa .1 in
-    let tt = g .state .arcs (a .t) (g .fresh .arc) .1 .1 in
-    let sm = found-same F T (a .n) (a .k) wn (omega arith) (omega arith) (a .x) (omega arith) (find .result) (find .ensures) (a .t) r (r - 1) (if1 .left) lk ri (g .G) (g .H) (g .state) (g .fresh) in
-    ((omega arith, omega arith), ((omega (arith, target .ensures, tt), omega (arith, target2 .ensures, fa .0)), record { G = g .G; H = g .H; state = g .state; same = rw (target .ensures, target2 .ensures) sm }))
+    let lc : Located F wn (getD F (a .t) 0) (find .result) (a .at) (c .before .before .before .before .before .before .before .before .before .before .before .locate .result .link) 0 = rw (c .before .before .before .before .before .before .before .before .before .before .before .before .before .loaded .ensures, c .before .before .before .before .before .before .before .before .before .before .if2 .taken) at (c .before .before .before .before .before .before .before .before .before .before .before .locate .ensures) in
+    record {
+      visited = visit-hung F T (a .n) (a .k) wn (omega arith) (omega arith) (a .x) (omega arith) (find .result) (find .ensures) (a .t) (omega arith) (c .before .before .before .before .before .before .before .before .before .before .before .before .before .before .before .if1 .left) (a .at) (c .before .before .before .before .before .before .before .before .before .before .before .locate .result .link) (λ z. c .before .before .before .before .before .before .before .before .before .before .before .before .before .before .before .before .before .before .before .before .pre .1 .1 .1 .hint z (find .result) (find .ensures)) lc (getD wn (c .before .before .before .before .before .before .before .before .before .before .before .locate .result .link) 0) refl (omega arith) (c .before .before .before .before .before .before .before .put .result) (c .before .before .before .put2 .result) (c .before .before .before .before .before .before .before .put .last .0) (c .before .before .before .put2 .last .0) (c .before .before .before .before .before .before .before .put .ensures) (c .before .before .before .put2 .ensures);
+      next = λ z. ordered-none F (a .n) (c .before .before .before .put2 .last .0) (a .x);
+    }
 
 same-length-3 : tie.Need-same-length-3
 same-length-3 c = search needs
 
 returns-3 : tie.Need-returns-3
 returns-3 c =
-    let find = c .before .before .before .before .before .before .before .before .before .before .before .before .before .before .before .before .find in
-    let look = c .before .before .before .before .before .before .before .before .before .look in
-    let loaded = c .before .before .before .before .before .before .before .before .before .before .before .before .loaded in
-    let if1 = c .before .before .before .before .before .before .before .before .before .before .before .before .before .before .if1 in
-    let unite = c .before .before .unite in
-    let s = c .before .before .before .before .before .before .before .before .before .before .before .before .before .before .before .before .before .before .before in
-    let a = s .args in
+    let bn = c .before .before .before .before .before .before .before .before .before .before .before .before .before .before .before .before .before .before .before .before .pre .0 in
+    let bx = c .before .before .before .before .before .before .before .before .before .before .before .before .before .before .before .before .before .before .before .before .pre .1 .0 in
+    let find = c .before .before .before .before .before .before .before .before .before .before .before .before .before .before .before .before .before .find in
+    let a = c .before .before .before .before .before .before .before .before .before .before .before .before .before .before .before .before .before .before .before .before .args in
     let wn = a .w .now in
     let F = words wn in
     let T = targets wn in
-    let g = s .pre .1 .1 in
-    let lk : Looked F wn (getD F (a .t) 0) (getD wn (find .result) 0) (look .result) = subst (λ (v : ℕ). Looked F wn v (getD wn (find .result) 0) (look .result)) (loaded .ensures) (subst (λ (v : ℕ). Looked F wn (loaded .result) v (look .result)) (c .before .before .before .before .before .before .before .before .before .before .wide .ensures) (look .ensures)) in
-    let r = look .result in
-    let rp = some r (c .before .before .before .before .before .before .before .before .if2 .left) in
+    let g = c .before .before .before .before .before .before .before .before .before .before .before .before .before .before .before .before .before .before .before .before .pre .1 .1 .0 in
+    let rr = g .fresh .room in
+    let rq = g .state .room in
+    let lc : Located F wn (getD F (a .t) 0) (find .result) (a .at) (c .before .before .before .before .before .before .before .before .before .before .before .locate .result .link) 0 = rw (c .before .before .before .before .before .before .before .before .before .before .before .before .before .loaded .ensures, c .before .before .before .before .before .before .before .before .before .before .if2 .taken) at (c .before .before .before .before .before .before .before .before .before .before .before .locate .ensures) in
+    record {
+      visited = visit-hung F T (a .n) (a .k) wn (omega arith) (omega arith) (a .x) (omega arith) (find .result) (find .ensures) (a .t) (omega arith) (c .before .before .before .before .before .before .before .before .before .before .before .before .before .before .before .if1 .left) (a .at) (c .before .before .before .before .before .before .before .before .before .before .before .locate .result .link) (λ z. c .before .before .before .before .before .before .before .before .before .before .before .before .before .before .before .before .before .before .before .before .pre .1 .1 .1 .hint z (find .result) (find .ensures)) lc (getD wn (c .before .before .before .before .before .before .before .before .before .before .before .locate .result .link) 0) refl (omega arith) (c .before .before .before .before .before .before .before .put .result) (c .before .before .before .put2 .result) (c .before .before .before .before .before .before .before .put .last .0) (c .before .before .before .put2 .last .0) (c .before .before .before .before .before .before .before .put .ensures) (c .before .before .before .put2 .ensures);
+      next = λ z. hung-ordered F T (a .n) (a .k) wn (omega arith) (omega arith) (a .x) (omega arith) (find .result) (find .ensures) (a .t) (omega arith) (c .before .before .before .before .before .before .before .before .before .before .before .before .before .before .before .if1 .left) (a .at) (c .before .before .before .before .before .before .before .before .before .before .before .locate .result .link) (λ z. c .before .before .before .before .before .before .before .before .before .before .before .before .before .before .before .before .before .before .before .before .pre .1 .1 .1 .hint z (find .result) (find .ensures)) lc (getD wn (c .before .before .before .before .before .before .before .before .before .before .before .locate .result .link) 0) refl (omega arith) (c .before .before .before .before .before .before .before .put .result) (c .before .before .before .put2 .result) (c .before .before .before .before .before .before .before .put .last .0) (c .before .before .before .put2 .last .0) (c .before .before .before .before .before .before .before .put .ensures) (c .before .before .before .put2 .ensures) (g .G) (g .H) (g .state) (g .fresh) (some (a .at) (c .if3 .left));
+    }
+
+target-requires : tie.Need-target-requires
+target-requires c κs = search needs
+
+sub-target : tie.Need-sub-target
+sub-target c = some (c .before .before .before .before .locate .result .arc) (c .before .before .before .if2 .left)
+
+target-requires-2 : tie.Need-target-requires-2
+target-requires-2 c κs =
+    let bn = c .before .before .before .before .before .before .before .before .before .before .before .before .before .pre .0 in
+    let bx = c .before .before .before .before .before .before .before .before .before .before .before .before .before .pre .1 .0 in
+    let a = c .before .before .before .before .before .before .before .before .before .before .before .before .before .args in
+    let wn = a .w .now in
+    let F = words wn in
+    let T = targets wn in
+    let g = c .before .before .before .before .before .before .before .before .before .before .before .before .before .pre .1 .1 .0 in
+    let lk : Looked F wn (getD F (a .t) 0) (getD wn (c .before .before .before .before .before .before .before .before .before .before .find .result) 0) (c .before .before .before .before .locate .result .arc) = rw (c .before .before .before .before .before .before .loaded .ensures) at (c .before .before .before .before .locate .ensures .looked) in
+    let r = c .before .before .before .before .locate .result .arc in
+    let rp = some r (c .before .before .before .if2 .left) in
     let ri : r ≡ suc (r - 1) = omega arith in
-    let fa = found-arc F T (a .n) (a .k) wn (omega arith) (omega arith) (a .x) (omega arith) (find .result) (find .ensures) (a .t) r (r - 1) (if1 .left) lk ri (g .G) (g .H) (g .state) in
+    let fa = found-arc F T (a .n) (a .k) wn (omega arith) (omega arith) (a .x) (omega arith) (c .before .before .before .before .before .before .before .before .before .before .find .result) (c .before .before .before .before .before .before .before .before .before .before .find .ensures) (a .t) r (r - 1) (c .before .before .before .before .before .before .before .before .if1 .left) lk ri (g .G) (g .H) (g .state) in
     let mi : r - 1 < 2047 = fa .1 in
-    visit-found F T (a .n) (a .k) wn (omega arith) (omega arith) (a .x) (omega arith) (find .result) (find .ensures) (a .t) r (r - 1) (if1 .left) lk ri (unite .result .k) (unite .result .bad) (unite .last .0) (rw (c .before .before .before .before .before .before .target .ensures, c .before .before .before .before .target2 .ensures) at (unite .ensures))
+    (omega arith, omega arith)
+
+unite-requires : tie.Need-unite-requires
+unite-requires c κs =
+    let bn = c .before .before .before .before .before .before .before .before .before .before .before .before .before .before .before .pre .0 in
+    let bx = c .before .before .before .before .before .before .before .before .before .before .before .before .before .before .before .pre .1 .0 in
+    let a = c .before .before .before .before .before .before .before .before .before .before .before .before .before .before .before .args in
+    let wn = a .w .now in
+    let F = words wn in
+    let T = targets wn in
+    let g = c .before .before .before .before .before .before .before .before .before .before .before .before .before .before .before .pre .1 .1 .0 in
+    let lk : Looked F wn (getD F (a .t) 0) (getD wn (c .before .before .before .before .before .before .before .before .before .before .before .before .find .result) 0) (c .before .before .before .before .before .before .locate .result .arc) = rw (c .before .before .before .before .before .before .before .before .loaded .ensures) at (c .before .before .before .before .before .before .locate .ensures .looked) in
+    let r = c .before .before .before .before .before .before .locate .result .arc in
+    let rp = some r (c .before .before .before .before .before .if2 .left) in
+    let ri : r ≡ suc (r - 1) = omega arith in
+    let fa = found-arc F T (a .n) (a .k) wn (omega arith) (omega arith) (a .x) (omega arith) (c .before .before .before .before .before .before .before .before .before .before .before .before .find .result) (c .before .before .before .before .before .before .before .before .before .before .before .before .find .ensures) (a .t) r (r - 1) (c .before .before .before .before .before .before .before .before .before .before .if1 .left) lk ri (g .G) (g .H) (g .state) in
+    let mi : r - 1 < 2047 = fa .1 in
+    let tt = g .state .arcs (a .t) (g .fresh .arc) .1 .1 in
+    let sm = found-same F T (a .n) (a .k) wn (omega arith) (omega arith) (a .x) (omega arith) (c .before .before .before .before .before .before .before .before .before .before .before .before .find .result) (c .before .before .before .before .before .before .before .before .before .before .before .before .find .ensures) (a .t) r (r - 1) (c .before .before .before .before .before .before .before .before .before .before .if1 .left) lk ri (g .G) (g .H) (g .state) (g .fresh) in
+    ((omega arith, omega arith), ((omega (arith, c .before .before .before .target .ensures, tt), omega (arith, c .before .target2 .ensures, fa .0)), record { G = g .G; H = g .H; state = g .state; same = rw (c .before .before .before .target .ensures, c .before .target2 .ensures) sm }))
+
+same-length-4 : tie.Need-same-length-4
+same-length-4 c = search needs
+
+returns-4 : tie.Need-returns-4
+returns-4 c =
+    let bn = c .before .before .before .before .before .before .before .before .before .before .before .before .before .before .before .before .before .before .before .pre .0 in
+    let bx = c .before .before .before .before .before .before .before .before .before .before .before .before .before .before .before .before .before .before .before .pre .1 .0 in
+    let unite = c .before .before .before .unite in
+    let a = c .before .before .before .before .before .before .before .before .before .before .before .before .before .before .before .before .before .before .before .args in
+    let wn = a .w .now in
+    let F = words wn in
+    let T = targets wn in
+    let lk : Looked F wn (getD F (a .t) 0) (getD wn (c .before .before .before .before .before .before .before .before .before .before .before .before .before .before .before .before .find .result) 0) (c .before .before .before .before .before .before .before .before .before .before .locate .result .arc) = rw (c .before .before .before .before .before .before .before .before .before .before .before .before .loaded .ensures) at (c .before .before .before .before .before .before .before .before .before .before .locate .ensures .looked) in
+    let r = c .before .before .before .before .before .before .before .before .before .before .locate .result .arc in
+    let rp = some r (c .before .before .before .before .before .before .before .before .before .if2 .left) in
+    let ri : r ≡ suc (r - 1) = omega arith in
+    record {
+      visited = rw (c .if4 .taken) at (visit-found F T (a .n) (a .k) wn (omega arith) (omega arith) (a .x) (omega arith) (c .before .before .before .before .before .before .before .before .before .before .before .before .before .before .before .before .find .result) (c .before .before .before .before .before .before .before .before .before .before .before .before .before .before .before .before .find .ensures) (a .t) r (r - 1) (c .before .before .before .before .before .before .before .before .before .before .before .before .before .before .if1 .left) lk ri (unite .result .k) (unite .result .bad) (unite .last .0) (rw (c .before .before .before .before .before .before .before .target .ensures, c .before .before .before .before .before .target2 .ensures) at (unite .ensures)));
+      next = λ z. let y : _≡_ {A = ℕ} 0 1 = cc in absurd (omega arith);
+    }
+
+onward-requires : tie.Need-onward-requires
+onward-requires c κs =
+    let bn = c .before .before .before .before .before .before .before .before .before .before .before .before .before .before .before .before .before .before .before .before .pre .0 in
+    let bx = c .before .before .before .before .before .before .before .before .before .before .before .before .before .before .before .before .before .before .before .before .pre .1 .0 in
+    let unite = c .before .before .before .before .unite in
+    let a = c .before .before .before .before .before .before .before .before .before .before .before .before .before .before .before .before .before .before .before .before .args in
+    let wn = a .w .now in
+    let F = words wn in
+    let T = targets wn in
+    let g = c .before .before .before .before .before .before .before .before .before .before .before .before .before .before .before .before .before .before .before .before .pre .1 .1 .0 in
+    let lw = c .before .before .before .before .before .before .before .before .before .before .before .before .before .before .before .before .before .find .ensures .low in
+    let lk : Looked F wn (getD F (a .t) 0) (getD wn (c .before .before .before .before .before .before .before .before .before .before .before .before .before .before .before .before .before .find .result) 0) (c .before .before .before .before .before .before .before .before .before .before .before .locate .result .arc) = rw (c .before .before .before .before .before .before .before .before .before .before .before .before .before .loaded .ensures) at (c .before .before .before .before .before .before .before .before .before .before .before .locate .ensures .looked) in
+    let r = c .before .before .before .before .before .before .before .before .before .before .before .locate .result .arc in
+    let rp = some r (c .before .before .before .before .before .before .before .before .before .before .if2 .left) in
+    let ri : r ≡ suc (r - 1) = omega arith in
+    let fa = found-arc F T (a .n) (a .k) wn (omega arith) (omega arith) (a .x) (omega arith) (c .before .before .before .before .before .before .before .before .before .before .before .before .before .before .before .before .before .find .result) (c .before .before .before .before .before .before .before .before .before .before .before .before .before .before .before .before .before .find .ensures) (a .t) r (r - 1) (c .before .before .before .before .before .before .before .before .before .before .before .before .before .before .before .if1 .left) lk ri (g .G) (g .H) (g .state) in
+    let mi : r - 1 < 2047 = fa .1 in
+    let sm = found-same F T (a .n) (a .k) wn (omega arith) (omega arith) (a .x) (omega arith) (c .before .before .before .before .before .before .before .before .before .before .before .before .before .before .before .before .before .find .result) (c .before .before .before .before .before .before .before .before .before .before .before .before .before .before .before .before .before .find .ensures) (a .t) r (r - 1) (c .before .before .before .before .before .before .before .before .before .before .before .before .before .before .before .if1 .left) lk ri (g .G) (g .H) (g .state) (g .fresh) in
+    let rr = g .fresh .room in
+    let rq = g .state .room in
+    let wl = words-later (a .k) wn (unite .result .k) (unite .last .0) (omega arith) (unite .ensures .later) in (
+      (omega arith, (omega arith, omega (arith, unite .ensures .later .len))),
+      (
+        (rp, (omega arith, omega arith)),
+        rw wl
+            (record {
+              steady = record { G = g .G; H = withPair (g .H) (c .before .before .before .before .before .before .before .before .target .result) (c .before .before .before .before .before .before .target2 .result); F = F; T = T; state = unite .ensures .fine (c .before .if4 .left) (g .G) (g .H) (g .state) (rw (c .before .before .before .before .before .before .before .before .target .ensures, c .before .before .before .before .before .before .target2 .ensures) sm) };
+              kept = λ h z. hint-calm F wn (unite .last .0) (getD F (a .t) 0) (c .before .before .before .before .before .before .before .before .before .before .before .before .before .before .before .before .before .find .result) (a .at) r (omega arith) rp (omega arith) lk (c .before .before .before .before .before .before .before .before .before .before .before .before .before .before .before .before .before .before .before .before .pre .1 .1 .1 .hint z (c .before .before .before .before .before .before .before .before .before .before .before .before .before .before .before .before .before .find .result) (c .before .before .before .before .before .before .before .before .before .before .before .before .before .before .before .before .before .find .ensures)) (unite .ensures .calm h);
+            }),
+      ),
+    )
+
+same-length-5 : tie.Need-same-length-5
+same-length-5 c = search needs
+
+returns-5 : tie.Need-returns-5
+returns-5 c =
+    let bn = c .before .before .before .before .before .before .before .before .before .before .before .before .before .before .before .before .before .before .before .before .before .pre .0 in
+    let bx = c .before .before .before .before .before .before .before .before .before .before .before .before .before .before .before .before .before .before .before .before .before .pre .1 .0 in
+    let unite = c .before .before .before .before .before .unite in
+    let a = c .before .before .before .before .before .before .before .before .before .before .before .before .before .before .before .before .before .before .before .before .before .args in
+    let wn = a .w .now in
+    let F = words wn in
+    let T = targets wn in
+    let lk : Looked F wn (getD F (a .t) 0) (getD wn (c .before .before .before .before .before .before .before .before .before .before .before .before .before .before .before .before .before .before .find .result) 0) (c .before .before .before .before .before .before .before .before .before .before .before .before .locate .result .arc) = rw (c .before .before .before .before .before .before .before .before .before .before .before .before .before .before .loaded .ensures) at (c .before .before .before .before .before .before .before .before .before .before .before .before .locate .ensures .looked) in
+    let r = c .before .before .before .before .before .before .before .before .before .before .before .before .locate .result .arc in
+    let rp = some r (c .before .before .before .before .before .before .before .before .before .before .before .if2 .left) in
+    let ri : r ≡ suc (r - 1) = omega arith in
+    let wl = words-later (a .k) wn (unite .result .k) (unite .last .0) (omega arith) (unite .ensures .later) in
+    record {
+      visited = rw (c .before .before .if4 .left) at (visit-found F T (a .n) (a .k) wn (omega arith) (omega arith) (a .x) (omega arith) (c .before .before .before .before .before .before .before .before .before .before .before .before .before .before .before .before .before .before .find .result) (c .before .before .before .before .before .before .before .before .before .before .before .before .before .before .before .before .before .before .find .ensures) (a .t) r (r - 1) (c .before .before .before .before .before .before .before .before .before .before .before .before .before .before .before .before .if1 .left) lk ri (unite .result .k) (unite .result .bad) (unite .last .0) (rw (c .before .before .before .before .before .before .before .before .before .target .ensures, c .before .before .before .before .before .before .before .target2 .ensures) at (unite .ensures)));
+      next = λ z. rw wl at (c .onward .ensures);
+    }
 
 pub visit-spec : {M : Type 1} → statement M
 visit-spec =
@@ -189,18 +251,25 @@ visit-spec =
     same-length
     returns
     loaded-requires
-    wide-requires
-    look-requires
+    locate-requires
+    mul-y
+    slice-read-y
     add-put
     put-requires
     add-put-2
     cast-put
     put-requires-2
+    add-a
     same-length-2
     returns-2
-    sub-i
+    same-length-3
+    returns-3
     target-requires
+    sub-target
     target-requires-2
     unite-requires
-    same-length-3
-    returns-3)
+    same-length-4
+    returns-4
+    onward-requires
+    same-length-5
+    returns-5)
