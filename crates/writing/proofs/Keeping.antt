@@ -12,9 +12,10 @@ use Rattle.layout.proofs.Standing.{stands-order}
 use Rattle.area.specs.Map.{PARENT, NEXT, LOG, STACK, WORDS, RESULT}
 use Rattle.area.specs.Region.{region, words}
 use Rattle.area.proofs.Region.{region-ext, words-same}
-use Rattle.classes.specs.State.{targets}
+use Rattle.classes.specs.State.{targets, Chain}
 use Rattle.classes.proofs.Words.{targets-same}
 use Rattle.classes.proofs.Links.{chain-same}
+use Rattle.classes.proofs.Places.{chain-low}
 use Rattle.writing.specs.Classes.{Fan, Classes, Met}
 use Rattle.writing.specs.Writing.{Kept, Cleared}
 
@@ -62,10 +63,14 @@ stands-frame w w' e (x ∷ xs) p q f s =
 pub kept-stands : (k at at' : ℕ) (w w' : List ℕ) → Kept k at at' w w' → (xs : List ℕ) (p q : ℕ) → WORDS ≤ p → q ≤ RESULT + at → Stands w p xs q → Stands w' p xs q
 kept-stands k at at' w w' r xs p q a b = stands-frame w w' (r .len) xs p q (λ j g h. r .mid j (omega arith) (omega arith))
 
+-- a chain of then is one of before
+pub kept-chain : (k at at' : ℕ) (w w' : List ℕ) → Kept k at at' w w' → (x : ℕ) (xs : List ℕ) → Chain w' x xs → Chain w x xs
+kept-chain k at at' w w' r x xs c = chain-same w' w x xs (λ q m. sym (r .low (NEXT + q) (let i = chain-low w' x xs q c m in omega arith))) c
+
 module _ (n k at at' : ℕ) (w w' : List ℕ) (r : Kept k at at' w w') (lab : ℕ → ℕ) (ord : List ℕ) where
   module _ (G : Graph) (c : Classes n k w G lab ord) where
-    ew : words w' ≡ words w
-    ew = words-same w w' (c .long) (r .len) (λ j a b. r .mid j a (omega arith))
+    pub kept-words : words w' ≡ words w
+    kept-words = words-same w w' (c .long) (r .len) (λ j a b. r .mid j a (omega arith))
 
     et : targets w' ≡ targets w
     et = targets-same w w' (c .long) (r .len) (λ j a b. r .mid j a (omega arith))
@@ -76,8 +81,8 @@ module _ (n k at at' : ℕ) (w w' : List ℕ) (r : Kept k at at' w w') (lab : �
       linked = chain-same w w' x (f .chain) (λ q m. r .low (NEXT + q) (let i = f .inside q m .0 in omega arith)) (f .linked);
       short = f .short;
       inside = rw et (f .inside);
-      from = rw (ew, et) (f .from);
-      to = rw ew (f .to);
+      from = rw (kept-words, et) (f .from);
+      to = rw kept-words (f .to);
     }
 
     pub kept-classes : Classes n k w' G lab ord
