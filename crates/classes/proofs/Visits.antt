@@ -19,7 +19,6 @@ use Rattle.classes.specs.Order.{Rising, Risen, Between, Hint, Ordered, L
 use Rattle.area.proofs.Region.{length-region, region-ext}
 use Rattle.area.proofs.Undo.{later-refl, later-trans, put-at, put-off}
 use Rattle.classes.proofs.Links.{chain-same, chain-zero, first-mem, first-feature, none-first, total-set}
-use Rattle.classes.proofs.Walks.{some}
 use Rattle.classes.proofs.Places.{chain-det, chain-low, between-where}
 use Rattle.classes.proofs.Splice.{Grows, grows-front, lodge, lodge-grows, lodge-rising, lodge-chain}
 use Rattle.classes.proofs.Fuse.{low, top, short}
@@ -185,16 +184,12 @@ module _ (F T : List ℕ) (n k : ℕ) (w : List ℕ) (hn : n ≤ 1024) (hw : SIZ
       cx : Chain w (getD w c 0) xs
       cx = chain-c G H u lc
 
-      between : 0 < at → Between F (getD F t 0) c l xs
-      between z = loc .place z refl xs cx
+      gap : (l ≡ c) ⊎ (Rising F 0 xs × Between F (getD F t 0) c l xs)
+      gap = ⊎-elim (λ e. inl e) (λ g. inr (g xs cx)) (loc .gap refl)
 
       -- the link is that of the class, or of an arc on its chain
       on : (l ≡ c) ⊎ ((q : ℕ) × (List·Memᴰ q xs × (l ≡ NEXT + q)))
-      on = go (ℕ-discrete at 0)
-        where
-          go : Dec (at ≡ 0) → (l ≡ c) ⊎ ((q : ℕ) × (List·Memᴰ q xs × (l ≡ NEXT + q)))
-          go (yes z) = inl (loc .front z)
-          go (no z) = between-where F (getD F t 0) c l xs (between (some at z))
+      on = ⊎-elim (λ e. inl e) (λ g. between-where F (getD F t 0) c l xs (g .1)) gap
 
       -- an arc of some chain is not the one that comes
       other : (d q : ℕ) → d < n → List·Memᴰ q (getD (u .C) d []) → (q < 2047) × (q ≡ t → ⊥)
@@ -221,17 +216,14 @@ module _ (F T : List ℕ) (n k : ℕ) (w : List ℕ) (hn : n ≤ 1024) (hw : SIZ
           let i = c-in in
           (ap (λ (z : ℕ). getD w2 z 0) (sym e) ∙ at-l, (ht, subst (λ (z : ℕ). Chain w2 z xs) (ap (λ (z : ℕ). getD w z 0) (sym e) ∙ sym at-t) (chain-same w w2 (getD w c 0) xs (λ q m. keep q m (λ z. omega arith)) cx)))
 
-      lodged : (z : 0 < at) → Chain w2 (getD w2 c 0) (lodge F t c l xs (between z))
-      lodged z =
-          let i = c-in in
-          lodge-chain F t w w2 l at-l ht at-t c 0 xs (between z) (hint z .up xs cx) cx (λ j m e. omega arith) (λ e. off c (λ y. omega arith) e (omega arith)) keep
+      lodged : Rising F 0 xs → (b : Between F (getD F t 0) c l xs) → Chain w2 (getD w2 c 0) (lodge F t c l xs b)
+      lodged r b = let i = c-in in lodge-chain F t w w2 l at-l ht at-t c 0 xs b r cx (λ j m e. omega arith) (λ e. off c (λ y. omega arith) e (omega arith)) keep
 
       spliced : (L : List ℕ) × (Grows F t xs L × Chain w2 (getD w2 c 0) L)
-      spliced = go (ℕ-discrete at 0)
-        where
-          go : Dec (at ≡ 0) → (L : List ℕ) × (Grows F t xs L × Chain w2 (getD w2 c 0) L)
-          go (yes z) = (t ∷ xs, (grows-front F t xs, front (loc .front z)))
-          go (no z) = (lodge F t c l xs (between (some at z)), (lodge-grows F t c l xs (between (some at z)), lodged (some at z)))
+      spliced = ⊎-elim
+          (λ e. (t ∷ xs, (grows-front F t xs, front e)))
+          (λ g. (lodge F t c l xs (g .1), (lodge-grows F t c l xs (g .1), lodged (g .0) (g .1))))
+          gap
 
       c-small : getD w2 c 0 ≤ 2048
       c-small = go (spliced .0) (spliced .1 .1)
@@ -333,14 +325,16 @@ module _ (F T : List ℕ) (n k : ℕ) (w : List ℕ) (hn : n ≤ 1024) (hw : SIZ
             }
 
       -- the chain still rises, where it did
-      hung-hint : (z : 0 < at) → Hint F w2 c (NEXT + t)
+      hung-hint : 0 < at → Hint F w2 c (NEXT + t)
       hung-hint z =
           let q : NEXT + t - NEXT ≡ t = omega arith in
-          let is : (ys : List ℕ) → Chain w2 (getD w2 c 0) ys → lodge F t c l xs (between z) ≡ ys = λ ys d. chain-det w2 (getD w2 c 0) (lodge F t c l xs (between z)) ys (lodged z) d in
+          let r = hint z .up xs cx in
+          let b = loc .place z refl xs cx in
+          let is : (ys : List ℕ) → Chain w2 (getD w2 c 0) ys → lodge F t c l xs b ≡ ys = λ ys d. chain-det w2 (getD w2 c 0) (lodge F t c l xs b) ys (lodged r b) d in
           record {
             low = omega arith;
-            up = λ ys d. subst (Rising F 0) (is ys d) (lodge-rising F t c l 0 xs (between z) (omega arith) (hint z .up xs cx));
-            on = λ b ys d. rw q (subst (List·Memᴰ t) (is ys d) (first-mem F (getD F t 0) (lodge F t c l xs (between z)) t (lodge-grows F t c l xs (between z) .mine)));
+            up = λ ys d. subst (Rising F 0) (is ys d) (lodge-rising F t c l 0 xs b (omega arith) r);
+            on = λ e ys d. rw q (subst (List·Memᴰ t) (is ys d) (first-mem F (getD F t 0) (lodge F t c l xs b) t (lodge-grows F t c l xs b .mine)));
           }
 
       pub hung-ordered : 0 < at → Ordered F n w2 x (NEXT + t)

@@ -42,6 +42,18 @@ fn afresh(w: &[u32], k: usize, n: usize, x: usize) -> usize
     if up { 1 } else { 0 }
 }
 
+// The link to begin with for the d arcs of x. Where they are few, each is looked for by itself.
+fn outset(w: &[u32], k: usize, n: usize, x: usize, d: usize) -> usize
+    requires { ⌜ (x < n) × ((n ≤ 1024) × (SIZE ≤ length (now w))) ⌝ }
+    requires { ⌜ Steady n k (now w) ⌝ }
+    ensures { λ r. ⌜ Ordered (words (now (w .entry))) n (now (w .entry)) x r ⌝ }
+{
+    if d < 4 {
+        return 0;
+    }
+    afresh(w, k, n, x)
+}
+
 // The link to go on from after a union that took the log from k entries to e: where it took two at most, no chain has changed, and the arc r is still on that of the class c.
 fn onward(w: &[u32], k: usize, e: usize, n: usize, x: usize, c: usize, r: usize, at: usize) -> usize
     requires { ⌜ (x < n) × ((n ≤ 1024) × (SIZE ≤ length (now w))) ⌝ }
@@ -151,7 +163,7 @@ fn arcs(w: &mut [u32], k: usize, n: usize, x: usize, from: usize, d: usize) -> M
     ensures { λ r. ⌜ Run (words (now (w .entry))) (targets (now (w .entry))) n k (now (w .entry)) x from d (r .k) (r .bad) (now (w .exit)) ⌝ }
 {
     let mut e = k;
-    let mut at = afresh(w, k, n, x);
+    let mut at = outset(w, k, n, x, d);
     let mut done: usize = 0;
     while done < d {
         let m = visit(w, e, n, x, from + 2 * done, at);

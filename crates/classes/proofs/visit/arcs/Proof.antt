@@ -17,8 +17,8 @@ Inv-loop w₀ k n x from d e₀ at₀ done₀ w e at done = Stringing (words w�
 abbrev μ-loop : tie.MeasureT-loop
 μ-loop w₀ k n x from d e₀ at₀ done₀ w e at done = d - done
 
-afresh-requires : tie.Need-afresh-requires Inv-loop μ-loop
-afresh-requires c κs =
+outset-requires : tie.Need-outset-requires Inv-loop μ-loop
+outset-requires c κs =
     let wn = c .before .before .args .w .now in
     let g = c .before .before .pre .1 .1 in
     ((omega arith, (omega arith, omega arith)), record { G = g .G; H = g .H; F = words wn; T = targets wn; state = g .state })
@@ -27,7 +27,7 @@ loop-holds : tie.Need-loop-holds Inv-loop μ-loop
 loop-holds c =
     let a = c .before .before .before .args in
     let wn = a .w .now in
-    stringing-start (words wn) (targets wn) (a .n) (a .k) wn (a .x) (a .from) (a .d) (c .afresh .result) (c .before .before .before .pre .1 .1 .state .logged) (c .afresh .ensures)
+    stringing-start (words wn) (targets wn) (a .n) (a .k) wn (a .x) (a .from) (a .d) (c .outset .result) (c .before .before .before .pre .1 .1 .state .logged) (c .outset .ensures)
 
 mul-visit : tie.Need-mul-visit Inv-loop μ-loop
 mul-visit c = search needs
@@ -98,7 +98,7 @@ arcs-spec =
     (tie.spec
     Inv-loop
     μ-loop
-    afresh-requires
+    outset-requires
     loop-holds
     mul-visit
     add-visit
