@@ -6,3 +6,4 @@ pub mod Nodes
 pub mod Entry
 pub mod Holds
 pub mod Content
+pub mod Ask

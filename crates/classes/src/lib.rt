@@ -1,4 +1,5 @@
 // Joining graphs by classes of nodes, in the lent working area.
+pub mod ask;
 pub mod chain;
 pub mod forest;
 pub mod merge;

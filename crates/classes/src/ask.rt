@@ -1,0 +1,54 @@
+// What may be asked of the classes: the atom of one, and its target under a feature.
+use crate::chain::look;
+use crate::chain::target;
+use crate::push::class_of;
+use area::log::wide;
+ghost use Prim.Native.Nat.{_<_};
+ghost use Rattle.classes.specs.Holds.{Labelled};
+ghost use Rattle.classes.specs.Ask.{AtomOf, TargetOf};
+
+// The atom that a class bears, if any.
+pub enum Borne {
+    Atom(u32),
+    Nothing,
+}
+
+// The class that an arc leads to, if there is one.
+pub enum Led {
+    To(usize),
+    Nowhere,
+}
+
+// The atom of the class of the number x.
+pub fn atom_of(w: &[u32], n: usize, x: usize) -> Borne
+    requires { ⌜ x < n ⌝ }
+    requires { ⌜ Labelled n (now w) ⌝ }
+    ensures { λ r. ⌜ AtomOf n (now (w .entry)) x r ⌝ }
+{
+    let c = class_of(w, n, x);
+    let h = w[c];
+    if h > 2048 {
+        return Borne::Atom(h - 65536);
+    }
+    Borne::Nothing
+}
+
+// The target of the class of the number x under the feature f.
+pub fn target_of(w: &[u32], n: usize, x: usize, f: u32) -> Led
+    requires { ⌜ x < n ⌝ }
+    requires { ⌜ Labelled n (now w) ⌝ }
+    ensures { λ r. ⌜ TargetOf n (now (w .entry)) x f r ⌝ }
+{
+    let c = class_of(w, n, x);
+    let h = w[c];
+    if h > 2048 {
+        return Led::Nowhere;
+    }
+    let r = look(w, wide(h), f);
+    if r == 0 {
+        return Led::Nowhere;
+    }
+    let y = target(w, r - 1);
+    let d = class_of(w, n, y);
+    Led::To(d)
+}
