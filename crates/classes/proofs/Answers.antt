@@ -1,6 +1,6 @@
 -- What a class holds answers what is asked of it. Assumes nothing.
 use mathlib.Core.Path.{_≡_, sym, ap, _∙_, subst}
-use mathlib.Core.List.{List, [], List·Memᴰ}
+use mathlib.Core.List.{List}
 use Prim.Native.Nat.{ℕ, suc, _+_, _-_, _≤_, _<_}
 use native.Mathlib.Omega.{arith}
 use lib.ListN.{getD}
@@ -9,7 +9,6 @@ use Rattle.theory.specs.Net.{beside}
 use Rattle.area.specs.Region.{words}
 use Rattle.loading.specs.Entry.{Entry, graphs}
 use Rattle.classes.specs.State.{targets, Runs, Looked}
-use Rattle.classes.specs.Entry.{Spots, number-of}
 use Rattle.classes.specs.Holds.{Holds, class, Labelled, Classed}
 use Rattle.classes.specs.Content.{Content}
 use Rattle.classes.specs.Ask.{AtomOf, TargetOf}

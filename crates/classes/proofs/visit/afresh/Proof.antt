@@ -1,9 +1,7 @@
 -- `classes::visit::afresh` meets its contract. Assumes nothing.
 use Prim.Native.Nat.{ℕ}
-use mathlib.Core.Bool.{Bool}
 use mathlib.Core.Path.{sym, subst}
 use native.Mathlib.Omega.{arith}
-use lib.ListN.{getD}
 use Rattle.area.specs.Region.{words}
 use Rattle.classes.specs.State.{Runs}
 use Rattle.classes.specs.Order.{Risen}

@@ -1,5 +1,4 @@
 -- `classes::visit::outset` meets its contract. Assumes nothing.
-use native.Mathlib.Omega.{arith}
 use Rattle.area.specs.Region.{words}
 use Rattle.classes.proofs.Visits.{ordered-none}
 use Rattle.classes.proofs.visit.outset.Statement.{statement}

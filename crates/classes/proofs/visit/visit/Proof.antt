@@ -1,12 +1,11 @@
 -- `classes::visit::visit` meets its contract. Assumes nothing.
-use Prim.Native.Nat.{ℕ, suc, _+_, _-_, _≤_, _<_}
-use mathlib.Core.Path.{_≡_, refl, sym, subst}
+use Prim.Native.Nat.{ℕ, suc, _-_, _<_}
+use mathlib.Core.Path.{_≡_, refl}
 use native.Mathlib.Omega.{arith}
-use lib.ListN.{getD, length}
-use Rattle.area.specs.Map.{NEXT}
+use lib.ListN.{getD}
 use Rattle.area.specs.Region.{words}
 use Rattle.classes.specs.State.{targets, Looked, withPair}
-use Rattle.classes.specs.Order.{Located, Ordered}
+use Rattle.classes.specs.Order.{Located}
 use Rattle.classes.proofs.Words.{words-later}
 use Rattle.classes.proofs.Walks.{some}
 use Rattle.classes.proofs.Visits.{ordered-none, hint-calm, class-runs, visit-clash, visit-hung, hung-ordered, visit-found, found-arc, found-same}
