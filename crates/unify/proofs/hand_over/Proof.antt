@@ -18,7 +18,7 @@ returns : tie.Need-returns
 returns c = handed-short _ _ _ _ _ (c .before .before .made .given .1) (omega arith)
 
 copy-out-requires : tie.Need-copy-out-requires
-copy-out-requires c κs = (handed-room _ _ _ _ (c .before .before .before .made .given .1) (c .before .before .before .before .before .before .before .pre), omega arith)
+copy-out-requires c κs = let h = handed-room _ _ _ _ (c .before .before .before .made .given .1) (c .before .before .before .before .before .before .before .pre) in (omega arith, omega arith)
 
 returns-2 : tie.Need-returns-2
 returns-2 c = handed-clash _ _ (c .before .before .before .before .args .made) (cc)
