@@ -36,7 +36,7 @@ use Rattle.quick.proofs.Certain.{taken-flat, taken-between}
 use Rattle.quick.proofs.Clearing.{clear-taken}
 use Rattle.quick.proofs.Settling.{clash-false}
 use Rattle.full.specs.Restarted.{certain-both}
-use Rattle.full.proofs.Premises.{first-can, second-can}
+use Rattle.quick.proofs.Pairs.{first-can, second-can}
 use Rattle.full.proofs.Restarting.{certain-inside}
 
 -- ---- what is certain in both says what is certain in the joined description

@@ -17,16 +17,15 @@ use Rattle.engine.specs.Shown.{shown, shown-some}
 use Rattle.engine.specs.Search.{full-left, full-readings-by}
 use Rattle.engine.proofs.Whole as engine
 use Rattle.marks.specs.Marked.{marking}
-use Rattle.search.proofs.Both.{pair-strips}
 use Rattle.full.specs.declared.full.Fully.{Fully}
 use Rattle.full.specs.declared.full.Fully.the-variants.{Over, Nothing, Left}
 use Rattle.full.specs.Fulled.{Fulling, few-enough, Fulls}
-use Rattle.full.proofs.Premises.{first-can, second-can, first-proper, second-proper, first-distinct, second-distinct, both-apart}
+use Rattle.quick.proofs.Pairs.{strip-first, strip-second, first-can, second-can, first-proper, second-proper, first-distinct, second-distinct, both-apart}
 
 module _ (n k : ℕ) (w : List ℕ) (r : Fully) (w' : List ℕ) (u : Fulls n k w r w') (c : Fulling n k w) where
   -- of the strips, of the two inputs
   inputs-are : (P : Desc → Desc → Type 0) → P (strip (c .p .inputs .a)) (strip (c .p .inputs .b)) → P (c .p .d) (c .p .e)
-  inputs-are P x = let s = pair-strips n (c .t) (c .p) in subst (λ (b : Desc). P (c .p .d) b) (s .1) (subst (λ (a : Desc). P a (strip (c .p .inputs .b))) (s .0) x)
+  inputs-are P x = subst (λ (b : Desc). P (c .p .d) b) (strip-second n (c .t) (c .p)) (subst (λ (a : Desc). P a (strip (c .p .inputs .b))) (strip-first n (c .t) (c .p)) x)
 
   full-shown : full (c .p .d) (c .p .e) ≡ shown-some (full-left (marking w) (c .p .j))
   full-shown = inputs-are (λ a b. full a b ≡ shown-some (full-left (marking w) (c .p .j)))
@@ -48,8 +47,7 @@ module _ (n k : ℕ) (w : List ℕ) (r : Fully) (w' : List ℕ) (u : Fulls n k w
   module _ (q : Desc) (is : quick (c .p .d) (c .p .e) ≡ some q) where
     limit-is : ltb choice-limit (count-at choice-stop (marking w) (c .p .j)) ≡ ltb choice-limit (number q)
     limit-is =
-        let s = pair-strips n (c .t) (c .p) in
-        engine.over-limit-at (c .p .inputs .a) (c .p .inputs .b) (first-can n (c .t) (c .p)) (second-can n (c .t) (c .p)) (first-proper n (c .t) (c .p)) (second-proper n (c .t) (c .p)) (first-distinct n (c .t) (c .p)) (second-distinct n (c .t) (c .p)) (both-apart n (c .t) (c .p)) (c .p .j) (c .p .joined) (marking w) (c .left) q (ap₂ {C = Option Desc} quick (s .0) (s .1) ∙ is)
+        engine.over-limit-at (c .p .inputs .a) (c .p .inputs .b) (first-can n (c .t) (c .p)) (second-can n (c .t) (c .p)) (first-proper n (c .t) (c .p)) (second-proper n (c .t) (c .p)) (first-distinct n (c .t) (c .p)) (second-distinct n (c .t) (c .p)) (both-apart n (c .t) (c .p)) (c .p .j) (c .p .joined) (marking w) (c .left) q (ap₂ {C = Option Desc} quick (strip-first n (c .t) (c .p)) (strip-second n (c .t) (c .p)) ∙ is)
 
     pub over-whole : r ≡ Over → ltb choice-limit (number q) ≡ true
     over-whole e = sym limit-is ∙ u .over e c

@@ -2,16 +2,15 @@
 use mathlib.Core.Path.{_≡_, refl, sym, ap, ap₂, _∙_, subst}
 use mathlib.Core.Bool.{Bool, true, false}
 use mathlib.Core.Option.{Option, none, some}
-use mathlib.Core.List.{List, [], _∷_, _++_}
-use Prim.Native.Nat.{ℕ, zero, suc, _+_, _≤_, _<_, min}
+use mathlib.Core.List.{List}
+use Prim.Native.Nat.{ℕ, _≤_, min}
 use native.Mathlib.Omega.{arith}
 use lib.Dec.{eqb, ltb}
 use lib.ListN.{length, take, drop, length-take}
 use lib.Seq.{take-all, take-append-seam}
 use borrow.Author.Tests.{ne-eqb, ltb-true, ltb-false}
-use Rattle.theory.specs.Answer.{Answer}
 use Rattle.theory.specs.Unified.{unified}
-use Rattle.theory.specs.Outcome.{Areas, Outcome}
+use Rattle.theory.specs.Outcome.{Outcome}
 use Rattle.theory.proofs.Areas.{Writes, nothing, result, given-writes}
 use Rattle.theory.proofs.Table.{outcome-answer}
 use Rattle.meet_text.specs.Call.{Asked, heard, told}

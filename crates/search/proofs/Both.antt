@@ -9,9 +9,8 @@ use mathlib.Core.Option.{some}
 use mathlib.Core.List.{List, [], _∷_}
 use lib.ListN.{length}
 use Rattle.theory.specs.Limits.{depth-limit}
-use Rattle.theory.specs.Descr.{Desc, agree}
+use Rattle.theory.specs.Descr.{agree}
 use Rattle.theory.specs.Modes.{joined}
-use Rattle.theory.proofs.Kept.{well-can}
 use Rattle.theory.proofs.Live.{Agrees}
 use Rattle.theory.proofs.Mean.{Ctx, Can}
 use Rattle.area.specs.Map.{SECOND}
@@ -23,14 +22,11 @@ use Rattle.engine.specs.Search as engine
 use Rattle.engine.specs.Agenda.{resume-at}
 use Rattle.engine.proofs.Passes.{Agreeing, can, agreeing-view}
 use Rattle.engine.proofs.Stack.{Same}
-use Rattle.engine.proofs.Proper.{Comes, joined-comes, well-proper}
-use Rattle.engine.proofs.Beside.{joined-strip, strip-some}
 use Rattle.engine.proofs.Joined.{keep-can, joined-is, resume-at-after, resume-at-next}
 use Rattle.engine.proofs.SearchStack.{search-standing}
 use Rattle.loading.specs.Entry.{graphs}
-use Rattle.loading.specs.Loaded.{number-step, nodes-in}
+use Rattle.loading.specs.Loaded.{number-step}
 use Rattle.loading.specs.At.{At}
-use Rattle.loading.proofs.Names.{numbered-strip}
 use Rattle.loading.proofs.Walking.{at-bounds}
 use Rattle.marks.specs.Positions.{tail-at, disjunctions-at}
 use Rattle.marks.specs.Marked.{marking}
@@ -38,6 +34,7 @@ use Rattle.classes.proofs.Laws.{holds-agree}
 use Rattle.quick.specs.Stage.{Pair}
 use Rattle.quick.proofs.Grounds.{numbered-end}
 use Rattle.quick.proofs.Settling.{agrees-true}
+use Rattle.quick.proofs.Pairs.{whole-comes}
 use Rattle.search.specs.declared.agenda.Agenda.{Agenda}
 use Rattle.search.specs.Frames.{Slot, Lists, onto, Frames, plan}
 use Rattle.search.specs.Searched.{Standing, Resuming, resumed, Resumes, Searching, Searches}
@@ -46,15 +43,6 @@ use Rattle.search.proofs.Finding.{finds-same}
 
 -- ---- the joined description of a pair
 module _ (n : ℕ) (t : List ℕ) (p : Pair n t) where
-  pub pair-strips : (strip (p .inputs .a) ≡ p .d) × (strip (p .inputs .b) ≡ p .e)
-  pair-strips = (ap strip (p .first-is) ∙ numbered-strip 0 (p .d), ap strip (p .second-is) ∙ numbered-strip (nodes-in (p .d)) (p .e))
-
-  -- it is canonical
-  pub pair-can : Can (strip (p .j))
-  pair-can =
-      let e : joined (p .d) (p .e) ≡ some (strip (p .j)) = subst (λ (x : Desc). joined x (p .e) ≡ some (strip (p .j))) (pair-strips .0) (subst (λ (y : Desc). joined (strip (p .inputs .a)) y ≡ some (strip (p .j))) (pair-strips .1) (joined-strip (p .inputs .a) (p .inputs .b) ∙ ap strip-some (p .joined))) in
-      subst Comes e (joined-comes (p .d) (p .e) (well-can (p .d) (p .first-well)) (well-can (p .e) (p .second-well)) (well-proper (p .d) depth-limit (p .first-well)) (well-proper (p .e) depth-limit (p .second-well))) .0
-
   -- where the first input ends
   pub first-end : p .inputs .end-a ≤ SECOND
   first-end = let e = numbered-end t (p .d) 0 0 0 (p .inputs .end-a) (p .inputs .half) refl (subst (λ (x : Placed). At t 0 0 x (p .inputs .end-a) (p .inputs .half)) (p .first-is) (p .inputs .at-a)) .0 in omega (arith, p .first-few)
@@ -137,7 +125,7 @@ module _ (n k : ℕ) (w : List ℕ) where
     found-is a l =
         let m = marking w in
         let S = graphs (c .stage .es) in
-        both-found (c .p .inputs .a) (c .p .inputs .b) (c .p .j) (c .p .joined) m (pair-can n (c .t) (c .p)) S (c .stage .same) (agreed-true S (agrees-true S (c .stage .same .fine₁) (holds-agree n (c .stage .es) k w (c .stage .ready .holds))))
+        both-found (c .p .inputs .a) (c .p .inputs .b) (c .p .j) (c .p .joined) m (whole-comes n (c .t) (c .p) .0) S (c .stage .same) (agreed-true S (agrees-true S (c .stage .same .fine₁) (holds-agree n (c .stage .es) k w (c .stage .ready .holds))))
         ∙ sym (resume-at-after m (inner (c .p .inputs .a)) (plan n (c .t) (c .p .inputs .U) (c .stage .es) m behind (SECOND + 1) (c .p .inputs .half) (second .frames)) (inner (c .p .inputs .b) ∷ []) S (second .is))
         ∙ sym (first .is S)
         ∙ ap (λ (fs : List Places). resume-at m fs S) (sym (all .1))

@@ -1,24 +1,23 @@
 -- Both inputs are opened and all alternatives kept. Assumes nothing.
-use mathlib.Core.Path.{_≡_, refl, sym, ap, _∙_, subst}
+use mathlib.Core.Path.{_≡_, refl, sym, _∙_, subst}
 use mathlib.Core.Logic.{inl, inr}
-use mathlib.Core.Option.{Option, none, some}
+use mathlib.Core.Option.{none}
 use mathlib.Core.List.{List, [], _∷_}
-use Prim.Native.Nat.{ℕ, _≤_, _<_}
+use Prim.Native.Nat.{ℕ, _≤_}
 use native.Mathlib.Omega.{arith}
-use lib.ListN.{length, getD}
+use lib.ListN.{length}
 use Rattle.theory.specs.Limits.{depth-limit, input-limit}
-use Rattle.theory.specs.Net.{Clash, Graph}
 use Rattle.theory.specs.Descr.{Desc, desc}
 use Rattle.theory.specs.Layout as layout
 use Rattle.theory.specs.Layout.{WellFormed}
 use Rattle.theory.specs.Join.{join}
 use Rattle.theory.specs.Modes.{joined}
 use Rattle.theory.proofs.Instance.{none-join}
-use Rattle.area.specs.Map.{WORDS, MARKS, RESULT, SIZE}
+use Rattle.area.specs.Map.{WORDS, SIZE}
 use Rattle.area.specs.Region.{region, words}
 use Rattle.area.proofs.Region.{words-same}
 use Rattle.classes.proofs.Laws.{holds-frame}
-use Rattle.marks.specs.Marked.{marking, Cleared}
+use Rattle.marks.specs.Marked.{Cleared}
 use Rattle.opening.specs.Opening.{Read, Stand, Told, Opening, Opens}
 use Rattle.opening.specs.declared.Opened.{Opened}
 use Rattle.opening.specs.declared.Opened.the-variants.{Joined, Clashed}

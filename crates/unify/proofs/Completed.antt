@@ -1,13 +1,10 @@
 -- Each return of `complete` is what mode 2 makes. Assumes nothing.
-use mathlib.Core.Path.{_≡_, refl, sym, ap, _∙_, subst}
+use mathlib.Core.Path.{_≡_, sym, _∙_, subst}
 use mathlib.Core.Logic.{inl, inr}
 use mathlib.Core.List.{List}
-use Prim.Native.Nat.{ℕ, _+_, _≤_, _<_}
+use Prim.Native.Nat.{ℕ}
 use native.Mathlib.Omega.{arith}
-use lib.ListN.{length, getD}
 use Rattle.engine.specs.Quickly.{Leaves}
-use Rattle.engine.specs.Marks.{Marking}
-use Rattle.area.specs.Map.{RESULT, SIZE}
 use Rattle.marks.specs.Marked.{marking, Doused}
 use Rattle.quick.specs.Stage.{Pair, Stage}
 use Rattle.quick.proofs.Stages.{stage-again}

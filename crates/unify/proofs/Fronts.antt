@@ -1,15 +1,14 @@
 -- Words that are put to the front of an area, one after another. Assumes nothing.
 use mathlib.Core.Path.{_≡_, refl, sym, ap, _∙_}
 use mathlib.Core.Logic.{_⊎_, inl, inr, ⊎-elim}
-use mathlib.Core.List.{List, [], _∷_, _++_}
-use Prim.Native.Nat.{ℕ, zero, suc, _+_, _-_, _≤_, _<_}
+use mathlib.Core.List.{List, _++_}
+use Prim.Native.Nat.{ℕ, _+_, _-_, _≤_, _<_}
 use native.Mathlib.Omega.{arith}
 use mathlib.Core.Bool.{Bool, true, false}
 use lib.Dec.{ltb}
 use borrow.Author.Tests.{ltb-true, ltb-false}
 use lib.ListN.{length, drop, set, getD, replicate, length-append, length-drop, length-set, length-replicate, getD-replicate, List·getD-append}
 use lib.Seq.{ext-getD, getD-append-add, getD-drop, getD-set-same, getD-set-other}
-use Rattle.theory.specs.Limits.{working-size}
 use Rattle.theory.specs.Outcome.{wiped}
 use Rattle.area.specs.Region.{region}
 use Rattle.area.proofs.Region.{length-region, getD-region}

@@ -1,15 +1,13 @@
 -- Each return of `make` is what the mode makes. Assumes nothing.
-use mathlib.Core.Path.{_≡_, refl, sym, ap, _∙_, subst}
-use mathlib.Core.Logic.{inl, inr}
+use mathlib.Core.Path.{_≡_, sym, _∙_, subst}
+use mathlib.Core.Logic.{inl}
 use mathlib.Core.List.{List}
-use Prim.Native.Nat.{ℕ, _+_, _≤_, _<_}
+use Prim.Native.Nat.{ℕ, _≤_}
 use native.Mathlib.Omega.{arith}
-use lib.ListN.{length, getD}
 use Rattle.theory.specs.Descr.{Desc}
 use mathlib.Core.Option.{none}
 use Rattle.engine.specs.Marks.{all-kept}
 use Rattle.engine.specs.Quickly.{quick-at, Leaves}
-use Rattle.area.specs.Map.{RESULT, SIZE}
 use Rattle.area.specs.Region.{words}
 use Rattle.marks.specs.Marked.{marking}
 use Rattle.opening.specs.Opening.{Read, Opening}

@@ -1,15 +1,15 @@
 -- What each mode makes of two inputs is what theory says of it. Assumes nothing.
 use mathlib.Core.Path.{_≡_, refl, sym, ap, _∙_, subst}
-use mathlib.Core.Logic.{_⊎_, inl, inr}
-use mathlib.Core.Bool.{Bool, true, false}
+use mathlib.Core.Logic.{inl, inr}
+use mathlib.Core.Bool.{true, false}
 use mathlib.Core.Option.{Option, none, some}
 use mathlib.Core.List.{List}
-use Prim.Native.Nat.{ℕ, _+_, _≤_, _<_}
+use Prim.Native.Nat.{ℕ, _+_, _≤_}
 use native.Mathlib.Omega.{arith}
 use lib.Dec.{ltb}
 use borrow.Author.Tests.{ltb-true, ltb-false}
 use lib.ListN.{length}
-use Rattle.theory.specs.Limits.{choice-limit, choice-stop}
+use Rattle.theory.specs.Limits.{choice-limit}
 use Rattle.theory.specs.Descr.{Desc, number}
 use Rattle.theory.specs.Layout.{words}
 use Rattle.theory.specs.Modes.{joined, quick, full}

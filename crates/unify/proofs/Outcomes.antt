@@ -1,34 +1,34 @@
 -- Each return of a call is the table's. Assumes nothing.
 use mathlib.Core.Path.{_≡_, refl, sym, ap, _∙_, subst}
 use mathlib.Core.Logic.{_⊎_, inl, inr}
-use mathlib.Core.Option.{some}
 use mathlib.Core.List.{List, [], _∷_, _++_}
-use Prim.Native.Nat.{ℕ, zero, suc, _+_, _-_, _≤_, _<_}
+use Prim.Native.Nat.{ℕ, suc, _+_, _≤_, _<_}
 use native.Mathlib.Omega.{arith}
 use lib.ListN.{length, take, drop, getD, replicate, length-drop}
 use lib.Seq.{ext-getD, getD-drop, drop-cons}
 use Rattle.theory.specs.Limits.{input-limit, working-size}
 use Rattle.theory.specs.Descr.{Desc}
 use Rattle.theory.specs.Layout.{words, Image}
-use Rattle.theory.specs.Answer.{Answer, refuse, consistent}
+use Rattle.theory.specs.Answer.{refuse}
 use Rattle.theory.specs.Rules as rules
-use Rattle.theory.specs.Rules.{mode-result, mode-readings, Accepted, Clashes, Given, one, two, three, four, five, six, seven, six-after, eight, done}
-use Rattle.theory.specs.Outcome.{Areas, wiped, worked, Outcome}
+use Rattle.theory.specs.Rules.{mode-readings, Accepted, Given, one, two, three, four, five, six, seven, six-after, eight, done}
+use Rattle.theory.specs.Outcome.{Areas, wiped, Outcome}
 use Rattle.theory.proofs.Areas.{worked-same, worked-zero, worked-more}
 use Rattle.layout.specs.Standing.{Stands}
 use Rattle.layout.specs.Judged.{Judged}
 use Rattle.layout.specs.declared.reading.Judgement.{Judgement}
 use Rattle.layout.specs.declared.reading.Judgement.the-variants.{Accepted as Fine, Malformed}
 use Rattle.layout.proofs.Standing.{stands-cons, stands-within}
-use Rattle.area.specs.Map.{RESULT, SIZE}
+use Rattle.area.specs.Map.{RESULT}
 use Rattle.area.specs.Region.{region}
-use Rattle.opening.specs.Opening.{Inputs, Read, Opening}
+use Rattle.opening.specs.Opening.{Read, Opening}
 use Rattle.unify.specs.declared.making.Made.{Made}
 use Rattle.unify.specs.declared.making.Made.the-variants as made
 use Rattle.unify.specs.declared.Answer.{Answer as Reply}
-use Rattle.unify.specs.declared.Answer.the-variants.{Done, BadMode, SmallArea, TooLong, BadFirst, BadSecond, Clash, TooMany, NoRoom}
+use Rattle.unify.specs.declared.Answer.the-variants.{Done, Clash, TooMany, NoRoom}
 use Rattle.unify.specs.Number.{number-of, extent-of, readings-of}
 use Rattle.unify.specs.Making.{Makes, Meant}
+use Rattle.unify.proofs.Made as inputs
 use Rattle.unify.specs.Handing.{Room, Handed}
 
 -- words that stand at a place are the region there
@@ -85,13 +85,13 @@ opening a b w l fa fb ia ib = record { long = l; inputs = record { first = ia; s
 -- ---- the other numbers
 module _ (mode : ℕ) (a b w : List ℕ) (m : mode ≤ 2) (o : Opening w a b) where
   abbrev d : Desc
-  d = o .inputs .first .0
+  d = inputs.one o
 
   abbrev e : Desc
-  e = o .inputs .second .0
+  e = inputs.two o
 
   read : Read a b d e
-  read = record { first-well = o .inputs .first .1; second-well = o .inputs .second .1; first-is = o .inputs .first .2; second-is = o .inputs .second .2 }
+  read = inputs.reads o
 
   accepted : Accepted mode a b (length w) d e
   accepted = record {

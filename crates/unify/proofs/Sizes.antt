@@ -1,10 +1,9 @@
 -- A result has at most 2,045 words, and an outcome by what is told of it. Assumes nothing.
-use mathlib.Core.Path.{_≡_, refl, sym, ap, _∙_, subst}
+use mathlib.Core.Path.{_≡_, sym, ap, subst}
 use mathlib.Core.List.{List}
 use Prim.Native.Nat.{ℕ, _+_, _≤_}
 use native.Mathlib.Omega.{arith}
 use lib.ListN.{length}
-use Rattle.theory.specs.Limits.{input-limit}
 use Rattle.theory.specs.Descr.{Desc}
 use Rattle.theory.specs.Layout.{words}
 use Rattle.theory.specs.Answer.{Answer}
