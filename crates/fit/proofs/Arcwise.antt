@@ -6,10 +6,9 @@ use mathlib.Core.Path.{_≡_, refl, subst, _∙_}
 use mathlib.Core.Logic.{_↔_}
 use mathlib.Core.List.{List, _∷_}
 use lib.ListN.{length, getD}
-use Rattle.theory.specs.Limits.{input-limit}
 use Rattle.theory.specs.Net.{Rising, InOrder, met}
 use Rattle.theory.proofs.Instance.{met-ge}
-use Rattle.fit.specs.Parts.{arcsFrom, lastArcs}
+use Rattle.fit.specs.Parts.{node-limit, arcsFrom, lastArcs}
 use Rattle.fit.specs.Sending.{SentArcs, Comes, Refused, Finds, Sendable, Steps, ArcsAsked, Sends}
 use Rattle.fit.specs.declared.sending.Found.{Found}
 use Rattle.fit.specs.declared.sending.Found.the-variants.{Target, Nowhere}
@@ -51,7 +50,7 @@ module _ (s : List ℕ) (e : ℕ) (ws : List ℕ) (B l : List (ℕ × ℕ)) (L :
       rising : Rising 0 ((f, t) ∷ arcsFrom ws (at + 2) (left - 1))
       rising = subst (Rising 0) split (a .asked .rising)
 
-      few : met k ((f, t) ∷ arcsFrom ws (at + 2) (left - 1)) ≤ input-limit
+      few : met k ((f, t) ∷ arcsFrom ws (at + 2) (left - 1)) ≤ node-limit
       few = rw split at (a .asked .few)
 
       pub arcwise-next : Sendable t k

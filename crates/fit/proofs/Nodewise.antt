@@ -8,15 +8,14 @@ use mathlib.Core.Path.{_≡_, refl, sym, subst, _∙_}
 use mathlib.Core.Logic.{_↔_}
 use mathlib.Core.List.{List, _∷_}
 use lib.ListN.{length, getD}
-use Rattle.theory.specs.Limits.{input-limit}
 use Rattle.theory.specs.Net.{Node, Graph, arcsOf, InOrder, met, Numbered, Canonical}
 use Rattle.theory.proofs.Instance.{numbered-ge, numbered-target, met-ge, met-reach}
-use Rattle.fit.specs.Parts.{after, nodeFrom, nodesFrom, nodesEnd, graphIn}
+use Rattle.fit.specs.Parts.{node-limit, after, nodeFrom, nodesFrom, nodesEnd, graphIn}
 use Rattle.fit.specs.Sending.{SentHere, SentAll, Comes, Turns, Refused, Low, NodeAsked, NodesAsked, Walks, SentNodes}
 use Rattle.fit.specs.declared.sending.Walk.{Walk}
 use Rattle.fit.specs.declared.sending.Walk.the-variants.{Went, Stuck}
 use Rattle.fit.specs.declared.sending.Answer.the-variants.{Fits}
-use Rattle.fit.proofs.Parts.{nodes-step, nodes-none, nodes-length, end-step, end-none, end-far}
+use Rattle.fit.proofs.Parts.{nodes-step, nodes-none, nodes-length, nodes-few, end-step, end-none, end-far}
 use Rattle.fit.proofs.Maps.{sent-arc}
 use Rattle.fit.proofs.Steps.{comes-start, comes-on, comes-refused}
 
@@ -36,7 +35,7 @@ module _ (s ws : List ℕ) (p nodes : ℕ) (L : List ℕ) where
   pub record Nodewise (i at : ℕ) (M : List ℕ) (k : ℕ) : Type 0 where
     pub part : i ≤ nodes
     pub kept : length M ≡ length L
-    pub few : nodes ≤ input-limit
+    pub few : nodes ≤ node-limit
     pub numbered : Numbered i k (nodesFrom ws at (nodes - i))
     pub ends : nodesEnd ws at (nodes - i) ≡ nodesEnd ws p nodes
     pub there : nodesEnd ws p nodes ≤ length ws
@@ -47,7 +46,7 @@ module _ (s ws : List ℕ) (p nodes : ℕ) (L : List ℕ) where
   nodewise-start a = record {
     part = omega arith;
     kept = refl;
-    few = omega (arith, a .few, a .there, end-far ws p nodes);
+    few = omega (arith, a .few, a .there, nodes-few ws p nodes 0 1 (a .canonical));
     numbered = rw sub-zero (a .canonical);
     ends = rw sub-zero;
     there = a .there;

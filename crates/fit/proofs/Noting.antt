@@ -9,17 +9,16 @@ use mathlib.Core.Bool.{Bool}
 use mathlib.Core.List.{List, [], _∷_}
 use lib.ListN.{length, getD, set, length-set, drop}
 use lib.Seq.{getD-set-same, getD-set-other, drop-cons}
-use Rattle.theory.specs.Limits.{input-limit}
 use Rattle.theory.specs.Net.{arcs, nodeAt}
 use Rattle.theory.proofs.Number.{TestLt, less, geq, test-lt}
-use Rattle.fit.specs.Parts.{arcs-in, after, nodeFrom, nodesFrom, nodesEnd, graphIn}
+use Rattle.fit.specs.Parts.{node-limit, arcs-in, after, nodeFrom, nodesFrom, nodesEnd, graphIn}
 use Rattle.fit.specs.Sending.{NodeIn, Notable, Noted}
-use Rattle.fit.proofs.Parts.{nodes-step, nodes-length, end-step, end-far}
+use Rattle.fit.proofs.Parts.{nodes-step, nodes-length, nodes-few, end-step, end-far}
 
 -- the first i nodes are noted, and the others stand from p on
 pub record Noting (s P : List ℕ) (i p : ℕ) : Type 0 where
   pub part : i ≤ getD s 0 0
-  pub few : getD s 0 0 ≤ input-limit
+  pub few : getD s 0 0 ≤ node-limit
   pub size : getD s 0 0 ≤ length P
   pub done : (x : ℕ) → x < i → NodeIn s (getD P x 0) (nodeAt (graphIn s 0) x)
   pub others : drop i (graphIn s 0) ≡ nodesFrom s p (getD s 0 0 - i)
@@ -29,8 +28,8 @@ module _ (s : List ℕ) where
   abbrev n : ℕ
   n = getD s 0 0
 
-  pub noting-start : (P : List ℕ) → Notable s → input-limit ≤ length P → Noting s P 0 1
-  noting-start P a h = record { part = omega arith; few = omega (arith, a .few, a .there, end-far s 1 n); size = omega (arith, a .few, a .there, end-far s 1 n); done = λ x l. absurd (omega arith); others = rw sub-zero; there = rw sub-zero (a .there) }
+  pub noting-start : (P : List ℕ) → Notable s → node-limit ≤ length P → Noting s P 0 1
+  noting-start P a h = let few = nodes-few s 1 n 0 1 (a .canonical) in record { part = omega arith; few = omega (arith, a .few, a .there); size = omega (arith, a .few, a .there); done = λ x l. absurd (omega arith); others = rw sub-zero; there = rw sub-zero (a .there) }
 
   module _ (P : List ℕ) (i p : ℕ) (a : Noting s P i p) where
     pub noting-end : n ≤ i → Notable s → Noted s P

@@ -7,11 +7,11 @@ use mathlib.Core.Logic.{_↔_}
 use mathlib.Core.Bool.{Bool}
 use mathlib.Core.List.{List}
 use lib.ListN.{length, getD}
-use Rattle.theory.specs.Limits.{code-limit, input-limit}
+use Rattle.theory.specs.Limits.{code-limit}
 use Rattle.theory.specs.Net.{atom, Graph, nodeAt, arcsOf, met}
 use Rattle.theory.proofs.Number.{TestLt, less, geq, test-lt}
 use Rattle.theory.proofs.Fit.{numbered-rising}
-use Rattle.fit.specs.Parts.{arcs-in, after, arcsFrom, lastArcs, nodeFrom, graphIn}
+use Rattle.fit.specs.Parts.{node-limit, arcs-in, after, arcsFrom, lastArcs, nodeFrom, graphIn}
 use Rattle.fit.specs.Sending.{SentArcs, Sent, SentHere, Agrees, Refused, Sends, ArcsAsked, NodeAsked, Walks, Noted}
 use Rattle.fit.specs.declared.sending.Step.{Step}
 use Rattle.fit.specs.declared.sending.Step.the-variants.{Met, Stopped}
@@ -38,7 +38,7 @@ module _ (s P ws : List ℕ) (p i : ℕ) (M : List ℕ) (k : ℕ) (noted : Noted
   low : x < length H
   low = asked .low i (asked .known)
 
-  pub given-low : (u v : ℕ) → u ≡ i → v ≡ getD M u 0 → v < input-limit
+  pub given-low : (u v : ℕ) → u ≡ i → v ≡ getD M u 0 → v < node-limit
   given-low u v e d = let l = low in omega (arith, d ∙ ap (λ (x : ℕ). getD M x 0) e, noted .few)
 
   module _ (q : ℕ) (place : q ≡ getD P (getD M i 0) 0) where

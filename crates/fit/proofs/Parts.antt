@@ -1,6 +1,6 @@
 -- The nodes that words are: one at a time, and where a graph stands.
 -- Assumes nothing.
-use Prim.Native.Nat.{ℕ, zero, suc, _+_, _-_, _*_, _≤_, _<_}
+use Prim.Native.Nat.{ℕ, zero, suc, _+_, _-_, _*_, _≤_, _<_, max}
 use native.Mathlib.Omega.{arith}
 use native.Mathlib.Nat.{not-suc-le-zero}
 use native.Mathlib.Numerals.{sub-one}
@@ -10,7 +10,7 @@ use mathlib.Core.List.{List, [], _∷_}
 use lib.ListN.{length, getD}
 use borrow.Author.Tests.{le-ltb, lt-ltb}
 use Rattle.theory.specs.Limits.{code-limit}
-use Rattle.theory.specs.Net.{Node, atom, arcs, Graph, arcsOf}
+use Rattle.theory.specs.Net.{Node, atom, arcs, Graph, arcsOf, InOrder, met, Numbered}
 use Rattle.theory.specs.Layout.{arc-words, node-words, nodes-words, NodeFits, GraphFits}
 use Rattle.theory.proofs.Number.{TestLt, less, geq, test-lt}
 use Rattle.layout.specs.Standing.{Stands}
@@ -24,6 +24,11 @@ arcs-in-low h l = simp (lt-ltb _ _ l)
 pub arcs-in-high : (h : ℕ) → code-limit ≤ h → 0 ≡ arcs-in h
 unfolding arcs-in
 arcs-in-high h l = simp (le-ltb _ _ l)
+
+-- an arc meets one node at most
+met-few : (m : ℕ) (l : List (ℕ × ℕ)) → InOrder m l → met m l ≤ m + length l
+met-few m [] o = omega arith
+met-few m (e ∷ l) o = let h = met-few (max m (suc (e .1))) l (o .1) in let k = o .0 in omega arith
 
 module _ (ws : List ℕ) where
   pub arcs-step : (p k : ℕ) → 0 < k → arcsFrom ws p k ≡ (getD ws p 0, getD ws (p + 1) 0) ∷ arcsFrom ws (p + 2) (k - 1)
@@ -79,6 +84,19 @@ module _ (ws : List ℕ) where
   unfolding nodesEnd
   end-far p zero = omega arith
   end-far p (suc k) = omega (arith, end-far (after ws p) k)
+
+  arcs-length : (p k : ℕ) → length (arcsFrom ws p k) ≡ k
+  unfolding arcsFrom
+  arcs-length p zero = refl
+  arcs-length p (suc k) = ap suc (arcs-length (p + 2) k)
+
+  -- a node that an arc meets takes three words
+  pub nodes-few : (p n k m : ℕ) → Numbered k m (nodesFrom ws p n) → p + 3 * n + 2 * k ≤ nodesEnd ws p n + 2 * m
+  unfolding nodesFrom nodesEnd
+  nodes-few p zero k m c = omega arith
+  nodes-few p (suc n) k m c =
+      let l : length (arcsOf (nodeFrom ws p)) ≡ arcs-in (getD ws p 0) = ap length (node-its p) ∙ arcs-length (p + 1) (arcs-in (getD ws p 0)) in
+      omega (arith, nodes-few (after ws p) n (suc k) (met m (arcsOf (nodeFrom ws p))) (c .3), met-few m (arcsOf (nodeFrom ws p)) (c .2))
 
   arcs-stand : (l : List (ℕ × ℕ)) (p q : ℕ) → Stands ws p (arc-words l) q → arcsFrom ws p (length l) ≡ l
   unfolding arcsFrom

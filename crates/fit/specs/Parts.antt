@@ -8,6 +8,10 @@ use Rattle.theory.specs.Limits.{code-limit}
 use Rattle.theory.specs.Net.{Node, atom, arcs, Graph}
 use Rattle.layout.specs.Reading.{pick}
 
+-- no graph in an input has more nodes: each but the root has an arc to it, and takes three words
+abbrev pub node-limit : ℕ
+node-limit = 342
+
 -- "Head 0..65,535 is the number of arcs; head 65,536..131,071 is the atom numbered head - 65,536, with no arcs."
 unfoldable pub arcs-in : ℕ → ℕ
 arcs-in h = pick (ltb h code-limit) h 0

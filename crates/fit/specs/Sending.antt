@@ -6,7 +6,7 @@ use mathlib.Core.List.{List, [], _∷_, List·Memᴰ}
 use lib.ListN.{length, getD}
 use Rattle.theory.specs.Limits.{input-limit}
 use Rattle.theory.specs.Net.{Node, atom, arcs, Graph, nodeAt, arcsOf, Rising, InOrder, met, Canonical}
-use Rattle.fit.specs.Parts.{after, arcsFrom, lastArcs, nodeFrom, nodesFrom, nodesEnd, graphIn}
+use Rattle.fit.specs.Parts.{node-limit, after, arcsFrom, lastArcs, nodeFrom, nodesFrom, nodesEnd, graphIn}
 use Rattle.fit.specs.declared.sending.Found.{Found}
 use Rattle.fit.specs.declared.sending.Found.the-variants.{Target, Nowhere}
 use Rattle.fit.specs.declared.sending.Step.{Step}
@@ -75,7 +75,7 @@ Finds s e k f Nowhere = (u : ℕ) → List·Memᴰ (f, u) (lastArcs s e k) → �
 -- a node that is known or the next
 pub record Sendable (node k : ℕ) : Type 0 where
   pub next : node ≤ k
-  pub few : node < input-limit
+  pub few : node < node-limit
 
 -- k′ nodes are given after what P asks, or no map does it
 abbrev pub Steps : List ℕ → ℕ → ((ℕ → ℕ) → Type 0) → ℕ → List ℕ → Step → Type 0
@@ -87,7 +87,7 @@ pub record ArcsAsked (s : List ℕ) (e ahead : ℕ) (ws : List ℕ) (p count k :
   pub there : p + 2 * count ≤ length ws
   pub rising : Rising 0 (arcsFrom ws p count)
   pub order : InOrder k (arcsFrom ws p count)
-  pub few : met k (arcsFrom ws p count) ≤ input-limit
+  pub few : met k (arcsFrom ws p count) ≤ node-limit
 
 abbrev pub Sends : List (ℕ × ℕ) → List (ℕ × ℕ) → List ℕ → ℕ → List ℕ → Step → Type 0
 Sends B l M k M′ r = Steps M k (λ m. SentArcs B m l) (met k l) M′ r
@@ -96,11 +96,11 @@ Sends B l M k M′ r = Steps M k (λ m. SentArcs B m l) (met k l) M′ r
 pub record NodeAsked (s ws : List ℕ) (p i : ℕ) (M : List ℕ) (k : ℕ) : Type 0 where
   pub there : after ws p ≤ length ws
   pub known : i < k
-  pub most : k ≤ input-limit
+  pub most : k ≤ node-limit
   pub low : Low (length (graphIn s 0)) M k
   pub rising : Rising 0 (arcsOf (nodeFrom ws p))
   pub order : InOrder k (arcsOf (nodeFrom ws p))
-  pub few : met k (arcsOf (nodeFrom ws p)) ≤ input-limit
+  pub few : met k (arcsOf (nodeFrom ws p)) ≤ node-limit
 
 abbrev pub Walks : Graph → List ℕ → ℕ → ℕ → List ℕ → ℕ → List ℕ → Walk → Type 0
 Walks H ws p i M k M′ (Went q j) = (q ≡ after ws p) × (j ≡ met k (arcsOf (nodeFrom ws p))) × Turns M k (λ m. SentHere H m i (nodeFrom ws p)) M′ j
@@ -130,6 +130,6 @@ pub record Notable (s : List ℕ) : Type 0 where
 
 -- and P tells where its nodes stand
 pub record Noted (s P : List ℕ) : Type 0 where
-  pub few : length (graphIn s 0) ≤ input-limit
+  pub few : length (graphIn s 0) ≤ node-limit
   pub canonical : Canonical (graphIn s 0)
   pub noted : (x : ℕ) → x < length (graphIn s 0) → NodeIn s (getD P x 0) (nodeAt (graphIn s 0) x)

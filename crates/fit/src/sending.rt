@@ -1,12 +1,11 @@
 // Giving each node of a graph its structure node: the one possible map, from the root on.
-use crate::limits::INPUT_LIMIT;
+use crate::limits::NODE_LIMIT;
 use crate::width::wide;
 use layout::limits::CODE_LIMIT;
 ghost use mathlib.Core.Path.{_≡_};
 ghost use Prim.Native.Nat.{_≤_, suc, max};
 ghost use lib.ListN.{length};
-ghost use Rattle.theory.specs.Limits.{input-limit};
-ghost use Rattle.fit.specs.Parts.{arcs-in, arcsFrom, lastArcs, graphIn};
+ghost use Rattle.fit.specs.Parts.{node-limit, arcs-in, arcsFrom, lastArcs, graphIn};
 ghost use Rattle.fit.specs.Sending.{Finds, Steps, Sends, Walks, SentNodes, Findable, Sendable, ArcsAsked, NodeAsked, NodesAsked, Noted, Notable};
 
 // What looking for a feature finds: the target of its arc and how many arcs come after that, or no such arc.
@@ -67,8 +66,8 @@ fn find(structure: &[u32], end: usize, count: u32, feature: u32) -> Found
 }
 
 // Gives a node its structure node, where the nodes below `met` have one.
-fn send(map: &mut [u32; INPUT_LIMIT], node: u32, given: u32, met: u32) -> Step
-    requires { ⌜ input-limit ≤ length (now map) ⌝ }
+fn send(map: &mut [u32; NODE_LIMIT], node: u32, given: u32, met: u32) -> Step
+    requires { ⌜ node-limit ≤ length (now map) ⌝ }
     requires { ⌜ Sendable node met ⌝ }
     ensures { λ r. ⌜ Steps (now (map .entry)) met (λ m. m node ≡ given) (max met (suc node)) (now (map .exit)) r ⌝ }
     ensures { λ _. ⌜ length (now (map .exit)) ≡ length (now (map .entry)) ⌝ }
@@ -85,7 +84,7 @@ fn send(map: &mut [u32; INPUT_LIMIT], node: u32, given: u32, met: u32) -> Step
 
 // Sends the `count` arcs of a node along the `ahead` arcs of its structure node, which end at `end`: both rise.
 fn send_arcs(
-    map: &mut [u32; INPUT_LIMIT],
+    map: &mut [u32; NODE_LIMIT],
     structure: &[u32],
     end: usize,
     ahead: u32,
@@ -94,7 +93,7 @@ fn send_arcs(
     count: u32,
     first: u32,
 ) -> Step
-    requires { ⌜ input-limit ≤ length (now map) ⌝ }
+    requires { ⌜ node-limit ≤ length (now map) ⌝ }
     requires { ⌜ ArcsAsked (now structure) end ahead (now ws) p count first ⌝ }
     ensures { λ r. ⌜ Sends (lastArcs (now (structure .entry)) end ahead) (arcsFrom (now (ws .entry)) p count) (now (map .entry)) first (now (map .exit)) r ⌝ }
     ensures { λ _. ⌜ length (now (map .exit)) ≡ length (now (map .entry)) ⌝ }
@@ -128,15 +127,15 @@ fn send_arcs(
 
 // Sends node i to the structure node that it is given: its atom, or its arcs.
 fn send_node(
-    map: &mut [u32; INPUT_LIMIT],
-    place: &[u32; INPUT_LIMIT],
+    map: &mut [u32; NODE_LIMIT],
+    place: &[u32; NODE_LIMIT],
     structure: &[u32],
     ws: &[u32],
     p: usize,
     i: u32,
     met: u32,
 ) -> Walk
-    requires { ⌜ input-limit ≤ length (now map) ⌝ }
+    requires { ⌜ node-limit ≤ length (now map) ⌝ }
     requires { ⌜ Noted (now structure) (now place) ⌝ }
     requires { ⌜ NodeAsked (now structure) (now ws) p i (now map) met ⌝ }
     ensures { λ r. ⌜ Walks (graphIn (now (structure .entry)) 0) (now (ws .entry)) p i (now (map .entry)) met (now (map .exit)) r ⌝ }
@@ -166,14 +165,14 @@ fn send_node(
 
 // Sends all nodes of a graph of so many nodes, where the root has its structure node.
 pub fn send_nodes(
-    map: &mut [u32; INPUT_LIMIT],
-    place: &[u32; INPUT_LIMIT],
+    map: &mut [u32; NODE_LIMIT],
+    place: &[u32; NODE_LIMIT],
     structure: &[u32],
     ws: &[u32],
     p: usize,
     nodes: u32,
 ) -> Answer
-    requires { ⌜ input-limit ≤ length (now map) ⌝ }
+    requires { ⌜ node-limit ≤ length (now map) ⌝ }
     requires { ⌜ Noted (now structure) (now place) ⌝ }
     requires { ⌜ NodesAsked (now structure) (now ws) p nodes (now map) ⌝ }
     ensures { λ r. ⌜ SentNodes (graphIn (now (structure .entry)) 0) (now (ws .entry)) p nodes (now (map .entry)) r ⌝ }
@@ -195,8 +194,8 @@ pub fn send_nodes(
 }
 
 // Notes where each node of the structure stands.
-pub fn note(place: &mut [u32; INPUT_LIMIT], structure: &[u32])
-    requires { ⌜ input-limit ≤ length (now place) ⌝ }
+pub fn note(place: &mut [u32; NODE_LIMIT], structure: &[u32])
+    requires { ⌜ node-limit ≤ length (now place) ⌝ }
     requires { ⌜ Notable (now structure) ⌝ }
     ensures { λ _. ⌜ Noted (now (structure .entry)) (now (place .exit)) ⌝ }
 {

@@ -1,5 +1,5 @@
 // Testing a description against a structure: its graph, and of each disjunction an alternative.
-use crate::limits::INPUT_LIMIT;
+use crate::limits::NODE_LIMIT;
 use crate::sending::Answer;
 use crate::sending::note;
 use crate::sending::send_nodes;
@@ -8,26 +8,25 @@ use layout::skipping::skip_description;
 ghost use mathlib.Core.Path.{_≡_};
 ghost use Prim.Native.Nat.{_≤_};
 ghost use lib.ListN.{length};
-ghost use Rattle.theory.specs.Limits.{input-limit};
-ghost use Rattle.fit.specs.Parts.{graphIn};
+ghost use Rattle.fit.specs.Parts.{node-limit, graphIn};
 ghost use Rattle.fit.specs.Sending.{Noted};
 ghost use Rattle.fit.specs.Testing.{a-graph, a-disjunction, a-description, Asked, Answers, Skips, Tested, TestAsked};
 
-fn space() -> [u32; INPUT_LIMIT]
-    ensures { λ r. ⌜ input-limit ≡ length r ⌝ }
+fn space() -> [u32; NODE_LIMIT]
+    ensures { λ r. ⌜ node-limit ≡ length r ⌝ }
 {
-    [0; INPUT_LIMIT]
+    [0; NODE_LIMIT]
 }
 
 // Tests a graph: its root goes to the structure's.
 fn test_graph(
-    map: &mut [u32; INPUT_LIMIT],
-    place: &[u32; INPUT_LIMIT],
+    map: &mut [u32; NODE_LIMIT],
+    place: &[u32; NODE_LIMIT],
     structure: &[u32],
     ws: &[u32],
     p: usize,
 ) -> Answer
-    requires { ⌜ input-limit ≤ length (now map) ⌝ }
+    requires { ⌜ node-limit ≤ length (now map) ⌝ }
     requires { ⌜ Noted (now structure) (now place) ⌝ }
     requires { ⌜ Asked (a-graph (graphIn (now structure) 0)) (now ws) p ⌝ }
     ensures { λ r. ⌜ Answers (a-graph (graphIn (now (structure .entry)) 0)) (now (ws .entry)) p r ⌝ }
@@ -40,14 +39,14 @@ fn test_graph(
 
 // Tests a description whose alternatives nest at most `left` deep: its graph, and each disjunction.
 fn test_description(
-    map: &mut [u32; INPUT_LIMIT],
-    place: &[u32; INPUT_LIMIT],
+    map: &mut [u32; NODE_LIMIT],
+    place: &[u32; NODE_LIMIT],
     structure: &[u32],
     ws: &[u32],
     p: usize,
     left: u32,
 ) -> Answer
-    requires { ⌜ input-limit ≤ length (now map) ⌝ }
+    requires { ⌜ node-limit ≤ length (now map) ⌝ }
     requires { ⌜ Noted (now structure) (now place) ⌝ }
     requires { ⌜ Asked (a-description (graphIn (now structure) 0) left) (now ws) p ⌝ }
     ensures { λ r. ⌜ Answers (a-description (graphIn (now (structure .entry)) 0) left) (now (ws .entry)) p r ⌝ }
@@ -72,14 +71,14 @@ fn test_description(
 
 // Tests a disjunction whose own alternatives are one of the `left` levels: those after the first that fits are skipped.
 fn test_disjunction(
-    map: &mut [u32; INPUT_LIMIT],
-    place: &[u32; INPUT_LIMIT],
+    map: &mut [u32; NODE_LIMIT],
+    place: &[u32; NODE_LIMIT],
     structure: &[u32],
     ws: &[u32],
     p: usize,
     left: u32,
 ) -> Answer
-    requires { ⌜ input-limit ≤ length (now map) ⌝ }
+    requires { ⌜ node-limit ≤ length (now map) ⌝ }
     requires { ⌜ Noted (now structure) (now place) ⌝ }
     requires { ⌜ Asked (a-disjunction (graphIn (now structure) 0) left) (now ws) p ⌝ }
     ensures { λ r. ⌜ Answers (a-disjunction (graphIn (now (structure .entry)) 0) left) (now (ws .entry)) p r ⌝ }
