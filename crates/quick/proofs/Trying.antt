@@ -21,7 +21,9 @@ use Rattle.engine.specs.Quickly as quickly
 use Rattle.engine.specs.Quickly.{fails, stands, try-at, narrow-at, inside-at}
 use Rattle.loading.specs.Entry.{Entry, graphs}
 use Rattle.loading.specs.At.{At}
+use Rattle.marks.specs.Positions.{tail-at}
 use Rattle.marks.specs.Marked.{marking}
+use Rattle.marks.proofs.Reading.{read-at}
 use Rattle.marks.proofs.Marks.{marking-frame}
 use Rattle.classes.specs.Holds.{Holds, Since, Remembers, Backs}
 use Rattle.classes.specs.declared.push.Pushed.{Pushed}
@@ -49,6 +51,11 @@ module _ (n k : ℕ) (w : List ℕ) (g left : ℕ) where
   module _ (c : Entering n k w g left) where
     abbrev list : List Entry
     list = taken (c .t) (marking w) g (c .from) (c .d) (c .end) (c .to) (c .at)
+
+    pub tried-starts : (g < 2048) × (tail-at w g < 2048)
+    tried-starts =
+        let s = read-at w (c .holds .long) (c .d) g (c .from) (c .end) (c .to) (subst (λ (t : List ℕ). At t g (c .from) (c .d) (c .end) (c .to)) (sym (c .loaded)) (c .at)) (omega (arith, c .low, c .ground .few)) in
+        (s .here, s .inside)
 
     pub entered-graphs : graphs (entered c) ≡ graphs (c .es) ++ flat (strip (keep (marking w) (c .d)))
     entered-graphs = graphs-append (c .es) list ∙ ap (λ (l : List Graph). graphs (c .es) ++ l) (taken-flat (c .t) (marking w) g (c .from) (c .d) (c .end) (c .to) (c .at))

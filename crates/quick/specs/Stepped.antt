@@ -16,6 +16,7 @@ use Rattle.engine.specs.Quickly.{fails, stands, try-at, any-at, inside-at, sift
 use Rattle.loading.specs.Entry.{Entry, graphs}
 use Rattle.loading.specs.Numbered.{options}
 use Rattle.loading.specs.At.{At, AtAny}
+use Rattle.marks.specs.Positions.{tail-at, disjunctions-at}
 use Rattle.marks.specs.Marked.{marking}
 use Rattle.counting.specs.Nesting.{Nests, NestsAny}
 use Rattle.classes.specs.Holds.{Holds, Since}
@@ -146,6 +147,10 @@ pub record Tries (n k : ℕ) (w : List ℕ) (g left : ℕ) (r : Step) (w' : List
   pub moved : Moved k w k w'
   pub standing : (k' i : ℕ) → r ≡ Stands k' i → Fewer i (marking w) (marking w') × ((c : Entering n k w g left) → (T : List Graph) × Tried n k w g left w' c (stands T (marking w')))
   pub failing : r ≡ Fails → (total (marking w') ≤ total (marking w)) × ((c : Entering n k w g left) → Tried n k w g left w' c (fails (marking w')))
+
+-- the same of an alternative without disjunctions, however deep it may nest
+pub record TriesBare (n k : ℕ) (w : List ℕ) (g : ℕ) (r : Step) (w' : List ℕ) : Type 0 where
+  pub tries : (left : ℕ) → Entering n k w g left → disjunctions-at w (tail-at w g) ≡ 0 → Tries n k w g left r w'
 
 -- ---- the alternatives of one disjunction are tried: engine's `sift-at`
 pub record Sifted (n k : ℕ) (w : List ℕ) (p count left : ℕ) (w' : List ℕ) (c : Alternating n k w p count left) : Type 0 where

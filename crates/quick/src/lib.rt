@@ -1,4 +1,5 @@
 // The quick step.
+pub mod bare;
 pub mod enter;
 pub mod narrow;
 pub mod pass;

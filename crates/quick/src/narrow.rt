@@ -1,4 +1,5 @@
 // Disjunctions are narrowed: alternatives that fail are dropped, and what becomes certain is pushed.
+use crate::bare::try_bare;
 use crate::enter::enter;
 use crate::settle::settle;
 use crate::step::Step;
@@ -16,11 +17,16 @@ ghost use Rattle.quick.specs.Entered.{Entering};
 ghost use Rattle.quick.specs.Settled.{Alternating};
 ghost use Rattle.quick.specs.Stepped.{Narrowing, Narrows, Choosing, Chooses, Tries, Sifts};
 
-// Tries the alternative at g: it is entered and narrowed, and all that was pushed for it taken back.
+// Tries the alternative at g: it is entered and narrowed, and all that was pushed for it taken back. Mostly it has no disjunctions, and there is nothing to narrow.
 fn try_one(w: &mut [u32], k: usize, n: usize, g: usize, left: u32) -> Step
     requires { ⌜ Entering n k (now w) g left ⌝ }
     ensures { λ r. ⌜ Tries n k (now (w .entry)) g left r (now (w .exit)) ⌝ }
 {
+    let t = tail_at(w, g);
+    let more = disjunctions_at(w, t);
+    if more == 0 {
+        return try_bare(w, k, n, g);
+    }
     let pushed = enter(w, k, n, g, left);
     let Pushed::In(e) = pushed else {
         return Step::Fails;

@@ -2,14 +2,16 @@
 -- Assumes nothing.
 use Prim.Native.Nat.{ℕ, _+_, _*_, _<_}
 use native.Mathlib.Omega.{arith}
-use mathlib.Core.Path.{_∙_}
+use mathlib.Core.Path.{sym, ap, _∙_}
 use mathlib.Core.Logic.{⊎-elim}
 use borrow.Author.Needs.{needs}
+use Rattle.marks.specs.Positions.{disjunctions-at}
 use Rattle.marks.specs.Marked.{marking}
 use Rattle.classes.proofs.Laws.{since-trans}
 use Rattle.quick.specs.Settled.{Alternating}
 use Rattle.quick.specs.Stepped.{Fewer, Moved, Narrowing}
-use Rattle.quick.proofs.Trying.{tries-clash, asks-narrow, asks-back, tries-fails, tries-stands}
+use Rattle.quick.proofs.Entering.{asks-own}
+use Rattle.quick.proofs.Trying.{tried-starts, tries-clash, asks-narrow, asks-back, tries-fails, tries-stands}
 use Rattle.quick.proofs.Sifting.{fewer-none, fewer-trans, fewer-small, Sifting, Turn, skipped, stood, failed, moved-none, sift-start, sift-here, sift-asks, turn-moved, turn-inside, turn-fewer, turn-on, sift-done}
 use Rattle.quick.proofs.Choosing.{chosen, chooses-none, asks-alone, chooses-one, asks-sift, asks-settle, chooses-fails, chooses-stands}
 use Rattle.quick.proofs.Narrowing.{Going, narrow-starts, moved-start, narrow-begin, narrow-done, narrow-here, narrow-deep, asks-one, asks-after, moved-on, narrow-on, moved-back, fewer-back, narrow-fails, narrows-stands, narrows-fails, narrows-len}
@@ -36,6 +38,7 @@ use Rattle.marks.proofs.positions.disjunctions_at.Reads as disjunctions-at-read
 use Rattle.marks.proofs.positions.number_at.Reads as number-at-reads
 use Rattle.marks.proofs.positions.tail_at.Reads as tail-at-reads
 use Rattle.marks.proofs.tally.count_kept.Reads as count-kept-reads
+use Rattle.quick.proofs.bare.try_bare.Reads as try-bare-reads
 use Rattle.quick.proofs.enter.enter.Reads as enter-reads
 use Rattle.quick.proofs.settle.settle.Reads as settle-reads
 use Rattle.quick.proofs.narrow.+narrow+narrow_one+sift+try_one.{statement}
@@ -288,6 +291,12 @@ sift-returns t c = let v = c .before .loop .inv in record { moved = v .0; fewer 
 
 abbrev try-one-claims : ℕ → try-one-lts.Claims
 try-one-claims t = (
+  tail-at-reads.Asked,
+  tail-at-reads.Learnt,
+  disjunctions-at-reads.Asked,
+  disjunctions-at-reads.Learnt,
+  try-bare-reads.Asked,
+  try-bare-reads.Learnt,
   enter-reads.Asked,
   enter-reads.Learnt,
   narrow-below t,
@@ -296,8 +305,23 @@ try-one-claims t = (
   back-reads.Learnt,
 )
 
+try-one-tail-at-requires : (t : ℕ) → try-one-lts.Need-tail-at-requires (try-one-claims t) (try-one-at t) try-one.Post
+try-one-tail-at-requires t c κs = let p = c .before .before .pre .1 in (tried-starts _ _ _ _ _ p .0, p .holds .long)
+
+try-one-disjunctions-at-requires : (t : ℕ) → try-one-lts.Need-disjunctions-at-requires (try-one-claims t) (try-one-at t) try-one.Post
+try-one-disjunctions-at-requires t c κs = let p = c .before .before .before .before .pre .1 in (let e = c .before .tail-at .ensures in let h = tried-starts _ _ _ _ _ p .1 in omega arith, p .holds .long)
+
+try-one-try-bare-requires : (t : ℕ) → try-one-lts.Need-try-bare-requires (try-one-claims t) (try-one-at t) try-one.Post
+try-one-try-bare-requires t c κs = asks-own _ _ _ _ _ (c .before .before .before .before .before .before .before .pre .1)
+
+try-one-same-length : (t : ℕ) → try-one-lts.Need-same-length (try-one-claims t) (try-one-at t) try-one.Post
+try-one-same-length t c = c .before .before .try-bare .ensures .tries _ (c .before .before .before .before .before .before .before .before .before .before .pre .1) (ap (disjunctions-at _) (sym (c .before .before .before .before .before .before .before .tail-at .ensures)) ∙ sym (c .before .before .before .before .before .disjunctions-at .ensures) ∙ c .before .before .before .before .if1 .taken) .moved .len
+
+try-one-returns : (t : ℕ) → try-one-lts.Need-returns (try-one-claims t) (try-one-at t) try-one.Post
+try-one-returns t c = c .before .before .try-bare .ensures .tries _ (c .before .before .before .before .before .before .before .before .before .before .pre .1) (ap (disjunctions-at _) (sym (c .before .before .before .before .before .before .before .tail-at .ensures)) ∙ sym (c .before .before .before .before .before .disjunctions-at .ensures) ∙ c .before .before .before .before .if1 .taken)
+
 try-one-enter-requires : (t : ℕ) → try-one-lts.Need-enter-requires (try-one-claims t) (try-one-at t) try-one.Post
-try-one-enter-requires t c κs = c .before .before .pre .1
+try-one-enter-requires t c κs = c .before .before .before .before .before .before .before .pre .1
 
 try-one-enum-known-pushed : (t : ℕ) → try-one-lts.Need-enum-known-pushed (try-one-claims t) (try-one-at t) try-one.Post
 try-one-enum-known-pushed t c = search needs
@@ -305,14 +329,14 @@ try-one-enum-known-pushed t c = search needs
 try-one-enum-told : (t : ℕ) → try-one-lts.Need-enum-told (try-one-claims t) (try-one-at t) try-one.Post
 try-one-enum-told t c = search needs
 
-try-one-same-length : (t : ℕ) → try-one-lts.Need-same-length (try-one-claims t) (try-one-at t) try-one.Post
-try-one-same-length t c = search needs
+try-one-same-length-2 : (t : ℕ) → try-one-lts.Need-same-length-2 (try-one-claims t) (try-one-at t) try-one.Post
+try-one-same-length-2 t c = search needs
 
-try-one-returns : (t : ℕ) → try-one-lts.Need-returns (try-one-claims t) (try-one-at t) try-one.Post
-try-one-returns t c = tries-clash _ _ _ _ _ _ _ (c .before .before .before .before .enter .ensures) (c .before .before .before .before .before .before .before .pre .1) (c .enum-told .given .1)
+try-one-returns-2 : (t : ℕ) → try-one-lts.Need-returns-2 (try-one-claims t) (try-one-at t) try-one.Post
+try-one-returns-2 t c = tries-clash _ _ _ _ _ _ _ (c .before .before .before .before .enter .ensures) (c .before .before .before .before .before .before .before .before .before .before .before .before .pre .1) (c .enum-told .given .1)
 
 try-one-narrow-requires : (t : ℕ) → try-one-lts.Need-narrow-requires (try-one-claims t) (try-one-at t) try-one.Post
-try-one-narrow-requires t c κs = (omega (arith, c .before .before .before .before .before .before .before .before .before .pre .0), asks-narrow _ _ _ _ _ _ _ (c .before .before .before .before .before .before .enter .ensures) (c .before .before .before .before .before .before .before .before .before .pre .1) _ (c .before .before .pushed .given .1))
+try-one-narrow-requires t c κs = (omega (arith, c .before .before .before .before .before .before .before .before .before .before .before .before .before .before .pre .0), asks-narrow _ _ _ _ _ _ _ (c .before .before .before .before .before .before .enter .ensures) (c .before .before .before .before .before .before .before .before .before .before .before .before .before .before .pre .1) _ (c .before .before .pushed .given .1))
 
 try-one-enum-known-step : (t : ℕ) → try-one-lts.Need-enum-known-step (try-one-claims t) (try-one-at t) try-one.Post
 try-one-enum-known-step t c = search needs
@@ -321,22 +345,22 @@ try-one-enum-told-2 : (t : ℕ) → try-one-lts.Need-enum-told-2 (try-one-claims
 try-one-enum-told-2 t c = search needs
 
 try-one-back-requires : (t : ℕ) → try-one-lts.Need-back-requires (try-one-claims t) (try-one-at t) try-one.Post
-try-one-back-requires t c κs = asks-back _ _ _ _ _ _ _ (c .before .before .before .before .before .before .before .before .before .before .before .before .enter .ensures) (c .before .before .before .before .before .before .before .before .before .before .before .before .before .before .before .pre .1) _ (c .before .before .before .before .before .before .before .before .pushed .given .1) _ _ (c .before .before .before .before .before .narrow .ensures) _ (c .before .before .before .before .before .narrow .ensures .failing (c .before .enum-told2 .given .1) .0)
-
-try-one-same-length-2 : (t : ℕ) → try-one-lts.Need-same-length-2 (try-one-claims t) (try-one-at t) try-one.Post
-try-one-same-length-2 t c = tries-fails _ _ _ _ _ _ _ (c .before .before .before .before .before .before .before .before .before .before .before .before .before .before .before .enter .ensures) (c .before .before .before .before .before .before .before .before .before .before .before .before .before .before .before .before .before .before .pre .1) _ (c .before .before .before .before .before .before .before .before .before .before .before .pushed .given .1) _ _ (c .before .before .before .before .before .before .before .before .narrow .ensures) (c .before .before .before .before .enum-told2 .given .1) _ (c .before .before .back .ensures) .moved .len
-
-try-one-returns-2 : (t : ℕ) → try-one-lts.Need-returns-2 (try-one-claims t) (try-one-at t) try-one.Post
-try-one-returns-2 t c = tries-fails _ _ _ _ _ _ _ (c .before .before .before .before .before .before .before .before .before .before .before .before .before .before .before .enter .ensures) (c .before .before .before .before .before .before .before .before .before .before .before .before .before .before .before .before .before .before .pre .1) _ (c .before .before .before .before .before .before .before .before .before .before .before .pushed .given .1) _ _ (c .before .before .before .before .before .before .before .before .narrow .ensures) (c .before .before .before .before .enum-told2 .given .1) _ (c .before .before .back .ensures)
-
-try-one-back-requires-2 : (t : ℕ) → try-one-lts.Need-back-requires-2 (try-one-claims t) (try-one-at t) try-one.Post
-try-one-back-requires-2 t c κs = asks-back _ _ _ _ _ _ _ (c .before .before .before .before .before .before .before .before .before .before .before .before .before .enter .ensures) (c .before .before .before .before .before .before .before .before .before .before .before .before .before .before .before .before .pre .1) _ (c .before .before .before .before .before .before .before .before .before .pushed .given .1) _ _ (c .before .before .before .before .before .before .narrow .ensures) _ (c .before .before .before .before .before .before .narrow .ensures .standing _ _ (c .before .before .step .given .1) .0)
+try-one-back-requires t c κs = asks-back _ _ _ _ _ _ _ (c .before .before .before .before .before .before .before .before .before .before .before .before .enter .ensures) (c .before .before .before .before .before .before .before .before .before .before .before .before .before .before .before .before .before .before .before .before .pre .1) _ (c .before .before .before .before .before .before .before .before .pushed .given .1) _ _ (c .before .before .before .before .before .narrow .ensures) _ (c .before .before .before .before .before .narrow .ensures .failing (c .before .enum-told2 .given .1) .0)
 
 try-one-same-length-3 : (t : ℕ) → try-one-lts.Need-same-length-3 (try-one-claims t) (try-one-at t) try-one.Post
-try-one-same-length-3 t c = tries-stands _ _ _ _ _ _ _ (c .before .before .before .before .before .before .before .before .before .before .before .before .before .before .before .before .enter .ensures) (c .before .before .before .before .before .before .before .before .before .before .before .before .before .before .before .before .before .before .before .pre .1) _ (c .before .before .before .before .before .before .before .before .before .before .before .before .pushed .given .1) _ _ (c .before .before .before .before .before .before .before .before .before .narrow .ensures) _ _ (c .before .before .before .before .before .step .given .1) _ (c .before .before .back2 .ensures) .moved .len
+try-one-same-length-3 t c = tries-fails _ _ _ _ _ _ _ (c .before .before .before .before .before .before .before .before .before .before .before .before .before .before .before .enter .ensures) (c .before .before .before .before .before .before .before .before .before .before .before .before .before .before .before .before .before .before .before .before .before .before .before .pre .1) _ (c .before .before .before .before .before .before .before .before .before .before .before .pushed .given .1) _ _ (c .before .before .before .before .before .before .before .before .narrow .ensures) (c .before .before .before .before .enum-told2 .given .1) _ (c .before .before .back .ensures) .moved .len
 
 try-one-returns-3 : (t : ℕ) → try-one-lts.Need-returns-3 (try-one-claims t) (try-one-at t) try-one.Post
-try-one-returns-3 t c = tries-stands _ _ _ _ _ _ _ (c .before .before .before .before .before .before .before .before .before .before .before .before .before .before .before .before .enter .ensures) (c .before .before .before .before .before .before .before .before .before .before .before .before .before .before .before .before .before .before .before .pre .1) _ (c .before .before .before .before .before .before .before .before .before .before .before .before .pushed .given .1) _ _ (c .before .before .before .before .before .before .before .before .before .narrow .ensures) _ _ (c .before .before .before .before .before .step .given .1) _ (c .before .before .back2 .ensures)
+try-one-returns-3 t c = tries-fails _ _ _ _ _ _ _ (c .before .before .before .before .before .before .before .before .before .before .before .before .before .before .before .enter .ensures) (c .before .before .before .before .before .before .before .before .before .before .before .before .before .before .before .before .before .before .before .before .before .before .before .pre .1) _ (c .before .before .before .before .before .before .before .before .before .before .before .pushed .given .1) _ _ (c .before .before .before .before .before .before .before .before .narrow .ensures) (c .before .before .before .before .enum-told2 .given .1) _ (c .before .before .back .ensures)
+
+try-one-back-requires-2 : (t : ℕ) → try-one-lts.Need-back-requires-2 (try-one-claims t) (try-one-at t) try-one.Post
+try-one-back-requires-2 t c κs = asks-back _ _ _ _ _ _ _ (c .before .before .before .before .before .before .before .before .before .before .before .before .before .enter .ensures) (c .before .before .before .before .before .before .before .before .before .before .before .before .before .before .before .before .before .before .before .before .before .pre .1) _ (c .before .before .before .before .before .before .before .before .before .pushed .given .1) _ _ (c .before .before .before .before .before .before .narrow .ensures) _ (c .before .before .before .before .before .before .narrow .ensures .standing _ _ (c .before .before .step .given .1) .0)
+
+try-one-same-length-4 : (t : ℕ) → try-one-lts.Need-same-length-4 (try-one-claims t) (try-one-at t) try-one.Post
+try-one-same-length-4 t c = tries-stands _ _ _ _ _ _ _ (c .before .before .before .before .before .before .before .before .before .before .before .before .before .before .before .before .enter .ensures) (c .before .before .before .before .before .before .before .before .before .before .before .before .before .before .before .before .before .before .before .before .before .before .before .before .pre .1) _ (c .before .before .before .before .before .before .before .before .before .before .before .before .pushed .given .1) _ _ (c .before .before .before .before .before .before .before .before .before .narrow .ensures) _ _ (c .before .before .before .before .before .step .given .1) _ (c .before .before .back2 .ensures) .moved .len
+
+try-one-returns-4 : (t : ℕ) → try-one-lts.Need-returns-4 (try-one-claims t) (try-one-at t) try-one.Post
+try-one-returns-4 t c = tries-stands _ _ _ _ _ _ _ (c .before .before .before .before .before .before .before .before .before .before .before .before .before .before .before .before .enter .ensures) (c .before .before .before .before .before .before .before .before .before .before .before .before .before .before .before .before .before .before .before .before .before .before .before .before .pre .1) _ (c .before .before .before .before .before .before .before .before .before .before .before .before .pushed .given .1) _ _ (c .before .before .before .before .before .before .before .before .before .narrow .ensures) _ _ (c .before .before .before .before .before .step .given .1) _ (c .before .before .back2 .ensures)
 
 pub +narrow+narrow-one+sift+try-one-spec : {M : Type 1} → statement M
 +narrow+narrow-one+sift+try-one-spec =
@@ -437,6 +461,12 @@ pub +narrow+narrow-one+sift+try-one-spec : {M : Type 1} → statement M
     (sift-same-length t)
     (sift-returns t))
     λ t. try-one-lts.spec (
+      tail-at-reads.Asked,
+      tail-at-reads.Learnt,
+      disjunctions-at-reads.Asked,
+      disjunctions-at-reads.Learnt,
+      try-bare-reads.Asked,
+      try-bare-reads.Learnt,
       enter-reads.Asked,
       enter-reads.Learnt,
       narrow-below t,
@@ -446,17 +476,22 @@ pub +narrow+narrow-one+sift+try-one-spec : {M : Type 1} → statement M
     )
     (try-one-at t)
     try-one.Post
+    (try-one-tail-at-requires t)
+    (try-one-disjunctions-at-requires t)
+    (try-one-try-bare-requires t)
+    (try-one-same-length t)
+    (try-one-returns t)
     (try-one-enter-requires t)
     (try-one-enum-known-pushed t)
     (try-one-enum-told t)
-    (try-one-same-length t)
-    (try-one-returns t)
+    (try-one-same-length-2 t)
+    (try-one-returns-2 t)
     (try-one-narrow-requires t)
     (try-one-enum-known-step t)
     (try-one-enum-told-2 t)
     (try-one-back-requires t)
-    (try-one-same-length-2 t)
-    (try-one-returns-2 t)
-    (try-one-back-requires-2 t)
     (try-one-same-length-3 t)
     (try-one-returns-3 t)
+    (try-one-back-requires-2 t)
+    (try-one-same-length-4 t)
+    (try-one-returns-4 t)
