@@ -30,7 +30,7 @@ use Rattle.quick.specs.Stepped.{total, Fewer, Off, Moved, Stood, Narrowi
 use Rattle.quick.proofs.Certain.{taken-any-between, Lone, lone-at}
 use Rattle.quick.proofs.Clearing.{clear-any}
 use Rattle.quick.proofs.Mirror.{any-distinct, any-none, any-several}
-use Rattle.quick.proofs.Settling.{settled-inside}
+use Rattle.quick.proofs.Settling.{settle-several, settled-inside}
 use Rattle.quick.proofs.Sifting.{moved-trans, moved-words}
 
 module _ (n k : ℕ) (w : List ℕ) (p count left : ℕ) where
@@ -155,6 +155,35 @@ module _ (n k : ℕ) (w : List ℕ) (p count left : ℕ) where
             go zero e f = absurd (omega arith)
             go (suc zero) e f = absurd (omega arith)
             go (suc (suc l)) e f = any-several (graphs (c .es)) (marking w) (c .a) (any-distinct (c .t) (c .a) p (c .from) (c .end) (c .to) (c .within) (c .at)) l e ∙ ap (λ (m : Marking). settle-at (graphs (c .es)) m (c .a)) (s .sifted (these c w refl (c .holds)) .is)
+
+        -- nothing was dropped, and several stay
+        pub chooses-still : drops ≡ 0 → Chooses n k w p count left (Stands k 0) w₁
+        chooses-still z = record {
+          standing = λ a i y.
+              let x : k ≡ a = cc in
+              let q : 0 ≡ i = cc in
+              subst (λ (a : ℕ). Moved k w a w₁ × Fewer i (marking w) (marking w₁) × ((c : Choosing n k w p count left) → ChooseStands n k w p count left a w₁ c)) x (s .moved, subst (λ (i : ℕ). Fewer i (marking w) (marking w₁)) (z ∙ q) (s .fewer), stood);
+          failing = λ y. let x : _≡_ {A = ℕ} 0 1 = cc in absurd (omega arith);
+        }
+          where
+            marks₁ : marking w₁ ≡ marking w
+            marks₁ = s .fewer .same z
+
+            stood : (c : Choosing n k w p count left) → ChooseStands n k w p count left k w₁ c
+            stood c =
+                let told = s .sifted (these c w refl (c .holds)) in
+                record {
+                  es' = c .es;
+                  stood = record { holds = told .holds'; inside = c .inside; old = λ o i. i; fresh = λ o i. inl i };
+                  clear' = subst (λ (m : Marking). ClearAny (c .es) (c .t) m p (c .from) (c .a) (c .end) (c .to) (c .at)) (sym marks₁) (c .clear);
+                  off = told .off;
+                  is = sifts c ∙ go (kept-of (marking w₁) (c .a)) refl (ap (λ (m : Marking). kept-of m (c .a)) marks₁ ∙ kept-is c);
+                }
+              where
+                go : (j : ℕ) → kept-of (marking w₁) (c .a) ≡ j → kept-of (marking w₁) (c .a) ≡ kept → settle-at (graphs (c .es)) (marking w₁) (c .a) ≡ stands (graphs (c .es)) (marking w₁)
+                go zero e f = absurd (omega arith)
+                go (suc zero) e f = absurd (omega arith)
+                go (suc (suc l)) e f = settle-several (graphs (c .es)) (marking w₁) (c .a) l e
 
         module _ (r : Pushed) (w₂ : List ℕ) (u : Settles n k w₁ p count left r w₂) where
           marks₂ : marking w₂ ≡ marking w₁

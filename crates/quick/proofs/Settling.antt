@@ -46,7 +46,7 @@ module _ (S : List Graph) (m : Marking) (a : Options) where
   unfolding settling
   settle-one b e f = ap (λ (c : ℕ). settling S m a c (agree (S ++ certain-any m a))) e ∙ ap (λ (b : Bool). settling S m a 1 b) f
 
-  settle-several : (l : ℕ) → kept-of m a ≡ suc (suc l) → settle-at S m a ≡ stands S m
+  pub settle-several : (l : ℕ) → kept-of m a ≡ suc (suc l) → settle-at S m a ≡ stands S m
   unfolding settling
   settle-several l e = ap (λ (c : ℕ). settling S m a c (agree (S ++ certain-any m a))) e
 

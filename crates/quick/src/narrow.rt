@@ -80,6 +80,9 @@ fn narrow_one(w: &mut [u32], k: usize, n: usize, p: usize, count: usize, left: u
         return narrow(w, k, n, first, left);
     }
     let drops = sift(w, k, n, p, count, left);
+    if drops == 0 {
+        return Step::Stands(k, 0);
+    }
     let end = settle(w, k, n, p, count, left);
     let Pushed::In(j) = end else {
         return Step::Fails;

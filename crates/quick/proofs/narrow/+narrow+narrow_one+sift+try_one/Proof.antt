@@ -13,7 +13,7 @@ use Rattle.quick.specs.Stepped.{Fewer, Moved, Narrowing}
 use Rattle.quick.proofs.Entering.{asks-own}
 use Rattle.quick.proofs.Trying.{tried-starts, tries-clash, asks-narrow, asks-back, tries-fails, tries-stands}
 use Rattle.quick.proofs.Sifting.{fewer-none, fewer-trans, fewer-small, Sifting, Turn, skipped, stood, failed, moved-none, sift-start, sift-here, sift-asks, turn-moved, turn-inside, turn-fewer, turn-on, sift-done}
-use Rattle.quick.proofs.Choosing.{chosen, chooses-none, asks-alone, chooses-one, asks-sift, asks-settle, chooses-fails, chooses-stands}
+use Rattle.quick.proofs.Choosing.{chosen, chooses-none, asks-alone, chooses-one, asks-sift, asks-settle, chooses-still, chooses-fails, chooses-stands}
 use Rattle.quick.proofs.Narrowing.{Going, narrow-starts, moved-start, narrow-begin, narrow-done, narrow-here, narrow-deep, asks-one, asks-after, moved-on, narrow-on, moved-back, fewer-back, narrow-fails, narrows-stands, narrows-fails, narrows-len}
 use borrow.Fn.Kinds.{In}
 use borrow.Fn.PlainCycle.{Measures, is, falls, and}
@@ -200,8 +200,14 @@ narrow-one-returns-2 t c = chooses-one _ _ _ _ _ _ _ _ _ (c .before .before .bef
 narrow-one-sift-requires : (t : ℕ) → narrow-one-lts.Need-sift-requires (narrow-one-claims t) (narrow-one-at t) narrow-one.Post
 narrow-one-sift-requires t c κs = (omega (arith, c .before .before .before .before .before .before .before .before .pre .0), asks-sift _ _ _ _ _ _ _ _ _ (c .before .before .before .before .before .count-kept .ensures) (omega arith) (c .before .before .before .before .before .before .before .before .pre .1))
 
+narrow-one-same-length-3 : (t : ℕ) → narrow-one-lts.Need-same-length-3 (narrow-one-claims t) (narrow-one-at t) narrow-one.Post
+narrow-one-same-length-3 t c = c .before .before .before .sift .ensures .moved .len
+
+narrow-one-returns-3 : (t : ℕ) → narrow-one-lts.Need-returns-3 (narrow-one-claims t) (narrow-one-at t) narrow-one.Post
+narrow-one-returns-3 t c = chooses-still _ _ _ _ _ _ _ _ _ (c .before .before .before .before .before .before .before .before .before .count-kept .ensures) (omega arith) (c .before .before .before .before .before .before .before .before .before .before .before .before .pre .1) _ _ (c .before .before .before .sift .ensures) (omega arith)
+
 narrow-one-settle-requires : (t : ℕ) → narrow-one-lts.Need-settle-requires (narrow-one-claims t) (narrow-one-at t) narrow-one.Post
-narrow-one-settle-requires t c κs = asks-settle _ _ _ _ _ _ _ _ _ (c .before .before .before .before .before .before .before .before .before .count-kept .ensures) (omega arith) (c .before .before .before .before .before .before .before .before .before .before .before .before .pre .1) _ _ (c .before .before .before .sift .ensures)
+narrow-one-settle-requires t c κs = asks-settle _ _ _ _ _ _ _ _ _ (c .before .before .before .before .before .before .before .before .before .before .count-kept .ensures) (omega arith) (c .before .before .before .before .before .before .before .before .before .before .before .before .before .pre .1) _ _ (c .before .before .before .before .sift .ensures)
 
 narrow-one-enum-known-end : (t : ℕ) → narrow-one-lts.Need-enum-known-end (narrow-one-claims t) (narrow-one-at t) narrow-one.Post
 narrow-one-enum-known-end t c = search needs
@@ -209,17 +215,17 @@ narrow-one-enum-known-end t c = search needs
 narrow-one-enum-told : (t : ℕ) → narrow-one-lts.Need-enum-told (narrow-one-claims t) (narrow-one-at t) narrow-one.Post
 narrow-one-enum-told t c = search needs
 
-narrow-one-same-length-3 : (t : ℕ) → narrow-one-lts.Need-same-length-3 (narrow-one-claims t) (narrow-one-at t) narrow-one.Post
-narrow-one-same-length-3 t c = c .before .before .before .before .settle .ensures .len ∙ c .before .before .before .before .before .before .before .before .sift .ensures .moved .len
-
-narrow-one-returns-3 : (t : ℕ) → narrow-one-lts.Need-returns-3 (narrow-one-claims t) (narrow-one-at t) narrow-one.Post
-narrow-one-returns-3 t c = chooses-fails _ _ _ _ _ _ _ _ _ (c .before .before .before .before .before .before .before .before .before .before .before .before .before .before .count-kept .ensures) (omega arith) (c .before .before .before .before .before .before .before .before .before .before .before .before .before .before .before .before .before .pre .1) _ _ (c .before .before .before .before .before .before .before .before .sift .ensures) _ _ (c .before .before .before .before .settle .ensures) (c .enum-told .given .1)
-
 narrow-one-same-length-4 : (t : ℕ) → narrow-one-lts.Need-same-length-4 (narrow-one-claims t) (narrow-one-at t) narrow-one.Post
-narrow-one-same-length-4 t c = c .before .before .before .before .before .settle .ensures .len ∙ c .before .before .before .before .before .before .before .before .before .sift .ensures .moved .len
+narrow-one-same-length-4 t c = c .before .before .before .before .settle .ensures .len ∙ c .before .before .before .before .before .before .before .before .before .sift .ensures .moved .len
 
 narrow-one-returns-4 : (t : ℕ) → narrow-one-lts.Need-returns-4 (narrow-one-claims t) (narrow-one-at t) narrow-one.Post
-narrow-one-returns-4 t c = chooses-stands _ _ _ _ _ _ _ _ _ (c .before .before .before .before .before .before .before .before .before .before .before .before .before .before .before .count-kept .ensures) (omega arith) (c .before .before .before .before .before .before .before .before .before .before .before .before .before .before .before .before .before .before .pre .1) _ _ (c .before .before .before .before .before .before .before .before .before .sift .ensures) _ _ (c .before .before .before .before .before .settle .ensures) _ (c .before .end .given .1)
+narrow-one-returns-4 t c = chooses-fails _ _ _ _ _ _ _ _ _ (c .before .before .before .before .before .before .before .before .before .before .before .before .before .before .before .count-kept .ensures) (omega arith) (c .before .before .before .before .before .before .before .before .before .before .before .before .before .before .before .before .before .before .pre .1) _ _ (c .before .before .before .before .before .before .before .before .before .sift .ensures) _ _ (c .before .before .before .before .settle .ensures) (c .enum-told .given .1)
+
+narrow-one-same-length-5 : (t : ℕ) → narrow-one-lts.Need-same-length-5 (narrow-one-claims t) (narrow-one-at t) narrow-one.Post
+narrow-one-same-length-5 t c = c .before .before .before .before .before .settle .ensures .len ∙ c .before .before .before .before .before .before .before .before .before .before .sift .ensures .moved .len
+
+narrow-one-returns-5 : (t : ℕ) → narrow-one-lts.Need-returns-5 (narrow-one-claims t) (narrow-one-at t) narrow-one.Post
+narrow-one-returns-5 t c = chooses-stands _ _ _ _ _ _ _ _ _ (c .before .before .before .before .before .before .before .before .before .before .before .before .before .before .before .before .count-kept .ensures) (omega arith) (c .before .before .before .before .before .before .before .before .before .before .before .before .before .before .before .before .before .before .before .pre .1) _ _ (c .before .before .before .before .before .before .before .before .before .before .sift .ensures) _ _ (c .before .before .before .before .before .settle .ensures) _ (c .before .end .given .1)
 
 abbrev sift-Inv-loop : sift-lts.InvT-loop
 sift-Inv-loop w₀ k n p count left rest₀ at₀ drops₀ w rest at drops = Moved k w₀ k w × Fewer drops (marking w₀) (marking w) × ((c : Alternating n k w₀ p count left) → Sifting n k w₀ p count left c rest at w)
@@ -422,13 +428,15 @@ pub +narrow+narrow-one+sift+try-one-spec : {M : Type 1} → statement M
     (narrow-one-same-length-2 t)
     (narrow-one-returns-2 t)
     (narrow-one-sift-requires t)
+    (narrow-one-same-length-3 t)
+    (narrow-one-returns-3 t)
     (narrow-one-settle-requires t)
     (narrow-one-enum-known-end t)
     (narrow-one-enum-told t)
-    (narrow-one-same-length-3 t)
-    (narrow-one-returns-3 t)
     (narrow-one-same-length-4 t)
-    (narrow-one-returns-4 t))
+    (narrow-one-returns-4 t)
+    (narrow-one-same-length-5 t)
+    (narrow-one-returns-5 t))
     (λ t. sift-lts.spec (
       number-at-reads.Asked,
       number-at-reads.Learnt,
