@@ -1,4 +1,4 @@
--- An arc goes onto a chain: to its front, or to its place on a rising chain. Assumes nothing.
+-- An arc goes onto a chain, after lesser features. Assumes nothing.
 use mathlib.Core.Path.{_≡_, refl, sym, ap, _∙_, subst}
 use mathlib.Core.List.{List, [], _∷_, List·Memᴰ, List·Memᴰ·head, List·Memᴰ·tail, List·Memᴰ·cases-cons}
 use mathlib.Core.Logic.{_⊎_, inl, inr, ⊎-elim}
@@ -9,7 +9,7 @@ use Rattle.area.specs.Map.{NEXT}
 use Rattle.classes.specs.State.{Chain, First}
 use Rattle.classes.specs.Order.{Rising, Between}
 use Rattle.classes.proofs.Links.{chain-same}
-use Rattle.classes.proofs.Places.{rising-above, between-where}
+use Rattle.classes.proofs.Places.{chain-once, between-where}
 
 -- L has the arcs of xs and the arc t, the first of its feature; of each other feature the first arc is as it was
 pub record Grows (F : List ℕ) (t : ℕ) (xs L : List ℕ) : Type 0 where
@@ -48,20 +48,20 @@ module _ (F : List ℕ) (t : ℕ) where
 
   -- two stores make it a chain
   module _ (w w' : List ℕ) (a : ℕ) (at-a : getD w' a 0 ≡ suc t) (ht : t < 2048) (at-t : getD w' (NEXT + t) 0 ≡ getD w a 0) where
-    pub lodge-chain : (b low : ℕ) (xs : List ℕ) (u : Between F (getD F t 0) b a xs) → Rising F low xs → Chain w (getD w b 0) xs
+    pub lodge-chain : (b : ℕ) (xs : List ℕ) (u : Between F (getD F t 0) b a xs) → Chain w (getD w b 0) xs
         → ((i : ℕ) → List·Memᴰ i xs → b ≡ NEXT + i → ⊥) → ((b ≡ a → ⊥) → getD w' b 0 ≡ getD w b 0) → ((i : ℕ) → List·Memᴰ i xs → (NEXT + i ≡ a → ⊥) → getD w' (NEXT + i) 0 ≡ getD w (NEXT + i) 0)
         → Chain w' (getD w' b 0) (lodge b a xs u)
-    lodge-chain b low [] u r c away first keep = (ap (λ (z : ℕ). getD w' z 0) u ∙ at-a, (ht, at-t ∙ ap (λ (z : ℕ). getD w z 0) (sym u) ∙ c))
-    lodge-chain b low (j ∷ xs) (inl u) r c away first keep =
+    lodge-chain b [] u c away first keep = (ap (λ (z : ℕ). getD w' z 0) u ∙ at-a, (ht, at-t ∙ ap (λ (z : ℕ). getD w z 0) (sym u) ∙ c))
+    lodge-chain b (j ∷ xs) (inl u) c away first keep =
         let e : getD w b 0 ≡ getD w' (NEXT + t) 0 = ap (λ (z : ℕ). getD w z 0) (u .0) ∙ sym at-t in
         (ap (λ (z : ℕ). getD w' z 0) (u .0) ∙ at-a, (ht, subst (λ (z : ℕ). Chain w' z (j ∷ xs)) e (chain-same w w' (getD w b 0) (j ∷ xs) (λ q m. keep q m (λ z. away q m (u .0 ∙ sym z))) c)))
-    lodge-chain b low (j ∷ xs) (inr u) r c away first keep =
+    lodge-chain b (j ∷ xs) (inr u) c away first keep =
         let s : getD w' b 0 ≡ getD w b 0 = first (λ z. ⊎-elim (λ e. away j (List·Memᴰ·head refl) (z ∙ e)) (λ o. away (o .0) (List·Memᴰ·tail (o .1 .0)) (z ∙ o .1 .1)) (between-where F (getD F t 0) (NEXT + j) a xs (u .1))) in (
           s ∙ c .0,
           (
             c .1 .0,
-            lodge-chain (NEXT + j) (suc (getD F j 0)) xs (u .1) (r .1) (c .1 .1)
-                (λ i m e. let h = rising-above F (suc (getD F j 0)) xs (r .1) i m in let d : getD F j 0 ≡ getD F i 0 = ap (λ (z : ℕ). getD F z 0) (omega arith) in omega arith)
+            lodge-chain (NEXT + j) xs (u .1) (c .1 .1)
+                (λ i m e. chain-once w (getD w b 0) j xs c (subst (λ (z : ℕ). List·Memᴰ z xs) (omega arith) m))
                 (λ z. keep j (List·Memᴰ·head refl) z) (λ i m z. keep i (List·Memᴰ·tail m) z),
           ),
         )

@@ -20,7 +20,7 @@ use Rattle.area.proofs.Region.{length-region, region-ext}
 use Rattle.area.proofs.Undo.{later-refl, later-trans, put-at, put-off}
 use Rattle.classes.proofs.Links.{chain-same, chain-zero, first-mem, first-feature, none-first, total-set}
 use Rattle.classes.proofs.Places.{chain-det, chain-low, between-where}
-use Rattle.classes.proofs.Splice.{Grows, grows-front, lodge, lodge-grows, lodge-rising, lodge-chain}
+use Rattle.classes.proofs.Splice.{Grows, lodge, lodge-grows, lodge-rising, lodge-chain}
 use Rattle.classes.proofs.Fuse.{low, top, short}
 use Rattle.classes.proofs.Turns.{hold-pair}
 
@@ -166,7 +166,7 @@ module _ (F T : List ℕ) (n k : ℕ) (w : List ℕ) (hn : n ≤ 1024) (hw : SIZ
                 (o .0, (subst (λ (a : ℕ). First F (getD F t 0) (getD (v .C) a []) (o .0)) e (subst (λ (a : ℕ). First F a (getD (v .C) (getD (v .M) (G .S i) 0) []) (o .0)) ef (o .1 .0)), Near.trans (o .1 .1) (Near.old (sym d))))
 
   -- ---- the feature is not there: the arc goes onto the chain, after the link l
-  module _ (t : ℕ) (ht : t < 2048) (lc : getD w c 0 ≤ 2048) (at l : ℕ) (hint : 0 < at → Hint F w c at) (loc : Located F w (getD F t 0) c at l 0) (h : ℕ) (eh : h ≡ getD w l 0) (hk : k + 2 ≤ 4096)
+  module _ (t : ℕ) (ht : t < 2048) (lc : getD w c 0 ≤ 2048) (at l : ℕ) (hint : 0 < at → Hint F w c at) (loc : Located F w (getD F t 0) c l 0) (h : ℕ) (eh : h ≡ getD w l 0) (hk : k + 2 ≤ 4096)
       (k1 k2 : ℕ) (w1 w2 : List ℕ) (p1 : Put k w (NEXT + t) h k1 w1) (p2 : Put k1 w1 l (t + 1) k2 w2) where
     off : (j : ℕ) → (j ≡ NEXT + t → ⊥) → (j ≡ l → ⊥) → j < LOG → getD w2 j 0 ≡ getD w j 0
     off j a b i = let e = p1 .next in put-off k1 w1 l (t + 1) k2 w2 p2 (omega arith) j b (inl i) ∙ put-off k w (NEXT + t) h k1 w1 p1 (omega arith) j a (inl i)
@@ -184,12 +184,12 @@ module _ (F T : List ℕ) (n k : ℕ) (w : List ℕ) (hn : n ≤ 1024) (hw : SIZ
       cx : Chain w (getD w c 0) xs
       cx = chain-c G H u lc
 
-      gap : (l ≡ c) ⊎ (Rising F 0 xs × Between F (getD F t 0) c l xs)
-      gap = ⊎-elim (λ e. inl e) (λ g. inr (g xs cx)) (loc .gap refl)
+      gap : Between F (getD F t 0) c l xs
+      gap = loc .place refl xs cx
 
       -- the link is that of the class, or of an arc on its chain
       on : (l ≡ c) ⊎ ((q : ℕ) × (List·Memᴰ q xs × (l ≡ NEXT + q)))
-      on = ⊎-elim (λ e. inl e) (λ g. between-where F (getD F t 0) c l xs (g .1)) gap
+      on = between-where F (getD F t 0) c l xs gap
 
       -- an arc of some chain is not the one that comes
       other : (d q : ℕ) → d < n → List·Memᴰ q (getD (u .C) d []) → (q < 2047) × (q ≡ t → ⊥)
@@ -211,19 +211,11 @@ module _ (F T : List ℕ) (n k : ℕ) (w : List ℕ) (hn : n ≤ 1024) (hw : SIZ
       keep : (q : ℕ) → List·Memᴰ q xs → (NEXT + q ≡ l → ⊥) → getD w2 (NEXT + q) 0 ≡ getD w (NEXT + q) 0
       keep q m z = let o = other c q c-in m in let i = o .0 in off (NEXT + q) (λ e. o .1 (omega arith)) z (omega arith)
 
-      front : l ≡ c → Chain w2 (getD w2 c 0) (t ∷ xs)
-      front e =
-          let i = c-in in
-          (ap (λ (z : ℕ). getD w2 z 0) (sym e) ∙ at-l, (ht, subst (λ (z : ℕ). Chain w2 z xs) (ap (λ (z : ℕ). getD w z 0) (sym e) ∙ sym at-t) (chain-same w w2 (getD w c 0) xs (λ q m. keep q m (λ z. omega arith)) cx)))
-
-      lodged : Rising F 0 xs → (b : Between F (getD F t 0) c l xs) → Chain w2 (getD w2 c 0) (lodge F t c l xs b)
-      lodged r b = let i = c-in in lodge-chain F t w w2 l at-l ht at-t c 0 xs b r cx (λ j m e. omega arith) (λ e. off c (λ y. omega arith) e (omega arith)) keep
+      lodged : Chain w2 (getD w2 c 0) (lodge F t c l xs gap)
+      lodged = let i = c-in in lodge-chain F t w w2 l at-l ht at-t c xs gap cx (λ j m e. omega arith) (λ e. off c (λ y. omega arith) e (omega arith)) keep
 
       spliced : (L : List ℕ) × (Grows F t xs L × Chain w2 (getD w2 c 0) L)
-      spliced = ⊎-elim
-          (λ e. (t ∷ xs, (grows-front F t xs, front e)))
-          (λ g. (lodge F t c l xs (g .1), (lodge-grows F t c l xs (g .1), lodged (g .0) (g .1))))
-          gap
+      spliced = (lodge F t c l xs gap, (lodge-grows F t c l xs gap, lodged))
 
       c-small : getD w2 c 0 ≤ 2048
       c-small = go (spliced .0) (spliced .1 .1)
@@ -329,12 +321,11 @@ module _ (F T : List ℕ) (n k : ℕ) (w : List ℕ) (hn : n ≤ 1024) (hw : SIZ
       hung-hint z =
           let q : NEXT + t - NEXT ≡ t = omega arith in
           let r = hint z .up xs cx in
-          let b = loc .place z refl xs cx in
-          let is : (ys : List ℕ) → Chain w2 (getD w2 c 0) ys → lodge F t c l xs b ≡ ys = λ ys d. chain-det w2 (getD w2 c 0) (lodge F t c l xs b) ys (lodged r b) d in
+          let is : (ys : List ℕ) → Chain w2 (getD w2 c 0) ys → lodge F t c l xs gap ≡ ys = λ ys d. chain-det w2 (getD w2 c 0) (lodge F t c l xs gap) ys lodged d in
           record {
             low = omega arith;
-            up = λ ys d. subst (Rising F 0) (is ys d) (lodge-rising F t c l 0 xs b (omega arith) r);
-            on = λ e ys d. rw q (subst (List·Memᴰ t) (is ys d) (first-mem F (getD F t 0) (lodge F t c l xs b) t (lodge-grows F t c l xs b .mine)));
+            up = λ ys d. subst (Rising F 0) (is ys d) (lodge-rising F t c l 0 xs gap (omega arith) r);
+            on = λ e ys d. rw q (subst (List·Memᴰ t) (is ys d) (first-mem F (getD F t 0) (lodge F t c l xs gap) t (lodge-grows F t c l xs gap .mine)));
           }
 
       pub hung-ordered : 0 < at → Ordered F n w2 x (NEXT + t)

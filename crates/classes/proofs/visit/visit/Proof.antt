@@ -96,7 +96,7 @@ returns-2 c =
     let g = c .before .before .before .before .before .before .before .before .before .before .before .before .before .before .before .before .before .before .before .before .pre .1 .1 .0 in
     let rr = g .fresh .room in
     let rq = g .state .room in
-    let lc : Located F wn (getD F (a .t) 0) (find .result) (a .at) (c .before .before .before .before .before .before .before .before .before .before .before .locate .result .link) 0 = rw (c .before .before .before .before .before .before .before .before .before .before .before .before .before .loaded .ensures, c .before .before .before .before .before .before .before .before .before .before .if2 .taken) at (c .before .before .before .before .before .before .before .before .before .before .before .locate .ensures) in
+    let lc : Located F wn (getD F (a .t) 0) (find .result) (c .before .before .before .before .before .before .before .before .before .before .before .locate .result .link) 0 = rw (c .before .before .before .before .before .before .before .before .before .before .before .before .before .loaded .ensures, c .before .before .before .before .before .before .before .before .before .before .if2 .taken) at (c .before .before .before .before .before .before .before .before .before .before .before .locate .ensures) in
     record {
       visited = visit-hung F T (a .n) (a .k) wn (omega arith) (omega arith) (a .x) (omega arith) (find .result) (find .ensures) (a .t) (omega arith) (c .before .before .before .before .before .before .before .before .before .before .before .before .before .before .before .if1 .left) (a .at) (c .before .before .before .before .before .before .before .before .before .before .before .locate .result .link) (λ z. c .before .before .before .before .before .before .before .before .before .before .before .before .before .before .before .before .before .before .before .before .pre .1 .1 .1 .hint z (find .result) (find .ensures)) lc (getD wn (c .before .before .before .before .before .before .before .before .before .before .before .locate .result .link) 0) refl (omega arith) (c .before .before .before .before .before .before .before .put .result) (c .before .before .before .put2 .result) (c .before .before .before .before .before .before .before .put .last .0) (c .before .before .before .put2 .last .0) (c .before .before .before .before .before .before .before .put .ensures) (c .before .before .before .put2 .ensures);
       next = λ z. ordered-none F (a .n) (c .before .before .before .put2 .last .0) (a .x);
@@ -117,7 +117,7 @@ returns-3 c =
     let g = c .before .before .before .before .before .before .before .before .before .before .before .before .before .before .before .before .before .before .before .before .pre .1 .1 .0 in
     let rr = g .fresh .room in
     let rq = g .state .room in
-    let lc : Located F wn (getD F (a .t) 0) (find .result) (a .at) (c .before .before .before .before .before .before .before .before .before .before .before .locate .result .link) 0 = rw (c .before .before .before .before .before .before .before .before .before .before .before .before .before .loaded .ensures, c .before .before .before .before .before .before .before .before .before .before .if2 .taken) at (c .before .before .before .before .before .before .before .before .before .before .before .locate .ensures) in
+    let lc : Located F wn (getD F (a .t) 0) (find .result) (c .before .before .before .before .before .before .before .before .before .before .before .locate .result .link) 0 = rw (c .before .before .before .before .before .before .before .before .before .before .before .before .before .loaded .ensures, c .before .before .before .before .before .before .before .before .before .before .if2 .taken) at (c .before .before .before .before .before .before .before .before .before .before .before .locate .ensures) in
     record {
       visited = visit-hung F T (a .n) (a .k) wn (omega arith) (omega arith) (a .x) (omega arith) (find .result) (find .ensures) (a .t) (omega arith) (c .before .before .before .before .before .before .before .before .before .before .before .before .before .before .before .if1 .left) (a .at) (c .before .before .before .before .before .before .before .before .before .before .before .locate .result .link) (λ z. c .before .before .before .before .before .before .before .before .before .before .before .before .before .before .before .before .before .before .before .before .pre .1 .1 .1 .hint z (find .result) (find .ensures)) lc (getD wn (c .before .before .before .before .before .before .before .before .before .before .before .locate .result .link) 0) refl (omega arith) (c .before .before .before .before .before .before .before .put .result) (c .before .before .before .put2 .result) (c .before .before .before .before .before .before .before .put .last .0) (c .before .before .before .put2 .last .0) (c .before .before .before .before .before .before .before .put .ensures) (c .before .before .before .put2 .ensures);
       next = λ z. hung-ordered F T (a .n) (a .k) wn (omega arith) (omega arith) (a .x) (omega arith) (find .result) (find .ensures) (a .t) (omega arith) (c .before .before .before .before .before .before .before .before .before .before .before .before .before .before .before .if1 .left) (a .at) (c .before .before .before .before .before .before .before .before .before .before .before .locate .result .link) (λ z. c .before .before .before .before .before .before .before .before .before .before .before .before .before .before .before .before .before .before .before .before .pre .1 .1 .1 .hint z (find .result) (find .ensures)) lc (getD wn (c .before .before .before .before .before .before .before .before .before .before .before .locate .result .link) 0) refl (omega arith) (c .before .before .before .before .before .before .before .put .result) (c .before .before .before .put2 .result) (c .before .before .before .before .before .before .before .put .last .0) (c .before .before .before .put2 .last .0) (c .before .before .before .before .before .before .before .put .ensures) (c .before .before .before .put2 .ensures) (g .G) (g .H) (g .state) (g .fresh) (some (a .at) (c .if3 .left));
