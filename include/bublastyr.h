@@ -10,7 +10,8 @@
 extern "C" {
 #endif
 
-// The numbers that come back. A refused call has decided nothing: only 0 is a pass.
+// The numbers that come back. Only 0 is a pass; 6 says that the two do not agree, and every other number that
+// the call was refused and nothing was decided.
 enum {
     BUBLASTYR_DONE = 0,             // unified; or: the structure satisfies the description
     BUBLASTYR_BAD_MODE = 1,         // the mode is above 2
@@ -31,7 +32,7 @@ enum {
 #define BUBLASTYR_LONGEST_RESULT 2045
 
 // Unifies two descriptions in mode 0 (join), 1 (quick) or 2 (full), and answers one of the numbers 0 to 8.
-// The checks run in the order of the numbers 1 to 5, 6, 7, 8.
+// The checks run in the order of the numbers 1 to 8; in mode 2 a 6 because no choice is consistent comes after 7.
 //
 // told[0] is the length: the words written after 0, the words needed after 8, else 0.
 // told[1] is the number of readings: after 0 in mode 2 the consistent choices, else 0.
