@@ -1,20 +1,17 @@
 -- What becomes of both areas: there is an outcome for every input, refusals write nothing, and both areas keep their lengths.
 -- Assumes nothing.
-use mathlib.Core.Path.{_≡_, refl, ap, sym, _∙_, subst}
+use mathlib.Core.Path.{_≡_, refl, ap, _∙_}
 use mathlib.Core.Logic.{_⊎_, inl, inr, ⊎-elim}
-use mathlib.Core.Bool.{Bool, true, false}
-use mathlib.Core.List.{List, [], _∷_, _++_}
-use Prim.Native.Nat.{ℕ, zero, suc, _+_, _-_, _≤_, _<_}
+use mathlib.Core.List.{List, [], _++_}
+use Prim.Native.Nat.{ℕ, zero, suc, _≤_, _<_}
 use native.Mathlib.Omega.{arith}
 use lib.ListN.{length, drop, replicate, length-append, length-drop, length-replicate}
-use lib.Dec.{ltb}
 use borrow.Author.Tests.{lt-ltb, le-ltb}
 use Rattle.theory.specs.Limits.{working-size}
-use Rattle.theory.specs.Layout.{words}
 use Rattle.theory.specs.Answer.{Answer}
 use Rattle.theory.specs.Outcome.{Areas, wiped, worked, Outcome}
 use Rattle.theory.specs.Unified.{unified}
-use Rattle.theory.specs.Rules.{Accepted, Given, one, two, three, four, five, six, seven, six-after, eight, done}
+use Rattle.theory.specs.Rules.{Given, one, two, three, four, five, six, seven, six-after, eight, done}
 use Rattle.theory.proofs.Table.{unified-given}
 
 -- only number 0 writes, and what it writes has room

@@ -1,23 +1,21 @@
 -- What the three modes do to the meanings: the meanings of the result are those of the choices of both, taken together.
 -- Assumes nothing.
 use mathlib.Core.Path.{_≡_, refl, ap, ap₂, sym, _∙_, subst}
-use mathlib.Core.Logic.{_⊎_, inl, inr, ⊎-elim, _↔_}
 use mathlib.Core.Bool.{Bool, true, false}
 use mathlib.Core.Option.{Option, none, some}
-use mathlib.Core.List.{List, [], _∷_, _++_, append-assoc, append-nil, List·Memᴰ, List·Memᴰ·head, List·Memᴰ·tail, List·Memᴰ·cases-cons, List·Memᴰ·not-nil, Memᴰ·append-left, Memᴰ·append-right}
-use Prim.Native.Nat.{ℕ, zero, suc, _+_, _≤_, _<_}
+use mathlib.Core.List.{List, [], _∷_, _++_, append-assoc, append-nil, List·Memᴰ, List·Memᴰ·head, List·Memᴰ·tail, Memᴰ·append-left}
+use Prim.Native.Nat.{ℕ, zero, suc}
 use native.Mathlib.Omega.{arith}
-use lib.ListN.{length, length-append}
-use Rattle.theory.specs.Net.{Graph, Canonical}
+use lib.ListN.{length}
+use Rattle.theory.specs.Net.{Graph}
 use Rattle.theory.specs.Join.{join}
-use Rattle.theory.specs.Descr.{Desc, desc, Disjs, end, _and_, Alts, fail, _or_, each, pairs, choices, choices-all, choices-any, _then_, answers, agree, agreeing, readings}
+use Rattle.theory.specs.Descr.{Desc, desc, choices, choices-all, _then_, answers, agree, agreeing, readings}
 use Rattle.theory.specs.Modes.{joined, size, tidy, quick, some-agree, prune, fold, full}
 use Rattle.theory.specs.Answer.{consistent}
 use Rattle.theory.specs.Rules.{mode-result}
-use Rattle.theory.proofs.Instance.{AllCanonical}
-use Rattle.theory.proofs.Mean.{Ctx, Fine, fine-append, canon-append, Alike, alike-flat, alike-sym, run, run-each, run-append, run-pairs, run-cong, run-none, run-same, run-then, Good, AllFine, good-run, Can, choices-fine, choices-all-fine, pairs-fine, clash-stays, within-both, shuffle, join-canonical, can-then}
-use Rattle.theory.proofs.Quick.{nil, nil-canonical, nil-holds, one, leaf, good-leaf, meanings, tidy-means, tidy-fails, readings-count}
-use Rattle.theory.proofs.Full.{each-from, each-in, pairs-from, pairs-in, AllFull, full-pairs, SomeAgree, agrees, none-agrees, some-agree-view, whole, full-means}
+use Rattle.theory.proofs.Mean.{Ctx, Fine, fine-append, alike-flat, alike-sym, run, run-each, run-cong, run-none, run-same, run-then, Good, AllFine, good-run, Can, choices-fine, choices-all-fine, clash-stays, shuffle, join-canonical, can-then}
+use Rattle.theory.proofs.Quick.{nil, one, leaf, good-leaf, meanings, tidy-means, tidy-fails, readings-count}
+use Rattle.theory.proofs.Full.{each-from, AllFull, SomeAgree, none-agrees, some-agree-view, whole, full-means}
 
 pub choices-full : (d : Desc) → Can d → AllFull (choices d)
 choices-full (desc g ds) p r m = let (s, j, e) = each-from (g ∷ []) (choices-all ds) r m in (rw e (omega arith), choices-fine (desc g ds) p r m)

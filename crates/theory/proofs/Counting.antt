@@ -1,11 +1,11 @@
 -- The number of choices is the length of the list of choices, and the capped count is its minimum with 4,097.
 -- Assumes nothing.
-use mathlib.Core.Path.{_≡_, refl, ap, ap₂, sym, _∙_, subst}
+use mathlib.Core.Path.{_≡_, refl, ap, ap₂, sym, _∙_}
 use mathlib.Core.Bool.{Bool, true, false}
-use mathlib.Core.List.{List, [], _∷_, _++_}
+use mathlib.Core.List.{List, [], _∷_}
 use Prim.Native.Nat.{ℕ, zero, suc, _+_, _*_, _≤_, _<_, min}
 use native.Mathlib.Omega.{arith}
-use native.Mathlib.Nat.{zero-mul, mul-zero, suc-mul, mul-comm, le-mul-of-pos-right, min-eq-left, min-eq-right}
+use native.Mathlib.Nat.{zero-mul, suc-mul, mul-comm, le-mul-of-pos-right, min-eq-left, min-eq-right}
 use lib.ListN.{length, length-append}
 use lib.Dec.{ltb}
 use Rattle.theory.specs.Limits.{choice-limit, choice-stop}

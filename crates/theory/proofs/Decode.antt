@@ -11,7 +11,7 @@ use lib.ListN.{length}
 use lib.Dec.{eqb, ltb, leb}
 use borrow.Author.Tests.{ltb-true, ltb-false, leb-true, leb-false, le-ltb, lt-ltb}
 use Rattle.theory.specs.Limits.{code-limit, depth-limit}
-use Rattle.theory.specs.Net.{Node, atom, arcs, Graph, arcsOf, met, Rising, InOrder, Numbered, Canonical}
+use Rattle.theory.specs.Net.{Node, atom, arcs, Graph, arcsOf, met, Rising, InOrder, Numbered}
 use Rattle.theory.specs.Descr.{Desc, desc, Disjs, end, _and_, Alts, fail, _or_, disjs, alts}
 use Rattle.theory.specs.Layout.{arc-words, node-words, nodes-words, words, disjs-words, alts-words, ArcsFit, NodeFits, GraphFits, WellFormed, WellAll, WellAny, Image}
 use Rattle.theory.specs.Reading.{arcs-read, node-read, nodes-read, alts-read, disj-read, disjs-read, rest-read, desc-read, read, rising?, in-order?, numbered?, arcs-fit?, node-fits?, graph-fits?, well-formed?, well-all?, well-any?, whole-read, decode}

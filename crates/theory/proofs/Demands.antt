@@ -1,26 +1,22 @@
 -- `unified` meets the second and the third demand.
 -- Assumes nothing.
-use mathlib.Core.Path.{_≡_, refl, ap, ap₂, sym, _∙_, subst}
-use mathlib.Core.Logic.{_⊎_, inl, inr, ⊎-elim, _↔_}
+use mathlib.Core.Path.{_≡_, refl, ap, sym, _∙_, subst}
+use mathlib.Core.Logic.{_⊎_, ⊎-elim}
 use mathlib.Core.Bool.{Bool, true, false}
 use mathlib.Core.Option.{Option, none, some}
-use mathlib.Core.List.{List, [], _∷_, _++_, append-assoc, append-nil, List·Memᴰ, List·Memᴰ·head, List·Memᴰ·cases-cons, List·Memᴰ·not-nil}
-use Prim.Native.Nat.{ℕ, zero, suc, _+_, _≤_, _<_}
+use mathlib.Core.List.{List, [], _∷_, _++_}
+use Prim.Native.Nat.{ℕ}
 use native.Mathlib.Omega.{arith}
 use lib.ListN.{length}
 use lib.Dec.{eqb}
 use Rattle.theory.specs.Limits.{depth-limit}
-use Rattle.theory.specs.Net.{Graph, arcs}
-use Rattle.theory.specs.Join.{join}
-use Rattle.theory.specs.Structure.{Structure}
-use Rattle.theory.specs.Descr.{Desc, desc, end, pairs, choices, agreeing, readings}
-use Rattle.theory.specs.Satisfaction.{Sat}
+use Rattle.theory.specs.Descr.{Desc, pairs, choices, readings}
 use Rattle.theory.specs.Layout.{words, WellFormed}
 use Rattle.theory.specs.Answer.{Answer, consistent}
 use Rattle.theory.specs.Unified.{unified}
 use Rattle.theory.specs.Rules.{mode-result, mode-readings, Accepted, Given}
 use Rattle.theory.specs.Demands.{Succeeds, Demand2, Step, start, call, reached, chosen, ways, items, Refused, Demand3}
-use Rattle.theory.proofs.Decode.{one-image, Tells, holds, fails, tells-eq}
+use Rattle.theory.proofs.Decode.{one-image, Tells, holds, tells-eq}
 use Rattle.theory.proofs.Mean.{Ctx, AllFine, choices-fine}
 use Rattle.theory.proofs.Quick.{nil-canonical, meanings, readings-count}
 use Rattle.theory.proofs.Full.{AllFull, full-pairs}

@@ -1,24 +1,23 @@
 -- The five empty programs of document 01, each refuted by the demands that the document names.
 -- Assumes nothing.
 use mathlib.Core.Path.{_≡_, refl, ap, sym, _∙_, subst}
-use mathlib.Core.Logic.{_⊎_, inl, inr, _↔_}
+use mathlib.Core.Logic.{inl, inr}
 use mathlib.Core.Option.{Option, none, some}
 use mathlib.Core.List.{List, [], _∷_, _++_, List·Memᴰ, List·Memᴰ·head, List·Memᴰ·not-nil}
-use Prim.Native.Nat.{ℕ, zero, suc, _+_, _≤_, _<_}
+use Prim.Native.Nat.{ℕ, zero, suc, _<_}
 use native.Mathlib.Omega.{arith}
 use lib.ListN.{length}
-use Rattle.theory.specs.Net.{Node, atom, arcs, Graph, arcsOf, nodeAt}
+use Rattle.theory.specs.Net.{atom, arcs, Graph, arcsOf, nodeAt}
 use Rattle.theory.specs.Join.{join}
-use Rattle.theory.specs.Structure.{Structure, Into, Satisfies}
-use Rattle.theory.specs.Descr.{Desc, desc, Disjs, end, _and_, Alts, fail, _or_, agree, agreeing, readings, number}
+use Rattle.theory.specs.Structure.{Structure, Satisfies}
+use Rattle.theory.specs.Descr.{Desc, desc, end, _and_, fail, _or_, agree, agreeing, readings, number}
 use Rattle.theory.specs.Modes.{joined, quick, full, round, finish, tidy, size, some-agree, prune, fold, folded-in}
 use Rattle.theory.specs.Satisfaction.{Sat}
 use Rattle.theory.specs.Layout.{words, WellFormed}
 use Rattle.theory.specs.Reading.{decode}
 use Rattle.theory.specs.Answer.{Answer, refuse, consistent}
 use Rattle.theory.specs.Unified.{unified, in-mode, complete, deliver}
-use Rattle.theory.specs.Rules.{mode-result}
-use Rattle.theory.specs.Demands.{Unifier, Succeeds, Demand2, Step, start, call, reached, chosen, ways, items, Refused, Demand3}
+use Rattle.theory.specs.Demands.{Unifier, Demand2, Step, start, reached, ways, items, Demand3}
 use Rattle.theory.specs.Known.{gives}
 use Rattle.theory.proofs.Decode.{one-image}
 use Rattle.theory.proofs.Quick.{nil, nil-canonical}

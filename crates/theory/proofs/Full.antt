@@ -1,20 +1,18 @@
 -- Mode 2 keeps the readings.
 -- Assumes nothing.
-use mathlib.Core.Path.{_≡_, refl, ap, ap₂, sym, _∙_, subst}
-use mathlib.Core.Logic.{_⊎_, inl, inr, ⊎-elim, _↔_, _≢_}
+use mathlib.Core.Path.{_≡_, refl, ap, sym, _∙_, subst}
+use mathlib.Core.Logic.{_⊎_, inl, inr, ⊎-elim}
 use mathlib.Core.Bool.{Bool, true, false}
 use mathlib.Core.Option.{Option, none, some}
 use mathlib.Core.List.{List, [], _∷_, _++_, append-assoc, append-nil, List·Memᴰ, List·Memᴰ·head, List·Memᴰ·tail, List·Memᴰ·cases-cons, List·Memᴰ·not-nil, List·Memᴰ·append-cases, Memᴰ·append-left, Memᴰ·append-right}
-use Prim.Native.Nat.{ℕ, zero, suc, _+_, _≤_, _<_}
 use native.Mathlib.Omega.{arith}
-use lib.ListN.{length, length-append}
-use Rattle.theory.specs.Net.{Node, atom, arcs, Graph, Canonical}
+use lib.ListN.{length-append}
+use Rattle.theory.specs.Net.{Graph, Canonical}
 use Rattle.theory.proofs.Instance.{AllCanonical}
-use Rattle.theory.proofs.Sets.{Within}
 use Rattle.theory.specs.Join.{join}
-use Rattle.theory.specs.Descr.{Desc, desc, Disjs, end, _and_, Alts, fail, _or_, each, pairs, choices, choices-all, choices-any, _then_, answers, agree}
-use Rattle.theory.specs.Modes.{some-agree, Round, after, in-place, folded-in, prune, prune-all, prune-any, fold, fold-all, fold-any}
-use Rattle.theory.proofs.Mean.{Ctx, Fine, fine-append, Alike, run, run-each, run-append, run-pairs, run-cong, run-none, run-dead, run-same, good-run, Good, AllFine, Can, CanAll, CanAny, choices-fine, choices-all-fine, choices-any-fine, Holds, Rounded, after-ok, join-canonical, canon-append, alike-set, alike-after, clash-stays, within-both, in-l, in-r, each-fine, pairs-fine}
+use Rattle.theory.specs.Descr.{Desc, desc, Disjs, end, _and_, Alts, fail, _or_, each, pairs, choices, choices-all, choices-any, answers, agree}
+use Rattle.theory.specs.Modes.{some-agree, Round, in-place, folded-in, prune, prune-all, prune-any, fold, fold-all, fold-any}
+use Rattle.theory.proofs.Mean.{Ctx, Fine, fine-append, run, run-each, run-append, run-pairs, run-cong, run-none, run-dead, run-same, good-run, Good, AllFine, Can, CanAll, CanAny, choices-fine, choices-all-fine, choices-any-fine, Holds, Rounded, after-ok, join-canonical, canon-append, alike-set, alike-after, clash-stays, within-both, in-l, in-r}
 use Rattle.theory.proofs.Quick.{nil, nil-canonical, nil-holds, one, leaf, good-leaf, meanings}
 
 -- membership of a choice in a list of choices

@@ -1,7 +1,7 @@
 -- The nodes of several canonical graphs side by side, as numbers; and `join`.
 -- Assumes nothing.
-use mathlib.Core.Path.{_≡_, refl, ap, ap₂, sym, _∙_, subst}
-use mathlib.Core.Logic.{_⊎_, inl, inr, ⊎-elim, _↔_, _≢_}
+use mathlib.Core.Path.{_≡_, refl, ap, sym, _∙_, subst}
+use mathlib.Core.Logic.{_⊎_, inl, inr, ⊎-elim}
 use mathlib.Core.HLevel.{Σ-prop-path}
 use mathlib.Core.Bool.{Bool, true, false}
 use mathlib.Core.Option.{Option, none, some}
@@ -9,15 +9,15 @@ use mathlib.Core.List.{List, [], _∷_, _++_, List·Memᴰ, List·Memᴰ·head, 
 use Prim.Native.Nat.{ℕ, zero, suc, _+_, _≤_, _<_, max}
 use native.Mathlib.Bridge.{le-prop}
 use native.Mathlib.Omega.{arith}
-use lib.ListN.{length, getD, List·getD-eq-default}
+use lib.ListN.{length}
 use lib.Dec.{eqb}
-use Rattle.theory.specs.Net.{Node, atom, arcs, Graph, nodeAt, arcsOf, Net, NodeOf, graph, _⊕_, beside, roots, Same, seed, self, back, on, along, ClashOf, Clash, InOrder, met, Numbered, Canonical, JoinedOf, Joined}
+use Rattle.theory.specs.Net.{Node, atom, arcs, Graph, nodeAt, arcsOf, Net, beside, roots, Same, seed, self, along, Clash, InOrder, met, Numbered, Canonical, Joined}
 use Rattle.theory.proofs.Meaning.{canonical-some, joined-agrees}
 use Rattle.theory.proofs.Unique.{joined-unique}
-use Rattle.theory.specs.Join.{Edge, Rule, labels, seed-rules, pair-rules, edge-rules, clashes, order, graph-for, arcs-from, edges-from, edges, atom-at, atoms-from, atom-list, root-seeds, rules, join-with, join}
-use Rattle.theory.proofs.Close.{Test, equal, differ, test, Kept, Ruled, Good, Closed, labels-good, complete}
+use Rattle.theory.specs.Join.{Edge, Rule, labels, seed-rules, pair-rules, edge-rules, clashes, order, graph-for, arcs-from, edges-from, edges, atom-at, atoms-from, atom-list, root-seeds, rules, join}
+use Rattle.theory.proofs.Close.{Test, equal, differ, test, Kept, Good, Closed, labels-good}
 use Rattle.theory.proofs.Number.{TestLt, less, geq, test-lt}
-use Rattle.theory.proofs.Correct.{ClashView, two-atoms, atom-and-arc, no-clash, clash-view, Coded, clash-found, joined-ok}
+use Rattle.theory.proofs.Correct.{ClashView, no-clash, clash-view, Coded, clash-found, joined-ok}
 
 abbrev Arc : Type 0
 Arc = ℕ × ℕ
@@ -260,9 +260,6 @@ module _ (g : Graph) (gs′ : List Graph) (can : AllCanonical (g ∷ gs′)) whe
 
   abbrev N : Net
   N = beside gs
-
-  first : N .Spot
-  first = inl (0, canonical-some g (can .0))
 
   seed-of : (p : Arc) → List·Memᴰ p (root-seeds 0 gs) → (x : N .Spot) × (y : N .Spot) × (code 0 gs x ≡ p .0) × (code 0 gs y ≡ p .1) × Same N (roots N) x y
   seed-of p m = let (y, r, a, b) = root-from 0 gs can p m in let h : 0 < length g = canonical-some g (can .0) in (inl (0, h), y, omega arith, a, seed (refl, r))

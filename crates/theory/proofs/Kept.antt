@@ -1,10 +1,10 @@
 -- Every mode keeps a description well formed, with at most the words of both inputs less 3; and what an answer of the table says.
 -- Assumes nothing.
-use mathlib.Core.Path.{_≡_, refl, ap, ap₂, sym, _∙_, subst}
-use mathlib.Core.Logic.{_⊎_, inl, inr, ⊎-elim, _↔_}
-use mathlib.Core.Option.{Option, none, some}
-use mathlib.Core.List.{List, [], _∷_, _++_}
-use Prim.Native.Nat.{ℕ, zero, suc, _+_, _≤_, _<_}
+use mathlib.Core.Path.{_≡_, refl, subst}
+use mathlib.Core.Logic.{_⊎_, inl, inr}
+use mathlib.Core.Option.{none, some}
+use mathlib.Core.List.{List, []}
+use Prim.Native.Nat.{ℕ, zero, suc, _+_, _≤_}
 use native.Mathlib.Omega.{arith}
 use lib.ListN.{length}
 use Rattle.theory.specs.Limits.{depth-limit, input-limit}
@@ -13,15 +13,14 @@ use Rattle.theory.specs.Descr.{Desc}
 use Rattle.theory.specs.Satisfaction.{Sat}
 use Rattle.theory.specs.Layout.{words, WellFormed}
 use Rattle.theory.specs.Modes.{joined, quick, full}
-use Rattle.theory.specs.Answer.{Answer, refuse, consistent}
-use Rattle.theory.specs.Unified.{unified}
-use Rattle.theory.specs.Rules.{mode-result, mode-readings, Accepted, Clashes, TooMany, Given, one, two, three, four, five, six, seven, six-after, eight, done}
+use Rattle.theory.specs.Answer.{Answer}
+use Rattle.theory.specs.Rules.{mode-result, mode-readings, Accepted, Clashes, Given, one, two, three, four, five, six, seven, six-after, eight, done}
 use Rattle.theory.proofs.Mean.{Can}
 use Rattle.theory.proofs.Sense.{Both, joined-sat, quick-sat, full-sat}
 use Rattle.theory.proofs.Soft.{Soft, soft-can, well-soft, soft-well, len, len-is, JoinKept, joined-kept, quick-kept}
 use Rattle.theory.proofs.Live.{full-kept}
 use Rattle.theory.proofs.Chain.{both, Means, joined-means, quick-means, full-result-means}
-use Rattle.theory.proofs.Table.{FullView, full-some, full-none, full-view, full-is}
+use Rattle.theory.proofs.Table.{full-is}
 
 pub well-can : (d : Desc) → WellFormed d depth-limit → Can d
 well-can d p = soft-can 2 d 4 (well-soft d 4 p)

@@ -1,24 +1,24 @@
 -- Pruning keeps every consistent choice, what is left is live, and so folding after pruning never clashes and leaves no disjunction with fewer than two alternatives.
 -- Assumes nothing.
-use mathlib.Core.Path.{_≡_, refl, ap, ap₂, sym, _∙_, subst}
+use mathlib.Core.Path.{_≡_, refl, ap, sym, _∙_, subst}
 use mathlib.Core.Logic.{_⊎_, inl, inr, ⊎-elim}
 use mathlib.Core.Bool.{Bool, true, false}
 use mathlib.Core.Option.{Option, none, some}
-use mathlib.Core.List.{List, [], _∷_, _++_, append-assoc, append-nil, List·Memᴰ, List·Memᴰ·head, List·Memᴰ·tail, List·Memᴰ·cases-cons, List·Memᴰ·not-nil, List·Memᴰ·append-cases, Memᴰ·append-left, Memᴰ·append-right}
+use mathlib.Core.List.{List, [], _∷_, _++_, append-assoc, List·Memᴰ, List·Memᴰ·head, List·Memᴰ·tail, List·Memᴰ·cases-cons, List·Memᴰ·not-nil, List·Memᴰ·append-cases, Memᴰ·append-left, Memᴰ·append-right}
 use Prim.Native.Nat.{ℕ, zero, suc, _+_, _≤_, _<_}
 use native.Mathlib.Omega.{arith}
-use lib.ListN.{length, length-append}
+use lib.ListN.{length-append}
 use Rattle.theory.specs.Net.{Graph, Canonical, Joined}
 use Rattle.theory.specs.Join.{join}
-use Rattle.theory.specs.Descr.{Desc, desc, Disjs, end, _and_, Alts, fail, _or_, alts, each, pairs, choices, choices-all, choices-any, answers, agree, _then_}
+use Rattle.theory.specs.Descr.{Desc, desc, Disjs, end, _and_, Alts, fail, _or_, alts, pairs, choices, choices-all, choices-any, answers, agree}
 use Rattle.theory.specs.Modes.{joined, some-agree, prune, prune-all, prune-any, Round, in-place, folded-in, fold, fold-all, fold-any, full}
 use Rattle.theory.proofs.Instance.{AllCanonical, join-some}
 use Rattle.theory.proofs.Sets.{Within}
 use Rattle.theory.proofs.Mean.{Ctx, Fine, fine-append, AllFine, Can, CanAll, CanAny, choices-fine, choices-all-fine, choices-any-fine, canon-append, clash-stays, within-both, in-l, in-r, run}
-use Rattle.theory.proofs.Quick.{one, leaf, good-leaf, meanings}
-use Rattle.theory.proofs.Full.{each-in, each-from, pairs-in, pairs-from, SomeAgree, agrees, none-agrees, some-agree-view, AllFull, full-pairs, full-graph, fine-full, whole, whole-fine, fold-ok, prune-can}
-use Rattle.theory.proofs.Weight.{weight, weights, joined-weight}
-use Rattle.theory.proofs.Soft.{SoftGraph, SoftGraphs, Soft, SoftAll, SoftAny, soft-can, soft-all-up, soft-then, joined-soft, len, len-all, len-any, len-then, JoinKept, joined-kept, RoundKept, Kept}
+use Rattle.theory.proofs.Quick.{one, leaf, good-leaf}
+use Rattle.theory.proofs.Full.{each-in, each-from, pairs-in, pairs-from, SomeAgree, none-agrees, some-agree-view, AllFull, full-pairs, full-graph, fine-full, whole, whole-fine, fold-ok}
+use Rattle.theory.proofs.Weight.{joined-weight}
+use Rattle.theory.proofs.Soft.{SoftGraph, Soft, SoftAll, SoftAny, soft-can, soft-all-up, soft-then, joined-soft, len, len-all, len-any, len-then, JoinKept, joined-kept, RoundKept}
 
 -- the graphs of a choice can be joined
 abbrev pub Agrees : Ctx → Type 0

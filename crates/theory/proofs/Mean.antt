@@ -1,14 +1,14 @@
 -- What a description means: the joined graphs of its consistent choices, in order. Tidying keeps it.
 -- Assumes nothing.
 use mathlib.Core.Path.{_≡_, refl, ap, ap₂, sym, _∙_, subst}
-use mathlib.Core.Logic.{_⊎_, inl, inr, ⊎-elim, _↔_, _≢_}
+use mathlib.Core.Logic.{⊎-elim}
 use mathlib.Core.Option.{Option, none, some}
 use mathlib.Core.List.{List, [], _∷_, _++_, append-assoc, append-nil, List·Memᴰ, List·Memᴰ·head, List·Memᴰ·tail, List·Memᴰ·cases-cons, List·Memᴰ·not-nil, List·Memᴰ·append-cases, Memᴰ·append-left, Memᴰ·append-right}
-use Prim.Native.Nat.{ℕ, zero, suc, _+_, _≤_, _<_}
+use Prim.Native.Nat.{ℕ, zero, suc, _<_}
 use native.Mathlib.Omega.{arith}
 use lib.ListN.{length, length-append}
-use Rattle.theory.specs.Net.{Node, atom, arcs, Graph, Canonical, Clash, Joined}
-use Rattle.theory.proofs.Flat.{joined-clash, joined-more, joined-fewer}
+use Rattle.theory.specs.Net.{Graph, Canonical, Joined}
+use Rattle.theory.proofs.Flat.{joined-clash, joined-fewer}
 use Rattle.theory.proofs.Instance.{AllCanonical, join-some, join-none, none-join}
 use Rattle.theory.proofs.Sets.{Within, clash-within, joined-within, join-same}
 use Rattle.theory.specs.Join.{join}

@@ -1,22 +1,22 @@
 -- Every consistent choice is satisfied by a structure, finite and with all nodes reached: the joined graph itself.
 -- Assumes nothing.
-use mathlib.Core.Path.{_≡_, refl, ap, sym, _∙_, subst}
-use mathlib.Core.Logic.{_⊎_, inl, inr, ⊎-elim, _↔_}
+use mathlib.Core.Path.{_≡_, refl, ap, sym, subst}
+use mathlib.Core.Logic.{inl, inr, _↔_}
 use mathlib.Core.Bool.{Bool, true, false}
 use mathlib.Core.Option.{Option, none, some}
 use mathlib.Core.List.{List, [], _∷_, List·Memᴰ, List·Memᴰ·head, List·Memᴰ·tail}
-use Prim.Native.Nat.{ℕ, zero, suc, _+_, _≤_, _<_}
+use Prim.Native.Nat.{ℕ, zero, suc, _≤_, _<_}
 use native.Mathlib.Omega.{arith}
 use lib.ListN.{length}
 use lib.Dec.{ltb}
-use Rattle.theory.specs.Net.{Graph, NodeOf, beside, roots, Canonical, Clash, Agree, Joined}
+use Rattle.theory.specs.Net.{Graph, NodeOf, beside, roots, Canonical, Agree, Joined}
 use Rattle.theory.specs.Join.{join}
 use Rattle.theory.specs.Structure.{Structure, Satisfies, SatisfiesAll, Proper}
 use Rattle.theory.specs.Descr.{Desc, choices, answers, agree}
 use Rattle.theory.specs.Satisfaction.{Sat}
 use Rattle.theory.proofs.Decode.{Tells, holds, fails, tells-lt}
 use Rattle.theory.proofs.Meaning.{canonical-some, joined-satisfied, clash-unsatisfied, joined-agrees}
-use Rattle.theory.proofs.Instance.{AllCanonical, reach, join-some, join-none}
+use Rattle.theory.proofs.Instance.{reach, join-some, join-none}
 use Rattle.theory.proofs.Fit.{structure, same-node}
 use Rattle.theory.proofs.Mean.{Ctx, Fine, Can}
 use Rattle.theory.proofs.Satisfy.{choice-sat}

@@ -1,23 +1,22 @@
 -- `full` keeps exactly the alternatives that stand in a consistent choice of the whole, and folding them never clashes.
 -- Assumes nothing.
 use mathlib.Core.Path.{_≡_, refl, ap, ap₂, sym, _∙_, subst}
-use mathlib.Core.Logic.{_⊎_, inl, inr, ⊎-elim, _↔_}
+use mathlib.Core.Logic.{inl, inr, ⊎-elim, _↔_}
 use mathlib.Core.Bool.{Bool, true, false}
 use mathlib.Core.Option.{Option, none, some}
 use mathlib.Core.List.{List, [], _∷_, _++_, append-assoc, List·Memᴰ, List·Memᴰ·head, List·Memᴰ·cases-cons, List·Memᴰ·not-nil, List·Memᴰ·append-cases, Memᴰ·append-left, Memᴰ·append-right}
-use Prim.Native.Nat.{ℕ, zero, suc, _+_, _≤_, _<_}
+use Prim.Native.Nat.{ℕ}
 use native.Mathlib.Omega.{arith}
-use lib.ListN.{length}
-use Rattle.theory.specs.Net.{Graph, Canonical}
+use Rattle.theory.specs.Net.{Graph}
 use Rattle.theory.specs.Join.{join}
-use Rattle.theory.specs.Descr.{Desc, desc, Disjs, end, _and_, Alts, fail, _or_, each, pairs, choices, choices-all, choices-any, answers, agree}
-use Rattle.theory.specs.Modes.{joined, some-agree, prune, prune-all, prune-any, fold, fold-all, full}
-use Rattle.theory.specs.Places.{Pick, PickAll, PickAny, taken, taken-all, taken-any, Consistent, Place, PlaceAll, PlaceAny, Stands, StandsAll, StandsAny, only, only-all, only-any, Pruned}
+use Rattle.theory.specs.Descr.{Desc, desc, Disjs, end, _and_, Alts, fail, _or_, pairs, choices, choices-all, choices-any, answers, agree}
+use Rattle.theory.specs.Modes.{joined, some-agree, prune, prune-all, prune-any, fold, full}
+use Rattle.theory.specs.Places.{Pick, PickAll, PickAny, taken, taken-all, taken-any, Place, PlaceAll, PlaceAny, Stands, StandsAll, StandsAny, only, only-all, only-any, Pruned}
 use Rattle.theory.proofs.Instance.{AllCanonical}
 use Rattle.theory.proofs.Sets.{Within}
-use Rattle.theory.proofs.Mean.{Ctx, Fine, fine-append, canon-append, AllFine, Can, CanAll, CanAny, choices-fine, choices-all-fine, choices-any-fine, within-both, in-l}
+use Rattle.theory.proofs.Mean.{Ctx, Fine, fine-append, canon-append, AllFine, Can, CanAll, CanAny, choices-all-fine, choices-any-fine, within-both}
 use Rattle.theory.proofs.Full.{each-in, each-from, pairs-in, pairs-from, AllFull, full-pairs, full-graph, fine-full, whole, whole-fine, prune-can}
-use Rattle.theory.proofs.Live.{Agrees, agrees-within, some-agree-in, some-agree-from, beside-within, Live, whole-live, fold-joins}
+use Rattle.theory.proofs.Live.{Agrees, agrees-within, some-agree-in, some-agree-from, beside-within, Live, whole-live}
 use Rattle.theory.proofs.Model.{agree-view}
 
 -- the choices are the graphs of the picks

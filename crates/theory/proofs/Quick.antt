@@ -1,23 +1,22 @@
 -- Mode 1 keeps the readings and what satisfies; what a description's choices are for.
 -- Assumes nothing.
-use mathlib.Core.Path.{_≡_, refl, ap, ap₂, sym, _∙_, subst}
-use mathlib.Core.Logic.{_⊎_, inl, inr, ⊎-elim, _↔_, _≢_}
-use mathlib.Core.Bool.{Bool, true, false}
+use mathlib.Core.Path.{_≡_, refl, ap, sym, _∙_, subst}
+use mathlib.Core.Logic.{inl, inr}
+use mathlib.Core.Bool.{true, false}
 use mathlib.Core.Option.{Option, none, some}
-use mathlib.Core.List.{List, [], _∷_, _++_, append-assoc, append-nil, List·Memᴰ, List·Memᴰ·head, List·Memᴰ·tail, List·Memᴰ·cases-cons, List·Memᴰ·not-nil, List·Memᴰ·append-cases, Memᴰ·append-left, Memᴰ·append-right}
-use Prim.Native.Nat.{ℕ, zero, suc, _+_, _≤_, _<_}
+use mathlib.Core.List.{List, [], _∷_, _++_, append-nil, List·Memᴰ, List·Memᴰ·tail, List·Memᴰ·not-nil}
+use Prim.Native.Nat.{ℕ, zero, suc}
 use native.Mathlib.Omega.{arith}
-use lib.ListN.{length, length-append}
-use Rattle.theory.specs.Net.{Node, atom, arcs, Graph, nodeAt, arcsOf, Net, graph, _⊕_, beside, roots, Same, seed, self, Canonical, Clash, Joined}
-use Rattle.theory.specs.Structure.{Structure, Satisfies, SatisfiesAll}
-use Rattle.theory.proofs.Meaning.{some-root, canonical-some, joined-satisfied, clash-unsatisfied}
+use lib.ListN.{length}
+use Rattle.theory.specs.Net.{atom, arcs, Graph, nodeAt, arcsOf, Net, graph, _⊕_, beside, roots, Same, seed, self, Canonical, Joined}
+use Rattle.theory.proofs.Meaning.{canonical-some}
 use Rattle.theory.proofs.Flat.{Covers, joined-over}
-use Rattle.theory.proofs.Instance.{AllCanonical, join-some, join-none}
-use Rattle.theory.proofs.Sets.{Within, clash-within, join-same}
+use Rattle.theory.proofs.Instance.{AllCanonical}
+use Rattle.theory.proofs.Sets.{clash-within, join-same}
 use Rattle.theory.specs.Join.{join}
-use Rattle.theory.specs.Descr.{Desc, desc, Disjs, end, _and_, Alts, fail, _or_, each, pairs, choices, choices-all, choices-any, _then_, answers, agree, agreeing, readings}
-use Rattle.theory.specs.Modes.{joined, size, tidy, quick}
-use Rattle.theory.proofs.Mean.{Ctx, Fine, Alike, run, run-each, run-append, run-pairs, run-cong, run-none, Good, AllFine, Can, CanAll, CanAny, choices-fine, choices-all-fine, choices-any-fine, Holds, Tidied, tidy-ok, join-canonical, can-then, run-then, run-same, alike-flat, alike-set, canon-append, in-r}
+use Rattle.theory.specs.Descr.{Desc, choices, answers, agree, agreeing, readings}
+use Rattle.theory.specs.Modes.{tidy}
+use Rattle.theory.proofs.Mean.{Ctx, Fine, run, Good, Can, Holds, Tidied, tidy-ok}
 
 -- the graph that says nothing
 abbrev pub nil : Graph

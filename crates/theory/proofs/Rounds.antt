@@ -3,8 +3,8 @@
 use mathlib.Core.Path.{_≡_, refl, ap, ap₂, sym, _∙_, subst}
 use mathlib.Core.Logic.{_↔_}
 use mathlib.Core.Option.{Option, none, some}
-use mathlib.Core.List.{List, [], _∷_, _++_}
-use Prim.Native.Nat.{ℕ, zero, suc, _+_, _≤_, _<_}
+use mathlib.Core.List.{List, [], _∷_}
+use Prim.Native.Nat.{ℕ, zero, suc, _+_, _≤_}
 use native.Mathlib.Omega.{arith}
 use lib.ListN.{length}
 use Rattle.theory.specs.Net.{Graph}
@@ -13,7 +13,7 @@ use Rattle.theory.specs.Descr.{Desc, desc, Disjs, end, _and_, Alts, fail
 use Rattle.theory.specs.Modes.{joined, kept, Round, after, round, finish, tidy, size, size-all, size-any, quick}
 use Rattle.theory.specs.Rounds.{Tidies, clash, emptied, last, folds-clash, again, Keeps, no-more, drops, keeps, Rounds, over, fails, one}
 use Rattle.theory.proofs.Quick.{nil}
-use Rattle.theory.proofs.Fuel.{Less, round-less, tidy-small, tidy-same}
+use Rattle.theory.proofs.Fuel.{Less, round-less, tidy-small}
 
 -- the program follows the rules
 keep-one : (k : Graph) (d : Desc) (a b : Alts) (o : Option Desc) → Tidies k d o → Keeps k a b → Keeps k (d or a) (elim o [ none ↦ b | some e ↦ e or b ])

@@ -1,24 +1,22 @@
 -- A structure satisfies a description when it satisfies the joined graph of one of its consistent choices.
 -- Assumes nothing.
-use mathlib.Core.Path.{_≡_, refl, ap, ap₂, sym, _∙_, subst}
-use mathlib.Core.Logic.{_⊎_, inl, inr, ⊎-elim, _↔_, _≢_}
+use mathlib.Core.Path.{_≡_, refl, subst}
+use mathlib.Core.Logic.{_⊎_, inl, inr, ⊎-elim, _↔_}
 use mathlib.Core.Option.{Option, none, some}
-use mathlib.Core.List.{List, [], _∷_, _++_, append-nil, List·Memᴰ, List·Memᴰ·head, List·Memᴰ·tail, List·Memᴰ·cases-cons, List·Memᴰ·not-nil, List·Memᴰ·eq-of-singleton, List·Memᴰ·append-cases, Memᴰ·append-left, Memᴰ·append-right}
-use Prim.Native.Nat.{ℕ, zero, suc, _+_, _≤_, _<_}
+use mathlib.Core.List.{List, [], _∷_, _++_, List·Memᴰ, List·Memᴰ·head, List·Memᴰ·tail, List·Memᴰ·cases-cons, List·Memᴰ·not-nil, List·Memᴰ·eq-of-singleton, List·Memᴰ·append-cases, Memᴰ·append-left, Memᴰ·append-right}
+use Prim.Native.Nat.{_<_}
 use native.Mathlib.Omega.{arith}
 use lib.ListN.{length}
-use Rattle.theory.specs.Net.{Graph, Joined, Clash}
+use Rattle.theory.specs.Net.{Graph, Joined}
 use Rattle.theory.specs.Satisfaction.{Sat, SatEach, SatSome}
 use Rattle.theory.specs.Structure.{Structure, Satisfies, SatisfiesAll}
 use Rattle.theory.proofs.Meaning.{joined-satisfied, clash-unsatisfied}
-use Rattle.theory.proofs.Instance.{AllCanonical, join-some, join-none}
+use Rattle.theory.proofs.Instance.{join-some, join-none}
 use Rattle.theory.specs.Join.{join}
-use Rattle.theory.specs.Descr.{Desc, desc, Disjs, end, _and_, Alts, fail, _or_, each, pairs, choices, choices-all, choices-any}
-use Rattle.theory.specs.Modes.{tidy}
+use Rattle.theory.specs.Descr.{Desc, desc, Disjs, end, _and_, Alts, fail, _or_, choices, choices-all, choices-any}
 use Rattle.theory.proofs.Mean.{Ctx, Fine, run, Can, choices-fine}
-use Rattle.theory.proofs.Quick.{nil, one, leaf, meanings, tidy-means, tidy-fails}
-use Rattle.theory.proofs.Full.{each-in, each-from, pairs-in, pairs-from, whole, full-means}
-use Rattle.theory.specs.Modes.{fold, prune}
+use Rattle.theory.proofs.Quick.{one, leaf, meanings}
+use Rattle.theory.proofs.Full.{each-in, each-from, pairs-in, pairs-from}
 
 module _ (S : Structure) where
   abbrev Chosen : List Ctx → Type 0

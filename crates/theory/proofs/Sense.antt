@@ -1,24 +1,23 @@
 -- The three modes: what satisfies the result, and its readings.
 -- Assumes nothing.
 use mathlib.Core.Path.{_≡_, refl, ap, sym, _∙_, subst}
-use mathlib.Core.Logic.{_⊎_, inl, inr, ⊎-elim, _↔_}
+use mathlib.Core.Logic.{_↔_}
 use mathlib.Core.Bool.{Bool, true, false}
 use mathlib.Core.Option.{Option, none, some}
-use mathlib.Core.List.{List, [], _∷_, _++_, List·Memᴰ, List·Memᴰ·not-nil}
-use Prim.Native.Nat.{ℕ, zero, suc, _+_, _≤_, _<_}
-use native.Mathlib.Omega.{arith}
+use mathlib.Core.List.{[], _∷_, List·Memᴰ, List·Memᴰ·not-nil}
+use Prim.Native.Nat.{ℕ, suc}
 use lib.ListN.{length}
-use Rattle.theory.specs.Net.{Graph, Joined, Clash}
-use Rattle.theory.specs.Structure.{Structure, Satisfies, SatisfiesAll}
+use Rattle.theory.specs.Net.{Graph, Joined}
+use Rattle.theory.specs.Structure.{Structure}
 use Rattle.theory.proofs.Meaning.{joined-satisfied, clash-unsatisfied}
 use Rattle.theory.proofs.Instance.{join-some, join-none}
 use Rattle.theory.specs.Join.{join}
-use Rattle.theory.specs.Descr.{Desc, desc, Disjs, end, _and_, Alts, fail, _or_, choices, _then_, readings}
+use Rattle.theory.specs.Descr.{Desc, desc, Disjs, end, _and_, choices, _then_, readings}
 use Rattle.theory.specs.Modes.{joined, size, tidy, quick, full, prune, fold, some-agree}
-use Rattle.theory.proofs.Mean.{Ctx, Can, CanAll, can-then, Tidied, tidy-ok, join-canonical, run-none}
+use Rattle.theory.proofs.Mean.{Ctx, Can, can-then, Tidied, tidy-ok, run-none}
 use Rattle.theory.proofs.Quick.{nil, nil-canonical, leaf, one, meanings, tidy-means, tidy-fails, readings-count}
 use Rattle.theory.proofs.Full.{SomeAgree, agrees, none-agrees, some-agree-view, fold-ok, prune-can, whole, full-means}
-use Rattle.theory.specs.Satisfaction.{Sat, SatEach, SatSome}
+use Rattle.theory.specs.Satisfaction.{Sat, SatEach}
 use Rattle.theory.proofs.Satisfy.{sat-meaning, same-meaning}
 
 module _ (S : Structure) where

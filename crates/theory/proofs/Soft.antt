@@ -1,18 +1,17 @@
 -- The limits of a well-formed description, but for the number of arcs of a node, and the number of its words: joining and tidying keep them.
 -- Assumes nothing.
-use mathlib.Core.Path.{_≡_, refl, ap, ap₂, sym, _∙_, subst}
+use mathlib.Core.Path.{_≡_, refl, ap, sym, subst}
 use mathlib.Core.Logic.{_⊎_, inl, inr, ⊎-elim}
-use mathlib.Core.Bool.{Bool, true, false}
 use mathlib.Core.Option.{Option, none, some}
-use mathlib.Core.List.{List, [], _∷_, _++_, List·Memᴰ, List·Memᴰ·head, List·Memᴰ·tail, List·Memᴰ·cases-cons, List·Memᴰ·not-nil}
+use mathlib.Core.List.{List, [], _∷_, List·Memᴰ, List·Memᴰ·head, List·Memᴰ·tail, List·Memᴰ·cases-cons, List·Memᴰ·not-nil}
 use Prim.Native.Nat.{ℕ, zero, suc, _+_, _≤_, _<_}
 use native.Mathlib.Omega.{arith}
 use lib.ListN.{length, length-append}
 use Rattle.theory.specs.Limits.{code-limit}
-use Rattle.theory.specs.Net.{Node, atom, arcs, Graph, nodeAt, arcsOf, beside, Canonical, Joined}
+use Rattle.theory.specs.Net.{Node, atom, arcs, Graph, nodeAt, arcsOf, Canonical, Joined}
 use Rattle.theory.specs.Join.{join}
 use Rattle.theory.specs.Descr.{Desc, desc, Disjs, end, _and_, Alts, fail, _or_, disjs, alts, _then_}
-use Rattle.theory.specs.Layout.{arc-words, node-words, nodes-words, words, disjs-words, alts-words, ArcsFit, NodeFits, GraphFits, WellFormed, WellAll, WellAny}
+use Rattle.theory.specs.Layout.{arc-words, node-words, nodes-words, words, disjs-words, alts-words, ArcsFit, GraphFits, WellFormed, WellAll, WellAny}
 use Rattle.theory.specs.Modes.{joined, kept, Round, after, round, finish, tidy, size, quick}
 use Rattle.theory.proofs.Instance.{AllCanonical, join-some}
 use Rattle.theory.proofs.Sets.{graph-of, number, graph-in, spot-atom, spot-arc}

@@ -1,41 +1,35 @@
 -- `unified` gives exactly the answers of the table, one for each input.
 -- Assumes nothing.
-use mathlib.Core.Path.{_≡_, refl, ap, ap₂, sym, _∙_, subst}
-use mathlib.Core.Logic.{_⊎_, inl, inr, ⊎-elim, _↔_}
+use mathlib.Core.Path.{_≡_, refl, ap, sym, _∙_, subst}
+use mathlib.Core.Logic.{inl, inr, _↔_}
 use mathlib.Core.Bool.{Bool, true, false, _||_}
 use mathlib.Core.Option.{Option, none, some}
-use mathlib.Core.List.{List, [], _∷_, _++_, List·Memᴰ, List·Memᴰ·head}
-use Prim.Native.Nat.{ℕ, zero, suc, _+_, _≤_, _<_}
+use mathlib.Core.List.{List, [], _∷_, _++_}
+use Prim.Native.Nat.{ℕ, zero, suc, _≤_, _<_}
 use native.Mathlib.Omega.{arith}
 use lib.ListN.{length, drop}
 use lib.Dec.{ltb}
 use borrow.Author.Tests.{le-ltb, lt-ltb}
 use Rattle.theory.specs.Limits.{depth-limit, input-limit, working-size, choice-limit}
 use Rattle.theory.specs.Net.{Graph}
-use Rattle.theory.specs.Descr.{Desc, choices, answers, agree, agreeing, readings, number}
-use Rattle.theory.specs.Join.{join}
-use Rattle.theory.specs.Layout.{words, WellFormed, Image}
+use Rattle.theory.specs.Descr.{Desc, choices, agree, agreeing, readings, number}
+use Rattle.theory.specs.Layout.{words, WellFormed}
 use Rattle.theory.specs.Reading.{decode}
-use Rattle.theory.specs.Modes.{joined, quick, full, some-agree, prune, fold, size, tidy}
+use Rattle.theory.specs.Modes.{joined, quick, full, some-agree, prune, fold}
 use Rattle.theory.specs.Answer.{Answer, refuse, consistent}
 use Rattle.theory.specs.Outcome.{Areas, worked, Outcome}
 use Rattle.theory.specs.Unified.{deliver, complete, in-mode, unified}
 use Rattle.theory.specs.Rules.{mode-result, mode-readings, Accepted, Clashes, TooMany, Given, one, two, three, four, five, six, seven, six-after, eight, done}
 use Rattle.theory.proofs.Decode.{Tells, holds, fails, tells-lt, Decoded, is, malformed, decoded, decode-words}
-use Rattle.theory.proofs.Full.{SomeAgree, agrees, none-agrees, some-agree-view, whole}
-use Rattle.theory.proofs.Quick.{nil}
+use Rattle.theory.proofs.Full.{whole}
 
 none-some : {A : Type 0} (x : A) → _≡_ {A = Option A} none (some x) → ⊥
 none-some x e = let z : _≡_ {A = ℕ} 0 1 = cc in omega arith
 
--- a quick result, or a full one, is there only where the join is
+-- a quick result is there only where the join is
 pub quick-joined : (d e : Desc) → joined d e ≡ none → quick d e ≡ none
 unfolding quick
 quick-joined d e h = rw (h, quick)
-
-pub full-joined : (d e : Desc) → joined d e ≡ none → full d e ≡ none
-unfolding full
-full-joined d e h = rw (h, full)
 
 -- no consistent choice
 agreeing-none : (l : List (List Graph)) → some-agree l ≡ false → agreeing l ≡ 0

@@ -1,20 +1,20 @@
 -- The program that joins and the classes of document 01 are one; and folding what `full` keeps never clashes, at any depth.
 -- Assumes nothing.
-use mathlib.Core.Path.{_≡_, refl, ap, sym, _∙_, subst}
+use mathlib.Core.Path.{_≡_, refl, ap, sym, _∙_}
 use mathlib.Core.Logic.{_↔_}
 use mathlib.Core.Bool.{Bool, true, false}
 use mathlib.Core.Option.{Option, none, some}
-use mathlib.Core.List.{List, [], _∷_, _++_}
-use Prim.Native.Nat.{ℕ, zero, suc, _+_, _≤_, _<_}
+use mathlib.Core.List.{List, [], _∷_}
+use Prim.Native.Nat.{ℕ}
 use native.Mathlib.Omega.{arith}
 use Rattle.theory.specs.Net.{Graph, Clash, Joined}
 use Rattle.theory.specs.Join.{join}
 use Rattle.theory.specs.Descr.{Desc, desc, Disjs, end, _and_, Alts, fail, _or_, choices}
-use Rattle.theory.specs.Modes.{joined, some-agree, prune, fold, fold-all, folded-in, Round, full}
+use Rattle.theory.specs.Modes.{joined, some-agree, prune, fold, fold-all, folded-in, full}
 use Rattle.theory.specs.Places.{Pick, taken, Consistent, Pruned}
 use Rattle.theory.proofs.Instance.{AllCanonical, join-some, some-join, join-none, none-join}
 use Rattle.theory.proofs.Mean.{Can, CanAll, CanAny}
-use Rattle.theory.proofs.Live.{Agrees, Live, LiveAll, LiveAny, fold-joins, some-agree-in}
+use Rattle.theory.proofs.Live.{Live, LiveAll, LiveAny, fold-joins, some-agree-in}
 use Rattle.theory.proofs.Places.{pick-in, full-is-pruned}
 use Rattle.theory.proofs.Model.{agree-view}
 use Rattle.theory.proofs.Full.{whole}

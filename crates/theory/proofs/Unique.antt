@@ -1,16 +1,15 @@
 -- A graph has one image: the classes have one canonical graph.
 -- Assumes nothing.
 use mathlib.Core.Path.{_≡_, refl, ap, ap₂, sym, _∙_, subst}
-use mathlib.Core.Logic.{_⊎_, inl, inr, _↔_, _≢_}
-use mathlib.Core.List.{List, [], _∷_, _++_, List·Memᴰ, List·Memᴰ·head, List·Memᴰ·tail, List·Memᴰ·cases-cons, List·Memᴰ·not-nil}
-use Prim.Native.Nat.{ℕ, zero, suc, _+_, _≤_, _<_, max}
-use native.Mathlib.Nat.{add-zero, add-suc, zero-add}
+use mathlib.Core.Logic.{_⊎_, inl, inr}
+use mathlib.Core.List.{List, [], _∷_, List·Memᴰ, List·Memᴰ·head, List·Memᴰ·tail, List·Memᴰ·cases-cons, List·Memᴰ·not-nil}
+use Prim.Native.Nat.{ℕ, suc, _+_, _≤_, _<_, max}
+use native.Mathlib.Nat.{add-zero, zero-add}
 use native.Mathlib.Decide.{decLt}
 use native.Mathlib.Omega.{arith}
-use lib.ListN.{length, getD}
-use Rattle.theory.specs.Net.{Node, atom, arcs, Graph, nodeAt, arcsOf, Net, NodeOf, graph, _⊕_, nothing, beside}
-use Rattle.theory.specs.Net.{Same, roots, Rising, InOrder, met, Numbered, Canonical, JoinedOf, Joined}
-use Rattle.theory.proofs.Meaning.{joined-root, canonical-some}
+use Rattle.theory.specs.Net.{Node, atom, arcs, Graph, nodeAt, arcsOf, Net, beside}
+use Rattle.theory.specs.Net.{roots, Rising, InOrder, met, Numbered, Canonical, JoinedOf, Joined}
+use Rattle.theory.proofs.Meaning.{joined-root}
 
 abbrev Arcs : Type 0
 Arcs = List (ℕ × ℕ)

@@ -1,15 +1,15 @@
 -- A joined graph has no more nodes and no more arcs than the graphs that it joins: the words of a join.
 -- Assumes nothing.
-use mathlib.Core.Path.{_≡_, refl, ap, ap₂, sym, _∙_, subst}
-use mathlib.Core.Logic.{_⊎_, inl, inr, ⊎-elim, _≢_}
+use mathlib.Core.Path.{_≡_, refl, ap, sym, _∙_, subst}
+use mathlib.Core.Logic.{_⊎_, inl, inr, ⊎-elim}
 use mathlib.Core.Bool.{Bool, true, false}
 use mathlib.Core.List.{List, [], _∷_, _++_, map, List·Memᴰ, List·Memᴰ·head, List·Memᴰ·tail, List·Memᴰ·cases-cons, List·Memᴰ·not-nil, List·Memᴰ·append-cases, Memᴰ·append-left, Memᴰ·append-right}
 use Prim.Native.Nat.{ℕ, zero, suc, _+_, _-_, _≤_, _<_}
 use native.Mathlib.Bridge.{le-prop}
 use native.Mathlib.Omega.{arith}
-use lib.ListN.{length, length-append, length-map, getD}
+use lib.ListN.{length, length-append, length-map}
 use lib.Dec.{ltb}
-use Rattle.theory.specs.Net.{Node, atom, arcs, Graph, nodeAt, arcsOf, Net, NodeOf, graph, beside, roots, Same, Rising, met, Numbered, Canonical, Joined, JoinedOf}
+use Rattle.theory.specs.Net.{Node, atom, arcs, Graph, nodeAt, arcsOf, NodeOf, beside, Rising, met, Numbered, Joined}
 use Rattle.theory.specs.Layout.{arc-words, node-words, nodes-words}
 use Rattle.theory.proofs.Decode.{Tells, holds, fails, tells-lt}
 use Rattle.theory.proofs.Instance.{AllCanonical}

@@ -3,7 +3,7 @@
 use mathlib.Core.Bool.{Bool, true, false}
 use mathlib.Core.Option.{Option, none, some}
 use mathlib.Core.List.{List, [], _∷_, _++_}
-use Prim.Native.Nat.{ℕ, zero, suc, _+_, _*_, min}
+use Prim.Native.Nat.{ℕ, suc, _+_, _*_, min}
 use Rattle.theory.specs.Limits.{choice-stop}
 use Rattle.theory.specs.Net.{Graph}
 use Rattle.theory.specs.Join.{join}

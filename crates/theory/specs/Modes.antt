@@ -2,7 +2,7 @@
 -- Assumes nothing: these are definitions.
 use mathlib.Core.Bool.{Bool, true, false}
 use mathlib.Core.Option.{Option, none, some}
-use mathlib.Core.List.{List, [], _∷_, _++_}
+use mathlib.Core.List.{List, [], _∷_}
 use Prim.Native.Nat.{ℕ, zero, suc, _+_}
 use Rattle.theory.specs.Net.{Graph, arcs}
 use Rattle.theory.specs.Join.{join}

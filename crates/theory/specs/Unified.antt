@@ -1,6 +1,6 @@
 -- The table of numbers as a program, so that cases compute: `unified` gives exactly what the rules give (`table`).
 -- Assumes nothing: these are definitions.
-use mathlib.Core.Bool.{Bool, true, false, _||_}
+use mathlib.Core.Bool.{true, false, _||_}
 use mathlib.Core.Option.{Option, none, some}
 use mathlib.Core.List.{List, []}
 use Prim.Native.Nat.{ℕ, zero, suc}
