@@ -1,6 +1,6 @@
 -- Laws of sums and products that stop at a limit.
 -- Assumes nothing.
-use Prim.Native.Nat.{ℕ, _+_, _*_, _≤_, min}
+use Prim.Native.Nat.{ℕ, _*_, _≤_, min}
 use native.Mathlib.Omega.{arith}
 use native.Mathlib.Nat.{mul-comm, mul-assoc, mul-one, mul-le-mul, lt-of-le-of-lt}
 use mathlib.Core.Path.{_≡_, sym, ap, _∙_}

@@ -5,16 +5,13 @@ use native.Mathlib.Omega.{arith}
 use native.Mathlib.Numerals.{add-one}
 use mathlib.Core.Path.{_≡_, refl, sym, subst, ap, _∙_}
 use mathlib.Core.Logic.{_↔_}
-use mathlib.Core.Option.{Option, some}
 use mathlib.Core.List.{List, [], _∷_, _++_, append-nil}
 use lib.ListN.{length, getD, drop, length-drop}
 use lib.Seq.{drop-cons, drop-length}
 use Rattle.theory.specs.Limits.{code-limit}
 use Rattle.theory.specs.Net.{Node, atom, arcs, Graph}
 use Rattle.theory.specs.Descr.{Desc, desc, Disjs, _and_, Alts, _or_, disjs, alts}
-use Rattle.theory.specs.Layout.{arc-words, node-words, nodes-words, words, disjs-words, alts-words, WellFormed}
-use Rattle.theory.specs.Reading.{read}
-use Rattle.theory.proofs.Decode.{read-back}
+use Rattle.theory.specs.Layout.{arc-words, node-words, nodes-words, words, disjs-words, alts-words}
 use Rattle.layout.specs.Standing.{Stands, graph-words, disjunction-words}
 
 module _ (ws : List ℕ) where
@@ -78,15 +75,6 @@ module _ (ws : List ℕ) where
 
   pub stands-whole : (xs : List ℕ) → (ws ≡ xs) ↔ Stands ws 0 xs (length ws)
   stands-whole xs = (drop-stands xs 0 (omega arith), λ s. stands-drop xs 0 (length ws) s ∙ rw (drop-length, append-nil))
-
-  -- what stands at a place is one description only
-  pub stands-one : (d e : Desc) (n p q r : ℕ) → WellFormed d n → WellFormed e n → Stands ws p (words d) q → Stands ws p (words e) r → d ≡ e
-  stands-one d e n p q r k l s t =
-      let h : _≡_ {A = Option (Desc × List ℕ)} (some (d, drop q ws)) (some (e, drop r ws)) =
-      sym (read-back d n (drop q ws) k) ∙ ap (read n) (sym (stands-drop (words d) p q s) ∙ stands-drop (words e) p r t) ∙ read-back e n (drop r ws) l
-      in
-      let k : _≡_ {A = Desc × List ℕ} (d, drop q ws) (e, drop r ws) = cc in
-      ap (λ (z : Desc × List ℕ). z .0) k
 
   pub stands-description : (g : Graph) (ds : Disjs) (p q : ℕ)
       → Stands ws p (words (desc g ds)) q ↔ ((r : ℕ) × Stands ws p (graph-words g) r × (r < length ws) × (getD ws r 0 ≡ disjs ds) × Stands ws (r + 1) (disjs-words ds) q)

@@ -49,10 +49,6 @@ module _ (ws : List ℕ) where
   image-decodes : Image ws ↔ ((d : Desc) × (decode ws ≡ some d))
   image-decodes = (λ i. (i .0, decode-iff ws (i .0) .1 (i .1, i .2)), λ d. let p = decode-iff ws (d .0) .0 (d .1) in (d .0, p .0, p .1))
 
-  -- the reading and the theory's `decode` accept the same words
-  pub read-decodes : (readDescription depth-limit ws 0 ≡ Fine (length ws)) ↔ ((d : Desc) × (decode ws ≡ some d))
-  read-decodes = (λ e. image-decodes .0 (read-iff .0 e), λ d. read-iff .1 (image-decodes .1 d))
-
   module _ (r : Judgement) (j : Judged ws r) where
     pub accepted-decodes : (r ≡ Accepted) ↔ ((d : Desc) × (decode ws ≡ some d))
     accepted-decodes = (λ e. image-decodes .0 (j .sound e), λ d. j .complete (image-decodes .1 d))
@@ -72,8 +68,3 @@ module _ (ws : List ℕ) where
 pub malformed-answer : (r : Judgement) → ¬ (r ≡ Accepted) → r ≡ Malformed
 malformed-answer Accepted n = absurd (n refl)
 malformed-answer Malformed n = refl
-
--- the contract allows one answer
-pub one-answer : (ws : List ℕ) (r s : Judgement) → Judged ws r → Judged ws s → r ≡ s
-one-answer ws Accepted s j k = sym (k .complete (j .sound refl))
-one-answer ws Malformed s j k = sym (malformed-answer s (λ e. malformed-apart (j .complete (k .sound e))))

@@ -11,8 +11,8 @@ use lib.Dec.{eqb, ltb}
 use lib.ListN.{length, getD, set, length-set, List·getD-eq-default}
 use lib.Seq.{getD-set-same, getD-set-other}
 use Rattle.area.specs.Map.{MARKS, RESULT}
-use Rattle.area.specs.Region.{region, words}
-use Rattle.area.proofs.Region.{length-region, getD-region, region-set-same, region-ext, words-same}
+use Rattle.area.specs.Region.{region}
+use Rattle.area.proofs.Region.{length-region, getD-region, region-set-same, region-ext}
 use Rattle.engine.specs.Marks.{Marking}
 use Rattle.marks.specs.Marked.{marking, lights, Dropped, Cleared, Lighted}
 
@@ -92,13 +92,6 @@ lighted w x h room = record {
     kept : (y : ℕ) → not (eqb (getD marks x 0) 1) ≡ true → (t : Bool) → eqb y x ≡ t → not (eqb (getD (set marks x 2) y 0) 1) ≡ not (eqb (getD marks y 0) 1)
     kept y k true e = ap (λ (v : ℕ). not (eqb v 1)) (own y e) ∙ sym (ap (λ (j : ℕ). not (eqb (getD marks j 0) 1)) (eqb-true y x e) ∙ k)
     kept y k false e = ap (λ (v : ℕ). not (eqb v 1)) (getD-set-other marks x y 2 0 (eqb-false y x e))
-
--- the loaded words stay
-pub dropped-words : (w : List ℕ) (x : ℕ) (w' : List ℕ) → 16384 ≤ length w → Dropped w x w' → words w' ≡ words w
-dropped-words w x w' room d = words-same w w' room (d .len) (λ j a b. d .rest j (λ e. omega arith))
-
-pub cleared-words : (w w' : List ℕ) → 16384 ≤ length w → Cleared w w' → words w' ≡ words w
-cleared-words w w' room c = words-same w w' room (c .len) (λ j a b. c .rest j (inl b))
 
 -- the marks from `left` on are zero, and no other word has changed
 pub record Clearing (w : List ℕ) (left : ℕ) (w' : List ℕ) : Type 0 where

@@ -6,7 +6,6 @@ use mathlib.Core.Bool.{Bool, true, false}
 use mathlib.Core.Option.{Option, none, some}
 use mathlib.Core.List.{List}
 use lib.ListN.{length}
-use lib.Dec.{ltb}
 use borrow.Author.Tests.{lt-ltb, le-ltb}
 use Rattle.meet_text.specs.Token.{Start, is, over, bad, token}
 use Rattle.meet_text.specs.Call.{Taken, counted, done, Asked, inputs, call, text-limit, heard}

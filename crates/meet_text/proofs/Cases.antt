@@ -1,11 +1,11 @@
 -- Texts read and written by computation.
 -- Assumes nothing.
 use mathlib.Core.Path.{_≡_, refl}
-use mathlib.Core.Option.{Option, none, some}
+use mathlib.Core.Option.{none, some}
 use mathlib.Core.List.{List, [], _∷_}
 use Prim.Native.Nat.{ℕ}
 use Rattle.meet_text.specs.Token.{blank, digit, more, token}
-use Rattle.meet_text.specs.Call.{Asked, words-in, counted, done, inputs, call, heard}
+use Rattle.meet_text.specs.Call.{words-in, counted, done, inputs, call, heard}
 use Rattle.meet_text.specs.Answer.{digits, decimal, after-spaces, spaced, labelled, first-line, second-line, answer-text}
 
 -- `3 1 0 0`: mode 3, one word and none; the form is judged before the mode

@@ -1,6 +1,6 @@
 -- Reading a number byte by byte: one law for each way that it goes on or ends.
 -- Assumes nothing.
-use Prim.Native.Nat.{ℕ, suc, _+_, _*_, _-_, _≤_, _<_}
+use Prim.Native.Nat.{ℕ, _+_, _*_, _-_, _≤_, _<_}
 use native.Mathlib.Omega.{arith}
 use native.Mathlib.Numerals.{add-one}
 use borrow.Author.Tests.{ltb-true, ltb-false}
@@ -10,7 +10,7 @@ use mathlib.Core.List.{List, [], _∷_}
 use lib.ListN.{length, getD, drop, drop-of-length-le}
 use lib.Seq.{drop-cons}
 use lib.Dec.{ltb}
-use Rattle.meet_text.specs.Token.{blank, digit, largest, is, over, bad, Start, more, token}
+use Rattle.meet_text.specs.Token.{blank, digit, largest, is, over, bad, more, token}
 
 -- a digit is one of ten bytes
 pub digit-range : (c : ℕ) → digit c ≡ true → (48 ≤ c) × (c < 58)

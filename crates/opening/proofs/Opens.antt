@@ -1,20 +1,20 @@
 -- The two definite graphs are pushed, one after the other, on the loaded inputs.
 -- Assumes nothing.
-use Prim.Native.Nat.{ℕ, zero, suc, _+_, _*_, _-_, _≤_, _<_}
+use Prim.Native.Nat.{ℕ, _+_, _-_, _≤_}
 use native.Mathlib.Omega.{arith}
 use mathlib.Core.Path.{_≡_, refl, sym, ap, subst, _∙_}
-use mathlib.Core.Logic.{_⊎_, inl, inr, ⊎-elim}
-use mathlib.Core.List.{List, [], _∷_, _++_, append-assoc, List·Memᴰ, List·Memᴰ·tail, List·Memᴰ·head, List·Memᴰ·not-nil, List·Memᴰ·cases-cons}
+use mathlib.Core.Logic.{⊎-elim}
+use mathlib.Core.List.{List, [], _∷_, _++_, List·Memᴰ, List·Memᴰ·head, List·Memᴰ·not-nil, List·Memᴰ·cases-cons}
 use lib.ListN.{length, getD, take, drop, length-append, length-drop}
 use lib.Seq.{length-take-le, take-at, drop-at, getD-drop, getD-append-add}
 use Rattle.theory.specs.Limits.{input-limit, depth-limit}
-use Rattle.theory.specs.Net.{Graph, Clash}
+use Rattle.theory.specs.Net.{Clash}
 use Rattle.theory.specs.Descr.{Desc, desc}
 use Rattle.theory.specs.Layout.{words, WellFormed}
 use Rattle.theory.proofs.Kept.{well-can}
 use Rattle.theory.proofs.Sets.{clash-within}
 use Rattle.loading.specs.Entry.{Entry}
-use Rattle.loading.specs.Loaded.{nodes-in, loaded}
+use Rattle.loading.specs.Loaded.{nodes-in}
 use Rattle.loading.proofs.Names.{nodes-some}
 use Rattle.area.specs.Map.{WORDS, MARKS, SIZE, SECOND}
 use Rattle.area.specs.Region.{region}
@@ -24,7 +24,7 @@ use Rattle.classes.specs.Holds.{Holds, Pushing, Pushes, Starts}
 use Rattle.classes.specs.declared.push.Pushed.{Pushed}
 use Rattle.classes.specs.declared.push.Pushed.the-variants.{In, Clashed}
 use Rattle.opening.specs.declared.Opened.the-variants as opened
-use Rattle.opening.specs.Opening.{Inputs, Read, Stand, Paired, Opening, definite, Told, Opens}
+use Rattle.opening.specs.Opening.{Read, Stand, Paired, Opening, definite, Told, Opens}
 use Rattle.opening.proofs.Universe.{universe, in-one, in-two, nodes-room, comes}
 
 -- ---- k words from p on, put back into the area

@@ -1,14 +1,14 @@
 -- Both inputs loaded, the second after the first.
 -- Assumes nothing.
-use Prim.Native.Nat.{ℕ, zero, suc, _+_, _*_, _≤_, _<_}
+use Prim.Native.Nat.{ℕ, _+_, _*_, _≤_}
 use native.Mathlib.Omega.{arith}
-use mathlib.Core.Path.{_≡_, refl, sym, ap, subst, _∙_}
-use mathlib.Core.Logic.{inl, inr}
-use mathlib.Core.List.{List, [], _∷_}
-use lib.ListN.{length, getD}
-use Rattle.theory.specs.Limits.{input-limit, depth-limit}
+use mathlib.Core.Path.{_≡_, ap, subst, _∙_}
+use mathlib.Core.Logic.{inl}
+use mathlib.Core.List.{List, []}
+use lib.ListN.{length}
+use Rattle.theory.specs.Limits.{input-limit}
 use Rattle.theory.specs.Descr.{Desc}
-use Rattle.theory.specs.Layout.{words, WellFormed}
+use Rattle.theory.specs.Layout.{words}
 use Rattle.theory.proofs.Kept.{well-can}
 use Rattle.layout.specs.Standing.{Stands}
 use Rattle.loading.specs.Loaded.{nodes-in, loaded}
@@ -16,7 +16,7 @@ use Rattle.loading.specs.Loading.{Put, Loadable, LoadedAt}
 use Rattle.loading.proofs.Sizes.{nodes-few}
 use Rattle.loading.proofs.Putting.{stands-frame}
 use Rattle.area.specs.Map.{SECOND}
-use Rattle.opening.specs.Opening.{Inputs, Pair, Read, Stand, Paired}
+use Rattle.opening.specs.Opening.{Pair, Read, Stand, Paired}
 
 pub begins : (t a b : List ℕ) → Pair t a b → Loadable t a 0 0
 begins t a b p = record { image = p .inputs .first; few = p .inputs .first-few; near = omega arith; room = p .room; numbers = omega arith }

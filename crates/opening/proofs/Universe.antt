@@ -2,21 +2,20 @@
 -- Assumes nothing.
 use Prim.Native.Nat.{ℕ, zero, suc, _+_, _*_, _≤_, _<_}
 use native.Mathlib.Omega.{arith}
-use native.Mathlib.Numerals.{add-one}
 use mathlib.Core.Path.{_≡_, refl, sym, ap, subst, _∙_}
 use mathlib.Core.Logic.{_⊎_, inl, inr, ⊎-elim}
-use mathlib.Core.List.{List, [], _∷_, _++_, List·Memᴰ, List·Memᴰ·tail, List·Memᴰ·head, List·Memᴰ·not-nil, List·Memᴰ·cases-cons, List·Memᴰ·append-cases, Memᴰ·append-left, Memᴰ·append-right}
+use mathlib.Core.List.{List, [], _∷_, _++_, List·Memᴰ, List·Memᴰ·head, List·Memᴰ·not-nil, List·Memᴰ·cases-cons, List·Memᴰ·append-cases, Memᴰ·append-left, Memᴰ·append-right}
 use lib.ListN.{length, getD}
 use Rattle.theory.specs.Limits.{input-limit, depth-limit}
-use Rattle.theory.specs.Net.{Graph, Canonical}
+use Rattle.theory.specs.Net.{Canonical}
 use Rattle.theory.specs.Descr.{Desc, desc, Disjs, end, _and_, Alts, fail, _or_}
-use Rattle.theory.specs.Layout.{words, disjs-words, alts-words, nodes-words, GraphFits, WellFormed, WellAll, WellAny}
-use Rattle.theory.proofs.Weight.{weight, weights}
+use Rattle.theory.specs.Layout.{words, alts-words, GraphFits, WellFormed, WellAll, WellAny}
+use Rattle.theory.proofs.Weight.{weight}
 use Rattle.theory.proofs.Kept.{well-can}
 use Rattle.layout.specs.Standing.{Stands}
 use Rattle.layout.proofs.Standing.{stands-cons, stands-bounds}
-use Rattle.loading.specs.Entry.{Entry, graphs}
-use Rattle.loading.specs.Loaded.{extent, header, located, nodes-in, nodes-any, loaded}
+use Rattle.loading.specs.Entry.{Entry}
+use Rattle.loading.specs.Loaded.{extent, header, located, nodes-in, nodes-any}
 use Rattle.loading.proofs.Sizes.{nodes-few, graph-extent, located-length}
 use Rattle.loading.proofs.Entries.{entry, entries, entries-all, entries-any, Inside, inside-wide, entries-inside, Ordered, ordered-append, entries-ordered, entries-lie}
 use Rattle.area.specs.Map.{WORDS, SIZE, SECOND}

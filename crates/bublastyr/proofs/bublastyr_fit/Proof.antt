@@ -1,6 +1,5 @@
 -- `bublastyr::bublastyr_fit` meets its contract. Assumes nothing.
 use borrow.Author.Needs.{needs}
-use native.Mathlib.Omega.{arith}
 use mathlib.Core.Path.{sym, subst}
 use Rattle.theory.specs.FitTest.{FitGiven}
 use Rattle.bublastyr.proofs.bublastyr_fit.Statement.{statement}

@@ -1,7 +1,5 @@
 -- `opening::load_both` meets its contract.
 -- Assumes nothing.
-use borrow.Author.Needs.{needs}
-use mathlib.Core.Path.{_≡_}
 use Rattle.opening.proofs.Pairs.{begins, next, paired}
 use Rattle.opening.proofs.load_both.Statement.{statement}
 use Rattle.opening.proofs.load_both.Tie as tie

@@ -1,7 +1,6 @@
 -- `reply::answer_in` meets its contract. Assumes nothing.
 use borrow.Author.Needs.{needs}
 use native.Mathlib.Omega.{arith}
-use mathlib.Core.Path.{subst, sym}
 use Rattle.unify.proofs.Sizes.{outcome-told}
 use Rattle.reply.proofs.Replies.{said-other, said-room, said-done, take-count, wrote-same}
 use Rattle.reply.proofs.answer_in.Statement.{statement}

@@ -1,7 +1,7 @@
 -- `vectors::decode` is safe and ends. The length of dst stays, and the measure is what is left of it.
 -- Assumes nothing.
 use Prim.Native.Nat.{_-_}
-use mathlib.Core.Path.{_≡_, refl, _∙_}
+use mathlib.Core.Path.{_≡_, refl}
 use native.Mathlib.Omega.{arith}
 use lib.ListN.{length, length-set}
 use Rattle.vectors.proofs.decode.Statement.{statement}

@@ -5,7 +5,6 @@ use Prim.Native.Nat.{_-_, _≤_}
 use native.Mathlib.Omega.{arith}
 use mathlib.Core.Path.{_≡_, refl, sym, ap, _∙_}
 use lib.ListN.{length, length-set}
-use Rattle.meet_text.specs.Call.{words-in}
 use Rattle.meet_text.specs.Token.{meant}
 use Rattle.meet_text.specs.declared.number.Token.the-variants.{Over, Bad}
 use Rattle.meet_text.proofs.Runs.{Going, run-begins, run-ends, run-over, run-bad, run-goes}
