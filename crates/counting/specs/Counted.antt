@@ -7,7 +7,7 @@ use lib.ListN.{length}
 use Rattle.theory.specs.Limits.{choice-stop}
 use Rattle.area.specs.Map.{SECOND}
 use Rattle.area.specs.Region.{words}
-use Rattle.engine.specs.Placed.{Placed, place, Places}
+use Rattle.engine.specs.Placed.{Placed, Places, inner}
 use Rattle.engine.specs.Beside.{_next_}
 use Rattle.engine.specs.Counting.{count-at, count-all-at}
 use Rattle.loading.specs.Loaded.{number-step}
@@ -33,7 +33,7 @@ pub record Counted (w : List ℕ) (p left r : ℕ) : Type 0 where
 
 -- "The disjunctions are those of the first input, then those of the second, in order."
 abbrev pub beside : Placed → Placed → Places
-beside (place g ds) (place h es) = ds next es
+beside d e = inner d next inner e
 
 -- the same, for the two inputs as loaded
 abbrev pub CountedBoth : List ℕ → ℕ → ℕ → Type 0

@@ -1,21 +1,20 @@
 -- The search by its agenda. Each law is one return of an engine: first on a description of which all is kept, then by marks.
 -- Assumes nothing.
-use mathlib.Core.Path.{_≡_, refl, ap, sym, _∙_}
+use mathlib.Core.Path.{_≡_, refl, ap, _∙_}
 use mathlib.Core.Bool.{Bool, true, false, _||_, _&&_}
 use mathlib.Core.List.{List, [], _∷_, _++_, map}
 use Prim.Native.Nat.{ℕ, suc}
 use lib.Dec.{eqb}
 use lib.ListN.{length}
-use native.Mathlib.Omega.{arith}
 use Rattle.theory.specs.Net.{Graph}
-use Rattle.theory.specs.Descr.{agree, alts}
+use Rattle.theory.specs.Descr.{agree}
 use Rattle.theory.proofs.Mean.{Ctx}
-use Rattle.engine.specs.Placed.{Placed, place, Places, stop, _also_, Options, no-more, option, strip-all, strip-any}
-use Rattle.engine.specs.Marks.{Marking, keep, keep-all, keep-any, kept-of}
+use Rattle.engine.specs.Placed.{Placed, place, Places, stop, _also_, Options, no-more, option, strip-all}
+use Rattle.engine.specs.Marks.{Marking, keep, keep-all, keep-any}
 use Rattle.engine.specs.Certain.{sure, certain}
-use Rattle.engine.specs.Search.{Found, taking, dive, dive-all, dive-each, search, among, lit, dive-any}
-use Rattle.engine.specs.Agenda.{any-found, resume, resume-at, dive-at, choose-at, each-at}
-use Rattle.engine.proofs.Marks.{keep-true, keep-false, kept-alts}
+use Rattle.engine.specs.Search.{Found, taking, dive, dive-all, dive-any, dive-each, search, among, lit}
+use Rattle.engine.specs.Agenda.{resume, resume-at, dive-at, each-at}
+use Rattle.engine.proofs.Marks.{keep-true, keep-false}
 
 -- a leaf
 pub resume-leaf : (S : Ctx) → resume [] S ≡ [] ∷ []
@@ -25,15 +24,6 @@ resume-leaf S = refl
 pub resume-stop : (fs : List Places) (S : Ctx) → resume (stop ∷ fs) S ≡ resume fs S
 unfolding resume dive
 resume-stop fs S = refl
-
--- a disjunction: one kept alternative, or several
-pub resume-one : (x : ℕ) (g : Graph) (es ds : Places) (fs : List Places) (S : Ctx) → resume ((option x (place g es) no-more also ds) ∷ fs) S ≡ taking x (resume (es ∷ ds ∷ fs) S)
-unfolding resume dive
-resume-one x g es ds fs S = refl
-
-pub resume-many : (x y : ℕ) (d e : Placed) (a : Options) (ds : Places) (fs : List Places) (S : Ctx) → resume ((option x d (option y e a) also ds) ∷ fs) S ≡ dive-each S (option x d (option y e a)) (resume (ds ∷ fs))
-unfolding resume dive
-resume-many x y d e a ds fs S = refl
 
 pub each-none : (S : Ctx) (k : Ctx → Found) → dive-each S no-more k ≡ []
 unfolding dive
@@ -64,40 +54,20 @@ module _ (m : Marking) where
   pub resume-at-stop : (fs : List Places) (S : Ctx) → resume-at m (stop ∷ fs) S ≡ resume-at m fs S
   resume-at-stop fs S = resume-stop (map (keep-all m) fs) S
 
-  pub resume-at-more : (a : Options) (ds : Places) (fs : List Places) (S : Ctx) → resume-at m ((a also ds) ∷ fs) S ≡ choose-at m S a (ds ∷ fs)
+  -- a disjunction: one kept alternative, or each of several
+  abbrev pub choose-at : Ctx → Options → List Places → Found
+  choose-at S a fs = dive-any S (keep-any m a) (resume-at m fs)
+
+  pub resume-at-more : (a : Options) (ds : Places) (fs : List Places) (S : Ctx) → resume-at m ((a also ds) ∷ fs) S ≡ choose-at S a (ds ∷ fs)
   unfolding resume dive
   resume-at-more a ds fs S = refl
 
-  pub choose-at-none : (S : Ctx) (fs : List Places) → choose-at m S no-more fs ≡ []
+  pub choose-at-none : (S : Ctx) (fs : List Places) → choose-at S no-more fs ≡ []
   unfolding dive
   choose-at-none S fs = refl
 
-  -- an alternative that is dropped, stands alone, or is one of several
+  -- an alternative that is dropped, or kept
   module _ (S : Ctx) (x : ℕ) (a : Options) (fs : List Places) where
-    pub choose-at-dropped : (d : Placed) → m x ≡ false → choose-at m S (option x d a) fs ≡ choose-at m S a fs
-    choose-at-dropped d e = ap (λ (z : Options). dive-any S z (resume-at m fs)) (keep-false m x d a e)
-
-    pub choose-at-alone : (g : Graph) (es : Places) → m x ≡ true → kept-of m a ≡ 0 → choose-at m S (option x (place g es) a) fs ≡ taking x (resume-at m (es ∷ fs) S)
-    unfolding resume dive
-    choose-at-alone g es e n =
-        ap (λ (z : Options). dive-any S z (resume-at m fs)) (keep-true m x (place g es) a e)
-        ∙ ap (λ (z : Options). dive-any S (option x (keep m (place g es)) z) (resume-at m fs)) (none-kept (keep-any m a) (sym (kept-alts m a) ∙ n))
-      where
-        none-kept : (b : Options) → alts (strip-any b) ≡ 0 → b ≡ no-more
-        none-kept no-more h = refl
-        none-kept (option y f b) h = absurd (omega arith)
-
-    pub choose-at-many : (d : Placed) (k : ℕ) → m x ≡ true → kept-of m a ≡ suc k → choose-at m S (option x d a) fs ≡ each-at m S (option x d a) fs
-    unfolding dive
-    choose-at-many d k e n =
-        ap (λ (z : Options). dive-any S z (resume-at m fs)) (keep-true m x d a e)
-        ∙ several (keep-any m a) (sym (kept-alts m a) ∙ n)
-        ∙ sym (ap (λ (z : Options). dive-each S z (resume-at m fs)) (keep-true m x d a e))
-      where
-        several : (b : Options) → alts (strip-any b) ≡ suc k → dive-any S (option x (keep m d) b) (resume-at m fs) ≡ dive-each S (option x (keep m d) b) (resume-at m fs)
-        several no-more h = absurd (omega arith)
-        several (option y f b) h = refl
-
     pub each-at-dropped : (d : Placed) → m x ≡ false → each-at m S (option x d a) fs ≡ each-at m S a fs
     each-at-dropped d e = ap (λ (z : Options). dive-each S z (resume-at m fs)) (keep-false m x d a e)
 
@@ -113,8 +83,10 @@ module _ (m : Marking) where
   pub dive-at-push : (S : Ctx) (g : Graph) (es : Places) (fs : List Places) → agree (S ++ g ∷ certain m es) ≡ true → dive-at m S (place g es) fs ≡ resume-at m (es ∷ fs) (S ++ g ∷ certain m es)
   dive-at-push S g es fs e = dive-push S g (keep-all m es) (map (keep-all m) fs) e
 
-  pub search-at-start : (d : Placed) → search (keep m d) ≡ dive-at m [] d []
-  search-at-start d = search-start (keep m d)
+-- was anything found
+abbrev pub any-found : Found → Bool
+any-found [] = false
+any-found (l ∷ f) = true
 
 -- counts and marks
 pub taking-count : (x : ℕ) (f : Found) → length (taking x f) ≡ length f

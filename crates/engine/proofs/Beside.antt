@@ -9,8 +9,9 @@ use Rattle.theory.specs.Net.{Graph}
 use Rattle.theory.specs.Join.{join}
 use Rattle.theory.specs.Descr.{Desc, desc, Disjs, _and_, _then_}
 use Rattle.theory.specs.Modes.{joined}
-use Rattle.engine.specs.Placed.{Placed, place, Places, stop, _also_, strip, strip-all, strip-any, names, names-all, names-any, Apart, Distinct, DistinctAll}
+use Rattle.engine.specs.Placed.{Placed, place, Places, stop, _also_, strip, strip-all, strip-any}
 use Rattle.engine.specs.Beside.{_next_, joined-placed}
+use Rattle.engine.proofs.Names.{names, names-all, names-any, Apart, Distinct, DistinctAll}
 
 pub strip-next : (ds es : Places) → strip-all (ds next es) ≡ strip-all ds then strip-all es
 strip-next stop es = refl

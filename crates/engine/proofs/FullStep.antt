@@ -14,10 +14,11 @@ use Rattle.theory.proofs.Quick.{nil, nil-canonical, meanings, readings-count, g
 use Rattle.theory.proofs.Full.{whole, fold-ok, prune-can}
 use Rattle.theory.proofs.Sense.{quick-readings}
 use Rattle.theory.proofs.Live.{Agrees}
-use Rattle.engine.specs.Placed.{Placed, strip, names, Distinct}
+use Rattle.engine.specs.Placed.{Placed, strip}
 use Rattle.engine.specs.Marks.{keep, Marking}
 use Rattle.engine.specs.Search.{Found, search, lit, full-left, full-readings-by}
-use Rattle.engine.specs.Shown.{fold-some, shown, shown-some}
+use Rattle.engine.specs.Shown.{shown}
+use Rattle.engine.proofs.Names.{names, Distinct}
 use Rattle.engine.proofs.Entail.{fine-cons}
 use Rattle.engine.proofs.Stable.{Best, Hopeless, part-can}
 use Rattle.engine.proofs.Sane.{Sane, stable-sane}
@@ -28,7 +29,7 @@ use Rattle.engine.proofs.Marks.{keep-names, keep-distinct, keep-keep, f
 use Rattle.engine.proofs.Finding.{picks, search-ok, search-count}
 use Rattle.engine.proofs.Lit.{Some, one-does, some-view, picks-names, lit-hit, search-prune}
 use Rattle.engine.proofs.Pruned.{prune-best, prune-part, pruned-stable}
-use Rattle.engine.proofs.Shown.{shown-ok}
+use Rattle.engine.proofs.Shown.{shown-ok, fold-some, shown-some}
 
 -- the search marks only what it went through
 search-marks : (d : Placed) → Can (strip d) → (y : ℕ) → lit (search d) y ≡ true → List·Memᴰ y (names d)

@@ -10,7 +10,7 @@ use Rattle.theory.specs.Net.{Graph, Canonical}
 use Rattle.theory.specs.Join.{join}
 use Rattle.theory.proofs.Instance.{AllCanonical}
 use Rattle.theory.proofs.Mean.{Ctx, Fine, Can, CanAll, CanAny, canon-append, fine-append, in-l, in-r, join-canonical}
-use Rattle.engine.specs.Placed.{Placed, place, Places, stop, _also_, Options, no-more, option, strip, strip-all, strip-any}
+use Rattle.engine.specs.Placed.{Placed, place, own, inner, Places, stop, _also_, Options, no-more, option, strip, strip-all, strip-any}
 use Rattle.engine.specs.Marks.{Marking, keep, keep-all, keep-any}
 use Rattle.engine.specs.Certain.{certain, certain-any}
 use Rattle.engine.specs.Beside.{_next_, joined-placed}
@@ -36,16 +36,16 @@ mutual
       go true p q = (p, q)
       go false p q = q
 
--- the join of two placed descriptions
-pub record Joins (g h : Graph) (ds es : Places) (j : Placed) : Type 0 where
+-- the joined description has the joined graph and the disjunctions of both
+pub record Joins (a b j : Placed) : Type 0 where
   pub k : Graph
-  pub joins : join (g ∷ h ∷ []) ≡ some k
-  pub is : place k (ds next es) ≡ j
+  pub joins : join (own a ∷ own b ∷ []) ≡ some k
+  pub is : place k (inner a next inner b) ≡ j
 
-pub joined-is : (g h : Graph) (ds es : Places) (j : Placed) → joined-placed (place g ds) (place h es) ≡ some j → Joins g h ds es j
-joined-is g h ds es j e = go (join (g ∷ h ∷ [])) refl e
+pub joined-is : (a b j : Placed) → joined-placed a b ≡ some j → Joins a b j
+joined-is (place g ds) (place h es) j e = go (join (g ∷ h ∷ [])) refl e
   where
-    go : (o : Option Graph) → join (g ∷ h ∷ []) ≡ o → _≡_ {A = Option Placed} (elim o [ none ↦ none | some k ↦ some (place k (ds next es)) ]) (some j) → Joins g h ds es j
+    go : (o : Option Graph) → join (g ∷ h ∷ []) ≡ o → _≡_ {A = Option Placed} (elim o [ none ↦ none | some k ↦ some (place k (ds next es)) ]) (some j) → Joins (place g ds) (place h es) j
     go none q e = let z : _≡_ {A = ℕ} 0 1 = cc in absurd (omega arith)
     go (some k) q e = record { k = k; joins = q; is = cc }
 

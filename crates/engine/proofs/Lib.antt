@@ -1,3 +1,4 @@
+pub mod Names
 pub mod Entail
 pub mod Stable
 pub mod Sane

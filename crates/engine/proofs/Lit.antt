@@ -16,9 +16,10 @@ use Rattle.theory.proofs.Instance.{AllCanonical}
 use Rattle.theory.proofs.Mean.{Ctx, Fine, Can, CanAll, CanAny, AllFine, canon-append, fine-append, choices-all-fine, choices-any-fine}
 use Rattle.theory.proofs.Full.{pairs-in, pairs-from, whole, AllFull, full-pairs, full-graph, whole-fine, SomeAgree, none-agrees, some-agree-view}
 use Rattle.theory.proofs.Live.{Agrees, not-none, agrees-within, beside-within, some-agree-from}
-use Rattle.engine.specs.Placed.{Placed, place, Places, stop, _also_, Options, no-more, option, strip, strip-all, strip-any, names, names-all, names-any, Apart, Distinct, DistinctAll, DistinctAny}
+use Rattle.engine.specs.Placed.{Placed, place, Places, stop, _also_, Options, no-more, option, strip, strip-all, strip-any}
 use Rattle.engine.specs.Marks.{keep, keep-all, keep-any, Marking}
 use Rattle.engine.specs.Search.{Found, search, among, lit}
+use Rattle.engine.proofs.Names.{names, names-all, names-any, Apart, Distinct, DistinctAll, DistinctAny}
 use Rattle.engine.proofs.Passes.{Agreeing, can, cannot, agreeing-view}
 use Rattle.engine.proofs.Marks.{false-true}
 use Rattle.engine.proofs.Finding.{Pick, pick-each, pick-after, pick-pairs, pick-as, picks, picks-all, picks-any, graphs, graphs-are, graphs-all-are, graphs-any-are, choice-of, choice-all-of, choice-any-of, found, search-ok}

@@ -5,34 +5,22 @@ use mathlib.Core.Option.{Option, none, some}
 use mathlib.Core.List.{[], _∷_, List·Memᴰ}
 use Prim.Native.Nat.{ℕ, _≤_}
 use native.Mathlib.Omega.{arith}
-use Rattle.theory.specs.Net.{Graph, Canonical}
-use Rattle.theory.specs.Join.{join}
+use Rattle.theory.specs.Net.{Graph}
 use Rattle.theory.specs.Descr.{Desc, desc, Disjs}
 use Rattle.theory.specs.Modes.{size}
-use Rattle.theory.proofs.Mean.{Ctx, Fine, Can, join-canonical}
+use Rattle.theory.proofs.Mean.{Ctx, Can}
 use Rattle.theory.proofs.Live.{Agrees}
-use Rattle.engine.specs.Placed.{Placed, place, Places, strip, strip-all, names, Distinct}
+use Rattle.engine.specs.Placed.{Placed, place, Places, strip, strip-all}
 use Rattle.engine.specs.Marks.{Marking, all-kept, keep, keep-all, left-by}
 use Rattle.engine.specs.Certain.{certain}
 use Rattle.engine.specs.Quickly.{fails, stands, narrow-at, quick-at, Leaves}
-use Rattle.engine.proofs.Entail.{fine-cons, says-cons, says-none, join-says, says-join}
+use Rattle.engine.proofs.Names.{names, Distinct}
 use Rattle.engine.proofs.Dropping.{Left, try, narrow}
 use Rattle.engine.proofs.Passes.{Passed, passed-one, pass-fails, pass-on, pass-last}
 use Rattle.engine.proofs.Marks.{keep-same, keep-all-marked}
 use Rattle.engine.proofs.QuickStep.{NarrowedAt, narrow-at-ok, quick-passed}
 use Rattle.engine.proofs.Stack.{Same}
 use Rattle.engine.proofs.Standing.{standing-try, standing-can, standing-same, standing-agrees}
-
--- both definite graphs on the stack are as good as their join
-pub joined-same : (g h k : Graph) → Canonical g → Canonical h → join (g ∷ h ∷ []) ≡ some k → Same (g ∷ h ∷ []) (k ∷ [])
-joined-same g h k cg ch e =
-    let f : Fine (g ∷ h ∷ []) = fine-cons g (h ∷ []) cg (ch, tt) in
-    record {
-      fine₁ = f;
-      fine₂ = fine-cons k [] (join-canonical (g ∷ h ∷ []) f k e) tt;
-      to = says-cons (g ∷ h ∷ []) k [] (says-join (g ∷ h ∷ []) f k e) (says-none (g ∷ h ∷ []));
-      from = join-says (g ∷ h ∷ []) f k e;
-    }
 
 none-left : (d : Placed) (o : Option Marking) → left-by d o ≡ none → o ≡ none
 none-left d none e = refl

@@ -8,8 +8,9 @@ use Prim.Native.Nat.{ℕ, suc}
 use native.Mathlib.Omega.{arith}
 use Rattle.theory.specs.Descr.{alts}
 use Rattle.theory.proofs.Close.{eqb-yes, eqb-no}
-use Rattle.engine.specs.Placed.{Placed, place, Places, stop, _also_, Options, no-more, option, strip-any, names, names-all, names-any, Distinct, DistinctAll, DistinctAny}
+use Rattle.engine.specs.Placed.{Placed, place, Places, stop, _also_, Options, no-more, option, strip-any}
 use Rattle.engine.specs.Marks.{Marking, all-kept, drop, kept-of, keep, keep-all, keep-any}
+use Rattle.engine.proofs.Names.{names, names-all, names-any, Distinct, DistinctAll, DistinctAny}
 
 -- one alternative, kept or not
 pub keep-true : (m : Marking) (x : ℕ) (d : Placed) (a : Options) → m x ≡ true → keep-any m (option x d a) ≡ option x (keep m d) (keep-any m a)

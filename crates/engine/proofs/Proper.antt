@@ -14,7 +14,7 @@ use Rattle.theory.proofs.Mean.{Ctx, Can, CanAll, CanAny, can-then, join-canonic
 use Rattle.theory.proofs.Quick.{nil, nil-canonical}
 use Rattle.theory.proofs.Live.{Agrees}
 use Rattle.engine.specs.Certain.{sure, sure-any}
-use Rattle.engine.specs.Shown.{fold-some}
+use Rattle.engine.proofs.Shown.{fold-some}
 use Rattle.engine.proofs.Entail.{fine-cons}
 use Rattle.engine.proofs.Stable.{join-one, best-one}
 use Rattle.engine.proofs.Sane.{Sane, SaneAll, SaneAny}

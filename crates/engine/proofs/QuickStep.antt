@@ -11,10 +11,11 @@ use Rattle.theory.specs.Net.{Graph}
 use Rattle.theory.specs.Descr.{Desc, desc, Disjs, _and_, Alts, fail, _or_, alts, agree}
 use Rattle.theory.specs.Modes.{size}
 use Rattle.theory.proofs.Mean.{Ctx, Can}
-use Rattle.engine.specs.Placed.{Placed, place, Places, stop, _also_, Options, no-more, option, strip, strip-all, strip-any, names, names-all, names-any, Apart, Distinct, DistinctAll, DistinctAny}
+use Rattle.engine.specs.Placed.{Placed, place, Places, stop, _also_, Options, no-more, option, strip, strip-all, strip-any}
 use Rattle.engine.specs.Marks.{keep, keep-all, keep-any, Marking, drop, kept-of, all-kept, left-by}
 use Rattle.engine.specs.Certain.{sure-any, certain, certain-any}
 use Rattle.engine.specs.Quickly.{Step, fails, stands, tried, settle-at, try-at, narrow-at, any-at, inside-at, sift-at, passes-at, quick-at}
+use Rattle.engine.proofs.Names.{names, names-all, names-any, Apart, Distinct, DistinctAll, DistinctAny}
 use Rattle.engine.proofs.Dropping.{Left, settle, try, narrow, narrow-any, inside, sift, passes}
 use Rattle.engine.proofs.Passes.{Passed, passes-ok}
 use Rattle.engine.proofs.Marks.{keep-true, keep-false, drop-self, drop-other, kept-alts, keep-all-marked, keep-same, keep-all-same, keep-any-same}

@@ -1,11 +1,22 @@
 -- Folding what is left gives the form that a writer puts out.
 -- Assumes nothing.
 use mathlib.Core.Path.{_≡_, refl, ap, ap₂, sym, _∙_}
+use mathlib.Core.Option.{Option, none, some}
 use Rattle.theory.specs.Descr.{Desc, desc, Disjs, end, _and_, Alts, fail, _or_, _then_}
 use Rattle.theory.specs.Modes.{Round, in-place, fold, fold-all, fold-any}
 use Rattle.theory.proofs.Mean.{Can, CanAll, CanAny}
 use Rattle.engine.specs.Shown.{or-else, shown, shown-all, shown-any, shown-in, shown-then}
 use Rattle.engine.proofs.Sane.{Sane, SaneAll, SaneAny, rest, shape, lone-in-place}
+
+-- what a step leaves, folded; or its clash
+abbrev pub fold-some : Option Desc → Option Desc
+fold-some none = none
+fold-some (some e) = some (fold e)
+
+-- what a step leaves, as a writer puts it out; or its clash
+abbrev pub shown-some : Option Desc → Option Desc
+shown-some none = none
+shown-some (some e) = some (shown e)
 
 mutual
   unfolding shown fold

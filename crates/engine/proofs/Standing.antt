@@ -4,11 +4,8 @@ use mathlib.Core.Path.{_≡_, refl, ap, sym, _∙_, subst}
 use mathlib.Core.Bool.{Bool, true, false}
 use mathlib.Core.Option.{Option, none, some}
 use mathlib.Core.List.{[], _∷_, _++_, List·Memᴰ·head, List·Memᴰ·not-nil}
-use Prim.Native.Nat.{ℕ, zero, suc}
-use lib.Dec.{eqb}
 use Rattle.theory.specs.Net.{Graph, Canonical}
 use Rattle.theory.specs.Descr.{Desc, desc, Disjs, end, _and_, Alts, fail, _or_, agree}
-use Rattle.theory.specs.Modes.{size}
 use Rattle.theory.proofs.Instance.{AllCanonical}
 use Rattle.theory.proofs.Sets.{Within}
 use Rattle.theory.proofs.Mean.{Ctx, Fine, Can, CanAll, CanAny, fine-append, canon-append, in-l, in-r, within-both}
@@ -16,7 +13,7 @@ use Rattle.theory.proofs.Live.{Agrees, not-none}
 use Rattle.engine.specs.Certain.{flat, sure, sure-any}
 use Rattle.engine.proofs.Entail.{Says, SaysAll, w-self, w-left, w-right, w-tail, w-cons, says-within, says-trans, says-append, says-cons, fine-cons, says-first, says-second, says-here, says-there, says-none}
 use Rattle.engine.proofs.Stable.{flat-can, sure-can, part-all-can, part-any-can}
-use Rattle.engine.proofs.Dropping.{Left, settle, try, narrow, narrow-any, inside, sift, passes}
+use Rattle.engine.proofs.Dropping.{Left, settle, try, narrow, narrow-any, inside, sift}
 use Rattle.engine.proofs.Passes.{Agreeing, can, cannot, agreeing-view, Narrows, narrow-ok, sift-ok}
 use Rattle.engine.proofs.Stack.{Same, agree-same, LeftSame, narrow-same}
 
@@ -190,27 +187,3 @@ module _ (g : Graph) (ds : Disjs) (c : Can (desc g ds)) (T : Ctx) (s : Same T (g
           to = says-cons U g Y (says-here U g (sure ds) (says-trans U T (g ∷ sure ds) (k .fine) (s .fine₁) (s .fine₂ .1) ut (s .to))) (says-second U T Y (k .says));
           from = says-trans New (T ++ Y) U fN (fine-append T Y (s .fine₁) (k .canon)) (k .fine .1) (says-append New T Y nt (says-within New Y fN (w-tail g Y Y (w-self Y)))) (k .said);
         }
-
--- the loop of an engine that leaves the stack standing
-unfoldable pub keep-on : ℕ → Ctx → Graph → Disjs → Option Desc
-keep-on zero T g ds = some (desc g ds)
-keep-on (suc n) T g ds = elim (narrow T ds) [ none ↦ none | some r ↦ elim (eqb (size (desc g (r .left))) (size (desc g ds))) [ true ↦ some (desc g (r .left)) | false ↦ keep-on n (r .stack) g (r .left) ] ]
-
--- it comes to what the passes come to
-pub keep-on-ok : (n : ℕ) (g : Graph) (ds : Disjs) → Can (desc g ds) → (T : Ctx) → Same T (g ∷ sure ds) → Agrees T → keep-on n T g ds ≡ passes n (desc g ds)
-unfolding keep-on passes
-keep-on-ok zero g ds c T s a = refl
-keep-on-ok (suc n) g ds c T s a =
-    go (narrow T ds) (λ r e. keep-on-ok n g (r .left) (standing-can g ds c T s a r e) (r .stack) (standing-same g ds c T s a r e) (standing-agrees g ds c T s a r e)) ∙ ap after (sym (standing-try g ds c T s a))
-  where
-    now : ℕ
-    now = size (desc g ds)
-
-    after : Option Desc → Option Desc
-    after o = elim o [ none ↦ none | some e ↦ elim (eqb (size e) now) [ true ↦ some e | false ↦ passes n e ] ]
-
-    go : (o : Option (Left Disjs)) → ((r : Left Disjs) → o ≡ some r → keep-on n (r .stack) g (r .left) ≡ passes n (desc g (r .left))) →
-        elim o [ none ↦ none | some r ↦ elim (eqb (size (desc g (r .left))) now) [ true ↦ some (desc g (r .left)) | false ↦ keep-on n (r .stack) g (r .left) ] ]
-        ≡ after (elim o [ none ↦ none | some r ↦ some (desc g (r .left)) ])
-    go none ih = refl
-    go (some r) ih = ap (λ (z : Option Desc). elim (eqb (size (desc g (r .left))) now) [ true ↦ some (desc g (r .left)) | false ↦ z ]) (ih r refl)

@@ -14,20 +14,21 @@ use Rattle.theory.specs.Answer.{consistent}
 use Rattle.theory.proofs.Mean.{Can}
 use Rattle.theory.proofs.Quick.{nil, nil-canonical}
 use Rattle.theory.proofs.Counting.{capped-number, over-limit}
-use Rattle.engine.specs.Placed.{Placed, strip, names, Apart, Distinct}
+use Rattle.engine.specs.Placed.{Placed, strip}
 use Rattle.engine.specs.Marks.{Marking, keep, left-by}
 use Rattle.engine.specs.Beside.{joined-placed}
 use Rattle.engine.specs.Quickly.{quick-at, Leaves}
 use Rattle.engine.specs.Counting.{count-at}
 use Rattle.engine.specs.Search.{search, lit, full-left, full-readings-by}
-use Rattle.engine.specs.Shown.{shown, fold-some, shown-some}
+use Rattle.engine.specs.Shown.{shown}
+use Rattle.engine.proofs.Names.{names, Apart, Distinct}
 use Rattle.engine.proofs.Entail.{fine-cons}
 use Rattle.engine.proofs.Stable.{part-can, Best}
 use Rattle.engine.proofs.Sane.{Sane, stable-sane}
 use Rattle.engine.proofs.Passes.{Passed}
 use Rattle.engine.proofs.Proper.{Proper, Comes, joined-comes, quick-best}
 use Rattle.engine.proofs.QuickStep.{quick-passed}
-use Rattle.engine.proofs.Shown.{shown-ok}
+use Rattle.engine.proofs.Shown.{shown-ok, fold-some, shown-some}
 use Rattle.engine.proofs.FullStep.{full-of, full-joined, full-count, full-result, full-writes, full-sane, hopeless-full}
 use Rattle.engine.proofs.Counting.{number-fold, count-left}
 use Rattle.engine.proofs.Beside.{strip-some, joined-strip, SomeDistinct, joined-distinct}

@@ -5,7 +5,6 @@ use mathlib.Core.List.{_∷_}
 use Rattle.theory.specs.Net.{Graph}
 use Rattle.theory.specs.Join.{join}
 use Rattle.theory.specs.Descr.{Desc, desc, Disjs, end, _and_, Alts, fail, _or_, _then_}
-use Rattle.theory.specs.Modes.{fold}
 use Rattle.engine.specs.Certain.{sure}
 
 abbrev pub or-else : Graph → Option Graph → Graph
@@ -31,13 +30,3 @@ unfoldable mutual
   pub shown-any : Alts → Alts
   shown-any fail = fail
   shown-any (d or a) = shown d or shown-any a
-
--- what a step leaves, folded; or its clash
-abbrev pub fold-some : Option Desc → Option Desc
-fold-some none = none
-fold-some (some e) = some (fold e)
-
--- what a step leaves, as a writer puts it out; or its clash
-abbrev pub shown-some : Option Desc → Option Desc
-shown-some none = none
-shown-some (some e) = some (shown e)

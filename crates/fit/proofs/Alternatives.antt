@@ -6,15 +6,22 @@ use mathlib.Core.Path.{_≡_, sym, subst, _∙_}
 use mathlib.Core.Logic.{inl, inr, ⊎-elim}
 use mathlib.Core.List.{List}
 use lib.ListN.{length, getD}
+use Rattle.theory.specs.Limits.{depth-limit}
 use Rattle.theory.specs.Net.{Graph}
-use Rattle.theory.specs.Descr.{fail, _or_}
+use Rattle.theory.specs.Descr.{Alts, fail, _or_, alts}
+use Rattle.theory.specs.Layout.{alts-words, WellAny}
+use Rattle.theory.specs.FitTest.{FitsAny}
 use Rattle.layout.specs.Skipping.{descriptionEnd}
 use Rattle.layout.proofs.Standing.{stands-nil, stands-disjunction, stands-alternatives}
 use Rattle.layout.proofs.Ends.{description-ends}
-use Rattle.fit.specs.Testing.{Kind, a-description, a-disjunction, its-alternatives, Asked, Answers, Skips}
+use Rattle.fit.specs.Testing.{Kind, a-description, a-disjunction, Asked, Answers, Skips}
 use Rattle.fit.specs.declared.sending.Answer.{Answer}
 use Rattle.fit.specs.declared.sending.Answer.the-variants as answer
 use Rattle.fit.proofs.Things.{Left, left-says, left-on}
+
+-- k alternatives under which others nest at most `left` deep
+abbrev pub its-alternatives : Graph → ℕ → ℕ → Kind
+its-alternatives H left k = record { Thing = Alts; Fine = λ a. (alts a ≡ k) × (left ≤ depth-limit) × WellAny a left; text = alts-words; Holds = FitsAny H }
 
 module _ (ws : List ℕ) where
   pub skips-end : (at k : ℕ) → k ≤ 0 → Skips ws at k at

@@ -7,20 +7,25 @@ use mathlib.Core.Path.{_≡_, sym, subst, _∙_}
 use mathlib.Core.Logic.{_↔_}
 use mathlib.Core.List.{List}
 use lib.ListN.{length, getD}
+use Rattle.theory.specs.Limits.{depth-limit}
 use Rattle.theory.specs.Net.{Graph, Canonical}
-use Rattle.theory.specs.Descr.{desc, Disjs, end, _and_, Alts}
-use Rattle.theory.specs.Layout.{nodes-words, WellAll, WellAny}
-use Rattle.theory.specs.FitTest.{Fits}
+use Rattle.theory.specs.Descr.{desc, Disjs, end, _and_, Alts, disjs}
+use Rattle.theory.specs.Layout.{nodes-words, disjs-words, WellAll, WellAny}
+use Rattle.theory.specs.FitTest.{Fits, FitsAll}
 use Rattle.theory.proofs.Meaning.{canonical-some}
 use Rattle.layout.specs.Standing.{Stands}
 use Rattle.layout.proofs.Standing.{stands-nil, stands-within, stands-graph, stands-description, stands-disjunctions}
 use Rattle.fit.specs.Parts.{graphIn}
 use Rattle.fit.specs.Sending.{NodesAsked, SentNodes}
-use Rattle.fit.specs.Testing.{Kind, a-graph, a-description, its-disjunctions, a-disjunction, Asked, Answers}
+use Rattle.fit.specs.Testing.{Kind, a-graph, a-description, a-disjunction, Asked, Answers}
 use Rattle.fit.specs.declared.sending.Answer.{Answer}
 use Rattle.fit.specs.declared.sending.Answer.the-variants as answer
 use Rattle.fit.proofs.Parts.{nodes-stand}
 use Rattle.fit.proofs.Maps.{sent-map, given, given-root, map-sent}
+
+-- k disjunctions under which alternatives nest at most `left` deep
+abbrev pub its-disjunctions : Graph → ℕ → ℕ → Kind
+its-disjunctions H left k = record { Thing = Disjs; Fine = λ ds. (disjs ds ≡ k) × (left ≤ depth-limit) × WellAll ds left; text = disjs-words; Holds = FitsAll H }
 
 module _ (ws : List ℕ) where
   -- what is left of x stands at `at`, and the structure satisfies it when it satisfies x

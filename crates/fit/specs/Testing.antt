@@ -6,9 +6,9 @@ use mathlib.Core.List.{List}
 use lib.ListN.{length}
 use Rattle.theory.specs.Limits.{depth-limit, input-limit}
 use Rattle.theory.specs.Net.{Graph, graph, Canonical}
-use Rattle.theory.specs.Descr.{Desc, Disjs, Alts, disjs, alts}
-use Rattle.theory.specs.Layout.{words, disjs-words, alts-words, GraphFits, WellFormed, WellAll, WellAny, Image}
-use Rattle.theory.specs.FitTest.{Map, Fits, FitsAll, FitsAny}
+use Rattle.theory.specs.Descr.{Desc, Alts, alts}
+use Rattle.theory.specs.Layout.{words, alts-words, GraphFits, WellFormed, WellAny, Image}
+use Rattle.theory.specs.FitTest.{Map, Fits, FitsAny}
 use Rattle.layout.specs.Standing.{Stands, graph-words, disjunction-words}
 use Rattle.fit.specs.Parts.{graphIn}
 use Rattle.fit.specs.Sending.{Notable}
@@ -33,17 +33,9 @@ module _ (H : Graph) where
     abbrev pub a-description : Kind
     a-description = record { Thing = Desc; Fine = λ d. (left ≤ depth-limit) × WellFormed d left; text = words; Holds = Fits H }
 
-    -- k disjunctions
-    abbrev pub its-disjunctions : ℕ → Kind
-    its-disjunctions k = record { Thing = Disjs; Fine = λ ds. (disjs ds ≡ k) × (left ≤ depth-limit) × WellAll ds left; text = disjs-words; Holds = FitsAll H }
-
     -- its own alternatives are one of the `left` levels
     abbrev pub a-disjunction : Kind
     a-disjunction = record { Thing = Alts; Fine = λ a. (0 < left) × (left ≤ depth-limit) × WellAny a (left - 1); text = disjunction-words; Holds = FitsAny H }
-
-    -- k alternatives
-    abbrev pub its-alternatives : ℕ → Kind
-    its-alternatives k = record { Thing = Alts; Fine = λ a. (alts a ≡ k) × (left ≤ depth-limit) × WellAny a left; text = alts-words; Holds = FitsAny H }
 
 -- a thing of the kind stands at p
 abbrev pub Asked : Kind → List ℕ → ℕ → Type 0

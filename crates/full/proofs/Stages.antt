@@ -13,7 +13,7 @@ use Rattle.theory.proofs.Mean.{Ctx, Can}
 use Rattle.theory.proofs.Live.{Agrees, not-none}
 use Rattle.area.specs.Map.{SECOND}
 use Rattle.area.specs.Region.{words}
-use Rattle.engine.specs.Placed.{Placed, place, Places, stop, _also_, strip, strip-all}
+use Rattle.engine.specs.Placed.{Placed, place, Places, stop, _also_, strip, strip-all, inner}
 use Rattle.engine.specs.Marks.{Marking, keep, keep-all, keep-any}
 use Rattle.engine.specs.Certain.{flat, certain}
 use Rattle.engine.specs.Beside.{_next_, joined-placed}
@@ -42,7 +42,7 @@ use Rattle.full.proofs.Restarting.{certain-inside}
 -- ---- what is certain in both says what is certain in the joined description
 both-same : (a b j : Placed) → joined-placed a b ≡ some j → Can (strip a) → Can (strip b) → (m : Marking) → Same (flat (strip (keep m a)) ++ flat (strip (keep m b))) (flat (strip (keep m j)))
 both-same (place g ds) (place h es) j e ca cb m =
-    let x = joined-is g h ds es j e in
+    let x = joined-is (place g ds) (place h es) j e in
     let cx = keep-can m (place g ds) ca .1 in
     let cy = keep-can m (place h es) cb .1 in
     subst (λ (z : Placed). Same (flat (strip (keep m (place g ds))) ++ flat (strip (keep m (place h es)))) (flat (strip (keep m z)))) (x .is)
@@ -63,14 +63,10 @@ keep-next : (m : Marking) (ds es : Places) → keep-all m (ds next es) ≡ keep-
 keep-next m stop es = refl
 keep-next m (a also ds) es = ap (λ (l : Places). keep-any m a also l) (keep-next m ds es)
 
-inner-of : Placed → Places
-inner-of (place g ds) = ds
-
 keep-both : (a b j : Placed) → joined-placed a b ≡ some j → (m m′ : Marking) → keep m a ≡ keep m′ a → keep m b ≡ keep m′ b → keep m j ≡ keep m′ j
-unfolding inner-of
 keep-both (place g ds) (place h es) j e m m′ p q =
-    let x = joined-is g h ds es j e in
-    let same : keep-all m ds next keep-all m es ≡ keep-all m′ ds next keep-all m′ es = ap₂ {C = Places} _next_ (ap inner-of p) (ap inner-of q) in
+    let x = joined-is (place g ds) (place h es) j e in
+    let same : keep-all m ds next keep-all m es ≡ keep-all m′ ds next keep-all m′ es = ap₂ {C = Places} _next_ (ap inner p) (ap inner q) in
     subst (λ (z : Placed). keep m z ≡ keep m′ z) (x .is) (ap (place (x .k)) (keep-next m ds es ∙ same ∙ sym (keep-next m′ ds es)))
 
 module _ (n : ℕ) (t : List ℕ) (p : Pair n t) where

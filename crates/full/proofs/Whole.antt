@@ -13,8 +13,9 @@ use Rattle.theory.specs.Answer.{consistent}
 use Rattle.engine.specs.Placed.{strip}
 use Rattle.engine.specs.Marks.{keep}
 use Rattle.engine.specs.Counting.{count-at}
-use Rattle.engine.specs.Shown.{shown, shown-some}
+use Rattle.engine.specs.Shown.{shown}
 use Rattle.engine.specs.Search.{full-left, full-readings-by}
+use Rattle.engine.proofs.Shown.{shown-some}
 use Rattle.engine.proofs.Whole as engine
 use Rattle.marks.specs.Marked.{marking}
 use Rattle.full.specs.declared.full.Fully.{Fully}

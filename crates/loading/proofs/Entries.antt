@@ -3,8 +3,8 @@
 use Prim.Native.Nat.{ℕ, suc, _+_, _≤_, _<_}
 use native.Mathlib.Omega.{arith}
 use mathlib.Core.Path.{_≡_, refl, sym, ap, subst, _∙_}
-use mathlib.Core.Logic.{_⊎_, ⊎-elim}
-use mathlib.Core.List.{List, [], _∷_, _++_, map, map-append, List·Memᴰ, List·Memᴰ·tail, List·Memᴰ·head, List·Memᴰ·not-nil, List·Memᴰ·cases-cons, List·Memᴰ·append-cases}
+use mathlib.Core.Logic.{⊎-elim}
+use mathlib.Core.List.{List, [], _∷_, _++_, List·Memᴰ, List·Memᴰ·tail, List·Memᴰ·head, List·Memᴰ·not-nil, List·Memᴰ·cases-cons, List·Memᴰ·append-cases}
 use lib.ListN.{length, length-append}
 use Rattle.theory.specs.Net.{Graph}
 use Rattle.theory.specs.Descr.{Desc, desc, Disjs, end, _and_, Alts, fail, _or_, disjs, alts}
@@ -13,7 +13,7 @@ use Rattle.layout.specs.Standing.{Stands}
 use Rattle.layout.proofs.Standing.{stands-append, stands-cons, stands-length}
 use Rattle.loading.specs.Entry.{Entry}
 use Rattle.loading.specs.Loaded.{extent, header, closing, located, nodes-in, nodes-all, nodes-any, loaded, loaded-all, loaded-any}
-use Rattle.loading.proofs.Sizes.{located-length, loaded-length, any-length, graphs, graphs-all, graphs-any}
+use Rattle.loading.proofs.Sizes.{located-length, loaded-length, any-length}
 
 abbrev pub entry : ℕ → ℕ → Graph → Entry
 entry p n g = record { at = p; number = n; graph = g }
@@ -29,18 +29,6 @@ abbrev mutual
   pub entries-any : ℕ → ℕ → Alts → List Entry
   entries-any p n fail = []
   entries-any p n (d or a) = entries p n d ++ entries-any (p + length (words d)) (n + nodes-in d) a
-
-mutual
-  pub entries-graphs : (p n : ℕ) (d : Desc) → map (λ e. e .graph) (entries p n d) ≡ graphs d
-  entries-graphs p n (desc g ds) = ap (_∷_ g) (entries-graphs-all (p + extent g + 1) (n + length g) ds)
-
-  entries-graphs-all : (p n : ℕ) (ds : Disjs) → map (λ e. e .graph) (entries-all p n ds) ≡ graphs-all ds
-  entries-graphs-all p n end = refl
-  entries-graphs-all p n (a and ds) = map-append (λ e. e .graph) (entries-any (p + 1) n a) _ ∙ rw (entries-graphs-any (p + 1) n a, entries-graphs-all (p + suc (length (alts-words a))) (n + nodes-any a) ds)
-
-  entries-graphs-any : (p n : ℕ) (a : Alts) → map (λ e. e .graph) (entries-any p n a) ≡ graphs-any a
-  entries-graphs-any p n fail = refl
-  entries-graphs-any p n (d or a) = map-append (λ e. e .graph) (entries p n d) _ ∙ rw (entries-graphs p n d, entries-graphs-any (p + length (words d)) (n + nodes-in d) a)
 
 -- each lies from p up to q, with numbers from n up to m
 abbrev pub Inside : ℕ → ℕ → ℕ → ℕ → List Entry → Type 0

@@ -6,18 +6,15 @@ use native.Mathlib.Nat.{add-assoc}
 use mathlib.Core.Path.{_≡_, refl, sym, subst, ap, ap₂, _∙_}
 use mathlib.Core.List.{List, _∷_}
 use lib.ListN.{length}
-use Rattle.theory.specs.Limits.{depth-limit}
 use Rattle.theory.specs.Descr.{Desc, desc, Disjs, end, _and_, Alts, fail, _or_, disjs, alts}
-use Rattle.theory.specs.Layout.{words, alts-words, WellFormed}
+use Rattle.theory.specs.Layout.{words, alts-words}
 use Rattle.theory.proofs.Meaning.{canonical-some}
 use Rattle.theory.proofs.Mean.{Can, CanAll, CanAny}
-use Rattle.theory.proofs.Kept.{well-can}
 use Rattle.layout.specs.Standing.{Stands}
 use Rattle.layout.proofs.Standing.{stands-append, stands-nil, stands-cons, stands-length}
 use Rattle.loading.specs.Loaded.{extent, header, closing, located, nodes-in, nodes-all, nodes-any, loaded, loaded-all, loaded-any}
 use Rattle.loading.specs.Numbered.{numbered, numbered-all, numbered-any, places}
 use Rattle.loading.specs.At.{At, AtAll, AtAny}
-use Rattle.loading.specs.Loading.{LoadedAt}
 use Rattle.loading.proofs.Sizes.{located-length, loaded-length, any-length}
 use Rattle.loading.proofs.Names.{numbered-places, numbered-options}
 
@@ -51,9 +48,3 @@ module _ (t : List ℕ) where
         let far : p + length (words d) ≡ parts .0 = sym (stands-length t (loaded p n d) p (parts .0) (parts .1) ∙ ap (λ (k : ℕ). p + k) (loaded-length p n d)) in
         let rest = any-at a (parts .0) (n + nodes-in d) q (c .1) (subst (λ (k : ℕ). Stands t (parts .0) (loaded-any k (n + nodes-in d) a) q) far (parts .2)) in
         (parts .0, n + nodes-in d, refl, loaded-at d p n (parts .0) (c .0) (parts .1), subst (λ (k : ℕ). AtAny t (parts .0) (n + nodes-in d) (numbered-any (n + nodes-in d) a) q k) (add-assoc n (nodes-in d) (nodes-any a)) rest)
-
--- an input that `load` loaded
-pub load-at : (t t′ ws : List ℕ) (shift n m : ℕ) → LoadedAt ws shift n t t′ m → (d : Desc) → WellFormed d depth-limit → ws ≡ words d → At t′ shift n (numbered n d) (shift + length ws) m
-load-at t t′ ws shift n m loads d f e =
-    let done = loads d f e in
-    subst (λ (k : ℕ). At t′ shift n (numbered n d) (shift + length ws) k) (sym (done .0)) (loaded-at t′ d shift n (shift + length ws) (well-can d f) (done .1 .stands))

@@ -14,7 +14,8 @@ use Rattle.theory.proofs.Kept.{well-can}
 use Rattle.layout.specs.Standing.{Stands, graph-words}
 use Rattle.layout.proofs.Standing.{stands-nil, stands-length, stands-order, stands-within, stands-whole, stands-atom, stands-node, stands-arc, stands-graph, stands-disjunction, stands-description}
 use Rattle.loading.specs.Loaded.{extent, number-step, extent-step, end-step, header, closing, moved-arcs, located, loaded, loaded-all, loaded-any}
-use Rattle.loading.specs.Loading.{Put, Kind, AllLow, an-arc, its-arcs, a-node, its-nodes, a-graph, its-disjunctions, a-disjunction, its-alternatives, a-description, Room, Asked, Loads, Loadable, LoadedAt}
+use Rattle.loading.specs.Loading.{Put, Kind, AllLow, its-arcs, a-node, its-nodes, a-graph, a-disjunction, a-description, Room, Asked, Loads, Loadable, LoadedAt}
+use Rattle.loading.proofs.Sequels.{an-arc, its-disjunctions, its-alternatives}
 use Rattle.loading.proofs.Sizes.{moved-length, graph-extent, numbered-low, nodes-few, weights-fit-all}
 use Rattle.loading.proofs.Putting.{put-append, put-one, put-before, put-then}
 

@@ -1,14 +1,29 @@
--- The series of each kind: a first thing and others, or none.
+-- The kinds of things that only come one after the other, and the series of each kind: a first thing and others, or none.
 -- Assumes nothing.
-use Prim.Native.Nat.{ℕ, zero, suc, _-_, _≤_, _<_}
+use Prim.Native.Nat.{ℕ, zero, suc, _+_, _-_, _≤_, _<_}
 use native.Mathlib.Omega.{arith}
 use native.Mathlib.Nat.{add-zero}
 use native.Mathlib.Numerals.{sub-one}
-use mathlib.Core.Path.{refl}
+use mathlib.Core.Path.{_≡_, refl}
 use mathlib.Core.List.{[], _∷_}
-use Rattle.theory.specs.Descr.{end, _and_, fail, _or_}
-use Rattle.loading.specs.Loading.{an-arc, its-arcs, a-node, its-nodes, a-disjunction, its-disjunctions, a-description, its-alternatives}
+use Rattle.theory.specs.Limits.{input-limit}
+use Rattle.theory.specs.Descr.{Disjs, end, _and_, Alts, fail, _or_, disjs, alts}
+use Rattle.theory.specs.Layout.{disjs-words, alts-words, WellAll, WellAny}
+use Rattle.loading.specs.Loaded.{nodes-all, nodes-any, loaded-all, loaded-any}
+use Rattle.loading.specs.Loading.{Kind, its-arcs, a-node, its-nodes, a-disjunction, a-description}
 use Rattle.loading.proofs.Series.{Steps, Ends}
+
+-- an arc
+abbrev pub an-arc : Kind
+an-arc = record { Thing = ℕ × ℕ; Fine = λ e. e .1 < input-limit; text = λ e. e .0 ∷ e .1 ∷ []; image = λ p n e. e .0 ∷ (n + e .1) ∷ []; nodes = λ e. 0 }
+
+-- k disjunctions under which alternatives nest at most `left` deep
+abbrev pub its-disjunctions : ℕ → ℕ → Kind
+its-disjunctions left k = record { Thing = Disjs; Fine = λ ds. (disjs ds ≡ k) × WellAll ds left; text = disjs-words; image = loaded-all; nodes = nodes-all }
+
+-- k alternatives
+abbrev pub its-alternatives : ℕ → ℕ → Kind
+its-alternatives left k = record { Thing = Alts; Fine = λ a. (alts a ≡ k) × WellAny a left; text = alts-words; image = loaded-any; nodes = nodes-any }
 
 module _ (k : ℕ) (some : 0 < k) where
   pub arcs-step : Steps (its-arcs k) an-arc (its-arcs (k - 1))

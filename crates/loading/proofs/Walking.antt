@@ -1,16 +1,16 @@
--- What follows from a placed description's standing loaded: the order of positions and numbers, where its names lie, and what it depends on.
+-- What follows from a placed description's standing loaded: the order of positions and numbers, and where its names lie.
 -- Assumes nothing.
 use Prim.Native.Nat.{ℕ, _+_, _≤_, _<_, _/_, _%_}
 use native.Mathlib.Omega.{arith}
-use mathlib.Core.Path.{_≡_, _∙_}
+use mathlib.Core.Path.{_≡_}
 use mathlib.Core.List.{List, [], _∷_, _++_}
 use lib.ListN.{length, getD}
 use Rattle.theory.specs.Net.{Graph}
-use Rattle.engine.specs.Placed.{Placed, place, Places, stop, _also_, Options, no-more, option, names, names-all, names-any}
-use Rattle.loading.specs.Loaded.{extent, number-step, extent-step, end-step, located}
+use Rattle.engine.specs.Placed.{Placed, place, Places, stop, _also_, Options, no-more, option}
+use Rattle.engine.proofs.Names.{names, names-all, names-any}
+use Rattle.loading.specs.Loaded.{extent, number-step, extent-step, end-step}
 use Rattle.loading.specs.Numbered.{places, options}
 use Rattle.loading.specs.At.{At, AtAll, AtAny}
-use Rattle.loading.proofs.Putting.{Agrees, agrees-part, stands-frame}
 use Rattle.loading.proofs.Packed.{header-nodes, header-number, header-extent, closing-count, closing-end}
 use Rattle.loading.proofs.Sizes.{graph-extent}
 use Rattle.loading.proofs.Names.{Between, between-append, between-wide, between-none, between-one}
@@ -110,32 +110,3 @@ module _ (t : List ℕ) where
         let few : places ds < end-step = omega (arith, at-counts .1) in
         let e = at .5 in
         (rw e (closing-count (places ds) q few), rw e (closing-end (places ds) q few))
-
--- what stands from p up to q depends on the words there alone
-module _ (t t′ : List ℕ) where
-  mutual
-    pub at-frame : (d : Placed) (p n q m : ℕ) → Agrees t t′ p q → At t p n d q m → At t′ p n d q m
-    at-frame (place g ds) p n q m same w =
-        let room = w .4 in
-        let far = all-bounds t ds (p + extent g + 1) (n + length g) q m (omega arith) (w .6) .0 in
-        let first = same p (omega arith) (omega arith) (w .1) in
-        let last = same (p + extent g) (omega arith) (omega arith) (w .4) in
-        (w .0, first .0, first .1 ∙ w .2, stands-frame t t′ (located n g) (p + 1) (p + extent g) (agrees-part t t′ p (p + 1) (p + extent g) q (omega arith) (omega arith) same) (w .3), last .0, last .1 ∙ w .5, all-frame ds (p + extent g + 1) (n + length g) q m (omega arith) (agrees-part t t′ p (p + extent g + 1) q q (omega arith) (omega arith) same) (w .6))
-
-    pub all-frame : (ds : Places) (p n q m : ℕ) → p ≤ length t → Agrees t t′ p q → AtAll t p n ds q m → AtAll t′ p n ds q m
-    all-frame stop p n q m h same w = w
-    all-frame (a also ds) p n q m h same w =
-        let there = w .2 in
-        let first = any-bounds t a (p + 1) n (w .0) (w .1) (omega arith) (w .4) in
-        let near = first .0 in
-        let far = all-bounds t ds (w .0) (w .1) q m (first .1) (w .5) .0 in
-        let count = same p (omega arith) (omega arith) there in
-        (w .0, w .1, count .0, count .1 ∙ w .3, any-frame a (p + 1) n (w .0) (w .1) (omega arith) (agrees-part t t′ p (p + 1) (w .0) q (omega arith) (omega arith) same) (w .4), all-frame ds (w .0) (w .1) q m (first .1) (agrees-part t t′ p (w .0) q q (omega arith) (omega arith) same) (w .5))
-
-    pub any-frame : (a : Options) (p n q m : ℕ) → p ≤ length t → Agrees t t′ p q → AtAny t p n a q m → AtAny t′ p n a q m
-    any-frame no-more p n q m h same w = w
-    any-frame (option x d a) p n q m h same w =
-        let first = at-bounds t d p n (w .0) (w .1) (w .3) in
-        let near = first .0 in
-        let far = any-bounds t a (w .0) (w .1) q m (first .1) (w .4) .0 in
-        (w .0, w .1, w .2, at-frame d p n (w .0) (w .1) (agrees-part t t′ p p (w .0) q (omega arith) (omega arith) same) (w .3), any-frame a (w .0) (w .1) q m (first .1) (agrees-part t t′ p (w .0) q q (omega arith) (omega arith) same) (w .4))

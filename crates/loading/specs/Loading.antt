@@ -7,10 +7,10 @@ use mathlib.Core.List.{List, [], _∷_}
 use lib.ListN.{length, getD}
 use Rattle.theory.specs.Limits.{input-limit, depth-limit}
 use Rattle.theory.specs.Net.{Node, Graph, arcsOf}
-use Rattle.theory.specs.Descr.{Desc, Disjs, Alts, disjs, alts}
-use Rattle.theory.specs.Layout.{arc-words, node-words, nodes-words, words, disjs-words, alts-words, NodeFits, GraphFits, WellFormed, WellAll, WellAny, Image}
+use Rattle.theory.specs.Descr.{Desc, Alts, alts}
+use Rattle.theory.specs.Layout.{arc-words, node-words, nodes-words, words, NodeFits, GraphFits, WellFormed, WellAny, Image}
 use Rattle.layout.specs.Standing.{Stands, graph-words, disjunction-words}
-use Rattle.loading.specs.Loaded.{header, moved-arcs, moved-node, located, nodes-in, nodes-all, nodes-any, loaded, loaded-all, loaded-any}
+use Rattle.loading.specs.Loaded.{header, moved-arcs, moved-node, located, nodes-in, nodes-any, loaded, loaded-any}
 
 -- t′ is t with the words xs put from p up to q, and no other word changed
 pub record Put (t t′ : List ℕ) (p : ℕ) (xs : List ℕ) (q : ℕ) : Type 0 where
@@ -35,9 +35,6 @@ abbrev pub AllLow : Graph → Type 0
 AllLow [] = Unit {0}
 AllLow (v ∷ vs) = Low (arcsOf v) × AllLow vs
 
-abbrev pub an-arc : Kind
-an-arc = record { Thing = ℕ × ℕ; Fine = λ e. e .1 < input-limit; text = λ e. e .0 ∷ e .1 ∷ []; image = λ p n e. e .0 ∷ (n + e .1) ∷ []; nodes = λ e. 0 }
-
 -- k arcs
 abbrev pub its-arcs : ℕ → Kind
 its-arcs k = record { Thing = List (ℕ × ℕ); Fine = λ l. (length l ≡ k) × Low l; text = arc-words; image = λ p n l. arc-words (moved-arcs n l); nodes = λ l. 0 }
@@ -52,17 +49,9 @@ its-nodes k = record { Thing = Graph; Fine = λ g. (length g ≡ k) × GraphFits
 abbrev pub a-graph : Kind
 a-graph = record { Thing = Graph; Fine = λ g. GraphFits g × AllLow g; text = graph-words; image = λ p n g. header n g ∷ located n g; nodes = length }
 
--- k disjunctions under which alternatives nest at most `left` deep
-abbrev pub its-disjunctions : ℕ → ℕ → Kind
-its-disjunctions left k = record { Thing = Disjs; Fine = λ ds. (disjs ds ≡ k) × WellAll ds left; text = disjs-words; image = loaded-all; nodes = nodes-all }
-
 -- a disjunction whose own alternatives are one of the `left` levels
 abbrev pub a-disjunction : ℕ → Kind
 a-disjunction left = record { Thing = Alts; Fine = λ a. (0 < left) × WellAny a (left - 1); text = disjunction-words; image = λ p n a. alts a ∷ loaded-any (p + 1) n a; nodes = nodes-any }
-
--- k alternatives
-abbrev pub its-alternatives : ℕ → ℕ → Kind
-its-alternatives left k = record { Thing = Alts; Fine = λ a. (alts a ≡ k) × WellAny a left; text = alts-words; image = loaded-any; nodes = nodes-any }
 
 -- a description under which alternatives nest at most `left` deep
 abbrev pub a-description : ℕ → Kind

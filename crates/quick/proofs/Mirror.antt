@@ -8,10 +8,11 @@ use mathlib.Core.List.{List, _∷_, [], _++_, List·Memᴰ·head}
 use lib.ListN.{length}
 use Rattle.theory.specs.Net.{Graph}
 use Rattle.theory.specs.Descr.{Alts, alts, agree}
-use Rattle.engine.specs.Placed.{Placed, place, Places, stop, _also_, Options, no-more, option, strip-any, Distinct, DistinctAll, DistinctAny}
+use Rattle.engine.specs.Placed.{Placed, place, Places, stop, _also_, Options, no-more, option, strip-any}
 use Rattle.engine.specs.Marks.{Marking, kept-of, keep-any}
 use Rattle.engine.specs.Certain.{sure-any, certain-any}
 use Rattle.engine.specs.Quickly.{Step, fails, stands, tried, settle-at, try-at, any-at, inside-at, sift-at}
+use Rattle.engine.proofs.Names.{Distinct, DistinctAll, DistinctAny}
 use Rattle.engine.proofs.Marks.{kept-alts, keep-false}
 use Rattle.engine.proofs.QuickStep.{sift-at-ok}
 use Rattle.loading.specs.Loaded.{extent}

@@ -2,38 +2,23 @@
 -- Assumes nothing.
 use Prim.Native.Nat.{ℕ, _+_}
 use native.Mathlib.Omega.{arith}
-use mathlib.Core.Path.{_≡_, refl, sym, ap, subst, _∙_}
-use mathlib.Core.Option.{Option, none, some}
-use mathlib.Core.List.{List, [], _∷_}
+use mathlib.Core.Path.{_≡_, sym, ap, subst, _∙_}
+use mathlib.Core.Option.{some}
+use mathlib.Core.List.{List, []}
 use Rattle.theory.specs.Limits.{depth-limit}
-use Rattle.theory.specs.Net.{Graph}
-use Rattle.theory.specs.Join.{join}
 use Rattle.theory.specs.Modes.{joined}
 use Rattle.theory.proofs.Mean.{Can}
 use Rattle.theory.proofs.Kept.{well-can}
 use Rattle.area.specs.Map.{SECOND}
-use Rattle.engine.specs.Placed.{Placed, place, strip, names, Apart, Distinct}
-use Rattle.engine.specs.Beside.{_next_, joined-placed}
+use Rattle.engine.specs.Placed.{strip}
+use Rattle.engine.proofs.Names.{names, Apart, Distinct}
 use Rattle.engine.proofs.Proper.{Proper, well-proper, Comes, joined-comes}
 use Rattle.engine.proofs.Beside.{strip-some, joined-strip, SomeDistinct, joined-distinct}
 use Rattle.loading.specs.Loaded.{nodes-in}
 use Rattle.loading.proofs.Names.{numbered-strip, between-apart, between-wide}
 use Rattle.loading.proofs.Walking.{at-names}
-use Rattle.counting.specs.Counted.{beside}
 use Rattle.quick.specs.Stage.{Pair}
 use Rattle.quick.proofs.Mirror.{at-distinct}
-
--- the definite graph
-abbrev pub own : Placed → Graph
-own (place g ds) = g
-
--- the joined description has the joined graph and the disjunctions of both
-pub joined-shape : (a b j : Placed) → joined-placed a b ≡ some j → (g : Graph) × ((join (own a ∷ own b ∷ []) ≡ some g) × (j ≡ place g (beside a b)))
-joined-shape (place g ds) (place h es) j e = go (join (g ∷ h ∷ [])) refl e
-  where
-    go : (o : Option Graph) → join (g ∷ h ∷ []) ≡ o → elim o [ none ↦ none | some k ↦ some (place k (ds next es)) ] ≡ some j → (k : Graph) × ((join (g ∷ h ∷ []) ≡ some k) × (j ≡ place k (ds next es)))
-    go none q z = let x : _≡_ {A = ℕ} 0 1 = cc in absurd (omega arith)
-    go (some k) q z = let f : place k (ds next es) ≡ j = cc in (k, (q, sym f))
 
 module _ (n : ℕ) (t : List ℕ) (p : Pair n t) where
   pub strip-first : strip (p .inputs .a) ≡ p .d

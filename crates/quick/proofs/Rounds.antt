@@ -13,13 +13,15 @@ use Rattle.theory.specs.Join.{join}
 use Rattle.theory.proofs.Instance.{join-none}
 use Rattle.theory.proofs.Mean.{Ctx, Fine, Can}
 use Rattle.theory.proofs.Live.{Agrees}
-use Rattle.engine.specs.Placed.{Placed, place, Places, strip, Distinct}
+use Rattle.engine.specs.Placed.{Placed, place, Places, strip}
 use Rattle.engine.specs.Marks.{Marking, all-kept, keep}
 use Rattle.engine.specs.Certain.{flat, certain}
 use Rattle.engine.specs.Quickly.{quick-at, Leaves}
+use Rattle.engine.proofs.Names.{Distinct}
 use Rattle.engine.proofs.Marks.{false-true}
 use Rattle.engine.proofs.Stack.{Same}
 use Rattle.engine.proofs.Loop.{Loop, loop-start, loop-pass, loop-still, loop-fails}
+use Rattle.engine.proofs.Joined.{joined-is}
 use Rattle.loading.specs.Entry.{Entry, graphs}
 use Rattle.marks.specs.Marked.{marking}
 use Rattle.counting.specs.Counted.{beside}
@@ -32,7 +34,7 @@ use Rattle.quick.specs.Passed.{Ready, Passing, Passes}
 use Rattle.quick.specs.Stage.{Pair, Stage}
 use Rattle.quick.specs.Quickened.{Quickening, Quickens}
 use Rattle.quick.proofs.Sifting.{moved-trans}
-use Rattle.quick.proofs.Pairs.{joined-shape, whole-comes, whole-distinct}
+use Rattle.quick.proofs.Pairs.{whole-comes, whole-distinct}
 
 -- graphs that do not clash have a joined graph
 pub agree-joins : (gs : Ctx) → Fine gs → Agree gs → Agrees gs
@@ -46,13 +48,13 @@ agree-joins (g ∷ gs) f a = go (join (g ∷ gs)) refl
 -- ---- on the joined description
 module _ (n : ℕ) (t : List ℕ) (p : Pair n t) where
   abbrev pub top : Graph
-  top = joined-shape (p .inputs .a) (p .inputs .b) (p .j) (p .joined) .0
+  top = joined-is (p .inputs .a) (p .inputs .b) (p .j) (p .joined) .k
 
   abbrev pub both : Places
   both = beside (p .inputs .a) (p .inputs .b)
 
   pub is : p .j ≡ place top both
-  is = joined-shape (p .inputs .a) (p .inputs .b) (p .j) (p .joined) .1 .1
+  is = sym (joined-is (p .inputs .a) (p .inputs .b) (p .j) (p .joined) .is)
 
   pub can : Can (strip (place top both))
   can = subst (λ (z : Placed). Can (strip z)) is (whole-comes n t p .0)

@@ -19,7 +19,7 @@ use Rattle.theory.proofs.Kept.{well-can}
 use Rattle.area.specs.Map.{SECOND, MARKS, SIZE}
 use Rattle.area.specs.Region.{words}
 use Rattle.area.proofs.Region.{words-same}
-use Rattle.engine.specs.Placed.{Placed, place, strip, strip-all}
+use Rattle.engine.specs.Placed.{Placed, place, strip, strip-all, own}
 use Rattle.engine.specs.Marks.{Marking, all-kept, keep}
 use Rattle.engine.specs.Certain.{flat}
 use Rattle.engine.specs.Beside.{joined-placed}
@@ -27,7 +27,7 @@ use Rattle.engine.proofs.Entail.{fine-cons}
 use Rattle.engine.proofs.Proper.{Proper, proper-sure}
 use Rattle.engine.proofs.Marks.{keep-all-marked}
 use Rattle.engine.proofs.Stack.{Same}
-use Rattle.engine.proofs.Loop.{joined-same}
+use Rattle.engine.proofs.Joined.{joined-same}
 use Rattle.loading.specs.Entry.{Entry, graphs}
 use Rattle.loading.specs.Loaded.{nodes-in}
 use Rattle.loading.specs.Numbered.{numbered}
@@ -48,7 +48,7 @@ use Rattle.quick.specs.Passed.{Inputs, Ready}
 use Rattle.quick.specs.Stage.{Pair, Stage}
 use Rattle.quick.proofs.Clearing.{clear-taken}
 use Rattle.quick.proofs.Grounds.{ground, numbered-among}
-use Rattle.quick.proofs.Pairs.{own, whole-comes}
+use Rattle.quick.proofs.Pairs.{whole-comes}
 use Rattle.quick.proofs.Rounds.{agree-joins}
 
 -- ---- definite graphs
@@ -65,7 +65,7 @@ both-joined : (d e : Desc) (p q m n : ℕ) (G : Graph) → join (graphs (definit
 both-joined (desc g ds) (desc h es) p q m n G z = ap {B = Option Placed} (λ (o : Option Graph). elim o [ none ↦ none | some k ↦ some (place k (beside (numbered m (desc g ds)) (numbered n (desc h es)))) ]) z
 
 both-same : (d e : Desc) (p q m n left : ℕ) → WellFormed d left → WellFormed e left → (G : Graph) → join (graphs (definite p m d ∷ definite q n e ∷ [])) ≡ some G → Same (graphs (definite p m d ∷ definite q n e ∷ [])) (G ∷ [])
-both-same (desc g ds) (desc h es) p q m n left a b G z = joined-same g h G (a .0) (b .0) z
+both-same (desc g ds) (desc h es) p q m n left a b G z = joined-same g h G [] [] (a .0) (b .0) tt tt z
 
 -- where every disjunction has two or more alternatives, its own graph is all that is certain
 flat-proper : (d : Placed) → Proper (strip d) → flat (strip d) ≡ own d ∷ []

@@ -14,7 +14,7 @@ use Rattle.theory.specs.Modes.{joined}
 use Rattle.theory.proofs.Live.{Agrees}
 use Rattle.theory.proofs.Mean.{Ctx, Can}
 use Rattle.area.specs.Map.{SECOND}
-use Rattle.engine.specs.Placed.{Placed, place, Places, strip}
+use Rattle.engine.specs.Placed.{Placed, place, Places, strip, inner}
 use Rattle.engine.specs.Marks.{Marking, keep}
 use Rattle.engine.specs.Certain.{flat}
 use Rattle.engine.specs.Beside.{_next_, joined-placed}
@@ -38,7 +38,7 @@ use Rattle.quick.proofs.Pairs.{whole-comes}
 use Rattle.search.specs.declared.agenda.Agenda.{Agenda}
 use Rattle.search.specs.Frames.{Slot, Lists, onto, Frames, plan}
 use Rattle.search.specs.Searched.{Standing, Resuming, resumed, Resumes, Searching, Searches}
-use Rattle.search.proofs.Planning.{inner, frames-wide, Opened, opened, open-here, open-room}
+use Rattle.search.proofs.Planning.{frames-wide, Opened, opened, open-here, open-room}
 use Rattle.search.proofs.Finding.{finds-same}
 
 -- ---- the joined description of a pair
@@ -57,7 +57,7 @@ agreed-true gs e = go (agree gs) (agreeing-view gs) e
 
 both-found : (a b j : Placed) → joined-placed a b ≡ some j → (m : Marking) → Can (strip j) → (T : Ctx) → Same T (flat (strip (keep m j))) → Agrees T → engine.search (keep m j) ≡ resume-at m (inner a ∷ inner b ∷ []) T
 both-found (place g ds) (place h es) j e m c T s w =
-    let k = joined-is g h ds es j e in
+    let k = joined-is (place g ds) (place h es) j e in
     subst (λ (x : Placed). Can (strip x) → Same T (flat (strip (keep m x))) → engine.search (keep m x) ≡ resume-at m (ds ∷ es ∷ []) T) (k .is)
     (λ c s. search-standing (k .k) (ds next es) m (keep-can m (place (k .k) (ds next es)) c) T s w ∙ resume-at-next m ds es [] T) c s
 

@@ -8,7 +8,7 @@ use mathlib.Core.List.{List, [], _∷_, List·Memᴰ}
 use lib.ListN.{length}
 use Rattle.theory.specs.Net.{Graph}
 use Rattle.area.specs.Region.{words}
-use Rattle.engine.specs.Placed.{Placed, place, Places, stop, _also_, Options, no-more, option}
+use Rattle.engine.specs.Placed.{Placed, place, Places, stop, _also_, Options, no-more, option, inner}
 use Rattle.engine.specs.Marks.{Marking}
 use Rattle.engine.specs.Agenda.{resume-at}
 use Rattle.engine.proofs.Agenda.{resume-at-stop}
@@ -39,10 +39,6 @@ mutual
   nests-any-more : (a : Options) (i j : ℕ) → i ≤ j → NestsAny a i → NestsAny a j
   nests-any-more no-more i j h s = tt
   nests-any-more (option x d a) i j h s = (nests-more d i j h (s .0), nests-any-more a i j h (s .1))
-
--- the disjunctions of a description
-abbrev pub inner : Placed → Places
-inner (place g ds) = ds
 
 -- where the first frame is
 abbrev pub reach : List Slot → ℕ

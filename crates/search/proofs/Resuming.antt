@@ -10,12 +10,12 @@ use Rattle.theory.specs.Net.{Graph}
 use Rattle.theory.specs.Descr.{alts}
 use Rattle.area.specs.Region.{words}
 use Rattle.area.proofs.Region.{words-many}
-use Rattle.engine.specs.Placed.{Placed, place, Places, stop, _also_, Options, no-more, option, strip-any}
+use Rattle.engine.specs.Placed.{Placed, place, Places, stop, _also_, Options, no-more, option, strip-any, inner}
 use Rattle.engine.specs.Marks.{Marking, kept-of, keep, keep-any}
 use Rattle.engine.specs.Search.{Found, taking, dive, dive-any, dive-each}
-use Rattle.engine.specs.Agenda.{resume, resume-at, choose-at, each-at}
+use Rattle.engine.specs.Agenda.{resume, resume-at, each-at}
 use Rattle.engine.proofs.Marks.{kept-alts}
-use Rattle.engine.proofs.Agenda.{resume-at-leaf, resume-at-more, choose-at-none}
+use Rattle.engine.proofs.Agenda.{resume-at-leaf, resume-at-more, choose-at-none, choose-at}
 use Rattle.loading.specs.Entry.{graphs}
 use Rattle.loading.specs.Loaded.{number-step}
 use Rattle.loading.specs.Numbered.{places, options}
@@ -36,7 +36,7 @@ use Rattle.search.specs.declared.agenda.Agenda.{Agenda}
 use Rattle.search.specs.Frames.{Slot, slots, Lists, onto, Frames, plan}
 use Rattle.search.specs.Searched.{Noting, Notes, Resuming, resumed, Resumes, Choosing, chosen, Chooses}
 use Rattle.search.proofs.Slots.{lists-none, lists-size, lists-first}
-use Rattle.search.proofs.Planning.{inner, reach, frames-bound, frames-reach, frames-wide, frames-onto, Opened, opened, open-here, open-room}
+use Rattle.search.proofs.Planning.{reach, frames-bound, frames-reach, frames-wide, frames-onto, Opened, opened, open-here, open-room}
 use Rattle.search.proofs.Finding.{finds-none, finds-leaf, finds-same, finds-taking, moved-noted}
 
 -- ---- engine's choice at one disjunction, by the number that is kept

@@ -12,7 +12,7 @@ use Rattle.theory.specs.Net.{Graph, Clash, Agree}
 use Rattle.theory.specs.Descr.{agree}
 use Rattle.area.specs.Region.{words}
 use Rattle.area.proofs.Region.{words-same, words-many}
-use Rattle.engine.specs.Placed.{Placed, place, Places, strip}
+use Rattle.engine.specs.Placed.{Placed, place, Places, strip, inner}
 use Rattle.engine.specs.Marks.{Marking, keep}
 use Rattle.engine.specs.Certain.{flat}
 use Rattle.engine.specs.Search.{taking}
@@ -39,7 +39,7 @@ use Rattle.quick.proofs.Sifting.{moved-words}
 use Rattle.search.specs.declared.agenda.Agenda.{Agenda}
 use Rattle.search.specs.Frames.{Slot, slots, Lists, onto, Frames, plan}
 use Rattle.search.specs.Searched.{Noting, Notes, Standing, Finds, Resuming, resumed, Resumes, Taking, taken-with, Takes}
-use Rattle.search.proofs.Planning.{nests-more, inner, reach, frames-bound, frames-reach, frames-wide, frames-pushed, Opened, opened, open-here, open-room}
+use Rattle.search.proofs.Planning.{nests-more, reach, frames-bound, frames-reach, frames-wide, frames-pushed, Opened, opened, open-here, open-room}
 use Rattle.search.proofs.Finding.{finds-none, finds-same, finds-under, finds-taking, moved-noted}
 
 dive-pushed : (m : Marking) (S : List Graph) (d : Placed) (fs : List Places) → agree (S ++ flat (strip (keep m d))) ≡ true → dive-at m S d fs ≡ resume-at m (inner d ∷ fs) (S ++ flat (strip (keep m d)))

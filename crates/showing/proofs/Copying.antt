@@ -13,7 +13,7 @@ use Rattle.area.specs.Region.{words}
 use Rattle.area.proofs.Region.{words-many}
 use Rattle.layout.specs.Standing.{Stands, graph-words}
 use Rattle.layout.proofs.Standing.{stands-append, stands-length, stands-within}
-use Rattle.engine.specs.Placed.{Placed, place}
+use Rattle.engine.specs.Placed.{Placed, place, own}
 use Rattle.loading.specs.Loaded.{extent, number-step, moved-arcs, moved-node, located}
 use Rattle.loading.specs.Loading.{Put}
 use Rattle.loading.specs.At.{At}
@@ -22,7 +22,7 @@ use Rattle.loading.proofs.Putting.{put-nil, put-append, put-one}
 use Rattle.loading.proofs.Walking.{at-header, at-counts}
 use Rattle.marks.specs.Positions.{number-at}
 use Rattle.marks.proofs.Reading.{read-at}
-use Rattle.showing.specs.Copying.{a-node, its-nodes, Copying, Copies, own, Graphing}
+use Rattle.showing.specs.Copying.{a-node, its-nodes, Copying, Copies, Graphing}
 use Rattle.showing.proofs.Nodes.{put-words, put-end}
 
 node-extent : (n : ℕ) (v : Node) → length (node-words (moved-node n v)) ≡ length (node-words v)

@@ -5,7 +5,7 @@ use native.Mathlib.Omega.{arith}
 use mathlib.Core.Path.{_≡_, refl, sym, ap, subst, _∙_}
 use mathlib.Core.List.{List, [], _++_, append-nil, append-assoc}
 use lib.ListN.{length, length-append}
-use Rattle.theory.specs.Descr.{Disjs, end, _and_, disjs}
+use Rattle.theory.specs.Descr.{Disjs, end, disjs}
 use Rattle.theory.specs.Layout.{disjs-words}
 use Rattle.theory.proofs.Mean.{CanAll, CanAny}
 use Rattle.area.specs.Region.{words}

@@ -19,7 +19,8 @@ use Rattle.loading.specs.Loaded.{moved-arcs, moved-node}
 use Rattle.loading.specs.Loading.{Put}
 use Rattle.loading.proofs.Sizes.{moved-length}
 use Rattle.loading.proofs.Putting.{put-nil, put-append, put-one, put-then}
-use Rattle.showing.specs.Copying.{its-arcs, a-node, Copying, Copies, own}
+use Rattle.showing.specs.Copying.{its-arcs, a-node, Copying, Copies}
+use Rattle.engine.specs.Placed.{own}
 
 -- the loaded words stay
 pub put-words : (w w₁ : List ℕ) (o : ℕ) (xs : List ℕ) (q : ℕ) → SIZE ≤ length w → Put w w₁ (RESULT + o) xs q → words w₁ ≡ words w

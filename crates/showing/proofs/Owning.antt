@@ -13,7 +13,7 @@ use Rattle.theory.proofs.Mean.{Can}
 use Rattle.area.specs.Map.{RESULT}
 use Rattle.area.specs.Region.{words}
 use Rattle.layout.specs.Standing.{Stands, graph-words}
-use Rattle.engine.specs.Placed.{Placed, place, strip}
+use Rattle.engine.specs.Placed.{Placed, place, strip, own}
 use Rattle.engine.specs.Marks.{Marking, keep}
 use Rattle.engine.specs.Certain.{sure}
 use Rattle.engine.specs.Shown.{or-else}
@@ -23,7 +23,7 @@ use Rattle.loading.specs.At.{At}
 use Rattle.classes.proofs.Laws.{holds-frame}
 use Rattle.showing.specs.Putting.{Written, Describing, lead, left-all}
 use Rattle.showing.specs.Alone.{Looking, Looks}
-use Rattle.showing.specs.Copying.{own, Graphing, Graphs}
+use Rattle.showing.specs.Copying.{Graphing, Graphs}
 use Rattle.showing.proofs.Leading.{lead-room}
 
 lead-own : (d : Placed) (m : Marking) → Can (strip (keep m d)) → sure (left-all m d) ≡ [] → lead (strip (keep m d)) ≡ own d

@@ -6,7 +6,7 @@ use mathlib.Core.Path.{_≡_, sym, ap, subst, _∙_}
 use mathlib.Core.Bool.{Bool, true, false}
 use mathlib.Core.List.{List, [], _∷_, append-nil}
 use lib.ListN.{length, set}
-use Rattle.theory.specs.Descr.{Disjs, end, _and_, Alts, _or_, disjs, alts}
+use Rattle.theory.specs.Descr.{Disjs, end, _and_, Alts, disjs, alts}
 use Rattle.theory.specs.Layout.{disjs-words, alts-words}
 use Rattle.theory.proofs.Mean.{CanAny}
 use Rattle.area.specs.Map.{RESULT}

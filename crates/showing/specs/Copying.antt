@@ -9,7 +9,7 @@ use Rattle.theory.specs.Layout.{arc-words, node-words, nodes-words}
 use Rattle.area.specs.Map.{RESULT, SIZE}
 use Rattle.area.specs.Region.{words}
 use Rattle.layout.specs.Standing.{Stands, graph-words}
-use Rattle.engine.specs.Placed.{Placed, place}
+use Rattle.engine.specs.Placed.{Placed, own}
 use Rattle.loading.specs.Loaded.{number-step, moved-arcs, moved-node, located}
 use Rattle.loading.specs.Loading.{Put}
 use Rattle.loading.specs.At.{At}
@@ -47,9 +47,6 @@ abbrev pub Copies : (K : Kind) (w : List ℕ) (number p o r : ℕ) (w' : List �
 Copies K w number p o r w' = (c : Copying K w number p o) → Put w w' (RESULT + o) (K .text (c .x)) (RESULT + r)
 
 -- the graph of a description, by itself
-abbrev pub own : Placed → Graph
-own (place g ds) = g
-
 pub record Graphing (w : List ℕ) (g o : ℕ) : Type 0 where
   pub long : SIZE ≤ length w
   pub d : Placed

@@ -5,9 +5,9 @@ use native.Mathlib.Omega.{arith}
 use mathlib.Core.Path.{_≡_, refl, _∙_}
 use lib.ListN.{length}
 use Rattle.fit.specs.Parts.{graphIn}
-use Rattle.fit.specs.Testing.{a-description, its-disjunctions, a-disjunction, its-alternatives}
-use Rattle.fit.proofs.Things.{Left, left-asked, graph-first, graph-fails, after-graph, disjunctions-start, disjunction-next, disjunctions-step, disjunctions-stop, disjunctions-end}
-use Rattle.fit.proofs.Alternatives.{disjunction-there, alternatives-start, alternative-next, alternatives-step, alternatives-fit, alternatives-end}
+use Rattle.fit.specs.Testing.{a-description, a-disjunction}
+use Rattle.fit.proofs.Things.{Left, left-asked, graph-first, graph-fails, after-graph, disjunctions-start, disjunction-next, disjunctions-step, disjunctions-stop, disjunctions-end, its-disjunctions}
+use Rattle.fit.proofs.Alternatives.{disjunction-there, alternatives-start, alternative-next, alternatives-step, alternatives-fit, alternatives-end, its-alternatives}
 use Prim.Native.Nat.{ℕ, _<_, _+_, _*_, _-_}
 use borrow.Fn.Kinds.{In}
 use borrow.Fn.PlainCycle.{Measures, is, falls, and}

@@ -5,9 +5,9 @@ use native.Mathlib.Omega.{arith}
 use mathlib.Core.Path.{_≡_, refl, _∙_}
 use Prim.Native.Nat.{ℕ, _<_, _≤_, _+_, _*_, _-_}
 use lib.ListN.{length, getD, length-set}
-use Rattle.loading.specs.Loading.{a-graph, its-disjunctions, a-disjunction, its-alternatives, a-description}
+use Rattle.loading.specs.Loading.{a-graph, a-disjunction, a-description}
 use Rattle.loading.proofs.Series.{Onward, begin, asks, asks-first, go-on, finish}
-use Rattle.loading.proofs.Sequels.{disjunctions-step, disjunctions-end, alternatives-step, alternatives-end}
+use Rattle.loading.proofs.Sequels.{disjunctions-step, disjunctions-end, alternatives-step, alternatives-end, its-disjunctions, its-alternatives}
 use Rattle.loading.proofs.Parts.{room-keeps, loads-keeps, description-asks, description-goes, description-ends, description-loads, disjunction-there, disjunction-asks, disjunction-loads}
 use borrow.Fn.Kinds.{In}
 use borrow.Fn.PlainCycle.{Measures, is, falls, and}
