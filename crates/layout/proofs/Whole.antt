@@ -68,3 +68,8 @@ module _ (ws : List ℕ) where
 pub malformed-answer : (r : Judgement) → ¬ (r ≡ Accepted) → r ≡ Malformed
 malformed-answer Accepted n = absurd (n refl)
 malformed-answer Malformed n = refl
+
+-- the contract allows one answer
+pub one-answer : (ws : List ℕ) (r s : Judgement) → Judged ws r → Judged ws s → r ≡ s
+one-answer ws Accepted s j k = sym (k .complete (j .sound refl))
+one-answer ws Malformed s j k = sym (malformed-answer s (λ e. malformed-apart (j .complete (k .sound e))))
