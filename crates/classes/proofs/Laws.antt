@@ -14,7 +14,7 @@ use Rattle.area.proofs.Undo.{word, logged-same, past-agree, undone-is, undone-l
 use Rattle.classes.specs.State.{targets, Pile, Done, Chain, Near, Bears, State}
 use Rattle.loading.specs.Entry.{Entry, graphs}
 use Rattle.classes.specs.Entry.{Lies, Comes}
-use Rattle.classes.specs.Holds.{Sits, Holds, Since, Backs}
+use Rattle.classes.specs.Holds.{Sits, Holds, Since, Remembers, Backs, Undoable}
 use Rattle.classes.proofs.Words.{targets-same}
 use Rattle.classes.proofs.Links.{chain-same}
 use Rattle.classes.proofs.Fuse.{low}
@@ -156,3 +156,21 @@ module _ (m k : ℕ) (w w' : List ℕ) (u : Undone m k w w') where
 
   pub backs : (w₀ : List ℕ) → Since m w₀ k w → Backs m k w w'
   backs w₀ p = record { len = u .len; rest = λ j h. undone-rest m w₀ k w w' (p .more) (p .keeps) u j (omega arith); since = since-back; holds = holds-back }
+
+-- ---- back to nothing
+pub undoable-start : (n : ℕ) (w : List ℕ) → Holds n [] 0 w → Undoable n 0 w
+undoable-start n w h = record { w₀ = w; empty = h; since = since-refl n [] 0 w h }
+
+module _ (n k : ℕ) (w : List ℕ) (u : Undoable n k w) where
+  pub undoable-on : (k' : ℕ) (w' : List ℕ) → Since k w k' w' → Undoable n k' w'
+  undoable-on k' w' s = record { w₀ = u .w₀; empty = u .empty; since = since-trans 0 (u .w₀) k w k' w' (u .since) s }
+
+  -- what stands from MARKS on is free
+  pub undoable-frame : (w' : List ℕ) → length w' ≡ length w → ((j : ℕ) → j < MARKS → getD w' j 0 ≡ getD w j 0) → Undoable n k w'
+  undoable-frame w' len f = let a = u .empty .long in let l = u .since .len in record { w₀ = u .w₀; empty = u .empty; since = since-frame 0 (u .w₀) k w w' len (omega arith) f (u .since) }
+
+  pub undoable-asks : Remembers 0 k w
+  undoable-asks = record { w₀ = u .w₀; since = u .since }
+
+  pub undoable-back : (w' : List ℕ) → Backs 0 k w w' → Holds n [] 0 w'
+  undoable-back w' b = b .holds n [] (u .w₀) (u .empty) (u .since)

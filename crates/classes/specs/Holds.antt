@@ -135,6 +135,12 @@ pub record Backs (m k : ℕ) (w w' : List ℕ) : Type 0 where
   pub since : (w₀ : List ℕ) → Since m w₀ k w → Since m w₀ m w'
   pub holds : (n : ℕ) (es : List Entry) (w₀ : List ℕ) → Holds n es m w₀ → Since m w₀ k w → Holds n es m w'
 
+-- all that is pushed can be taken back: the log runs since nothing was
+pub record Undoable (n k : ℕ) (w : List ℕ) : Type 0 where
+  pub w₀ : List ℕ
+  pub empty : Holds n [] 0 w₀
+  pub since : Since 0 w₀ k w
+
 -- nothing is pushed
 pub record Starts (w w' : List ℕ) : Type 0 where
   pub len : length w' ≡ length w

@@ -28,6 +28,8 @@ use Rattle.marks.specs.Marked.{marking, LitKept}
 use Rattle.marks.proofs.Marks.{marking-frame}
 use Rattle.counting.specs.Counted.{Countable, CountedBoth}
 use Rattle.counting.proofs.Both.{counted-joined}
+use Rattle.classes.specs.Holds.{Undoable}
+use Rattle.classes.proofs.Laws.{undoable-on, undoable-frame}
 use Rattle.classes.specs.declared.push.Pushed.{Pushed}
 use Rattle.classes.specs.declared.push.Pushed.the-variants.{In, Clashed}
 use Rattle.quick.proofs.Sifting.{moved-words}
@@ -131,10 +133,13 @@ module _ (n k : ℕ) (w : List ℕ) where
             loaded₂ : words w₂ ≡ c .t
             loaded₂ = words-same w₁ w₂ room₁ (l .len) (λ j a b. l .rest j (inl b)) ∙ moved-words k w k w₁ (c .stage .ready .holds .long) (v .moved) ∙ c .stage .ready .loaded
 
-            abbrev restarting : Restarting n w₂
-            restarting = record { room = omega (arith, l .len, room₁); t = c .t; loaded = loaded₂; inputs = c .p .inputs }
+            undoable₂ : Undoable n k w₂
+            undoable₂ = undoable-frame n k w₁ (undoable-on n k w (c .stage .undoable) k w₁ (v .moved .since)) w₂ (l .len) (λ j h. l .rest j (inl h))
 
-            pub full-restarts : Restarting n w₂
+            abbrev restarting : Restarting n k w₂
+            restarting = record { room = omega (arith, l .len, room₁); t = c .t; loaded = loaded₂; inputs = c .p .inputs; undoable = undoable₂ }
+
+            pub full-restarts : Restarting n k w₂
             full-restarts = restarting
 
             -- the marks are now those that the search lit
@@ -147,7 +152,7 @@ module _ (n k : ℕ) (w : List ℕ) where
             folds : Can (strip (keep (marking w₂) (c .p .j))) × Sane (strip (keep (marking w₂) (c .p .j)))
             folds = subst (λ (d : Placed). Can (strip d) × Sane (strip d)) (sym keeps) (pair-full n (c .t) (c .p) (marking w) (c .left) (one-more c .0) (one-more c .1))
 
-          module _ (o : Pushed) (w₃ : List ℕ) (q : Restarts n w₂ o w₃) where
+          module _ (o : Pushed) (w₃ : List ℕ) (q : Restarts n k w₂ o w₃) where
             -- every consistent choice takes what is certain: there is no clash
             pub fulls-never : o ≡ Clashed → Fulling n k w → Fulls n k w Nothing w₃
             fulls-never z c = absurd (both-agrees n (c .t) (c .p) (marking w₂) (folds c .1) (q .clashed z (restarting c)))
@@ -160,10 +165,11 @@ module _ (n k : ℕ) (w : List ℕ) where
                   let marks₃ : marking w₃ ≡ marking w₂ = marking-frame w₂ w₃ room₂ (q .len) (λ j a b. q .rest j (omega arith)) in
                   let words₃ : words w₃ ≡ words w₂ = words-same w₂ w₃ room₂ (q .len) (λ j a b. q .rest j a) in
                   let same : keep (marking w₃) (c .p .j) ≡ keep (marking w₂) (c .p .j) = ap (λ (m : Marking). keep m (c .p .j)) marks₃ in
+                  let (held, undoable₃) = q .pushed log z (restarting c) in
                   record {
                     readings-are = readings-is c;
                     left-is = left-some (marking w) (c .p .j) (one-more c .0) (one-more c .1) ∙ ap (λ (d : Placed). some (strip d)) (sym (same ∙ keeps c));
-                    stage = both-stage n (c .t) (c .p) (marking w₂) log w₃ (words₃ ∙ loaded₂ c) marks₃ (q .pushed log z (restarting c));
+                    stage = both-stage n (c .t) (c .p) (marking w₂) log w₃ (words₃ ∙ loaded₂ c) marks₃ held undoable₃;
                     can = subst (λ (d : Placed). Can (strip d)) (sym same) (folds c .0);
                     sane = subst (λ (d : Placed). Sane (strip d)) (sym same) (folds c .1);
                   }

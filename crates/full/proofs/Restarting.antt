@@ -16,7 +16,8 @@ use Rattle.loading.specs.Entry.{Entry, graphs}
 use Rattle.loading.proofs.Walking.{at-bounds}
 use Rattle.marks.specs.Marked.{marking}
 use Rattle.marks.proofs.Marks.{marking-frame}
-use Rattle.classes.specs.Holds.{Holds, Starts}
+use Rattle.classes.specs.Holds.{Holds, Remembers, Backs, Undoable}
+use Rattle.classes.proofs.Laws.{undoable-start, undoable-on, undoable-asks, undoable-back}
 use Rattle.classes.specs.declared.push.Pushed.{Pushed}
 use Rattle.classes.specs.declared.push.Pushed.the-variants.{In, Clashed}
 use Rattle.quick.specs.Taken.{taken, Inside}
@@ -30,8 +31,11 @@ use Rattle.full.specs.Restarted.{Restarting, certain-both, Restarts}
 pub certain-inside : (n : ℕ) (t : List ℕ) (i : Inputs n t) (m : Marking) → Inside (i .U) (certain-both i m)
 certain-inside n t i m = inside-append (i .U) (taken t m 0 0 (i .a) (i .end-a) (i .half) (i .at-a)) (taken t m SECOND (i .half) (i .b) (i .end-b) n (i .at-b)) (taken-inside t m (i .U) 0 0 (i .a) (i .end-a) (i .half) (i .at-a) (i .among-a)) (taken-inside t m (i .U) SECOND (i .half) (i .b) (i .end-b) n (i .at-b) (i .among-b))
 
-module _ (n : ℕ) (w w₁ : List ℕ) (s : Starts w w₁) where
-  module _ (c : Restarting n w) where
+pub restart-back : (n k : ℕ) (w : List ℕ) → Restarting n k w → Remembers 0 k w
+restart-back n k w c = undoable-asks n k w (c .undoable)
+
+module _ (n k : ℕ) (w w₁ : List ℕ) (s : Backs 0 k w w₁) where
+  module _ (c : Restarting n k w) where
     abbrev one : List Entry
     one = taken (c .t) (marking w) 0 0 (c .inputs .a) (c .inputs .end-a) (c .inputs .half) (c .inputs .at-a)
 
@@ -43,6 +47,9 @@ module _ (n : ℕ) (w w₁ : List ℕ) (s : Starts w w₁) where
 
     loaded₁ : words w₁ ≡ c .t
     loaded₁ = words-same w w₁ (c .room) (s .len) (λ j a b. s .rest j a) ∙ c .loaded
+
+    empty : Holds n [] 0 w₁
+    empty = undoable-back n k w (c .undoable) w₁ s
 
     half-low : c .inputs .half < n
     half-low = at-bounds (c .t) (c .inputs .b) SECOND (c .inputs .half) (c .inputs .end-b) n (c .inputs .at-b) .2
@@ -62,7 +69,7 @@ module _ (n : ℕ) (w w₁ : List ℕ) (s : Starts w w₁) where
       nests = c .inputs .nests-a;
       among = c .inputs .among-a;
       es = [];
-      holds = s .holds n (omega (arith, c .inputs .ground .few));
+      holds = empty;
       inside = λ o i. absurd (List·Memᴰ·not-nil i);
       free = λ o i. absurd (List·Memᴰ·not-nil i);
     }
@@ -74,16 +81,16 @@ module _ (n : ℕ) (w w₁ : List ℕ) (s : Starts w w₁) where
     first-is = ap (λ (m : Marking). taken (c .t) m 0 0 (c .inputs .a) (c .inputs .end-a) (c .inputs .half) (c .inputs .at-a)) marks₁
 
   module _ (o : Pushed) (w₂ : List ℕ) (u : Enters n 0 w₁ 0 depth-limit o w₂) where
-    pub restarts-clash : o ≡ Clashed → Restarts n w Clashed w₂
+    pub restarts-clash : o ≡ Clashed → Restarts n k w Clashed w₂
     restarts-clash z = record {
       len = u .len ∙ s .len;
       rest = λ j h. u .rest j h ∙ s .rest j h;
-      pushed = λ k y c. let x : _≡_ {A = ℕ} 0 1 = cc in absurd (omega arith);
+      pushed = λ log y c. let x : _≡_ {A = ℕ} 0 1 = cc in absurd (omega arith);
       clashed = λ y c. clash-more n (c .t) (c .inputs .U) (one c) (two c) (c .inputs .ground) (certain-inside n (c .t) (c .inputs) (marking w)) (subst (λ (l : List Entry). Clash (graphs l)) (first-is c) (u .clashed z .1 (first c) .0));
     }
 
     module _ (j : ℕ) (z : o ≡ In j) where
-      module _ (c : Restarting n w) where
+      module _ (c : Restarting n k w) where
         room₁ : 16384 ≤ length w₁
         room₁ = omega (arith, s .len, c .room)
 
@@ -116,13 +123,16 @@ module _ (n : ℕ) (w w₁ : List ℕ) (s : Starts w w₁) where
         pub restart-second : Entering n j w₂ SECOND depth-limit
         restart-second = second
 
+        undoable₂ : Undoable n j w₂
+        undoable₂ = undoable-on n 0 w₁ (undoable-start n w₁ (empty c)) j w₂ (u .pushed j z .0)
+
         second-is : entered second ≡ certain-both (c .inputs) (marking w)
         second-is = ap (λ (m : Marking). one c ++ taken (c .t) m SECOND (c .inputs .half) (c .inputs .b) (c .inputs .end-b) n (c .inputs .at-b)) marks₂
 
-      pub restarts : (r : Pushed) (w₃ : List ℕ) → Enters n j w₂ SECOND depth-limit r w₃ → Restarts n w r w₃
+      pub restarts : (r : Pushed) (w₃ : List ℕ) → Enters n j w₂ SECOND depth-limit r w₃ → Restarts n k w r w₃
       restarts r w₃ v = record {
         len = v .len ∙ u .len ∙ s .len;
         rest = λ i h. v .rest i h ∙ u .rest i h ∙ s .rest i h;
-        pushed = λ k y c. subst (λ (l : List Entry). Holds n l k w₃) (second-is c) (v .pushed k y .1 (second c));
+        pushed = λ log y c. (subst (λ (l : List Entry). Holds n l log w₃) (second-is c) (v .pushed log y .1 (second c)), undoable-on n j w₂ (undoable₂ c) log w₃ (v .pushed log y .0));
         clashed = λ y c. subst (λ (l : List Entry). Clash (graphs l)) (second-is c) (v .clashed y .1 (second c) .0);
       }

@@ -27,7 +27,7 @@ use Rattle.engine.proofs.Joined.{keep-can, joined-is, certain-next, joined-same
 use Rattle.loading.specs.Entry.{Entry, graphs}
 use Rattle.loading.proofs.Walking.{at-bounds, at-names}
 use Rattle.marks.specs.Marked.{marking}
-use Rattle.classes.specs.Holds.{Holds}
+use Rattle.classes.specs.Holds.{Holds, Undoable}
 use Rattle.classes.proofs.Comings.{graphs-append}
 use Rattle.quick.specs.Taken.{taken}
 use Rattle.quick.specs.Clear.{Clear}
@@ -90,8 +90,8 @@ module _ (n : ℕ) (t : List ℕ) (p : Pair n t) where
     pub both-agrees : Sane (strip (keep m (p .j))) → Clash (graphs both) → ⊥
     both-agrees s z = no-clash (graphs both) (clash-false (graphs both) (same .fine₁) z) (agrees-says (flat (strip (keep m (p .j)))) (graphs both) (same .fine₂) (same .fine₁) (same .from) (sane-agrees (strip (keep m (p .j))) s))
 
-    pub both-stage : (k : ℕ) (w : List ℕ) → words w ≡ t → marking w ≡ m → Holds n both k w → Stage n t p k w
-    both-stage k w loaded marks holds = record {
+    pub both-stage : (k : ℕ) (w : List ℕ) → words w ≡ t → marking w ≡ m → Holds n both k w → Undoable n k w → Stage n t p k w
+    both-stage k w loaded marks holds undoable = record {
       es = both;
       ready = record {
         loaded = loaded;
@@ -102,5 +102,6 @@ module _ (n : ℕ) (t : List ℕ) (p : Pair n t) where
         clear-b = subst (λ (x : Marking). Clear both t x SECOND (p .inputs .half) (p .inputs .b) (p .inputs .end-b) n (p .inputs .at-b)) (sym marks) (clear-taken t m both SECOND (p .inputs .half) (p .inputs .b) (p .inputs .end-b) n (p .inputs .at-b)
             (λ o i. ⊎-elim (λ j. inl (inl (taken-between t m 0 0 (p .inputs .a) (p .inputs .end-a) (p .inputs .half) (p .inputs .at-a) o j .1))) (λ j. inr j) (List·Memᴰ·append-cases (taken t m 0 0 (p .inputs .a) (p .inputs .end-a) (p .inputs .half) (p .inputs .at-a)) i)));
       };
+      undoable = undoable;
       same = subst (λ (x : Marking). Same (graphs both) (flat (strip (keep x (p .j))))) (sym marks) same;
     }

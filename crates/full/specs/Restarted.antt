@@ -10,26 +10,27 @@ use Rattle.area.specs.Region.{words}
 use Rattle.loading.specs.Entry.{Entry, graphs}
 use Rattle.marks.specs.Marked.{marking}
 use Rattle.engine.specs.Marks.{Marking}
-use Rattle.classes.specs.Holds.{Holds}
+use Rattle.classes.specs.Holds.{Holds, Undoable}
 use Rattle.classes.specs.declared.push.Pushed.{Pushed}
 use Rattle.classes.specs.declared.push.Pushed.the-variants.{In, Clashed}
 use Rattle.quick.specs.Taken.{taken}
 use Rattle.quick.specs.Passed.{Inputs}
 
--- both inputs stand loaded
-pub record Restarting (n : ℕ) (w : List ℕ) : Type 0 where
+-- both inputs stand loaded, and what is pushed can be taken back
+pub record Restarting (n k : ℕ) (w : List ℕ) : Type 0 where
   pub room : SIZE ≤ length w
   pub t : List ℕ
   pub loaded : words w ≡ t
   pub inputs : Inputs n t
+  pub undoable : Undoable n k w
 
 -- all that is certain in both, where the marks are m
 abbrev pub certain-both : {n : ℕ} {t : List ℕ} → Inputs n t → Marking → List Entry
 certain-both {n} {t} i m = taken t m 0 0 (i .a) (i .end-a) (i .half) (i .at-a) ++ taken t m SECOND (i .half) (i .b) (i .end-b) n (i .at-b)
 
--- all of it is pushed, or it clashes
-pub record Restarts (n : ℕ) (w : List ℕ) (r : Pushed) (w' : List ℕ) : Type 0 where
+-- all of it is pushed and can be taken back, or it clashes
+pub record Restarts (n k : ℕ) (w : List ℕ) (r : Pushed) (w' : List ℕ) : Type 0 where
   pub len : length w' ≡ length w
   pub rest : (j : ℕ) → WORDS ≤ j → getD w' j 0 ≡ getD w j 0
-  pub pushed : (k : ℕ) → r ≡ In k → (c : Restarting n w) → Holds n (certain-both (c .inputs) (marking w)) k w'
-  pub clashed : r ≡ Clashed → (c : Restarting n w) → Clash (graphs (certain-both (c .inputs) (marking w)))
+  pub pushed : (log : ℕ) → r ≡ In log → (c : Restarting n k w) → Holds n (certain-both (c .inputs) (marking w)) log w' × Undoable n log w'
+  pub clashed : r ≡ Clashed → (c : Restarting n k w) → Clash (graphs (certain-both (c .inputs) (marking w)))

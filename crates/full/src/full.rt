@@ -1,7 +1,7 @@
 // The full step, on marks that the quick step left.
 use area::map::SECOND;
 use classes::push::Pushed;
-use classes::push::start;
+use classes::push::back;
 use counting::choices::count_both;
 use marks::marking::keep_lit;
 use quick::enter::enter;
@@ -22,12 +22,12 @@ pub enum Fully {
     Left(usize, u32),
 }
 
-// Pushes all that is certain in both inputs, and nothing else.
-fn restart(w: &mut [u32], n: usize) -> Pushed
-    requires { ⌜ Restarting n (now w) ⌝ }
-    ensures { λ r. ⌜ Restarts n (now (w .entry)) r (now (w .exit)) ⌝ }
+// Takes back all that is pushed, the k entries of the log, and pushes all that is certain in both inputs.
+fn restart(w: &mut [u32], k: usize, n: usize) -> Pushed
+    requires { ⌜ Restarting n k (now w) ⌝ }
+    ensures { λ r. ⌜ Restarts n k (now (w .entry)) r (now (w .exit)) ⌝ }
 {
-    start(w);
+    back(w, k, 0);
     let first = enter(w, 0, n, 0, DEPTH);
     let Pushed::In(j) = first else {
         return Pushed::Clashed;
@@ -49,7 +49,7 @@ pub fn full(w: &mut [u32], k: usize, n: usize) -> Fully
         return Fully::Nothing;
     }
     keep_lit(w, n);
-    let end = restart(w, n);
+    let end = restart(w, k, n);
     let Pushed::In(log) = end else {
         return Fully::Nothing;
     };

@@ -20,7 +20,8 @@ use Rattle.area.specs.Map.{WORDS, MARKS, SIZE, SECOND}
 use Rattle.area.specs.Region.{region}
 use Rattle.area.proofs.Region.{region-ext}
 use Rattle.classes.specs.Entry.{Comes}
-use Rattle.classes.specs.Holds.{Holds, Pushing, Pushes, Starts}
+use Rattle.classes.specs.Holds.{Holds, Pushing, Pushes, Undoable, Starts}
+use Rattle.classes.proofs.Laws.{undoable-start, undoable-on}
 use Rattle.classes.specs.declared.push.Pushed.{Pushed}
 use Rattle.classes.specs.declared.push.Pushed.the-variants.{In, Clashed}
 use Rattle.opening.specs.declared.Opened.the-variants as opened
@@ -121,6 +122,9 @@ module _ (w a b t : List ℕ) (o : Opening w a b) (n : ℕ) (p : Paired (take 20
       held : Holds n (one ∷ []) k w₃
       held = u .inside k z .1 [] one (at-definite 0 0 d) empty first-comes
 
+      undoable : Undoable n k w₃
+      undoable = undoable-on n 0 w₂ (undoable-start n w₂ empty) k w₃ (u .inside k z .0)
+
       stand₃ : Stand (region WORDS 2048 w₃) d e n
       stand₃ = stand w₃ (u .len) (u .rest)
 
@@ -149,6 +153,7 @@ module _ (w a b t : List ℕ) (o : Opening w a b) (n : ℕ) (p : Paired (take 20
         joined j q = (
           stand w₄ (v .len ∙ u .len) (λ i h. v .rest i h ∙ u .rest i h),
           v .inside j q .1 (one ∷ []) two (at-definite SECOND (nodes-in d) e) held second-comes,
+          undoable-on n k w₃ undoable j w₄ (v .inside j q .0),
         )
 
   -- ---- what the function answers

@@ -13,7 +13,7 @@ use Rattle.loading.specs.Entry.{Entry}
 use Rattle.loading.specs.Loaded.{nodes-in, loaded}
 use Rattle.area.specs.Map.{SECOND, WORDS, MARKS, SIZE}
 use Rattle.area.specs.Region.{region}
-use Rattle.classes.specs.Holds.{Holds}
+use Rattle.classes.specs.Holds.{Holds, Undoable}
 use Rattle.opening.specs.declared.Opened.{Opened}
 use Rattle.opening.specs.declared.Opened.the-variants.{Joined, Clashed}
 
@@ -55,9 +55,9 @@ pub record Opening (w a b : List ℕ) : Type 0 where
 abbrev pub definite : ℕ → ℕ → Desc → Entry
 definite p n (desc g ds) = record { at = p; number = n; graph = g }
 
--- "0, join. The graph is the join of both definite graphs (a clash there is a clash in all modes).": both are pushed, or they clash
+-- "0, join. The graph is the join of both definite graphs (a clash there is a clash in all modes).": both are pushed and can be taken back, or they clash
 abbrev pub Told : List ℕ → Desc → Desc → Opened → Type 0
-Told w d e (Joined n k) = Stand (region WORDS 2048 w) d e n × Holds n (definite 0 0 d ∷ definite SECOND (nodes-in d) e ∷ []) k w
+Told w d e (Joined n k) = Stand (region WORDS 2048 w) d e n × Holds n (definite 0 0 d ∷ definite SECOND (nodes-in d) e ∷ []) k w × Undoable n k w
 Told w (desc g ds) (desc h es) Clashed = Clash (g ∷ h ∷ [])
 
 pub record Opens (w a b : List ℕ) (r : Opened) (w′ : List ℕ) : Type 0 where

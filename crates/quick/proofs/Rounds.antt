@@ -25,8 +25,8 @@ use Rattle.engine.proofs.Joined.{joined-is}
 use Rattle.loading.specs.Entry.{Entry, graphs}
 use Rattle.marks.specs.Marked.{marking}
 use Rattle.counting.specs.Counted.{beside}
-use Rattle.classes.specs.Holds.{Since, Backs, Remembers}
-use Rattle.classes.proofs.Laws.{holds-agree, since-refl, since-trans}
+use Rattle.classes.specs.Holds.{Since, Backs, Remembers, Undoable}
+use Rattle.classes.proofs.Laws.{holds-agree, since-refl, since-trans, undoable-on}
 use Rattle.quick.specs.declared.step.Step.{Step}
 use Rattle.quick.specs.declared.step.Step.the-variants.{Stands, Fails}
 use Rattle.quick.specs.Stepped.{total, Moved}
@@ -81,8 +81,8 @@ module _ (n : ℕ) (t : List ℕ) (p : Pair n t) where
       same : Same (graphs (s .es)) (top ∷ certain all-kept both)
       same = subst (λ (z : Placed). Same (graphs (s .es)) (flat (strip (keep all-kept z)))) is kept
 
-  pub stage : (k : ℕ) (w : List ℕ) → Between k w → Stage n t p k w
-  stage k w o = record { es = o .es; ready = o .ready; same = subst (λ (z : Placed). Same (graphs (o .es)) (flat (strip (keep (marking w) z)))) (sym is) (o .loop .same) }
+  pub stage : (k : ℕ) (w : List ℕ) → Between k w → Undoable n k w → Stage n t p k w
+  stage k w o u = record { es = o .es; ready = o .ready; undoable = u; same = subst (λ (z : Placed). Same (graphs (o .es)) (flat (strip (keep (marking w) z)))) (sym is) (o .loop .same) }
 
   module _ (k : ℕ) (w : List ℕ) (o : Between k w) where
     abbrev pub asks : Passing n k w
@@ -124,7 +124,7 @@ module _ (n k : ℕ) (w₀ : List ℕ) where
 
   pub quick-stands : (log : ℕ) (again : Bool) (w : List ℕ) → Rounds log again w → again ≡ false → Quickens n k w₀ (Stands log 0) w
   quick-stands log again w v z = record {
-    standing = λ a b x. let f : log ≡ a = cc in subst (λ (a : ℕ). Moved k w₀ a w × Each (λ t p. Leaves (p .j) (marking w) × Stage n t p a w)) f (v .moved, λ t p s e. (v .ended z t p s e, stage n t p log w (v .between t p s e)));
+    standing = λ a b x. let f : log ≡ a = cc in subst (λ (a : ℕ). Moved k w₀ a w × Each (λ t p. Leaves (p .j) (marking w) × Stage n t p a w)) f (v .moved, λ t p s e. (v .ended z t p s e, stage n t p log w (v .between t p s e) (undoable-on n k w₀ (s .undoable) log w (v .moved .since))));
     failing = λ x. let q : _≡_ {A = ℕ} 0 1 = cc in absurd (omega arith);
   }
 

@@ -38,8 +38,8 @@ use Rattle.loading.proofs.Entries.{entries}
 use Rattle.marks.specs.Marked.{marking}
 use Rattle.counting.specs.Counted.{beside}
 use Rattle.counting.proofs.Whole.{well-nests}
-use Rattle.classes.specs.Holds.{Holds}
-use Rattle.classes.proofs.Laws.{holds-agree, holds-frame}
+use Rattle.classes.specs.Holds.{Holds, Undoable}
+use Rattle.classes.proofs.Laws.{holds-agree, holds-frame, undoable-frame}
 use Rattle.opening.specs.Opening.{Stand, definite}
 use Rattle.opening.proofs.Universe.{universe, in-one, in-two}
 use Rattle.quick.specs.Taken.{taken}
@@ -153,8 +153,8 @@ module _ (w : List ℕ) (d e : Desc) (n : ℕ) (long : SIZE ≤ length w) (wd : 
         let z : flat (strip (keep (marking w) (pair .j))) ≡ joins .0 ∷ [] = ap (λ (m : Marking). flat (strip (keep m (pair .j)))) every ∙ ap (λ (z : Placed). flat (strip z)) (keep-all-marked (pair .j)) ∙ flat-proper (pair .j) (whole-comes n t pair .1) in
         subst (λ (l : Ctx). Same (graphs both) l) (sym z) (both-same d e 0 SECOND 0 half depth-limit wd we (joins .0) (joins .1))
 
-    pub first-stage : marking w ≡ all-kept → (p : Pair n (words w)) × ((p .d ≡ d) × ((p .e ≡ e) × Stage n (words w) p k w))
-    first-stage every = (pair, (refl, (refl, record { es = both; ready = ready; same = same every })))
+    pub first-stage : Undoable n k w → marking w ≡ all-kept → (p : Pair n (words w)) × ((p .d ≡ d) × ((p .e ≡ e) × Stage n (words w) p k w))
+    first-stage undoable every = (pair, (refl, (refl, record { es = both; ready = ready; undoable = undoable; same = same every })))
 
 -- a stage is where it was when only marks have changed, and none of these for what is kept
 pub stage-again : (n : ℕ) (t : List ℕ) (p : Pair n t) (k : ℕ) (w : List ℕ) (s : Stage n t p k w) (w′ : List ℕ) → length w′ ≡ length w → ((j : ℕ) → j < MARKS → getD w′ j 0 ≡ getD w j 0) → marking w′ ≡ marking w → Stage n t p k w′
@@ -167,5 +167,6 @@ stage-again n t p k w s w′ len same m = record {
     clear-a = subst (λ (z : Marking). Clear (s .es) t z 0 0 (p .inputs .a) (p .inputs .end-a) (p .inputs .half) (p .inputs .at-a)) (sym m) (s .ready .clear-a);
     clear-b = subst (λ (z : Marking). Clear (s .es) t z SECOND (p .inputs .half) (p .inputs .b) (p .inputs .end-b) n (p .inputs .at-b)) (sym m) (s .ready .clear-b);
   };
+  undoable = undoable-frame n k w (s .undoable) w′ len same;
   same = subst (λ (z : Marking). Same (graphs (s .es)) (flat (strip (keep z (p .j))))) (sym m) (s .same);
 }

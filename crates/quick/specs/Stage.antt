@@ -17,6 +17,7 @@ use Rattle.loading.specs.Entry.{Entry, graphs}
 use Rattle.loading.specs.Loaded.{nodes-in}
 use Rattle.loading.specs.Numbered.{numbered}
 use Rattle.marks.specs.Marked.{marking}
+use Rattle.classes.specs.Holds.{Undoable}
 use Rattle.quick.specs.Passed.{Inputs, Ready}
 
 -- two inputs that stand loaded in t and whose definite graphs join
@@ -33,8 +34,9 @@ pub record Pair (n : ℕ) (t : List ℕ) : Type 0 where
   pub j : Placed
   pub joined : joined-placed (inputs .a) (inputs .b) ≡ some j
 
--- the graphs es are pushed, and they say what is certain in what the marks leave of the joined description
+-- the graphs es are pushed and can be taken back, and they say what is certain in what the marks leave of the joined description
 pub record Stage (n : ℕ) (t : List ℕ) (p : Pair n t) (k : ℕ) (w : List ℕ) : Type 0 where
   pub es : List Entry
   pub ready : Ready n t (p .inputs) k w es
+  pub undoable : Undoable n k w
   pub same : Same (graphs es) (flat (strip (keep (marking w) (p .j))))

@@ -28,7 +28,8 @@ use Rattle.loading.specs.Entry.{graphs}
 use Rattle.loading.proofs.Putting.{stands-frame}
 use Rattle.loading.proofs.Walking.{at-bounds}
 use Rattle.marks.specs.Marked.{marking}
-use Rattle.classes.specs.Holds.{Starts}
+use Rattle.classes.specs.Holds.{Remembers, Backs, Undoable}
+use Rattle.classes.proofs.Laws.{undoable-asks, undoable-back}
 use Rattle.writing.specs.Writing.{Writing, Writes}
 use Rattle.showing.specs.Putting.{Written, Base, lead, later, left-all, Disjoining, Disjoins}
 use Rattle.showing.specs.Showing.{outcome, Showing, Shows}
@@ -102,19 +103,25 @@ module _ (n k : ℕ) (w : List ℕ) (c : Showing n k w) where
   pub show-writes : Writing n k w 0
   show-writes = record { es = c .stage .es; G = G; holds = c .stage .ready .holds; joined = joined-is; room = omega (arith, room, weight-words G) }
 
-  module _ (e : ℕ) (w₁ : List ℕ) (u : Writes n k w 0 e w₁) (w₂ : List ℕ) (v : Starts w₁ w₂) where
+  -- what is pushed can still be taken back once it is written
+  undoable₁ : (e : ℕ) (w₁ : List ℕ) → Writes n k w 0 e w₁ → Undoable n k w₁
+  undoable₁ e w₁ u = let s = c .stage .undoable in record { w₀ = s .w₀; empty = s .empty; since = u .since 0 (s .w₀) (s .since) }
+
+  pub show-back : (e : ℕ) (w₁ : List ℕ) → Writes n k w 0 e w₁ → Remembers 0 k w₁
+  show-back e w₁ u = undoable-asks n k w₁ (undoable₁ e w₁ u)
+
+  module _ (e : ℕ) (w₁ : List ℕ) (u : Writes n k w 0 e w₁) (w₂ : List ℕ) (v : Backs 0 k w₁ w₂) where
     top : Written n w 0 (graph-words G) e w₂
     top =
         let told = u .told (c .stage .es) G (c .stage .ready .holds) joined-is in
         let kept = u .kept in
-        let few = c .p .inputs .ground .few in
         let len = v .len in
         record {
           len = len ∙ kept .len;
           mid = λ i h l. v .rest i h ∙ kept .mid i h l;
           high = λ i h. v .rest i (omega arith) ∙ kept .high i h;
           stands = stands-frame w₁ w₂ (graph-words G) RESULT (RESULT + e) (λ i h l x. (omega arith, v .rest i (omega arith))) (told .1 .0);
-          holds = v .holds n (omega arith);
+          holds = undoable-back n k w₁ (undoable₁ e w₁ u) w₂ v;
         }
 
     near : e + 1 + length (disjs-words first) + length (disjs-words second) ≤ 2048
@@ -187,7 +194,7 @@ module _ (n k : ℕ) (w : List ℕ) (c : Showing n k w) where
             let r = c .room in
             (whole .len, λ h l. whole .high h (omega arith), omega arith, whole .stands)
 
-pub shows : (n k : ℕ) (w : List ℕ) → Showing n k w → (e : ℕ) (w₁ : List ℕ) → Writes n k w 0 e w₁ → (w₂ : List ℕ) → Starts w₁ w₂ → (r i : ℕ) (w₃ : List ℕ) → Disjoins n w₂ 0 depth-limit (e + 1) r i w₃ →
+pub shows : (n k : ℕ) (w : List ℕ) → Showing n k w → (e : ℕ) (w₁ : List ℕ) → Writes n k w 0 e w₁ → (w₂ : List ℕ) → Backs 0 k w₁ w₂ → (r i : ℕ) (w₃ : List ℕ) → Disjoins n w₂ 0 depth-limit (e + 1) r i w₃ →
     (q l : ℕ) (w₄ : List ℕ) → Disjoins n w₃ SECOND depth-limit r q l w₄ → Shows n k w q (set w₄ (RESULT + e) (i + l))
 shows n k w c e w₁ u w₂ v r i w₃ x q l w₄ y =
     let own = show-told n k w c e w₁ u w₂ v r i w₃ x q l w₄ y in

@@ -2,7 +2,7 @@
 use crate::put::put_disjunctions;
 use area::map::RESULT;
 use area::map::SECOND;
-use classes::push::start;
+use classes::push::back;
 use writing::graph::write_graph;
 ghost use Rattle.showing.specs.Showing.{Showing, Shows};
 
@@ -15,7 +15,7 @@ pub fn show(w: &mut [u32], k: usize, n: usize) -> usize
     ensures { λ r. ⌜ Shows n k (now (w .entry)) r (now (w .exit)) ⌝ }
 {
     let e = write_graph(w, k, n, 0);
-    start(w);
+    back(w, k, 0);
     let first = put_disjunctions(w, n, 0, DEPTH, e + 1);
     let middle = first.at;
     let second = put_disjunctions(w, n, SECOND, DEPTH, middle);

@@ -16,7 +16,7 @@ use Rattle.theory.proofs.Instance.{none-join}
 use Rattle.area.specs.Map.{WORDS, SIZE}
 use Rattle.area.specs.Region.{region, words}
 use Rattle.area.proofs.Region.{words-same}
-use Rattle.classes.proofs.Laws.{holds-frame}
+use Rattle.classes.proofs.Laws.{holds-frame, undoable-frame}
 use Rattle.marks.specs.Marked.{Cleared}
 use Rattle.opening.specs.Opening.{Read, Stand, Told, Opening, Opens}
 use Rattle.opening.specs.declared.Opened.{Opened}
@@ -49,7 +49,8 @@ module _ (w a b : List ℕ) (o : Opening w a b) (r : Opened) (w₁ : List ℕ) (
           let l = c .len in let h = long in
           let s : Stand (words w₂) d e n = subst (λ (z : List ℕ). Stand z d e n) (loaded-again w₁ w₂ long c) (t .0) in
           let f = holds-frame n _ k w₁ (t .1) w₂ (c .len) (λ j m. c .rest j (inl m)) in
-          let x = first-stage w₂ d e n (omega arith) (q .first-well) (q .second-well) (few a d (q .first-is) (o .inputs .first-few)) (few b e (q .second-is) (o .inputs .second-few)) s k f (c .marks) in
+          let u = undoable-frame n k w₁ (t .2) w₂ (c .len) (λ j m. c .rest j (inl m)) in
+          let x = first-stage w₂ d e n (omega arith) (q .first-well) (q .second-well) (few a d (q .first-is) (o .inputs .first-few)) (few b e (q .second-is) (o .inputs .second-few)) s k f u (c .marks) in
           (x .0, x .1 .0, x .1 .1 .0, x .1 .1 .1, c .marks)
         where
           few : (ws : List ℕ) (d : Desc) → ws ≡ layout.words d → length ws ≤ input-limit → length (layout.words d) ≤ input-limit
