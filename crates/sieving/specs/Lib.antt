@@ -1,0 +1,2 @@
+-- `Sieved` says what a sieve tells.
+pub mod Sieved
