@@ -25,8 +25,11 @@ use Rattle.marks.specs.Tallied.{Alternatives, Tallied}
 use Rattle.marks.proofs.Reading.{tail-is, disjunctions-is, alternatives-is, read-at}
 use Rattle.marks.proofs.Marks.{marking-frame}
 use Rattle.counting.specs.Nesting.{Nests, NestsAll, NestsAny}
+use Rattle.classes.specs.State.{Runs}
 use Rattle.classes.specs.Holds.{Holds, Since, Backs}
 use Rattle.classes.proofs.Laws.{since-refl, since-trans}
+use Rattle.sieving.specs.Sieved.{Sieved}
+use Rattle.sieving.proofs.Keeping.{roots-run, sieved-since}
 use Rattle.quick.specs.declared.step.Step.{Step}
 use Rattle.quick.specs.declared.step.Step.the-variants.{Stands, Fails}
 use Rattle.quick.specs.Taken.{Among, AmongAll, AmongAny, Inside}
@@ -66,6 +69,13 @@ module _ (n k : ℕ) (w : List ℕ) (g left : ℕ) where
 
     pub narrow-starts : (g < 2048) × (tail-at w g < 2048)
     narrow-starts = let s = read-at w (c .holds .long) (c .d) g (c .from) (c .end) (c .to) here low in (s .here, s .inside)
+
+    -- there are numbers, and so the roots have a class
+    some : 0 < n
+    some = let b = at-bounds (c .t) (c .d) g (c .from) (c .end) (c .to) (c .at) .2 in omega (arith, c .low)
+
+    pub narrow-runs : getD w 0 0 ≤ 2048 → Runs w (getD w 0 0)
+    narrow-runs = roots-run n (c .es) k w (c .holds) some
 
     pub moved-start : Moved k w k w
     moved-start = record { len = refl; rest = λ j h. refl; since = since-refl n (c .es) k w (c .holds) }
@@ -180,6 +190,13 @@ module _ (n k : ℕ) (w : List ℕ) (g left : ℕ) where
 
             pub asks-after : Alternatives w₂ (at + 1) count
             asks-after = asks-count (omega (arith, v .standing j i y .0 .len, m .len, c .holds .long)) (moved-words log w₁ j w₂ (omega (arith, m .len, c .holds .long)) (v .standing j i y .0))
+
+            -- the sieve is gathered again, or tells the same
+            pub runs-after : getD w₂ 0 0 ≤ 2048 → Runs w₂ (getD w₂ 0 0)
+            runs-after = roots-run n (told .es') j w₂ (told .stood .holds) (some c)
+
+            pub sieved-after : (t : List ℕ) → Sieved w₁ t → j ≡ log → Sieved w₂ t
+            sieved-after t u e = sieved-since log w₁ w₂ t (omega (arith, m .len, c .holds .long)) (subst (λ (i : ℕ). Since log w₁ i w₂) e (v .standing j i y .0 .since)) u
 
             pub narrow-on : (kept first' after : ℕ) → ((a : Alternatives w₂ (at + 1) count) → Tallied w₂ a kept first' after) → Going c (more - 1) after j w₂
             unfolding asks-after asks-count

@@ -13,27 +13,31 @@ use marks::positions::disjunctions_at;
 use marks::positions::number_at;
 use marks::positions::tail_at;
 use marks::tally::count_kept;
+use sieving::gather::gather;
+use sieving::gather::renew;
+ghost use Rattle.sieving.specs.Sieved.{Sieved};
 ghost use Rattle.quick.specs.Entered.{Entering};
 ghost use Rattle.quick.specs.Settled.{Alternating};
 ghost use Rattle.quick.specs.Stepped.{Narrowing, Narrows, Choosing, Chooses, Tries, Sifts};
 
 // Tries the alternative at g: it is entered and narrowed, and all that was pushed for it taken back. Mostly it has no disjunctions, and there is nothing to narrow.
-fn try_one(w: &mut [u32], k: usize, n: usize, g: usize, left: u32) -> Step
+fn try_one(w: &mut [u32], k: usize, n: usize, g: usize, left: u32, t: &[u32]) -> Step
     requires { ⌜ Entering n k (now w) g left ⌝ }
+    requires { ⌜ Sieved (now w) (now t) ⌝ }
     ensures { λ r. ⌜ Tries n k (now (w .entry)) g left r (now (w .exit)) ⌝ }
 {
-    let t = tail_at(w, g);
-    let more = disjunctions_at(w, t);
+    let e = tail_at(w, g);
+    let more = disjunctions_at(w, e);
     if more == 0 {
         return try_bare(w, k, n, g);
     }
     let pushed = enter(w, k, n, g, left);
-    let Pushed::In(e) = pushed else {
+    let Pushed::In(m) = pushed else {
         return Step::Fails;
     };
-    let step = narrow(w, e, n, g, left);
+    let step = narrow(w, m, n, g, left);
     let Step::Stands(j, drops) = step else {
-        back(w, e, k);
+        back(w, m, k);
         return Step::Fails;
     };
     back(w, j, k);
@@ -47,16 +51,22 @@ pub fn narrow(w: &mut [u32], k: usize, n: usize, g: usize, left: u32) -> Step
 {
     let e = tail_at(w, g);
     let mut more = disjunctions_at(w, e);
+    if more == 0 {
+        return Step::Stands(k, 0);
+    }
+    let mut t: [u32; 256] = [0; 256];
+    gather(w, &mut t);
     let mut at = e + 1;
     let mut log = k;
     let mut drops: usize = 0;
     while 0 < more {
         let count = alternatives_at(w, at);
-        let one = narrow_one(w, log, n, at + 1, count, left - 1);
+        let one = narrow_one(w, log, n, at + 1, count, left - 1, &t);
         let Step::Stands(j, i) = one else {
             back(w, log, k);
             return Step::Fails;
         };
+        renew(w, &mut t, log, j);
         log = j;
         drops += i;
         let tally = count_kept(w, at + 1, count);
@@ -67,8 +77,17 @@ pub fn narrow(w: &mut [u32], k: usize, n: usize, g: usize, left: u32) -> Step
 }
 
 // Narrows one disjunction, whose `count` alternatives stand from p on.
-fn narrow_one(w: &mut [u32], k: usize, n: usize, p: usize, count: usize, left: u32) -> Step
+fn narrow_one(
+    w: &mut [u32],
+    k: usize,
+    n: usize,
+    p: usize,
+    count: usize,
+    left: u32,
+    t: &[u32],
+) -> Step
     requires { ⌜ Choosing n k (now w) p count left ⌝ }
+    requires { ⌜ Sieved (now w) (now t) ⌝ }
     ensures { λ r. ⌜ Chooses n k (now (w .entry)) p count left r (now (w .exit)) ⌝ }
 {
     let tally = count_kept(w, p, count);
@@ -79,7 +98,7 @@ fn narrow_one(w: &mut [u32], k: usize, n: usize, p: usize, count: usize, left: u
         let first = tally.first;
         return narrow(w, k, n, first, left);
     }
-    let drops = sift(w, k, n, p, count, left);
+    let drops = sift(w, k, n, p, count, left, t);
     if drops == 0 {
         return Step::Stands(k, 0);
     }
@@ -91,8 +110,9 @@ fn narrow_one(w: &mut [u32], k: usize, n: usize, p: usize, count: usize, left: u
 }
 
 // Tries each kept one of the `count` alternatives from p on, and drops those that fail. How many alternatives were dropped, at every depth.
-fn sift(w: &mut [u32], k: usize, n: usize, p: usize, count: usize, left: u32) -> usize
+fn sift(w: &mut [u32], k: usize, n: usize, p: usize, count: usize, left: u32, t: &[u32]) -> usize
     requires { ⌜ Alternating n k (now w) p count left ⌝ }
+    requires { ⌜ Sieved (now w) (now t) ⌝ }
     ensures { λ r. ⌜ Sifts n k (now (w .entry)) p count left r (now (w .exit)) ⌝ }
 {
     let mut rest = count;
@@ -101,7 +121,7 @@ fn sift(w: &mut [u32], k: usize, n: usize, p: usize, count: usize, left: u32) ->
     while 0 < rest {
         let x = number_at(w, at);
         if kept(w, x) {
-            let step = try_one(w, k, n, at, left);
+            let step = try_one(w, k, n, at, left, t);
             if let Step::Stands(_, i) = step {
                 drops += i;
             } else {

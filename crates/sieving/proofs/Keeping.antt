@@ -1,18 +1,17 @@
 -- What a sieve asks, and what it survives: it tells the same as long as what is pushed and the loaded words stay. Assumes nothing.
-use mathlib.Core.Path.{_≡_, sym, _∙_, subst}
+use mathlib.Core.Path.{_≡_, sym, subst}
 use mathlib.Core.List.{List, [], _∷_}
 use Prim.Native.Nat.{ℕ, _+_, _-_, _≤_, _<_}
 use native.Mathlib.Omega.{arith}
 use lib.ListN.{length, getD}
-use Rattle.area.specs.Map.{NEXT, LOG, WORDS, MARKS, SIZE}
-use Rattle.area.specs.Region.{words}
+use Rattle.area.specs.Map.{NEXT, LOG, SIZE}
 use Rattle.area.specs.Log.{body, back, past}
 use Rattle.area.proofs.Region.{words-same}
 use Rattle.area.proofs.Undo.{word}
 use Rattle.loading.specs.Entry.{Entry}
-use Rattle.classes.specs.State.{Chain, None, Runs, Looked}
+use Rattle.classes.specs.State.{Chain, None, Runs}
 use Rattle.classes.specs.Holds.{Holds, class, Since}
-use Rattle.classes.proofs.Writer.{class-low, class-top, content}
+use Rattle.classes.proofs.Writer.{class-low, content}
 use Rattle.sieving.specs.Sieved.{Sieved}
 
 -- the class of all roots is that of the number 0
@@ -30,26 +29,18 @@ chain-back w w' f x (j ∷ xs) c =
     let b = c .1 .0 in
     (c .0, (c .1 .0, subst (λ (z : ℕ). Chain w z xs) (f (NEXT + j) (omega arith)) (chain-back w w' f (getD w' (NEXT + j) 0) xs (c .1 .1))))
 
-sieved-again : (w w' t : List ℕ) → SIZE ≤ length w → length w' ≡ length w → ((j : ℕ) → j < LOG → getD w' j 0 ≡ getD w j 0) → ((j : ℕ) → WORDS ≤ j → j < MARKS → getD w' j 0 ≡ getD w j 0) → Sieved w t → Sieved w' t
-sieved-again w w' t h len f g s =
-    let e = words-same w w' h len g in
-    let first : getD w' 0 0 ≡ getD w 0 0 = f 0 (omega arith) in
-    record {
-      long = s .long;
-      none = λ i z. record {
-        miss = λ q xs c. subst (λ (F : List ℕ). None F i xs) (sym e) (s .none i z .miss q xs (subst (λ (y : ℕ). Chain w y xs) first (chain-back w w' f (getD w' 0 0) xs c)));
-        hit = λ j q. absurd (omega arith);
-      };
-    }
-
 same-body : (k : ℕ) (w w' : List ℕ) → past k k w' ≡ past k k w → body w' ≡ body w
 unfolding past back
 same-body k w w' p = let e : k - k ≡ 0 = omega arith in rw e at p
 
--- all that was pushed since is taken back
+-- all that was pushed since is taken back, and marks are free
 pub sieved-since : (k : ℕ) (w w' t : List ℕ) → SIZE ≤ length w → Since k w k w' → Sieved w t → Sieved w' t
-sieved-since k w w' t h p = sieved-again w w' t h (p .len) (word w w' (same-body k w w' (p .keeps k (omega arith)))) (p .same)
-
--- what stands from MARKS on is free
-pub sieved-frame : (w w' t : List ℕ) → SIZE ≤ length w → length w' ≡ length w → ((j : ℕ) → j < MARKS → getD w' j 0 ≡ getD w j 0) → Sieved w t → Sieved w' t
-sieved-frame w w' t h len f = sieved-again w w' t h len (λ j l. f j (omega arith)) (λ j a b. f j b)
+sieved-since k w w' t h p s =
+    let f = word w w' (same-body k w w' (p .keeps k (omega arith))) in
+    record {
+      long = s .long;
+      none = λ i z. record {
+        miss = λ q xs c. subst (λ (F : List ℕ). None F i xs) (sym (words-same w w' h (p .len) (p .same))) (s .none i z .miss q xs (subst (λ (y : ℕ). Chain w y xs) (f 0 (omega arith)) (chain-back w w' f (getD w' 0 0) xs c)));
+        hit = λ j q. absurd (omega arith);
+      };
+    }

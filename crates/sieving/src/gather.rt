@@ -2,6 +2,7 @@
 use area::log::wide;
 use classes::chain::loaded;
 use classes::chain::next;
+ghost use mathlib.Core.Path.{_≡_};
 ghost use Prim.Native.Nat.{_≤_};
 ghost use lib.ListN.{length, getD};
 ghost use Rattle.area.specs.Map.{SIZE};
@@ -25,4 +26,17 @@ pub fn gather(w: &[u32], t: &mut [u32])
         t[f % 256] = 1;
         y = next(w, j);
     }
+}
+
+// The same where the log, which had k entries when t told it, has j now; where it has as many, t tells it still.
+pub fn renew(w: &[u32], t: &mut [u32], k: usize, j: usize)
+    requires { ⌜ (SIZE ≤ length (now w)) × (256 ≤ length (now t)) ⌝ }
+    requires { ⌜ (getD (now w) 0 0 ≤ 2048 → Runs (now w) (getD (now w) 0 0)) ⌝ }
+    requires { ⌜ (j ≡ k → Sieved (now w) (now t)) ⌝ }
+    ensures { λ _. ⌜ Sieved (now (w .entry)) (now (t .exit)) ⌝ }
+{
+    if j == k {
+        return;
+    }
+    gather(w, t);
 }
