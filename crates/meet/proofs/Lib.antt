@@ -1,1 +1,2 @@
+-- `Printing` shows that what was written can be printed.
 pub mod Printing

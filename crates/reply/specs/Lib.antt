@@ -1,1 +1,2 @@
+-- `Printed` says what `meet` prints for a text.
 pub mod Printed

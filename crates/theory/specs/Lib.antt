@@ -1,3 +1,6 @@
+-- `Limits` names the limits. `Net`, `Structure`, `Descr`, `Satisfaction` and `Places` are graphs, structures, descriptions and choices; `Layout` is their words.
+-- `Join`, `Modes`, `Reading`, `Unified` and `Fitted` are programs, so that cases compute; `Rounds` tells the rounds without a bound.
+-- `Answer`, `Rules`, `Outcome` and `FitTest` are the tables of numbers, `Demands` the demands, `Known` the known inputs and cases.
 pub mod Limits
 pub mod Net
 pub mod Structure
