@@ -20,7 +20,7 @@ use Rattle.loading.specs.At.{At, AtAll, AtAny}
 use Rattle.loading.proofs.Walking.{any-bounds, all-bounds}
 use Rattle.marks.specs.Positions.{number-at, tail-at, disjunctions-at, alternatives-at, after-at}
 use Rattle.marks.specs.Marked.{marking}
-use Rattle.marks.proofs.Reading.{tail-is, disjunctions-is, alternatives-is, read-at, read-option}
+use Rattle.marks.proofs.Reading.{tail-is, disjunctions-is, alternatives-is, read-at, read-option, read-first}
 use Rattle.counting.specs.Nesting.{Nests, NestsAll, NestsAny}
 use Rattle.counting.specs.Counted.{Countable, Counted}
 use Rattle.counting.proofs.Products.{cap-same, cap-first, cap-whole}
@@ -139,15 +139,7 @@ module _ (w : List ℕ) (p left : ℕ) (c : Countable w p left) where
   module _ (more product at rest sum : ℕ) (t : Summing more product at rest sum) where
     -- the next alternative
     pub sum-here : 0 < rest → (at < 2048) × (number-at w at < 1024) × (tail-at w at < 2048)
-    sum-here h = go (t .a) (t .stand) (t .many)
-      where
-        go : (a : Options) → AtAny (words w) at (t .n) a (t .r) (t .l) → options a ≡ rest → (at < 2048) × (number-at w at < 1024) × (tail-at w at < 2048)
-        go no-more o many = absurd (omega arith)
-        go (option x d a) o many =
-            let r = read-option w (c .room) x d a at (t .n) (t .r) (t .l) o (t .low) .0 in
-            let low = r .low in
-            let number = r .number in
-            (r .here, omega arith, r .inside)
+    sum-here h = read-first w (c .room) (t .a) at (t .n) (t .r) (t .l) rest (t .stand) (t .low) (t .many) h
 
     asks-one : (x : ℕ) (d : Placed) (a : Options) → AtAny (words w) at (t .n) (option x d a) (t .r) (t .l) → Nests d (left - 1) → Countable w at (left - 1)
     asks-one x d a o inner = record { room = c .room; d = d; n = t .n; q = o .0; m = o .1; at = o .3; low = read-option w (c .room) x d a at (t .n) (t .r) (t .l) o (t .low) .1; nests = inner }

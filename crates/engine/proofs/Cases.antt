@@ -10,16 +10,13 @@ use Rattle.theory.specs.Join.{join}
 use Rattle.theory.specs.Descr.{Desc, agree}
 use Rattle.theory.specs.Modes.{size}
 use Rattle.theory.specs.Layout.{words}
+use Rattle.theory.proofs.Empty.{one-arc}
 use Rattle.engine.specs.Placed.{Placed, place, stop, _also_, no-more, option}
 use Rattle.engine.specs.Marks.{all-kept, left-by}
 use Rattle.engine.specs.Quickly.{try-at, passes-at, quick-at}
 use Rattle.engine.specs.Counting.{count-at}
 use Rattle.engine.specs.Search.{dive, search, full-left, full-readings-by}
 use Rattle.engine.specs.Shown.{shown}
-
--- feature f is atom a
-abbrev bears : ℕ → ℕ → Graph
-bears f a = arcs ((f, 1) ∷ []) ∷ atom a ∷ []
 
 abbrev leaf : Graph → Placed
 leaf g = place g stop
@@ -41,8 +38,8 @@ full-count d = elim (quick-at d) [ none ↦ 0 | some m ↦ full-readings-by m d 
 abbrev PS : Placed
 PS =
     place (arcs [] ∷ [])
-    (option 1 (leaf (bears 1 10)) (option 2 (leaf (bears 1 11)) no-more)
-    also option 3 (leaf (bears 1 10)) (option 4 (leaf (arcs ((1, 1) ∷ (2, 2) ∷ []) ∷ atom 10 ∷ atom 10 ∷ [])) no-more)
+    (option 1 (leaf (one-arc 1 10)) (option 2 (leaf (one-arc 1 11)) no-more)
+    also option 3 (leaf (one-arc 1 10)) (option 4 (leaf (arcs ((1, 1) ∷ (2, 2) ∷ []) ∷ atom 10 ∷ atom 10 ∷ [])) no-more)
     also stop)
 
 full-case : full-words PS ≡ 2 ∷ 1 ∷ 1 ∷ 1 ∷ 65546 ∷ 1 ∷ 2 ∷ 2 ∷ 1 ∷ 1 ∷ 1 ∷ 65546 ∷ 0 ∷ 3 ∷ 2 ∷ 1 ∷ 1 ∷ 2 ∷ 2 ∷ 65546 ∷ 65546 ∷ 0 ∷ []
@@ -60,7 +57,7 @@ full-case-choices = refl
 -- the later disjunction is folded in the first pass, and the earlier one by it in the second
 quick-case :
     quick-words
-    (place (bears 2 10) (option 1 (leaf (bears 1 10)) (option 2 (leaf (bears 1 11)) no-more) also option 3 (leaf (bears 1 11)) (option 4 (leaf (bears 2 11)) no-more) also stop))
+    (place (one-arc 2 10) (option 1 (leaf (one-arc 1 10)) (option 2 (leaf (one-arc 1 11)) no-more) also option 3 (leaf (one-arc 1 11)) (option 4 (leaf (one-arc 2 11)) no-more) also stop))
     ≡ 3 ∷ 2 ∷ 1 ∷ 1 ∷ 2 ∷ 2 ∷ 65547 ∷ 65546 ∷ 0 ∷ []
 unfolding quick-at passes-at try-at size agree join shown
 quick-case = refl

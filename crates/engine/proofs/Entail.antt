@@ -10,9 +10,10 @@ use lib.ListN.{length-append}
 use Rattle.theory.specs.Net.{Graph, Canonical}
 use Rattle.theory.specs.Join.{join}
 use Rattle.theory.proofs.Instance.{AllCanonical}
-use Rattle.theory.proofs.Sets.{Within, clash-within, joined-within, join-same}
+use Rattle.theory.proofs.Sets.{Within}
 use Rattle.theory.proofs.Mean.{Ctx, Fine, canon-append, fine-append, alike-flat, clash-stays, join-canonical, within-both, in-l, in-r}
 use Rattle.theory.proofs.Live.{Agrees}
+use Rattle.theory.proofs.Modes.{join-order}
 
 -- joining g to A changes nothing
 abbrev pub Says : Ctx → Graph → Type 0
@@ -39,9 +40,6 @@ w-tail x a b w g m = List·Memᴰ·tail (w g m)
 pub w-trans : (a b c : Ctx) → Within a b → Within b c → Within a c
 w-trans a b c w v g m = v g (w g m)
 
-pub same-set : (a b : Ctx) → Fine a → Fine b → Within a b → Within b a → join a ≡ join b
-same-set a b fa fb w v = join-same a b (fa .0) (fb .0) (fa .1) (fb .1) (joined-within a b (fa .1) (fb .1) w v) (clash-within a b (fa .1) (fb .1) w)
-
 pub fine-cons : (g : Graph) (a : Ctx) → Canonical g → AllCanonical a → Fine (g ∷ a)
 fine-cons g a p q = (omega arith, (p, q))
 
@@ -50,7 +48,7 @@ fine-before a b p q = let l = q .0 in (simp length-append (omega arith), canon-a
 
 -- A says what it holds
 pub says-in : (A : Ctx) (g : Graph) → Fine A → Canonical g → List·Memᴰ g A → Says A g
-says-in A g f c m hs h = same-set (A ++ hs) (A ++ g ∷ hs) (fine-append A hs f h) (fine-append A (g ∷ hs) f (c, h))
+says-in A g f c m hs h = join-order (A ++ hs) (A ++ g ∷ hs) (fine-append A hs f h) (fine-append A (g ∷ hs) f (c, h))
     (within-both A hs (A ++ g ∷ hs) (in-l A (g ∷ hs)) (w-right hs A (g ∷ hs) (w-tail g hs hs (w-self hs))))
     (within-both A (g ∷ hs) (A ++ hs) (in-l A hs) (w-cons g hs (A ++ hs) (Memᴰ·append-left hs m) (in-r A hs)))
 
@@ -69,9 +67,9 @@ says-list A (b ∷ B) hs p h s = says-list A B hs (p .1) h (λ g m. s g (List·M
 pub says-more : (A B : Ctx) (g : Graph) → Fine A → Fine B → Canonical g → Within A B → Says A g → Says B g
 says-more A B g fa fb c w s hs h =
     let bh : AllCanonical (B ++ hs) = canon-append B hs (fb .1) h in
-    same-set (B ++ hs) (A ++ (B ++ hs)) (fine-append B hs fb h) (fine-append A (B ++ hs) fa bh) (in-r A (B ++ hs)) (within-both A (B ++ hs) (B ++ hs) (w-left A B hs w) (w-self (B ++ hs)))
+    join-order (B ++ hs) (A ++ (B ++ hs)) (fine-append B hs fb h) (fine-append A (B ++ hs) fa bh) (in-r A (B ++ hs)) (within-both A (B ++ hs) (B ++ hs) (w-left A B hs w) (w-self (B ++ hs)))
     ∙ s (B ++ hs) bh
-    ∙ same-set (A ++ g ∷ (B ++ hs)) (B ++ g ∷ hs) (fine-append A (g ∷ (B ++ hs)) fa (c, bh)) (fine-append B (g ∷ hs) fb (c, h))
+    ∙ join-order (A ++ g ∷ (B ++ hs)) (B ++ g ∷ hs) (fine-append A (g ∷ (B ++ hs)) fa (c, bh)) (fine-append B (g ∷ hs) fb (c, h))
     (within-both A (g ∷ (B ++ hs)) (B ++ g ∷ hs) (w-left A B (g ∷ hs) w) (w-cons g (B ++ hs) (B ++ g ∷ hs) (Memᴰ·append-right B (List·Memᴰ·head refl)) (within-both B hs (B ++ g ∷ hs) (in-l B (g ∷ hs)) (w-right hs B (g ∷ hs) (w-tail g hs hs (w-self hs))))))
     (within-both B (g ∷ hs) (A ++ g ∷ (B ++ hs)) (w-right B A (g ∷ (B ++ hs)) (w-tail g B (B ++ hs) (in-l B hs))) (w-cons g hs (A ++ g ∷ (B ++ hs)) (Memᴰ·append-right A (List·Memᴰ·head refl)) (w-right hs A (g ∷ (B ++ hs)) (w-tail g hs (B ++ hs) (in-r B hs)))))
 
@@ -82,9 +80,9 @@ says-cut A B g fa fb c s t hs h =
     let bh : AllCanonical (B ++ hs) = canon-append B hs (fb .1) h in
     let bgh : AllCanonical (B ++ g ∷ hs) = canon-append B (g ∷ hs) (fb .1) (c, h) in
     says-list A B hs (fb .1) h s
-    ∙ same-set (A ++ (B ++ hs)) (B ++ (A ++ hs)) (fine-append A (B ++ hs) fa bh) (fine-append B (A ++ hs) fb ah) (move A B hs) (move B A hs)
+    ∙ join-order (A ++ (B ++ hs)) (B ++ (A ++ hs)) (fine-append A (B ++ hs) fa bh) (fine-append B (A ++ hs) fb ah) (move A B hs) (move B A hs)
     ∙ t (A ++ hs) ah
-    ∙ same-set (B ++ g ∷ (A ++ hs)) (A ++ (B ++ g ∷ hs)) (fine-append B (g ∷ (A ++ hs)) fb (c, ah)) (fine-append A (B ++ g ∷ hs) fa bgh)
+    ∙ join-order (B ++ g ∷ (A ++ hs)) (A ++ (B ++ g ∷ hs)) (fine-append B (g ∷ (A ++ hs)) fb (c, ah)) (fine-append A (B ++ g ∷ hs) fa bgh)
     (within-both B (g ∷ (A ++ hs)) (A ++ (B ++ g ∷ hs)) (w-right B A (B ++ g ∷ hs) (in-l B (g ∷ hs))) (w-cons g (A ++ hs) (A ++ (B ++ g ∷ hs)) (Memᴰ·append-right A (Memᴰ·append-right B (List·Memᴰ·head refl))) (within-both A hs (A ++ (B ++ g ∷ hs)) (in-l A (B ++ g ∷ hs)) (w-right hs A (B ++ g ∷ hs) (w-right hs B (g ∷ hs) (w-tail g hs hs (w-self hs)))))))
     (within-both A (B ++ g ∷ hs) (B ++ g ∷ (A ++ hs)) (w-right A B (g ∷ (A ++ hs)) (w-tail g A (A ++ hs) (in-l A hs))) (within-both B (g ∷ hs) (B ++ g ∷ (A ++ hs)) (in-l B (g ∷ (A ++ hs))) (w-cons g hs (B ++ g ∷ (A ++ hs)) (Memᴰ·append-right B (List·Memᴰ·head refl)) (w-right hs B (g ∷ (A ++ hs)) (w-tail g hs (A ++ hs) (in-r A hs))))))
     ∙ sym (says-list A B (g ∷ hs) (fb .1) (c, h) s)
@@ -127,9 +125,9 @@ pub says-join : (gs : Ctx) → Fine gs → (K : Graph) → join gs ≡ some K �
 says-join gs f K e hs h =
     let cK : Canonical K = join-canonical gs f K e in
     let gh : AllCanonical (gs ++ hs) = canon-append gs hs (f .1) h in
-    same-set (gs ++ hs) (gs ++ (gs ++ hs)) (fine-append gs hs f h) (fine-append gs (gs ++ hs) f gh) (in-r gs (gs ++ hs)) (within-both gs (gs ++ hs) (gs ++ hs) (in-l gs hs) (w-self (gs ++ hs)))
+    join-order (gs ++ hs) (gs ++ (gs ++ hs)) (fine-append gs hs f h) (fine-append gs (gs ++ hs) f gh) (in-r gs (gs ++ hs)) (within-both gs (gs ++ hs) (gs ++ hs) (in-l gs hs) (w-self (gs ++ hs)))
     ∙ sym (alike-flat gs f K e (gs ++ hs) gh)
-    ∙ same-set (K ∷ (gs ++ hs)) (gs ++ K ∷ hs) (fine-cons K (gs ++ hs) cK gh) (fine-append gs (K ∷ hs) f (cK, h))
+    ∙ join-order (K ∷ (gs ++ hs)) (gs ++ K ∷ hs) (fine-cons K (gs ++ hs) cK gh) (fine-append gs (K ∷ hs) f (cK, h))
     (w-cons K (gs ++ hs) (gs ++ K ∷ hs) (Memᴰ·append-right gs (List·Memᴰ·head refl)) (within-both gs hs (gs ++ K ∷ hs) (in-l gs (K ∷ hs)) (w-right hs gs (K ∷ hs) (w-tail K hs hs (w-self hs)))))
     (within-both gs (K ∷ hs) (K ∷ (gs ++ hs)) (w-tail K gs (gs ++ hs) (in-l gs hs)) (w-cons K hs (K ∷ (gs ++ hs)) (List·Memᴰ·head refl) (w-tail K hs (gs ++ hs) (in-r gs hs))))
 
@@ -154,5 +152,5 @@ agrees-says A B fa fb s a = go (join B) refl
 pub join-both : (A B : Ctx) → Fine A → Fine B → SaysAll A B → SaysAll B A → join A ≡ join B
 join-both A B fa fb s t =
     sym (ap join (append-nil A)) ∙ says-list A B [] (fb .1) tt s ∙ ap (λ (z : Ctx). join (A ++ z)) (append-nil B)
-    ∙ same-set (A ++ B) (B ++ A) (fine-append A B fa (fb .1)) (fine-append B A fb (fa .1)) (within-both A B (B ++ A) (in-r B A) (in-l B A)) (within-both B A (A ++ B) (in-r A B) (in-l A B))
+    ∙ join-order (A ++ B) (B ++ A) (fine-append A B fa (fb .1)) (fine-append B A fb (fa .1)) (within-both A B (B ++ A) (in-r B A) (in-l B A)) (within-both B A (A ++ B) (in-r A B) (in-l A B))
     ∙ sym (ap (λ (z : Ctx). join (B ++ z)) (append-nil A)) ∙ sym (says-list B A [] (fa .1) tt t) ∙ ap join (append-nil B)

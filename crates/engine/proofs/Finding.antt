@@ -20,7 +20,7 @@ use Rattle.engine.specs.Placed.{Placed, place, Places, stop, _also_, Opt
 use Rattle.engine.specs.Certain.{flat, sure, sure-any}
 use Rattle.engine.specs.Search.{Found, taking, dive, dive-all, dive-any, dive-in, dive-each, leaf-found, search}
 use Rattle.engine.proofs.Entail.{SaysAll, w-self, w-left, w-right, w-cons, w-tail, fine-cons, fine-before, canon-in, says-within, says-more, says-trans, says-append, says-cons, join-both, says-here, says-there, says-first, says-second, says-none}
-use Rattle.engine.proofs.Stable.{flat-can, sure-can}
+use Rattle.engine.proofs.Stable.{flat-can, sure-can, says-left}
 use Rattle.engine.proofs.Passes.{Agreeing, can, cannot, agreeing-view}
 
 -- a choice holds all that is certain
@@ -189,14 +189,11 @@ pub record Follows (B : Ctx) (k : Ctx → Found) : Type 0 where
 says-on : (S : Ctx) (r B : Ctx) → Fine S → AllCanonical r → AllCanonical B → SaysAll S B → SaysAll (S ++ r) B
 says-on S r B f p q s g m = says-more S (S ++ r) g f (fine-append S r f p) (canon-in B q g m) (in-l S r) (s g m)
 
-says-both-on : (S T r : Ctx) → Fine S → Fine T → AllCanonical r → SaysAll S T → SaysAll (S ++ r) (T ++ r)
-says-both-on S T r f h p s = says-append (S ++ r) T r (says-on S r T f p (h .1) s) (says-within (S ++ r) r (fine-append S r f p) (in-r S r))
-
 follows-through : (ds : Places) → CanAll (strip-all ds) → (B : Ctx) → AllCanonical B → (k : Ctx → Found) → Follows B k → Follows B (λ T. go-through (picks-all ds) T k)
 follows-through ds c B cB k K = record {
   same = λ x y fx fy s t u. through-cong (picks-all ds) x y k k (λ p m.
       let fp = choices-all-fine (strip-all ds) c (p .0) (choice-all-of ds p m) in
-      K .same (x ++ p .0) (y ++ p .0) (fine-append x (p .0) fx fp) (fine-append y (p .0) fy fp) (says-on x (p .0) B fx fp cB s) (says-both-on x y (p .0) fx fy fp t) (says-both-on y x (p .0) fy fx fp u));
+      K .same (x ++ p .0) (y ++ p .0) (fine-append x (p .0) fx fp) (fine-append y (p .0) fy fp) (says-on x (p .0) B fx fp cB s) (says-left x y (p .0) fx fy fp t) (says-left y x (p .0) fy fx fp u));
   dead = λ x fx s e. through-none (picks-all ds) x k (λ p m.
       let fp = choices-all-fine (strip-all ds) c (p .0) (choice-all-of ds p m) in
       let fxp = fine-append x (p .0) fx fp in

@@ -27,7 +27,7 @@ abbrev both : Option Round → Option Round → Option Round
 both none o = none
 both (some r) o = elim o [ none ↦ none | some s ↦ some (plus r s) ]
 
-then-assoc : (a b c : Disjs) → a then (b then c) ≡ (a then b) then c
+pub then-assoc : (a b c : Disjs) → a then (b then c) ≡ (a then b) then c
 then-assoc end b c = refl
 then-assoc (x and a) b c = ap (λ (z : Disjs). x and z) (then-assoc a b c)
 

@@ -36,6 +36,11 @@ mutual
       go true p q = (p, q)
       go false p q = q
 
+-- what is kept of both
+pub keep-next : (m : Marking) (ds es : Places) → keep-all m (ds next es) ≡ keep-all m ds next keep-all m es
+keep-next m stop es = refl
+keep-next m (a also ds) es = ap (_also_ (keep-any m a)) (keep-next m ds es)
+
 -- the joined description has the joined graph and the disjunctions of both
 pub record Joins (a b j : Placed) : Type 0 where
   pub k : Graph

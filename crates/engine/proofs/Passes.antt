@@ -18,8 +18,9 @@ use Rattle.theory.proofs.Sets.{Within}
 use Rattle.theory.proofs.Mean.{Ctx, Fine, Can, CanAll, CanAny, fine-append, within-both, in-l, in-r}
 use Rattle.theory.proofs.Quick.{nil, nil-canonical, nil-holds}
 use Rattle.theory.proofs.Live.{Agrees, not-none}
+use Rattle.theory.proofs.Modes.{join-order}
 use Rattle.engine.specs.Certain.{flat, sure, sure-any}
-use Rattle.engine.proofs.Entail.{Says, SaysAll, w-self, w-right, w-cons, w-tail, w-trans, same-set, fine-cons, fine-before, canon-in, says-within, says-more, says-append, says-cons, agrees-says}
+use Rattle.engine.proofs.Entail.{Says, SaysAll, w-self, w-right, w-cons, w-tail, w-trans, fine-cons, fine-before, canon-in, says-within, says-more, says-append, says-cons, agrees-says}
 use Rattle.engine.proofs.Stable.{Part, PartAll, PartAny, Stable, StableIn, StableAll, StableSome, StableEach, Best, Hopeless, flat-can, sure-can, part-can, part-all-can, part-any-can, part-trans, part-size, part-all-size, part-any-size, some-size, sure-part, sure-any-part, stable-all-less, stable-each, best-one}
 use Rattle.engine.proofs.Greatest.{part-fail, drop-part}
 use Rattle.engine.proofs.Tidy.{with-part}
@@ -295,7 +296,7 @@ pub says-nil : (T : Ctx) → Fine T → Says T nil
 says-nil T f hs h =
     let th : Fine (T ++ hs) = fine-append T hs f h in
     nil-holds (T ++ hs) (th .1) (th .0)
-    ∙ same-set (nil ∷ (T ++ hs)) (T ++ nil ∷ hs) (fine-cons nil (T ++ hs) nil-canonical (th .1)) (fine-append T (nil ∷ hs) f (nil-canonical, h))
+    ∙ join-order (nil ∷ (T ++ hs)) (T ++ nil ∷ hs) (fine-cons nil (T ++ hs) nil-canonical (th .1)) (fine-append T (nil ∷ hs) f (nil-canonical, h))
     (w-cons nil (T ++ hs) (T ++ nil ∷ hs) (Memᴰ·append-right T (List·Memᴰ·head refl)) (within-both T hs (T ++ nil ∷ hs) (in-l T (nil ∷ hs)) (w-right hs T (nil ∷ hs) (w-tail nil hs hs (w-self hs)))))
     (within-both T (nil ∷ hs) (nil ∷ (T ++ hs)) (w-tail nil T (T ++ hs) (in-l T hs)) (w-cons nil hs (nil ∷ (T ++ hs)) (List·Memᴰ·head refl) (w-tail nil hs (T ++ hs) (in-r T hs))))
 

@@ -16,8 +16,9 @@ use Rattle.theory.proofs.Sets.{Within}
 use Rattle.theory.proofs.Mean.{Ctx, Fine, Can, CanAll, CanAny, canon-append, fine-append, within-both, in-l, in-r}
 use Rattle.theory.proofs.Fit.{same-node, fit-test}
 use Rattle.theory.proofs.Live.{Agrees}
+use Rattle.theory.proofs.Modes.{join-order}
 use Rattle.engine.specs.Certain.{flat, sure, sure-any}
-use Rattle.engine.proofs.Entail.{SaysAll, w-self, w-left, w-right, w-cons, w-tail, same-set, fine-cons, canon-in, says-within, says-more, says-append, agrees-says}
+use Rattle.engine.proofs.Entail.{SaysAll, w-self, w-left, w-right, w-cons, w-tail, fine-cons, canon-in, says-within, says-more, says-append, agrees-says}
 
 -- Part d e: e is d with alternatives dropped
 abbrev mutual
@@ -66,7 +67,7 @@ abbrev pub Hopeless : Ctx → Desc → Type 0
 Hopeless S d = (f : Desc) → Part d f → Stable S f → ⊥
 
 pub join-one : (g : Graph) → Canonical g → join (g ∷ []) ≡ some g
-join-one g c = same-set (g ∷ []) (g ∷ g ∷ []) (fine-cons g [] c tt) (fine-cons g (g ∷ []) c (c, tt)) (λ x m. List·Memᴰ·tail m) (w-cons g (g ∷ []) (g ∷ []) (List·Memᴰ·head refl) (w-self (g ∷ [])))
+join-one g c = join-order (g ∷ []) (g ∷ g ∷ []) (fine-cons g [] c tt) (fine-cons g (g ∷ []) c (c, tt)) (λ x m. List·Memᴰ·tail m) (w-cons g (g ∷ []) (g ∷ []) (List·Memᴰ·head refl) (w-self (g ∷ [])))
     ∙ fit-test g c g c .1 (record { to = λ x. x; root-to = λ x r. same-node g c x (0, canonical-some g c) r; atom-to = λ x a u. u; arc-to = λ x f y u. u })
 
 mutual

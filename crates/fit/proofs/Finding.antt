@@ -4,20 +4,14 @@ use Prim.Native.Nat.{ℕ, suc, _+_, _-_, _*_, _≤_, _<_}
 use native.Mathlib.Omega.{arith}
 use mathlib.Core.Path.{_≡_, refl, sym, ap, subst, _∙_}
 use mathlib.Core.Logic.{_⊎_, inl, inr, _↔_}
-use mathlib.Core.List.{List, [], _∷_, List·Memᴰ, List·Memᴰ·head, List·Memᴰ·tail, List·Memᴰ·cases-cons, List·Memᴰ·not-nil, Memᴰ·cast}
+use mathlib.Core.List.{List, [], _∷_, List·Memᴰ·head, List·Memᴰ·tail, List·Memᴰ·cases-cons, List·Memᴰ·not-nil, Memᴰ·cast}
 use lib.ListN.{getD}
 use Rattle.theory.specs.Net.{Rising}
-use Rattle.theory.proofs.Unique.{rising-above}
+use Rattle.theory.proofs.Unique.{rising-above, Arcs, In}
 use Rattle.fit.specs.Parts.{lastArcs}
 use Rattle.fit.specs.Sending.{SentArcs, Findable, Beyond, Finds}
 use Rattle.fit.specs.declared.sending.Found.the-variants.{Target, Nowhere}
 use Rattle.fit.proofs.Parts.{arcs-none, last-step}
-
-abbrev Arcs : Type 0
-Arcs = List (ℕ × ℕ)
-
-abbrev In : ℕ → ℕ → Arcs → Type 0
-In f t l = List·Memᴰ (f, t) l
 
 -- C has the arcs of B from feature f on
 pub record Behind (B : Arcs) (f : ℕ) (C : Arcs) : Type 0 where

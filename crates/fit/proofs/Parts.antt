@@ -1,6 +1,6 @@
 -- The nodes that words are: one at a time, and where a graph stands.
 -- Assumes nothing.
-use Prim.Native.Nat.{ℕ, zero, suc, _+_, _-_, _*_, _≤_, _<_, max}
+use Prim.Native.Nat.{ℕ, zero, suc, _+_, _-_, _*_, _≤_, _<_}
 use native.Mathlib.Omega.{arith}
 use native.Mathlib.Nat.{not-suc-le-zero}
 use native.Mathlib.Numerals.{sub-one}
@@ -10,9 +10,10 @@ use mathlib.Core.List.{List, [], _∷_}
 use lib.ListN.{length, getD}
 use borrow.Author.Tests.{le-ltb, lt-ltb}
 use Rattle.theory.specs.Limits.{code-limit}
-use Rattle.theory.specs.Net.{Node, atom, arcs, Graph, arcsOf, InOrder, met, Numbered}
+use Rattle.theory.specs.Net.{Node, atom, arcs, Graph, arcsOf, met, Numbered}
 use Rattle.theory.specs.Layout.{arc-words, node-words, nodes-words, NodeFits, GraphFits}
 use Rattle.theory.proofs.Number.{TestLt, less, geq, test-lt}
+use Rattle.theory.proofs.Instance.{met-few}
 use Rattle.layout.specs.Standing.{Stands}
 use Rattle.layout.proofs.Standing.{stands-nil, stands-arc, stands-atom, stands-node, stands-nodes, stands-arcs}
 use Rattle.fit.specs.Parts.{arcs-in, after, arcsFrom, lastArcs, nodeFrom, nodesFrom, nodesEnd}
@@ -24,11 +25,6 @@ arcs-in-low h l = simp (lt-ltb _ _ l)
 pub arcs-in-high : (h : ℕ) → code-limit ≤ h → 0 ≡ arcs-in h
 unfolding arcs-in
 arcs-in-high h l = simp (le-ltb _ _ l)
-
--- an arc meets one node at most
-met-few : (m : ℕ) (l : List (ℕ × ℕ)) → InOrder m l → met m l ≤ m + length l
-met-few m [] o = omega arith
-met-few m (e ∷ l) o = let h = met-few (max m (suc (e .1))) l (o .1) in let k = o .0 in omega arith
 
 module _ (ws : List ℕ) where
   pub arcs-step : (p k : ℕ) → 0 < k → arcsFrom ws p k ≡ (getD ws p 0, getD ws (p + 1) 0) ∷ arcsFrom ws (p + 2) (k - 1)

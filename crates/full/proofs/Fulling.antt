@@ -23,7 +23,6 @@ use Rattle.engine.specs.Search.{Found, lit, full-left, full-readings-by}
 use Rattle.engine.specs.Search as engine
 use Rattle.engine.proofs.Sane.{Sane}
 use Rattle.loading.specs.At.{At}
-use Rattle.loading.proofs.Walking.{at-bounds}
 use Rattle.marks.specs.Marked.{marking, LitKept}
 use Rattle.marks.proofs.Marks.{marking-frame}
 use Rattle.counting.specs.Counted.{Countable, CountedBoth}
@@ -33,6 +32,7 @@ use Rattle.classes.proofs.Laws.{undoable-on, undoable-frame}
 use Rattle.classes.specs.declared.push.Pushed.{Pushed}
 use Rattle.classes.specs.declared.push.Pushed.the-variants.{In, Clashed}
 use Rattle.quick.proofs.Sifting.{moved-words}
+use Rattle.quick.proofs.Pairs.{half-low}
 use Rattle.search.specs.Searched.{Finds, Searching, Searches}
 use Rattle.full.specs.declared.full.Fully.the-variants.{Over, Nothing, Left}
 use Rattle.full.specs.Restarted.{Restarting, Restarts}
@@ -65,11 +65,8 @@ over-false L x h = go (ltb L x) refl
 
 module _ (n k : ℕ) (w : List ℕ) where
   module _ (c : Fulling n k w) where
-    half-low : c .p .inputs .half < n
-    half-low = at-bounds (c .t) (c .p .inputs .b) SECOND (c .p .inputs .half) (c .p .inputs .end-b) n (c .p .inputs .at-b) .2
-
     abbrev first : Countable w 0 depth-limit
-    first = record { room = c .stage .ready .holds .long; d = c .p .inputs .a; n = 0; q = c .p .inputs .end-a; m = c .p .inputs .half; at = subst (λ (t : List ℕ). At t 0 0 (c .p .inputs .a) (c .p .inputs .end-a) (c .p .inputs .half)) (sym (c .stage .ready .loaded)) (c .p .inputs .at-a); low = omega (arith, half-low, c .p .inputs .ground .few); nests = c .p .inputs .nests-a }
+    first = record { room = c .stage .ready .holds .long; d = c .p .inputs .a; n = 0; q = c .p .inputs .end-a; m = c .p .inputs .half; at = subst (λ (t : List ℕ). At t 0 0 (c .p .inputs .a) (c .p .inputs .end-a) (c .p .inputs .half)) (sym (c .stage .ready .loaded)) (c .p .inputs .at-a); low = omega (arith, half-low n (c .t) (c .p .inputs), c .p .inputs .ground .few); nests = c .p .inputs .nests-a }
 
     abbrev second : Countable w SECOND depth-limit
     second = record { room = c .stage .ready .holds .long; d = c .p .inputs .b; n = c .p .inputs .half; q = c .p .inputs .end-b; m = n; at = subst (λ (t : List ℕ). At t SECOND (c .p .inputs .half) (c .p .inputs .b) (c .p .inputs .end-b) n) (sym (c .stage .ready .loaded)) (c .p .inputs .at-b); low = c .p .inputs .ground .few; nests = c .p .inputs .nests-b }

@@ -1,6 +1,6 @@
 -- All that is certain in both inputs is pushed anew: the first, then the second.
 -- Assumes nothing.
-use Prim.Native.Nat.{ℕ, _≤_, _<_}
+use Prim.Native.Nat.{ℕ, _≤_}
 use native.Mathlib.Omega.{arith}
 use mathlib.Core.Path.{_≡_, ap, subst, _∙_}
 use mathlib.Core.Logic.{inl}
@@ -13,7 +13,6 @@ use Rattle.area.specs.Region.{words}
 use Rattle.area.proofs.Region.{words-same}
 use Rattle.engine.specs.Marks.{Marking}
 use Rattle.loading.specs.Entry.{Entry, graphs}
-use Rattle.loading.proofs.Walking.{at-bounds}
 use Rattle.marks.specs.Marked.{marking}
 use Rattle.marks.proofs.Marks.{marking-frame}
 use Rattle.classes.specs.Holds.{Holds, Remembers, Backs, Undoable}
@@ -25,6 +24,7 @@ use Rattle.quick.specs.Entered.{Entering, entered, Enters}
 use Rattle.quick.specs.Passed.{Inputs}
 use Rattle.quick.proofs.Certain.{taken-between, taken-inside}
 use Rattle.quick.proofs.Entering.{inside-append, clash-more}
+use Rattle.quick.proofs.Pairs.{half-low}
 use Rattle.full.specs.Restarted.{Restarting, certain-both, Restarts}
 
 -- what is certain in both is among the graphs that lie in the words
@@ -51,9 +51,6 @@ module _ (n k : ℕ) (w w₁ : List ℕ) (s : Backs 0 k w w₁) where
     empty : Holds n [] 0 w₁
     empty = undoable-back n k w (c .undoable) w₁ s
 
-    half-low : c .inputs .half < n
-    half-low = at-bounds (c .t) (c .inputs .b) SECOND (c .inputs .half) (c .inputs .end-b) n (c .inputs .at-b) .2
-
     abbrev first : Entering n 0 w₁ 0 depth-limit
     first = record {
       t = c .t;
@@ -65,7 +62,7 @@ module _ (n k : ℕ) (w w₁ : List ℕ) (s : Backs 0 k w w₁) where
       end = c .inputs .end-a;
       to = c .inputs .half;
       at = c .inputs .at-a;
-      low = omega (arith, half-low);
+      low = omega (arith, half-low n (c .t) (c .inputs));
       nests = c .inputs .nests-a;
       among = c .inputs .among-a;
       es = [];

@@ -2,7 +2,7 @@
 -- Assumes nothing.
 use Prim.Native.Nat.{ℕ, _<_}
 use native.Mathlib.Omega.{arith}
-use mathlib.Core.Path.{_≡_, refl, sym, ap, ap₂, subst, _∙_}
+use mathlib.Core.Path.{_≡_, sym, ap, ap₂, subst, _∙_}
 use mathlib.Core.Logic.{inl, inr, ⊎-elim}
 use mathlib.Core.Bool.{Bool, true, false}
 use mathlib.Core.Option.{some}
@@ -13,8 +13,8 @@ use Rattle.theory.proofs.Mean.{Ctx, Can}
 use Rattle.theory.proofs.Live.{Agrees, not-none}
 use Rattle.area.specs.Map.{SECOND}
 use Rattle.area.specs.Region.{words}
-use Rattle.engine.specs.Placed.{Placed, place, Places, stop, _also_, strip, strip-all, inner}
-use Rattle.engine.specs.Marks.{Marking, keep, keep-all, keep-any}
+use Rattle.engine.specs.Placed.{Placed, place, Places, strip, strip-all, inner}
+use Rattle.engine.specs.Marks.{Marking, keep, keep-all}
 use Rattle.engine.specs.Certain.{flat, certain}
 use Rattle.engine.specs.Beside.{_next_, joined-placed}
 use Rattle.engine.proofs.Entail.{agrees-says}
@@ -23,9 +23,9 @@ use Rattle.engine.proofs.Stack.{Same}
 use Rattle.engine.proofs.Stable.{sure-can}
 use Rattle.engine.proofs.Passes.{Agreeing, cannot, agreeing-view}
 use Rattle.engine.proofs.Marks.{keep-same}
-use Rattle.engine.proofs.Joined.{keep-can, joined-is, certain-next, joined-same}
+use Rattle.engine.proofs.Joined.{keep-can, joined-is, certain-next, joined-same, keep-next}
 use Rattle.loading.specs.Entry.{Entry, graphs}
-use Rattle.loading.proofs.Walking.{at-bounds, at-names}
+use Rattle.loading.proofs.Walking.{at-names}
 use Rattle.marks.specs.Marked.{marking}
 use Rattle.classes.specs.Holds.{Holds, Undoable}
 use Rattle.classes.proofs.Comings.{graphs-append}
@@ -36,7 +36,7 @@ use Rattle.quick.proofs.Certain.{taken-flat, taken-between}
 use Rattle.quick.proofs.Clearing.{clear-taken}
 use Rattle.quick.proofs.Settling.{clash-false}
 use Rattle.full.specs.Restarted.{certain-both}
-use Rattle.quick.proofs.Pairs.{first-can, second-can}
+use Rattle.quick.proofs.Pairs.{first-can, second-can, half-low}
 use Rattle.full.proofs.Restarting.{certain-inside}
 
 -- ---- what is certain in both says what is certain in the joined description
@@ -59,10 +59,6 @@ no-clash gs e a = go (agree gs) (agreeing-view gs) e
     go false (cannot z) e = not-none gs a z
 
 -- ---- marks that are the same below n keep the same
-keep-next : (m : Marking) (ds es : Places) → keep-all m (ds next es) ≡ keep-all m ds next keep-all m es
-keep-next m stop es = refl
-keep-next m (a also ds) es = ap (λ (l : Places). keep-any m a also l) (keep-next m ds es)
-
 keep-both : (a b j : Placed) → joined-placed a b ≡ some j → (m m′ : Marking) → keep m a ≡ keep m′ a → keep m b ≡ keep m′ b → keep m j ≡ keep m′ j
 keep-both (place g ds) (place h es) j e m m′ p q =
     let x = joined-is (place g ds) (place h es) j e in
@@ -72,7 +68,7 @@ keep-both (place g ds) (place h es) j e m m′ p q =
 module _ (n : ℕ) (t : List ℕ) (p : Pair n t) where
   pub pair-keeps : (m m′ : Marking) → ((y : ℕ) → y < n → m y ≡ m′ y) → keep m (p .j) ≡ keep m′ (p .j)
   pair-keeps m m′ h = keep-both (p .inputs .a) (p .inputs .b) (p .j) (p .joined) m m′
-      (keep-same (p .inputs .a) m m′ (λ y i. h y (omega (arith, at-names t (p .inputs .a) 0 0 (p .inputs .end-a) (p .inputs .half) (p .inputs .at-a) y i .1, at-bounds t (p .inputs .b) SECOND (p .inputs .half) (p .inputs .end-b) n (p .inputs .at-b) .2))))
+      (keep-same (p .inputs .a) m m′ (λ y i. h y (omega (arith, at-names t (p .inputs .a) 0 0 (p .inputs .end-a) (p .inputs .half) (p .inputs .at-a) y i .1, half-low n t (p .inputs)))))
       (keep-same (p .inputs .b) m m′ (λ y i. h y (at-names t (p .inputs .b) SECOND (p .inputs .half) (p .inputs .end-b) n (p .inputs .at-b) y i .1)))
 
   module _ (m : Marking) where

@@ -11,13 +11,13 @@ use Rattle.theory.specs.Limits.{code-limit}
 use Rattle.theory.specs.Net.{Node, atom, arcs, Graph, arcsOf, met, Rising, InOrder, Numbered, Canonical}
 use Rattle.theory.specs.Descr.{Desc, desc, Disjs, end, _and_, Alts, fail, _or_, disjs, alts}
 use Rattle.theory.specs.Layout.{arc-words, node-words, nodes-words, words, disjs-words, alts-words, ArcsFit, NodeFits, GraphFits, WellFormed, WellAll, WellAny}
+use Rattle.theory.proofs.Instance.{met-ge, numbered-ge}
 use Rattle.layout.specs.declared.reading.Arc.the-variants.{Meets}
 use Rattle.layout.specs.declared.reading.Walk.the-variants.{Went}
 use Rattle.layout.specs.declared.reading.Read.the-variants.{Fine}
 use Rattle.layout.specs.Reading.{times, readArc, arcsFrom, readNode, readNodes, readGraph, readDisjunction, readDescription}
 use Rattle.layout.specs.Standing.{Stands, graph-words}
 use Rattle.layout.proofs.Laws.{arc-met, arc-next, arcs-there, node-arcs, node-atom, graph-nodes, description-times, disjunction-times}
-use Rattle.layout.proofs.Sound.{met-keeps}
 use Rattle.layout.proofs.Standing.{stands-nil, stands-atom, stands-node, stands-arc, stands-arcs, stands-within, stands-graph, stands-nodes, stands-description, stands-disjunctions, stands-disjunction, stands-alternatives}
 
 arc-complete : (n low m f t : ℕ) → low ≤ f → f < code-limit → t ≤ m → max m (suc t) ≤ n → readArc n low m f t ≡ Meets (max m (suc t))
@@ -26,11 +26,6 @@ arc-complete n low m f t h k l c = go (decLt t m)
     go : Dec (t < m) → readArc n low m f t ≡ Meets (max m (suc t))
     go (yes x) = let e : m ≡ max m (suc t) = omega arith in sym (arc-met n low m f t h k x) ∙ ap Meets e
     go (no x) = let e : t + 1 ≡ max m (suc t) = omega arith in sym (arc-next n low m f t h k (omega arith) l (omega arith)) ∙ ap Meets e
-
--- at the end every number met has its node
-numbered-met : (k m : ℕ) (g : Graph) → Numbered k m g → m ≤ k + length g
-numbered-met k m [] h = omega arith
-numbered-met k m (v ∷ vs) h = omega (arith, numbered-met (suc k) (met m (arcsOf v)) vs (h .3), met-keeps m (arcsOf v))
 
 module _ (ws : List ℕ) where
   arcs-complete : (n low m p q : ℕ) (l : List (ℕ × ℕ)) → Rising low l → InOrder m l → ArcsFit l → met m l ≤ n → Stands ws p (arc-words l) q
@@ -41,7 +36,7 @@ module _ (ws : List ℕ) where
       let t = stands-arc ws e l p q .0 s in
       let x = t .1 in
       let y = t .3 in
-      let one : readArc n low m (getD ws p 0) (getD ws (p + 1) 0) ≡ Meets (max m (suc (e .1))) = rw (x, y) (arc-complete n low m (e .0) (e .1) (r .0) (f .0) (o .0) (omega (arith, met-keeps (max m (suc (e .1))) l))) in
+      let one : readArc n low m (getD ws p 0) (getD ws (p + 1) 0) ≡ Meets (max m (suc (e .1))) = rw (x, y) (arc-complete n low m (e .0) (e .1) (r .0) (f .0) (o .0) (omega (arith, met-ge (max m (suc (e .1))) l))) in
       rw (one, x, add-one) (arcs-complete n (suc (e .0)) (max m (suc (e .1))) (p + 2) q l (r .1) (o .1) (f .1) c (t .4))
 
   node-complete : (n i m p q : ℕ) (v : Node) → i < m → NodeFits v → Rising 0 (arcsOf v) → InOrder m (arcsOf v) → met m (arcsOf v) ≤ n → Stands ws p (node-words v) q
@@ -62,14 +57,14 @@ module _ (ws : List ℕ) where
   nodes-complete n i m p q [] h f c s = ap Fine (stands-nil ws p q .0 s)
   nodes-complete n i m p q (v ∷ vs) h f c s =
       let t = stands-nodes ws v vs p q .0 s in
-      let k = numbered-met (suc i) (met m (arcsOf v)) vs (h .3) in
+      let k = numbered-ge (suc i) (met m (arcsOf v)) vs (h .3) in
       rw (node-complete n i m p (t .0) v (h .0) (f .0) (h .1) (h .2) (omega arith) (t .1), add-one) (nodes-complete n (suc i) (met m (arcsOf v)) (t .0) q vs (h .3) (f .1) (omega arith) (t .2))
 
   graph-complete : (p q : ℕ) (g : Graph) → Canonical g → GraphFits g → Stands ws p (graph-words g) q → readGraph ws p ≡ Fine q
   graph-complete p q g h f s =
       let t = stands-graph ws g p q .0 s in
       let e = t .1 in
-      let one : 1 ≤ length g = omega (arith, numbered-met 0 1 g h) in
+      let one : 1 ≤ length g = omega (arith, numbered-ge 0 1 g h) in
       sym (graph-nodes ws p (t .0) (omega arith)) ∙ rw e (nodes-complete (length g) 0 1 (p + 1) q g h f (omega arith) (t .2))
 
   mutual

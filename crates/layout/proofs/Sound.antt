@@ -13,6 +13,7 @@ use Rattle.theory.specs.Limits.{code-limit}
 use Rattle.theory.specs.Net.{Node, atom, arcs, Graph, arcsOf, met, Rising, InOrder, Numbered, Canonical}
 use Rattle.theory.specs.Descr.{Desc, desc, Disjs, end, _and_, Alts, fail, _or_, disjs, alts}
 use Rattle.theory.specs.Layout.{arc-words, node-words, nodes-words, words, disjs-words, alts-words, ArcsFit, NodeFits, GraphFits, WellFormed, WellAll, WellAny}
+use Rattle.theory.proofs.Instance.{met-ge}
 use Rattle.layout.specs.declared.reading.Arc.{Arc}
 use Rattle.layout.specs.declared.reading.Arc.the-variants.{Meets, Misplaced}
 use Rattle.layout.specs.declared.reading.Walk.{Walk}
@@ -70,11 +71,6 @@ arc-sound n low m f t after e =
         let x = b .1 in
         let k : t + 1 ≡ after = cc in
         (omega arith, omega arith, λ g. omega arith)
-
--- arcs lose no node that is met
-pub met-keeps : (m : ℕ) (l : List (ℕ × ℕ)) → m ≤ met m l
-met-keeps m [] = omega arith
-met-keeps m (e ∷ l) = omega (arith, met-keeps (max m (suc (e .1))) l)
 
 module _ (ws : List ℕ) where
   arcs-sound : (n k low m p q after : ℕ) → m ≤ n → p + (k + k) ≤ length ws → arcsFrom ws n k low m p ≡ Went q after
@@ -134,7 +130,7 @@ module _ (ws : List ℕ) where
       let less = s .0 in
       let x = s .1 .4 in
       let y = s .1 .5 in
-      let r = nodes-sound n k (i + 1) (met m (arcsOf v)) (a .0) q (omega arith) (omega (arith, met-keeps m (arcsOf v))) (omega arith) (rw (← x) (rw (a .2) at e)) in
+      let r = nodes-sound n k (i + 1) (met m (arcsOf v)) (a .0) q (omega arith) (omega (arith, met-ge m (arcsOf v))) (omega arith) (rw (← x) (rw (a .2) at e)) in
       (v ∷ r .0, ap suc (r .1), (less, s .1 .2, s .1 .3, subst (λ (k : ℕ). Numbered k (met m (arcsOf v)) (r .0)) (add-one i) (r .2)), (s .1 .1, r .3), stands-nodes ws v (r .0) p q .1 (a .0, s .1 .6, r .4))
 
   graph-sound : (p q : ℕ) → readGraph ws p ≡ Fine q → (g : Graph) × Canonical g × GraphFits g × Stands ws p (graph-words g) q

@@ -6,11 +6,12 @@ use mathlib.Core.Path.{_≡_, refl, sym, ap, _∙_}
 use mathlib.Core.List.{List, [], _∷_, _++_}
 use lib.ListN.{length, length-append}
 use Rattle.theory.specs.Limits.{input-limit}
-use Rattle.theory.specs.Net.{Node, atom, arcs, Graph, arcsOf, InOrder, met, Numbered}
+use Rattle.theory.specs.Net.{Node, atom, arcs, Graph, arcsOf, met, Numbered}
 use Rattle.theory.specs.Descr.{Desc, desc, Disjs, end, _and_, Alts, fail, _or_, disjs}
 use Rattle.theory.specs.Layout.{arc-words, node-words, nodes-words, words, disjs-words, alts-words}
 use Rattle.theory.proofs.Mean.{Can, CanAll, CanAny}
 use Rattle.theory.proofs.Weight.{weight, weights, weights-append}
+use Rattle.theory.proofs.Instance.{met-ge, met-few, numbered-ge}
 use Rattle.loading.specs.Loaded.{extent, moved-arcs, moved-node, located, nodes-in, nodes-all, nodes-any, loaded, loaded-all, loaded-any}
 use Rattle.loading.specs.Loading.{Low, AllLow}
 
@@ -30,7 +31,7 @@ node-twice : (v : Node) → length (node-words v) ≡ 1 + 2 * length (arcsOf v)
 node-twice (atom a) = refl
 node-twice (arcs l) = let h = arcs-twice l in omega arith
 
-node-length : (n : ℕ) (v : Node) → length (node-words (moved-node n v)) ≡ length (node-words v)
+pub node-length : (n : ℕ) (v : Node) → length (node-words (moved-node n v)) ≡ length (node-words v)
 node-length n (atom a) = refl
 node-length n (arcs l) = omega (arith, arcs-twice l, arcs-twice (moved-arcs n l), moved-length n l)
 
@@ -59,34 +60,21 @@ graph-extent (v ∷ vs) = let h = graph-extent vs in let k = node-some v in omeg
     node-some (atom a) = omega arith
     node-some (arcs l) = omega arith
 
--- an arc meets one node at most
-met-few : (m : ℕ) (l : List (ℕ × ℕ)) → InOrder m l → met m l ≤ m + length l
-met-few m [] o = omega arith
-met-few m (e ∷ l) o = let h = met-few (max m (suc (e .1))) l (o .1) in let k = o .0 in omega arith
-
 numbered-few : (k m : ℕ) (g : Graph) → Numbered k m g → 2 * k + 3 * length g ≤ 2 * m + length (nodes-words g)
 numbered-few k m [] c = omega arith
 numbered-few k m (v ∷ vs) c =
     omega (arith, numbered-few (suc k) (met m (arcsOf v)) vs (c .3), met-few m (arcsOf v) (c .2), node-twice v, length-append (node-words v) (nodes-words vs))
 
-met-grows : (m : ℕ) (l : List (ℕ × ℕ)) → m ≤ met m l
-met-grows m [] = omega arith
-met-grows m (e ∷ l) = let h = met-grows (max m (suc (e .1))) l in omega arith
-
 met-low : (m : ℕ) (l : List (ℕ × ℕ)) → met m l ≤ input-limit → Low l
 met-low m [] h = tt
-met-low m (e ∷ l) h = let k = met-grows (max m (suc (e .1))) l in (omega arith, met-low (max m (suc (e .1))) l h)
-
-numbered-all-met : (k m : ℕ) (g : Graph) → Numbered k m g → m ≤ k + length g
-numbered-all-met k m [] c = omega arith
-numbered-all-met k m (v ∷ vs) c = omega (arith, met-grows m (arcsOf v), numbered-all-met (suc k) (met m (arcsOf v)) vs (c .3))
+met-low m (e ∷ l) h = let k = met-ge (max m (suc (e .1))) l in (omega arith, met-low (max m (suc (e .1))) l h)
 
 -- the targets of a graph are below its node count
 pub numbered-low : (k m : ℕ) (g : Graph) → Numbered k m g → k + length g ≤ input-limit → AllLow g
 numbered-low k m [] c h = tt
 numbered-low k m (v ∷ vs) c h =
     let after = met m (arcsOf v) in
-    (met-low m (arcsOf v) (omega (arith, numbered-all-met (suc k) after vs (c .3))), numbered-low (suc k) after vs (c .3) (omega arith))
+    (met-low m (arcsOf v) (omega (arith, numbered-ge (suc k) after vs (c .3))), numbered-low (suc k) after vs (c .3) (omega arith))
 
 mutual
   -- a node has its head, and but for a root the arc that meets it; a root has the counts of nodes and of disjunctions

@@ -1,4 +1,4 @@
--- The marks of the alternatives below a number are changed in one way, from the last down: only those found are kept, or none is found.
+-- The marks of the alternatives below a number are changed in one way, from the last down: all are kept, only those found are kept, or none is found.
 -- Assumes nothing.
 use Prim.Native.Nat.{ℕ, _+_, _-_, _≤_, _<_}
 use native.Mathlib.Omega.{arith}
@@ -12,7 +12,7 @@ use lib.ListN.{length, getD, set, length-set, List·getD-eq-default}
 use lib.Seq.{getD-set-same, getD-set-other}
 use Rattle.theory.proofs.Close.{eqb-no}
 use Rattle.area.specs.Map.{MARKS}
-use Rattle.marks.specs.Marked.{marking, lights, dimmed, LitKept, doused, Doused}
+use Rattle.marks.specs.Marked.{marking, lights, Cleared, dimmed, LitKept, doused, Doused}
 use Rattle.area.specs.Region.{region}
 use Rattle.area.proofs.Region.{length-region, getD-region}
 use Rattle.marks.proofs.Marks.{mark-at, light-at, same-marking}
@@ -102,7 +102,24 @@ module _ (w : List ℕ) (n : ℕ) (few : n ≤ 1024) (room : 16384 ≤ length w)
     rest = λ j o. c .rest j (⊎-elim (λ a. inl (omega arith)) (λ a. inr a) o);
   }
 
+-- past the last mark
+beyond : (w : List ℕ) → 16384 ≤ length w → (y : ℕ) → 1024 ≤ y → getD (region MARKS 1024 w) y 0 ≡ 0
+beyond w l y a = let e = length-region MARKS 1024 w (omega arith) in List·getD-eq-default (region MARKS 1024 w) 0 (omega arith)
+
 module _ (w : List ℕ) (room : 16384 ≤ length w) where
+  pub clear-all : (left : ℕ) (w' : List ℕ) → Changing (λ v. 0) w 1024 left w' → left ≤ 0 → Cleared w w'
+  unfolding marking
+  clear-all left w' c h = record {
+    len = c .len;
+    marks = same-marking _ _ (λ y. ap (λ (v : ℕ). not (eqb v 1)) (none y (ltb y 1024) refl));
+    zero = λ x l. c .done x (omega arith) l;
+    rest = λ j o. c .rest j (⊎-elim (λ a. inl (omega arith)) (λ a. inr (omega arith)) o);
+  }
+    where
+      none : (y : ℕ) (t : Bool) → ltb y 1024 ≡ t → getD (region MARKS 1024 w') y 0 ≡ 0
+      none y true e = let low = ltb-true y 1024 e in getD-region MARKS 1024 w' y low ∙ c .done y (omega arith) low
+      none y false e = let len = c .len in beyond w' (omega arith) y (ltb-false y 1024 e)
+
   pub douse-all : (left : ℕ) (w' : List ℕ) → Changing doused w 1024 left w' → left ≤ 0 → Doused w w'
   unfolding marking lights
   douse-all left w' c h = record {
@@ -114,9 +131,6 @@ module _ (w : List ℕ) (room : 16384 ≤ length w) where
     where
       here : (y : ℕ) → y < 1024 → getD (region MARKS 1024 w') y 0 ≡ doused (getD (region MARKS 1024 w) y 0)
       here y l = getD-region MARKS 1024 w' y l ∙ c .done y (omega arith) l ∙ ap doused (sym (getD-region MARKS 1024 w y l))
-
-      beyond : (u : List ℕ) → 16384 ≤ length u → (y : ℕ) → 1024 ≤ y → getD (region MARKS 1024 u) y 0 ≡ 0
-      beyond u l y a = let e = length-region MARKS 1024 u (omega arith) in List·getD-eq-default (region MARKS 1024 u) 0 (omega arith)
 
       long : 16384 ≤ length w'
       long = let l = c .len in omega arith

@@ -8,7 +8,7 @@ use lib.ListN.{length}
 use Rattle.theory.specs.Net.{Graph}
 use Rattle.area.specs.Region.{words}
 use Rattle.area.proofs.Region.{words-many}
-use Rattle.engine.specs.Placed.{Placed, place, Places, _also_, Options, option}
+use Rattle.engine.specs.Placed.{Placed, place, Places, _also_, Options, no-more, option}
 use Rattle.loading.specs.Loaded.{extent, number-step}
 use Rattle.loading.specs.Numbered.{places, options}
 use Rattle.loading.specs.At.{At, AtAll, AtAny}
@@ -74,6 +74,15 @@ module _ (w : List ℕ) (room : 16384 ≤ length w) where
       let more = any-bounds (words w) a (o .0) (o .1) q m (bounds .1) (o .4) .2 in
       let small : o .1 < number-step = omega arith in
       (rw (o .2) (read-at d p n (o .0) (o .1) (o .3) small), small)
+
+  -- the first of some alternatives
+  pub read-first : (a : Options) (p n q m k : ℕ) → AtAny (words w) p n a q m → m < number-step → options a ≡ k → 0 < k → (p < 2048) × (number-at w p < 1024) × (tail-at w p < 2048)
+  read-first no-more p n q m k o low many h = absurd (omega arith)
+  read-first (option x d a) p n q m k o low many h =
+      let r = read-option x d a p n q m o low .0 in
+      let l = r .low in
+      let e = r .number in
+      (r .here, omega arith, r .inside)
 
 pub alternatives-is : (w : List ℕ) (a : Options) (ds : Places) (p n q m : ℕ) → AtAll (words w) p n (a also ds) q m → alternatives-at w p ≡ options a
 unfolding alternatives-at

@@ -14,7 +14,7 @@ use Rattle.loading.specs.At.{AtAny}
 use Rattle.marks.specs.Positions.{number-at, tail-at, after-at}
 use Rattle.marks.specs.Marked.{marking}
 use Rattle.marks.specs.Tallied.{from-kept, Alternatives, Tallied}
-use Rattle.marks.proofs.Reading.{read-option}
+use Rattle.marks.proofs.Reading.{read-option, read-first}
 use Rattle.marks.proofs.First.{kept-true, kept-false, from-true, from-false}
 
 module _ (w : List ℕ) (p count : ℕ) (s : Alternatives w p count) where
@@ -44,15 +44,7 @@ module _ (w : List ℕ) (p count : ℕ) (s : Alternatives w p count) where
   tally-none = record { rest = s .a; k = s .n; stand = s .at; many = s .many; total = omega arith; mark = inl (refl, refl, refl) }
 
   pub tally-read : (left at first found : ℕ) → Tallying left at first found → 0 < left → (at < 2048) × (number-at w at < 1024) × (tail-at w at < 2048)
-  tally-read left at first found t h = go (t .rest) (t .stand) (t .many)
-    where
-      go : (a : Options) → AtAny (words w) at (t .k) a (s .q) (s .m) → options a ≡ left → (at < 2048) × (number-at w at < 1024) × (tail-at w at < 2048)
-      go no-more o e = absurd (omega arith)
-      go (option x d a) o e =
-          let r = read-option w (s .room) x d a at (t .k) (s .q) (s .m) o (s .low) .0 in
-          let low = r .low in
-          let n = r .number in
-          (r .here, omega arith, r .inside)
+  tally-read left at first found t h = read-first w (s .room) (t .rest) at (t .k) (s .q) (s .m) left (t .stand) (s .low) (t .many) h
 
   pub tally-step : (left at first found next first' found' : ℕ) → Tallying left at first found → 0 < left → next ≡ after-at w at → Turn at next first found first' found' → Tallying (left - 1) next first' found'
   tally-step left at first found next first' found' t h e turn = go (t .rest) (t .stand) (t .many) (t .total) (t .mark)

@@ -69,13 +69,9 @@ spaces-most (w ∷ ws) h =
     omega arith
 
 spaced-most : (ws : List ℕ) → ((i : ℕ) → i < length ws → getD ws i 0 ≤ largest) → length (spaced ws) ≤ 11 * length ws
-unfolding spaced
+unfolding spaced after-spaces
 spaced-most [] h = omega arith
-spaced-most (w ∷ ws) h =
-    let d = ten-digits w (h 0 (omega arith)) in
-    let e = length-append (decimal w) (after-spaces ws) in
-    let i = spaces-most ws (λ i l. h (suc i) (omega arith)) in
-    omega arith
+spaced-most (w ∷ ws) h = let d = spaces-most (w ∷ ws) h in omega arith
 
 module _ (number count readings : ℕ) (few : number ≤ largest) (short : count ≤ largest) (known : readings ≤ largest) where
   first-most : length (first-line number count readings) ≤ 55

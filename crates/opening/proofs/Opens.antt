@@ -55,7 +55,7 @@ module _ (p k : ℕ) (w t : List ℕ) (long : p + k ≤ length w) (size : length
 at-definite : (p n : ℕ) (d : Desc) → definite p n d .at ≡ p
 at-definite p n (desc g ds) = refl
 
-number-definite : (p n : ℕ) (d : Desc) → definite p n d .number ≡ n
+pub number-definite : (p n : ℕ) (d : Desc) → definite p n d .number ≡ n
 number-definite p n (desc g ds) = refl
 
 -- a clash of the pushed graphs, as the opening tells it

@@ -1,6 +1,6 @@
 -- Two inputs that stand loaded and whose definite graphs join: what theory and engine ask of them.
 -- Assumes nothing.
-use Prim.Native.Nat.{ℕ, _+_}
+use Prim.Native.Nat.{ℕ, _+_, _<_}
 use native.Mathlib.Omega.{arith}
 use mathlib.Core.Path.{_≡_, sym, ap, subst, _∙_}
 use mathlib.Core.Option.{some}
@@ -16,9 +16,14 @@ use Rattle.engine.proofs.Proper.{Proper, well-proper, Comes, joined-comes}
 use Rattle.engine.proofs.Beside.{strip-some, joined-strip, SomeDistinct, joined-distinct}
 use Rattle.loading.specs.Loaded.{nodes-in}
 use Rattle.loading.proofs.Names.{numbered-strip, between-apart, between-wide}
-use Rattle.loading.proofs.Walking.{at-names}
+use Rattle.loading.proofs.Walking.{at-names, at-bounds}
 use Rattle.quick.specs.Stage.{Pair}
+use Rattle.quick.specs.Passed.{Inputs}
 use Rattle.quick.proofs.Mirror.{at-distinct}
+
+-- the numbers of the first input end before those of the second
+pub half-low : (n : ℕ) (t : List ℕ) (i : Inputs n t) → i .half < n
+half-low n t i = at-bounds t (i .b) SECOND (i .half) (i .end-b) n (i .at-b) .2
 
 module _ (n : ℕ) (t : List ℕ) (p : Pair n t) where
   pub strip-first : strip (p .inputs .a) ≡ p .d

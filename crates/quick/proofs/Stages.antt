@@ -42,6 +42,7 @@ use Rattle.classes.specs.Holds.{Holds, Undoable}
 use Rattle.classes.proofs.Laws.{holds-agree, holds-frame, undoable-frame}
 use Rattle.opening.specs.Opening.{Stand, definite}
 use Rattle.opening.proofs.Universe.{universe, in-one, in-two}
+use Rattle.opening.proofs.Opens.{number-definite}
 use Rattle.quick.specs.Taken.{taken}
 use Rattle.quick.specs.Clear.{Outside, Clear}
 use Rattle.quick.specs.Passed.{Inputs, Ready}
@@ -52,9 +53,6 @@ use Rattle.quick.proofs.Pairs.{whole-comes}
 use Rattle.quick.proofs.Rounds.{agree-joins}
 
 -- ---- definite graphs
-number-definite : (p n : ℕ) (d : Desc) → definite p n d .number ≡ n
-number-definite p n (desc g ds) = refl
-
 definite-taken : (t : List ℕ) (k : Marking) (d : Desc) (p n q m : ℕ) (at : At t p n (numbered n d) q m) → List·Memᴰ (definite p n d) (taken t k p n (numbered n d) q m at)
 definite-taken t k (desc g ds) p n q m at = List·Memᴰ·head refl
 

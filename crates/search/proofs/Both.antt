@@ -34,7 +34,7 @@ use Rattle.classes.proofs.Laws.{holds-agree}
 use Rattle.quick.specs.Stage.{Pair}
 use Rattle.quick.proofs.Grounds.{numbered-end}
 use Rattle.quick.proofs.Settling.{agrees-true}
-use Rattle.quick.proofs.Pairs.{whole-comes}
+use Rattle.quick.proofs.Pairs.{whole-comes, half-low}
 use Rattle.search.specs.declared.agenda.Agenda.{Agenda}
 use Rattle.search.specs.Frames.{Slot, Lists, onto, Frames, plan}
 use Rattle.search.specs.Searched.{Standing, Resuming, resumed, Resumes, Searching, Searches}
@@ -69,11 +69,8 @@ module _ (n k : ℕ) (w : List ℕ) where
     few : n < number-step
     few = c .p .inputs .ground .few
 
-    half-low : c .p .inputs .half < n
-    half-low = at-bounds (c .t) (c .p .inputs .b) SECOND (c .p .inputs .half) (c .p .inputs .end-b) n (c .p .inputs .at-b) .2
-
     half-few : c .p .inputs .half < number-step
-    half-few = omega (arith, half-low, few)
+    half-few = omega (arith, half-low n (c .t) (c .p .inputs), few)
 
     none : Frames n (c .t) (c .p .inputs .U) (c .stage .es) (marking w) [] (c .p .inputs .end-b) n
     none = let h = at-bounds (c .t) (c .p .inputs .b) SECOND (c .p .inputs .half) (c .p .inputs .end-b) n (c .p .inputs .at-b) .1 in (h, omega arith)

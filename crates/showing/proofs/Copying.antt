@@ -5,29 +5,24 @@ use native.Mathlib.Omega.{arith}
 use mathlib.Core.Path.{_≡_, refl, sym, ap, subst, _∙_}
 use mathlib.Core.List.{List, [], _∷_, _++_, append-nil, append-assoc}
 use lib.ListN.{length, getD, set, length-set, length-append}
-use Rattle.theory.specs.Net.{Node, atom, arcs, Graph}
+use Rattle.theory.specs.Net.{Node, Graph}
 use Rattle.theory.specs.Layout.{node-words, nodes-words}
-use Rattle.theory.proofs.Weight.{arc-length}
 use Rattle.area.specs.Map.{RESULT}
 use Rattle.area.specs.Region.{words}
 use Rattle.area.proofs.Region.{words-many}
 use Rattle.layout.specs.Standing.{Stands, graph-words}
 use Rattle.layout.proofs.Standing.{stands-append, stands-length, stands-within}
 use Rattle.engine.specs.Placed.{Placed, place, own}
-use Rattle.loading.specs.Loaded.{extent, number-step, moved-arcs, moved-node, located}
+use Rattle.loading.specs.Loaded.{extent, number-step, moved-node, located}
 use Rattle.loading.specs.Loading.{Put}
 use Rattle.loading.specs.At.{At}
-use Rattle.loading.proofs.Sizes.{moved-length}
+use Rattle.loading.proofs.Sizes.{node-length}
 use Rattle.loading.proofs.Putting.{put-nil, put-append, put-one}
 use Rattle.loading.proofs.Walking.{at-header, at-counts}
 use Rattle.marks.specs.Positions.{number-at}
 use Rattle.marks.proofs.Reading.{read-at}
 use Rattle.showing.specs.Copying.{a-node, its-nodes, Copying, Copies, Graphing}
 use Rattle.showing.proofs.Nodes.{put-words, put-end}
-
-node-extent : (n : ℕ) (v : Node) → length (node-words (moved-node n v)) ≡ length (node-words v)
-node-extent n (atom a) = refl
-node-extent n (arcs l) = omega (arith, arc-length l, arc-length (moved-arcs n l), moved-length n l)
 
 module _ (w : List ℕ) (number p count o : ℕ) (c : Copying (its-nodes count) w number p o) where
   -- `left` nodes are still to be copied, from `at` to `out`
@@ -98,7 +93,7 @@ module _ (w : List ℕ) (number p count o : ℕ) (c : Copying (its-nodes count) 
         told = u nodes-asks
 
         far : next .q ≡ at + (r - out)
-        far = omega (arith, stands-length (words w) (node-words (moved-node number (next .x))) at (next .q) (next .first), put-end w₁ w₂ out (node-words (next .x)) r told, node-extent number (next .x))
+        far = omega (arith, stands-length (words w) (node-words (moved-node number (next .x))) at (next .q) (next .first), put-end w₁ w₂ out (node-words (next .x)) r told, node-length number (next .x))
 
         inside : next .q ≤ length (words w)
         inside = stands-within (words w) (node-words (moved-node number (next .x))) at (next .q) (v .within) (next .first)

@@ -10,8 +10,8 @@ use Rattle.theory.specs.Net.{Graph, Clash, Joined}
 use Rattle.theory.specs.Join.{join}
 use Rattle.theory.specs.Descr.{Desc, desc, disjs}
 use Rattle.theory.specs.Layout.{disjs-words}
-use Rattle.theory.proofs.Instance.{join-some, none-join}
-use Rattle.theory.proofs.Mean.{Ctx, Fine}
+use Rattle.theory.proofs.Instance.{none-join}
+use Rattle.theory.proofs.Mean.{Ctx, Fine, joined-of}
 use Rattle.theory.proofs.Live.{not-none}
 use Rattle.theory.proofs.Weight.{weight}
 use Rattle.area.specs.Map.{RESULT}
@@ -36,10 +36,6 @@ use Rattle.showing.proofs.Leaving.{description-words}
 -- what agrees joins to the graph that a description leads with
 pub lead-joins : (d : Desc) → Sane d → join (flat d) ≡ some (lead d)
 lead-joins (desc g ds) s = s .0 .1 ∙ sym (ap (λ (o : Option Graph). some (or-else g o)) (s .0 .1))
-
-pub joins : (gs : Ctx) → Fine gs → (K : Graph) → join gs ≡ some K → Joined gs K
-joins [] f K e = let h = f .0 in absurd (omega arith)
-joins (g ∷ gs) f K e = join-some g gs (f .1) K e
 
 clashes : (gs : Ctx) → Fine gs → Clash gs → join gs ≡ none
 clashes [] f k = let h = f .0 in absurd (omega arith)
@@ -79,7 +75,7 @@ module _ (n : ℕ) (w : List ℕ) (g left o : ℕ) (c : Describing n w g left o)
   pushed-flat = taken-flat (c .base .t) (marking w) g (c .lies .from) (c .lies .d) (c .lies .end) (c .lies .to) (c .lies .at) ∙ ap (λ (m : Marking). flat (strip (keep m (c .lies .d)))) (c .base .marks)
 
   joined-lead : Joined (graphs (entered asks-enter)) (lead whole)
-  joined-lead = subst (λ (l : List Graph). Joined l (lead whole)) (sym pushed-flat) (joins (flat whole) (fine-flat whole (c .can)) (lead whole) (lead-joins whole (c .sane)))
+  joined-lead = subst (λ (l : List Graph). Joined l (lead whole)) (sym pushed-flat) (joined-of (flat whole) (fine-flat whole (c .can)) (lead whole) (lead-joins whole (c .sane)))
 
   never : Clash (graphs (entered asks-enter)) → ⊥
   never k = not-none (flat whole) (lead whole, lead-joins whole (c .sane)) (clashes (flat whole) (fine-flat whole (c .can)) (subst Clash pushed-flat k))

@@ -9,11 +9,11 @@ use Rattle.theory.specs.Descr.{Desc, Disjs, end, _and_, Alts, fail, _or_, _then
 use Rattle.theory.specs.Layout.{words, disjs-words, alts-words}
 use Rattle.theory.proofs.Mean.{CanAll}
 use Rattle.layout.specs.Standing.{graph-words}
-use Rattle.engine.specs.Placed.{Placed, place, Places, stop, _also_, strip, strip-all}
-use Rattle.engine.specs.Marks.{Marking, keep, keep-all, keep-any}
-use Rattle.engine.specs.Beside.{_next_}
+use Rattle.engine.specs.Placed.{Placed, place, strip, strip-all}
+use Rattle.engine.specs.Marks.{Marking, keep, keep-all}
 use Rattle.engine.specs.Shown.{shown, shown-all, shown-then, shown-any, shown-in}
 use Rattle.engine.proofs.Sane.{SaneAll}
+use Rattle.engine.proofs.Greatest.{then-assoc}
 use Rattle.loading.proofs.Sizes.{weights-fit-all}
 use Rattle.showing.specs.Putting.{lead, left-all}
 
@@ -30,14 +30,10 @@ then-end : (x : Disjs) → x then end ≡ x
 then-end end = refl
 then-end (a and x) = ap (_and_ a) (then-end x)
 
-then-assoc : (x y z : Disjs) → (x then y) then z ≡ x then (y then z)
-then-assoc end y z = refl
-then-assoc (a and x) y z = ap (_and_ a) (then-assoc x y z)
-
 shown-front : (a : Alts) (x y : Disjs) → shown-then a (x then y) ≡ shown-then a x then y
 unfolding shown
 shown-front fail x y = refl
-shown-front (d or fail) x y = sym (then-assoc (shown-in d) x y)
+shown-front (d or fail) x y = then-assoc (shown-in d) x y
 shown-front (d or (e or b)) x y = refl
 
 pub shown-next : (x y : Disjs) → shown-all (x then y) ≡ shown-all x then shown-all y
@@ -87,10 +83,6 @@ unfolding shown
 description-words (place g ds) m = refl
 
 -- ---- both inputs
-pub keep-next : (m : Marking) (ds es : Places) → keep-all m (ds next es) ≡ keep-all m ds next keep-all m es
-keep-next m stop es = refl
-keep-next m (a also ds) es = ap (_also_ (keep-any m a)) (keep-next m ds es)
-
 pub can-parts : (x y : Disjs) → CanAll (x then y) → CanAll x × CanAll y
 can-parts end y c = (tt, c)
 can-parts (a and x) y c = let r = can-parts x y (c .1) in ((c .0, r .0), r .1)

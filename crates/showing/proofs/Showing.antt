@@ -12,7 +12,7 @@ use Rattle.theory.specs.Join.{join}
 use Rattle.theory.specs.Descr.{Disjs, _then_, disjs}
 use Rattle.theory.specs.Layout.{disjs-words}
 use Rattle.theory.specs.Layout as layout
-use Rattle.theory.proofs.Mean.{CanAll}
+use Rattle.theory.proofs.Mean.{CanAll, joined-of}
 use Rattle.area.specs.Map.{RESULT, SECOND}
 use Rattle.area.specs.Region.{words}
 use Rattle.layout.specs.Standing.{Stands, graph-words}
@@ -24,9 +24,9 @@ use Rattle.engine.specs.Shown.{shown-all}
 use Rattle.engine.proofs.Entail.{join-both}
 use Rattle.engine.proofs.Sane.{SaneAll}
 use Rattle.engine.proofs.Beside.{strip-next}
+use Rattle.engine.proofs.Joined.{keep-next}
 use Rattle.loading.specs.Entry.{graphs}
 use Rattle.loading.proofs.Putting.{stands-frame}
-use Rattle.loading.proofs.Walking.{at-bounds}
 use Rattle.marks.specs.Marked.{marking}
 use Rattle.classes.specs.Holds.{Remembers, Backs, Undoable}
 use Rattle.classes.proofs.Laws.{undoable-asks, undoable-back}
@@ -34,9 +34,10 @@ use Rattle.writing.specs.Writing.{Writing, Writes}
 use Rattle.showing.specs.Putting.{Written, Base, lead, later, left-all, Disjoining, Disjoins}
 use Rattle.showing.specs.Showing.{outcome, Showing, Shows}
 use Rattle.showing.proofs.Written.{written-order, written-append, written-between, written-same, based}
-use Rattle.showing.proofs.Leaving.{then-words, then-count, shown-next, few-disjunctions, description-words, keep-next, can-parts, sane-parts}
-use Rattle.showing.proofs.Leading.{lead-joins, joins, weight-words}
+use Rattle.showing.proofs.Leaving.{then-words, then-count, shown-next, few-disjunctions, description-words, can-parts, sane-parts}
+use Rattle.showing.proofs.Leading.{lead-joins, weight-words}
 use Rattle.showing.proofs.Describing.{inner-can, inner-sane}
+use Rattle.quick.proofs.Pairs.{half-low}
 
 -- the disjunctions of the joined description are those of both
 both-later : (a b j : Placed) (m : Marking) → joined-placed a b ≡ some j → left-all m j ≡ left-all m a then left-all m b
@@ -82,7 +83,7 @@ module _ (n k : ℕ) (w : List ℕ) (c : Showing n k w) where
   joined-is : Joined (graphs (c .stage .es)) G
   joined-is =
       let s = c .stage .same in
-      joins (graphs (c .stage .es)) (s .fine₁) G (join-both (graphs (c .stage .es)) (flat (strip (keep m j))) (s .fine₁) (s .fine₂) (s .to) (s .from) ∙ lead-joins (strip (keep m j)) (c .sane))
+      joined-of (graphs (c .stage .es)) (s .fine₁) G (join-both (graphs (c .stage .es)) (flat (strip (keep m j))) (s .fine₁) (s .fine₂) (s .to) (s .from) ∙ lead-joins (strip (keep m j)) (c .sane))
 
   -- the words of the whole
   abbrev all : List ℕ
@@ -144,7 +145,7 @@ module _ (n k : ℕ) (w : List ℕ) (c : Showing n k w) where
     pub show-first : Disjoining n w₂ 0 depth-limit (e + 1)
     show-first =
         let i = c .p .inputs in
-        let far = at-bounds (c .t) b SECOND (i .half) (i .end-b) n (i .at-b) .2 in
+        let far = half-low n (c .t) i in
         record {
           base = base₂;
           lies = record { d = a; from = 0; end = i .end-a; to = i .half; at = i .at-a; low = omega arith; nests = i .nests-a; among = i .among-a };

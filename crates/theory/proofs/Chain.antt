@@ -14,7 +14,7 @@ use Rattle.theory.specs.Modes.{joined, size, tidy, quick, some-agree, pr
 use Rattle.theory.specs.Answer.{consistent}
 use Rattle.theory.specs.Rules.{mode-result}
 use Rattle.theory.proofs.Mean.{Ctx, Fine, fine-append, alike-flat, alike-sym, run, run-each, run-cong, run-none, run-same, run-then, Good, AllFine, good-run, Can, choices-fine, choices-all-fine, clash-stays, shuffle, join-canonical, can-then}
-use Rattle.theory.proofs.Quick.{nil, one, leaf, good-leaf, meanings, tidy-means, tidy-fails, readings-count}
+use Rattle.theory.proofs.Quick.{nil, one, leaf, good-leaf, meanings, tidy-means, tidy-fails, readings-count, all-none}
 use Rattle.theory.proofs.Full.{each-from, AllFull, SomeAgree, none-agrees, some-agree-view, whole, full-means}
 
 pub choices-full : (d : Desc) → Can d → AllFull (choices d)
@@ -126,10 +126,6 @@ quick-means a b p q = go (joined a b) refl (joined-means a b p q)
     go : (o : Option Desc) → joined a b ≡ o → Means (both a b) o → Means (both a b) (elim o [ none ↦ none | some d ↦ tidy (suc (size d)) nil d ])
     go none e m = m
     go (some d) e m = two d (can-joined a b d p q e) m (tidy (suc (size d)) nil d) refl
-
-all-none : (d : Desc) → ((c : Ctx) → List·Memᴰ c (choices d) → join c ≡ none) → meanings d ≡ []
-unfolding meanings
-all-none d h = run-none (choices d) [] leaf (λ r m. ap one (h r m))
 
 pub full-result-means : (a b : Desc) → Can a → Can b → Means (both a b) (full a b)
 unfolding full

@@ -3,11 +3,11 @@
 use mathlib.Core.Path.{_≡_, refl, ap, sym, _∙_, subst}
 use mathlib.Core.Logic.{inl, inr}
 use mathlib.Core.Option.{Option, none, some}
-use mathlib.Core.List.{List, [], _∷_, _++_, List·Memᴰ, List·Memᴰ·head, List·Memᴰ·not-nil}
+use mathlib.Core.List.{List, [], _∷_, _++_, List·Memᴰ·head}
 use Prim.Native.Nat.{ℕ, zero, suc, _<_}
 use native.Mathlib.Omega.{arith}
 use lib.ListN.{length}
-use Rattle.theory.specs.Net.{atom, arcs, Graph, arcsOf, nodeAt}
+use Rattle.theory.specs.Net.{atom, arcs, Graph}
 use Rattle.theory.specs.Join.{join}
 use Rattle.theory.specs.Structure.{Structure, Satisfies}
 use Rattle.theory.specs.Descr.{Desc, desc, end, _and_, fail, _or_, agree, agreeing, readings, number}
@@ -20,7 +20,7 @@ use Rattle.theory.specs.Unified.{unified, in-mode, complete, deliver}
 use Rattle.theory.specs.Demands.{Unifier, Demand2, Step, start, reached, ways, items, Demand3}
 use Rattle.theory.specs.Known.{gives}
 use Rattle.theory.proofs.Decode.{one-image}
-use Rattle.theory.proofs.Quick.{nil, nil-canonical}
+use Rattle.theory.proofs.Quick.{nil, nil-canonical, no-arc}
 use Rattle.theory.proofs.Fit.{structure}
 use Rattle.theory.proofs.Model.{structure-itself}
 
@@ -28,7 +28,7 @@ use Rattle.theory.proofs.Model.{structure-itself}
 abbrev plain : Graph → Desc
 plain g = desc g end
 
-abbrev one-arc : ℕ → ℕ → Graph
+abbrev pub one-arc : ℕ → ℕ → Graph
 one-arc f a = arcs ((f, 1) ∷ []) ∷ atom a ∷ []
 
 abbrev dN : Desc
@@ -77,12 +77,8 @@ bare = structure nil nil-canonical
 bare-nothing : Sat bare dN
 bare-nothing = (structure-itself nil nil-canonical, tt)
 
-bare-no-arc : (n : ℕ) (p : ℕ × ℕ) → List·Memᴰ p (arcsOf (nodeAt nil n)) → ⊥
-bare-no-arc zero p m = List·Memᴰ·not-nil m
-bare-no-arc (suc n) p m = List·Memᴰ·not-nil m
-
 bare-not-A : Sat bare dA → ⊥
-bare-not-A s = let h : Satisfies bare (one-arc 1 10) = s .0 in bare-no-arc (h .to (0, omega arith) .0) (1, h .to (1, omega arith) .0) (h .arc-to (0, omega arith) 1 (1, omega arith) (List·Memᴰ·head refl))
+bare-not-A s = let h : Satisfies bare (one-arc 1 10) = s .0 in no-arc (h .to (0, omega arith) .0) (1, h .to (1, omega arith) .0) (h .arc-to (0, omega arith) 1 (1, omega arith) (List·Memᴰ·head refl))
 
 -- "one that clashes always"
 pub always-clash : Unifier

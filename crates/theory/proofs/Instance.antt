@@ -155,6 +155,11 @@ met-in m (p ∷ l) f t i = go (List·Memᴰ·cases-cons i) (met-in (max m (suc (
     go (inl e) s = omega (arith, met-ge (max m (suc (p .1))) l, ap (λ (z : Arc). z .1) e)
     go (inr j) s = s j
 
+-- an arc meets one node at most
+pub met-few : (m : ℕ) (l : List Arc) → InOrder m l → met m l ≤ m + length l
+met-few m [] o = omega arith
+met-few m (e ∷ l) o = let h = met-few (max m (suc (e .1))) l (o .1) in let k = o .0 in omega arith
+
 pub numbered-ge : (k m : ℕ) (g : Graph) → Numbered k m g → m ≤ k + length g
 numbered-ge k m [] c = omega arith
 numbered-ge k m (v ∷ vs) c = omega (arith, numbered-ge (suc k) (met m (arcsOf v)) vs (c .3), met-ge m (arcsOf v))

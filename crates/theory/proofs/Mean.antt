@@ -51,7 +51,7 @@ clash-stays [] d p q w e = absurd (omega arith)
 clash-stays (g ∷ c) [] p q w e = absurd (omega arith)
 clash-stays (g ∷ c) (h ∷ d) p q w e = none-join h d (q .1) (clash-within (g ∷ c) (h ∷ d) (p .1) (q .1) w (join-none g c (p .1) e))
 
-joined-of : (gs : Ctx) → Fine gs → (K : Graph) → join gs ≡ some K → Joined gs K
+pub joined-of : (gs : Ctx) → Fine gs → (K : Graph) → join gs ≡ some K → Joined gs K
 joined-of [] f K e = absurd (omega arith)
 joined-of (g ∷ gs) f K e = join-some g gs (f .1) K e
 

@@ -16,11 +16,19 @@ use Rattle.theory.proofs.Sets.{clash-within, join-same}
 use Rattle.theory.specs.Join.{join}
 use Rattle.theory.specs.Descr.{Desc, choices, answers, agree, agreeing, readings}
 use Rattle.theory.specs.Modes.{tidy}
-use Rattle.theory.proofs.Mean.{Ctx, Fine, run, Good, Can, Holds, Tidied, tidy-ok}
+use Rattle.theory.proofs.Mean.{Ctx, Fine, run, run-none, Good, Can, Holds, Tidied, tidy-ok}
 
 -- the graph that says nothing
 abbrev pub nil : Graph
 nil = arcs [] ∷ []
+
+no-atom : (n a : ℕ) → nodeAt nil n ≡ atom a → ⊥
+no-atom zero a e = let z : _≡_ {A = ℕ} 0 1 = cc in omega arith
+no-atom (suc n) a e = let z : _≡_ {A = ℕ} 0 1 = cc in omega arith
+
+pub no-arc : (n : ℕ) (p : ℕ × ℕ) → List·Memᴰ p (arcsOf (nodeAt nil n)) → ⊥
+no-arc zero p m = List·Memᴰ·not-nil m
+no-arc (suc n) p m = List·Memᴰ·not-nil m
 
 module _ (hs : List Graph) (ch : AllCanonical hs) where
   abbrev N : Net
@@ -47,14 +55,6 @@ module _ (hs : List Graph) (ch : AllCanonical hs) where
     arc-of = λ x f y u. (inr x, inr y, refl, refl, u);
     seed-of = λ x y s. (inr x, inr y, refl, refl, seed s);
   }
-
-  no-atom : (n a : ℕ) → nodeAt nil n ≡ atom a → ⊥
-  no-atom zero a e = let z : _≡_ {A = ℕ} 0 1 = cc in omega arith
-  no-atom (suc n) a e = let z : _≡_ {A = ℕ} 0 1 = cc in omega arith
-
-  no-arc : (n : ℕ) (p : ℕ × ℕ) → List·Memᴰ p (arcsOf (nodeAt nil n)) → ⊥
-  no-arc zero p m = List·Memᴰ·not-nil m
-  no-arc (suc n) p m = List·Memᴰ·not-nil m
 
   module _ (some : (x : N .Spot) × N .Root x) where
     from-total : (a : M .Spot) → (x : N .Spot) × At x a
@@ -118,6 +118,10 @@ good-leaf = record {
 -- what a description means: the joined graphs of its consistent choices, in order
 unfoldable pub meanings : Desc → List Graph
 meanings d = run (choices d) [] leaf
+
+pub all-none : (d : Desc) → ((c : Ctx) → List·Memᴰ c (choices d) → join c ≡ none) → meanings d ≡ []
+unfolding meanings
+all-none d h = run-none (choices d) [] leaf (λ r m. ap one (h r m))
 
 pub tidy-means : (n : ℕ) (d e : Desc) → Can d → tidy n nil d ≡ some e → meanings d ≡ meanings e
 unfolding meanings

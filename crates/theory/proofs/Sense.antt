@@ -14,8 +14,8 @@ use Rattle.theory.proofs.Instance.{join-some, join-none}
 use Rattle.theory.specs.Join.{join}
 use Rattle.theory.specs.Descr.{Desc, desc, Disjs, end, _and_, choices, _then_, readings}
 use Rattle.theory.specs.Modes.{joined, size, tidy, quick, full, prune, fold, some-agree}
-use Rattle.theory.proofs.Mean.{Ctx, Can, can-then, Tidied, tidy-ok, run-none}
-use Rattle.theory.proofs.Quick.{nil, nil-canonical, leaf, one, meanings, tidy-means, tidy-fails, readings-count}
+use Rattle.theory.proofs.Mean.{Can, can-then, Tidied, tidy-ok}
+use Rattle.theory.proofs.Quick.{nil, nil-canonical, meanings, tidy-means, tidy-fails, readings-count, all-none}
 use Rattle.theory.proofs.Full.{SomeAgree, agrees, none-agrees, some-agree-view, fold-ok, prune-can, whole, full-means}
 use Rattle.theory.specs.Satisfaction.{Sat, SatEach}
 use Rattle.theory.proofs.Satisfy.{sat-meaning, same-meaning}
@@ -66,10 +66,6 @@ module _ (S : Structure) where
       go (some d) s = tidy-sat (suc (size d)) a b d (s .0) (s .1)
 
   -- mode 2
-  all-none : (d : Desc) → ((c : Ctx) → List·Memᴰ c (choices d) → join c ≡ none) → meanings d ≡ []
-  unfolding meanings
-  all-none d h = run-none (choices d) [] leaf (λ r m. ap one (h r m))
-
   pub full-sat : (a b : Desc) → Can a → Can b → Both a b (full a b)
   unfolding full
   full-sat a b p q = go (joined a b) (joined-sat a b p q)

@@ -20,11 +20,8 @@ use Rattle.theory.specs.Answer.{Answer, refuse, consistent}
 use Rattle.theory.specs.Outcome.{Areas, worked, Outcome}
 use Rattle.theory.specs.Unified.{deliver, complete, in-mode, unified}
 use Rattle.theory.specs.Rules.{mode-result, mode-readings, Accepted, Clashes, TooMany, Given, one, two, three, four, five, six, seven, six-after, eight, done}
-use Rattle.theory.proofs.Decode.{Tells, holds, fails, tells-lt, Decoded, is, malformed, decoded, decode-words}
+use Rattle.theory.proofs.Decode.{Tells, holds, fails, tells-lt, Decoded, is, malformed, decoded, decode-words, none-is}
 use Rattle.theory.proofs.Full.{whole}
-
-none-some : {A : Type 0} (x : A) → _≡_ {A = Option A} none (some x) → ⊥
-none-some x e = let z : _≡_ {A = ℕ} 0 1 = cc in omega arith
 
 -- a quick result is there only where the join is
 pub quick-joined : (d e : Desc) → joined d e ≡ none → quick d e ≡ none
@@ -90,12 +87,12 @@ six-of : (mode : ℕ) (a b : List ℕ) (room work : ℕ) (d e : Desc) (n : ℕ) 
 six-of mode a b room work d e n A c = none-of mode a b room work n (six d e A c)
 
 clash-zero : (d e r : Desc) → joined d e ≡ some r → ¬ (Clashes 0 d e)
-clash-zero d e r h (inl p) = none-some r (sym p ∙ h)
+clash-zero d e r h (inl p) = none-is r (sym p ∙ h)
 clash-zero d e r h (inr p) = let l = p .0 in omega (arith, l)
 
 clash-more : (mode : ℕ) (d e q : Desc) → quick d e ≡ some q → ¬ (Clashes mode d e)
-clash-more mode d e q h (inl p) = none-some q (sym (quick-joined d e p) ∙ h)
-clash-more mode d e q h (inr p) = none-some q (sym (p .1) ∙ h)
+clash-more mode d e q h (inl p) = none-is q (sym (quick-joined d e p) ∙ h)
+clash-more mode d e q h (inr p) = none-is q (sym (p .1) ∙ h)
 
 few : (mode : ℕ) (d e : Desc) → mode < 2 → ¬ (TooMany mode d e)
 few mode d e h p = let l = p .0 in omega (arith, l)

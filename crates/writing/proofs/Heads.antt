@@ -14,7 +14,8 @@ use Rattle.layout.proofs.Standing.{stands-append, stands-length}
 use Rattle.area.specs.Map.{LOG, RESULT, SIZE}
 use Rattle.writing.specs.Classes.{Fan, Classes, Met}
 use Rattle.writing.specs.Writing.{Kept, Arcing, Arced, Noding, Noded, Listing, Listed}
-use Rattle.writing.proofs.Keeping.{kept-refl, kept-trans, kept-both, kept-wider, kept-put, kept-stands, stands-frame, kept-classes, met-kept}
+use Rattle.writing.proofs.Keeping.{kept-refl, kept-trans, kept-both, kept-wider, kept-put, kept-stands, kept-classes, met-kept}
+use Rattle.loading.proofs.Putting.{stands-frame}
 
 node-some : (v : Node) → 0 < length (node-words v)
 node-some (atom a) = omega arith
@@ -126,7 +127,7 @@ module _ (n k : ℕ) (w : List ℕ) (i at m c : ℕ) (e : c ≡ getD w (LOG + k 
                       subst (λ (u : Node). Stands (set v (RESULT + at) ((at' - at) / 2)) (RESULT + at) (node-words u) (RESULT + at')) (sym d) (
                         simp length-set (omega arith),
                         getD-set-same v (RESULT + at) ((at' - at) / 2) 0 (omega arith) ∙ q,
-                        stands-frame v (set v (RESULT + at) ((at' - at) / 2)) (length-set v (RESULT + at) ((at' - at) / 2)) (arc-words (arcsOf (nodeAt G i))) (RESULT + at + 1) (RESULT + at') (λ j g l. getD-set-other v (RESULT + at) j ((at' - at) / 2) 0 (λ u. omega arith)) (subst (λ (u : ℕ). Stands v u (arc-words (arcsOf (nodeAt G i))) (RESULT + at')) (omega arith) (o .1 .1)),
+                        stands-frame v (set v (RESULT + at) ((at' - at) / 2)) (arc-words (arcsOf (nodeAt G i))) (RESULT + at + 1) (RESULT + at') (λ j g l u. (omega (arith, length-set v (RESULT + at) ((at' - at) / 2)), getD-set-other v (RESULT + at) j ((at' - at) / 2) 0 (λ u. omega arith))) (subst (λ (u : ℕ). Stands v u (arc-words (arcsOf (nodeAt G i))) (RESULT + at')) (omega arith) (o .1 .1)),
                       ),
                     ),
                   );

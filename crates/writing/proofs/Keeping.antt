@@ -1,6 +1,6 @@
 -- What stays as it is while the result is written. Assumes nothing.
 use mathlib.Core.Path.{_≡_, refl, sym, _∙_, subst}
-use mathlib.Core.List.{List, [], _∷_}
+use mathlib.Core.List.{List, []}
 use Prim.Native.Nat.{ℕ, _+_, _≤_, _<_}
 use native.Mathlib.Omega.{arith}
 use native.Mathlib.Decide.{ℕ-discrete}
@@ -8,7 +8,6 @@ use lib.ListN.{length, getD, set, length-set}
 use lib.Seq.{getD-set-same, getD-set-other}
 use Rattle.theory.specs.Net.{Graph}
 use Rattle.layout.specs.Standing.{Stands}
-use Rattle.layout.proofs.Standing.{stands-order}
 use Rattle.area.specs.Map.{PARENT, NEXT, LOG, STACK, WORDS, RESULT}
 use Rattle.area.specs.Region.{region, words}
 use Rattle.area.proofs.Region.{region-ext, words-same}
@@ -18,6 +17,7 @@ use Rattle.classes.proofs.Links.{chain-same}
 use Rattle.classes.proofs.Places.{chain-low}
 use Rattle.writing.specs.Classes.{Fan, Classes, Met}
 use Rattle.writing.specs.Writing.{Kept, Cleared}
+use Rattle.loading.proofs.Putting.{stands-frame}
 
 pub kept-refl : (k at : ℕ) (w : List ℕ) → Kept k at at w w
 kept-refl k at w = record { len = refl; more = omega arith; low = λ j h. refl; mid = λ j h l. refl; high = λ j h. refl }
@@ -52,16 +52,8 @@ kept-put k at at' p v w h a b = record {
 }
 
 -- words that stand there still do
-pub stands-frame : (w w' : List ℕ) → length w' ≡ length w → (xs : List ℕ) (p q : ℕ) → ((j : ℕ) → p ≤ j → j < q → getD w' j 0 ≡ getD w j 0) → Stands w p xs q → Stands w' p xs q
-unfolding Stands
-stands-frame w w' e [] p q f s = s
-stands-frame w w' e (x ∷ xs) p q f s =
-    let o = stands-order w xs (p + 1) q (s .2) in
-    let m = s .0 in
-    (omega arith, f p (omega arith) (omega arith) ∙ s .1, stands-frame w w' e xs (p + 1) q (λ j a b. f j (omega arith) b) (s .2))
-
 pub kept-stands : (k at at' : ℕ) (w w' : List ℕ) → Kept k at at' w w' → (xs : List ℕ) (p q : ℕ) → WORDS ≤ p → q ≤ RESULT + at → Stands w p xs q → Stands w' p xs q
-kept-stands k at at' w w' r xs p q a b = stands-frame w w' (r .len) xs p q (λ j g h. r .mid j (omega arith) (omega arith))
+kept-stands k at at' w w' r xs p q a b = stands-frame w w' xs p q (λ j g h l. (let e = r .len in omega arith, r .mid j (omega arith) (omega arith)))
 
 -- a chain of then is one of before
 pub kept-chain : (k at at' : ℕ) (w w' : List ℕ) → Kept k at at' w w' → (x : ℕ) (xs : List ℕ) → Chain w' x xs → Chain w x xs

@@ -17,8 +17,9 @@ use Rattle.classes.specs.Holds.{class}
 use Rattle.classes.proofs.Laws.{holds-few, holds-again, since-again}
 use Rattle.writing.specs.Classes.{Classes, Met}
 use Rattle.writing.specs.Writing.{Kept, Cleared, Numbering, Numbers, Listing, Listed, Writing, Writes}
-use Rattle.writing.proofs.Keeping.{kept-trans, kept-both, kept-wider, kept-put, stands-frame, kept-classes}
+use Rattle.writing.proofs.Keeping.{kept-trans, kept-both, kept-wider, kept-put, kept-classes}
 use Rattle.writing.proofs.Source.{ord, source}
+use Rattle.loading.proofs.Putting.{stands-frame}
 
 module _ (n k : ℕ) (w : List ℕ) (o : ℕ) (p : Writing n k w o) where
   few : k ≤ 4096
@@ -115,7 +116,7 @@ module _ (n k : ℕ) (w : List ℕ) (o : ℕ) (p : Writing n k w o) where
                     (
                       simp length-set (omega arith),
                       getD-set-same w3 (RESULT + o) m' 0 (omega arith) ∙ t .0,
-                      stands-frame w3 w4 (length-set w3 (RESULT + o) m') (nodes-words G) (RESULT + o + 1) (RESULT + at) (λ i a l. getD-set-other w3 (RESULT + o) i m' 0 (λ q. omega arith)) (subst (λ (i : ℕ). Stands w3 i (nodes-words G) (RESULT + at)) (omega arith) (t .1)),
+                      stands-frame w3 w4 (nodes-words G) (RESULT + o + 1) (RESULT + at) (λ i a l u. (omega (arith, length-set w3 (RESULT + o) m'), getD-set-other w3 (RESULT + o) i m' 0 (λ q. omega arith))) (subst (λ (i : ℕ). Stands w3 i (nodes-words G) (RESULT + at)) (omega arith) (t .1)),
                     ),
                     holds-again n es k w h w4 (kept .len) (λ i l. kept .low i (omega arith)) (λ i a l. kept .mid i a (omega arith)),
                   ),
