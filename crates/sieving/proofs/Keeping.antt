@@ -1,18 +1,19 @@
--- What a sieve asks, and what it survives: it tells the same as long as what is pushed and the loaded words stay. Assumes nothing.
-use mathlib.Core.Path.{_≡_, sym, subst}
+-- What a sieve asks, what it is good for, and what it survives: it tells the same as long as what is pushed and the loaded words stay. Assumes nothing.
+use mathlib.Core.Path.{_≡_, refl, sym, ap, _∙_, subst}
 use mathlib.Core.List.{List, [], _∷_}
-use Prim.Native.Nat.{ℕ, _+_, _-_, _≤_, _<_}
+use Prim.Native.Nat.{ℕ, zero, suc, _+_, _-_, _%_, _≤_, _<_}
 use native.Mathlib.Omega.{arith}
-use lib.ListN.{length, getD}
+use lib.ListN.{length, getD, replicate}
 use Rattle.area.specs.Map.{NEXT, LOG, SIZE}
+use Rattle.area.specs.Region.{words}
 use Rattle.area.specs.Log.{body, back, past}
 use Rattle.area.proofs.Region.{words-same}
 use Rattle.area.proofs.Undo.{word}
 use Rattle.loading.specs.Entry.{Entry}
-use Rattle.classes.specs.State.{Chain, None, Runs}
+use Rattle.classes.specs.State.{Chain, Runs, Looked}
 use Rattle.classes.specs.Holds.{Holds, class, Since}
 use Rattle.classes.proofs.Writer.{class-low, content}
-use Rattle.sieving.specs.Sieved.{Sieved}
+use Rattle.sieving.specs.Sieved.{Blank, Sieved}
 
 -- the class of all roots is that of the number 0
 pub roots-first : (n : ℕ) (es : List Entry) (k : ℕ) (w : List ℕ) (h : Holds n es k w) → 0 < n → class h 0 ≡ 0
@@ -22,12 +23,38 @@ roots-first n es k w h l = let a = class-low n es k w h 0 l in omega arith
 pub roots-run : (n : ℕ) (es : List Entry) (k : ℕ) (w : List ℕ) → Holds n es k w → 0 < n → getD w 0 0 ≤ 2048 → Runs w (getD w 0 0)
 roots-run n es k w h l b = let o = content n es k w h 0 l (roots-first n es k w h l) in record { xs = o .chain; chain = o .linked b; short = o .short }
 
+-- ---- nothing is noted
+pub blank : (n : ℕ) → Blank (replicate n 0)
+blank zero i = refl
+blank (suc n) zero = refl
+blank (suc n) (suc i) = blank n i
+
+-- ---- the arc y, from which the feature f is looked for
+module _ (w t : List ℕ) (s : Sieved w t) (f g : ℕ) (e : g ≡ f) (h : g % 256 < length t) (y : ℕ) (is : y ≡ getD t (g % 256) 0) where
+  there : y ≡ getD t (f % 256) 0
+  there = is ∙ ap (λ (i : ℕ). getD t (i % 256) 0) e
+
+  low : f % 256 < length t
+  low = subst (λ (i : ℕ). i % 256 < length t) e h
+
+  pub through-runs : Runs w y
+  through-runs = subst (Runs w) (sym there) (s .runs f low)
+
+  pub through-same : (x r : ℕ) → x ≡ getD w 0 0 → Looked (words w) w f y r → Looked (words w) w f x r
+  through-same x r q k = subst (λ (z : ℕ). Looked (words w) w f z r) (sym q) (s .same f r low (subst (λ (z : ℕ). Looked (words w) w f z r) there k))
+
 -- ---- the same words before the log, and the same loaded words
-chain-back : (w w' : List ℕ) → ((j : ℕ) → j < LOG → getD w' j 0 ≡ getD w j 0) → (x : ℕ) (xs : List ℕ) → Chain w' x xs → Chain w x xs
-chain-back w w' f x [] c = c
-chain-back w w' f x (j ∷ xs) c =
+chain-same : (w w' : List ℕ) → ((j : ℕ) → j < LOG → getD w' j 0 ≡ getD w j 0) → (x : ℕ) (xs : List ℕ) → Chain w x xs → Chain w' x xs
+chain-same w w' f x [] c = c
+chain-same w w' f x (j ∷ xs) c =
     let b = c .1 .0 in
-    (c .0, (c .1 .0, subst (λ (z : ℕ). Chain w z xs) (f (NEXT + j) (omega arith)) (chain-back w w' f (getD w' (NEXT + j) 0) xs (c .1 .1))))
+    (c .0, (c .1 .0, subst (λ (z : ℕ). Chain w' z xs) (sym (f (NEXT + j) (omega arith))) (chain-same w w' f (getD w (NEXT + j) 0) xs (c .1 .1))))
+
+looked-same : (w w' : List ℕ) → ((j : ℕ) → j < LOG → getD w' j 0 ≡ getD w j 0) → words w' ≡ words w → (i x r : ℕ) → Looked (words w) w i x r → Looked (words w') w' i x r
+looked-same w w' f e i x r k = rw e (record { miss = λ q xs c. k .miss q xs (back xs c); hit = λ j q xs c. k .hit j q xs (back xs c) })
+  where
+    back : (xs : List ℕ) → Chain w' x xs → Chain w x xs
+    back = chain-same w' w (λ j l. sym (f j l)) x
 
 same-body : (k : ℕ) (w w' : List ℕ) → past k k w' ≡ past k k w → body w' ≡ body w
 unfolding past back
@@ -37,10 +64,8 @@ same-body k w w' p = let e : k - k ≡ 0 = omega arith in rw e at p
 pub sieved-since : (k : ℕ) (w w' t : List ℕ) → SIZE ≤ length w → Since k w k w' → Sieved w t → Sieved w' t
 sieved-since k w w' t h p s =
     let f = word w w' (same-body k w w' (p .keeps k (omega arith))) in
+    let e = words-same w w' h (p .len) (p .same) in
     record {
-      long = s .long;
-      none = λ i z. record {
-        miss = λ q xs c. subst (λ (F : List ℕ). None F i xs) (sym (words-same w w' h (p .len) (p .same))) (s .none i z .miss q xs (subst (λ (y : ℕ). Chain w y xs) (f 0 (omega arith)) (chain-back w w' f (getD w' 0 0) xs c)));
-        hit = λ j q. absurd (omega arith);
-      };
+      runs = λ i l. let r = s .runs i l in record { xs = r .xs; chain = chain-same w w' f (getD t (i % 256) 0) (r .xs) (r .chain); short = r .short };
+      same = λ i r l k. subst (λ (z : ℕ). Looked (words w') w' i z r) (sym (f 0 (omega arith))) (looked-same w w' f e i (getD w 0 0) r (s .same i r l (looked-same w' w (λ j l. sym (f j l)) (sym e) i (getD t (i % 256) 0) r k)));
     }

@@ -1,2 +1,3 @@
-// A sieve for features: a short table that tells of most features that the graphs which are pushed have no arc under them at their roots.
+// A sieve for features: a table that tells where to look for a feature among the arcs of all roots, and of most features that there is none.
 pub mod gather;
+pub mod through;

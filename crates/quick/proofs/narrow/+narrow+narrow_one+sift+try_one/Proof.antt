@@ -10,7 +10,7 @@ use Rattle.marks.specs.Positions.{disjunctions-at}
 use Rattle.marks.specs.Marked.{marking}
 use Rattle.classes.proofs.Laws.{since-trans}
 use Rattle.sieving.specs.Sieved.{Sieved}
-use Rattle.sieving.proofs.Keeping.{sieved-since}
+use Rattle.sieving.proofs.Keeping.{blank, sieved-since}
 use Rattle.quick.specs.Settled.{Alternating}
 use Rattle.quick.specs.Stepped.{Fewer, Moved, Narrowing}
 use Rattle.quick.proofs.Entering.{asks-own}
@@ -129,7 +129,7 @@ narrow-slice-aggregate-gather : (t : ℕ) → narrow-lts.Need-slice-aggregate-ga
 narrow-slice-aggregate-gather t c = search needs
 
 narrow-gather-requires : (t : ℕ) → narrow-lts.Need-gather-requires (narrow-claims t) (narrow-at t) narrow.Post narrow-Inv-loop narrow-μ-loop
-narrow-gather-requires t c κs = let p = c .before .before .before .before .before .before .before .before .pre .1 in ((p .holds .long, omega arith), narrow-runs _ _ _ _ _ p)
+narrow-gather-requires t c κs = let p = c .before .before .before .before .before .before .before .before .pre .1 in ((p .holds .long, omega arith), (narrow-runs _ _ _ _ _ p, blank 256))
 
 narrow-add-at : (t : ℕ) → narrow-lts.Need-add-at (narrow-claims t) (narrow-at t) narrow.Post narrow-Inv-loop narrow-μ-loop
 narrow-add-at t c = let p = c .before .before .before .before .before .before .before .before .before .before .pre .1 in let e = c .before .before .before .before .before .before .before .tail-at .ensures in let h = narrow-starts _ _ _ _ _ p .1 in omega arith
@@ -167,29 +167,26 @@ narrow-same-length-2 t c = let p = c .before .before .before .before .before .be
 narrow-returns-2 : (t : ℕ) → narrow-lts.Need-returns-2 (narrow-claims t) (narrow-at t) narrow.Post narrow-Inv-loop narrow-μ-loop
 narrow-returns-2 t c = let p = c .before .before .before .before .before .before .before .before .before .before .before .before .before .before .before .before .before .before .before .before .before .before .before .before .before .pre .1 in let v = c .before .before .before .before .before .before .before .before .before .before .before .before .before .before .loop .inv in let q = c .before .before .before .before .before .before .before .before .before .before .before .before .before .loop-test in narrows-fails _ _ _ _ _ _ (moved-back _ _ _ _ _ p _ _ _ _ (v .0) (v .2 p) (omega arith) _ (c .before .before .before .before .before .before .before .before .before .before .before .alternatives-at .ensures) _ _ (c .before .before .before .before .before .before .before .before .narrow-one .ensures) (c .before .before .before .before .enum-told .given .1) _ (c .before .before .back .ensures)) (fewer-back _ _ _ _ _ p _ _ _ _ (v .0) (v .2 p) (omega arith) _ (c .before .before .before .before .before .before .before .before .before .before .before .alternatives-at .ensures) _ _ (c .before .before .before .before .before .before .before .before .narrow-one .ensures) (c .before .before .before .before .enum-told .given .1) _ (c .before .before .back .ensures) _ (v .1)) (λ d. narrow-fails _ _ _ _ _ d _ _ _ _ (v .0) (v .2 d) (omega arith) _ (c .before .before .before .before .before .before .before .before .before .before .before .alternatives-at .ensures) _ _ (c .before .before .before .before .before .before .before .before .narrow-one .ensures) (c .before .before .before .before .enum-told .given .1) _ (c .before .before .back .ensures))
 
-narrow-slice-aggregate-renew : (t : ℕ) → narrow-lts.Need-slice-aggregate-renew (narrow-claims t) (narrow-at t) narrow.Post narrow-Inv-loop narrow-μ-loop
-narrow-slice-aggregate-renew t c = sym (c .before .before .before .before .before .before .before .before .before .before .before .before .before .loop .inv .3)
-
 narrow-renew-requires : (t : ℕ) → narrow-lts.Need-renew-requires (narrow-claims t) (narrow-at t) narrow.Post narrow-Inv-loop narrow-μ-loop
-narrow-renew-requires t c κs = let p = c .before .before .before .before .before .before .before .before .before .before .before .before .before .before .before .before .before .before .before .before .before .before .before .before .pre .1 in let v = c .before .before .before .before .before .before .before .before .before .before .before .before .before .loop .inv in let q = c .before .before .before .before .before .before .before .before .before .before .before .before .loop-test in let one = c .before .before .before .before .before .before .before .narrow-one .ensures in let stands = c .before .before .before .one .given .1 in ((omega (arith, one .standing _ _ stands .0 .len, v .0 .len, p .holds .long), omega (arith, v .3)), (runs-after _ _ _ _ _ p _ _ _ _ (v .0) (v .2 p) (omega arith) _ (c .before .before .before .before .before .before .before .before .before .before .alternatives-at .ensures) _ _ one _ _ stands, sieved-after _ _ _ _ _ p _ _ _ _ (v .0) (v .2 p) (omega arith) _ (c .before .before .before .before .before .before .before .before .before .before .alternatives-at .ensures) _ _ one _ _ stands _ (v .4)))
+narrow-renew-requires t c κs = let p = c .before .before .before .before .before .before .before .before .before .before .before .before .before .before .before .before .before .before .before .before .before .before .before .before .pre .1 in let v = c .before .before .before .before .before .before .before .before .before .before .before .before .before .loop .inv in let q = c .before .before .before .before .before .before .before .before .before .before .before .before .loop-test in let one = c .before .before .before .before .before .before .before .narrow-one .ensures in let stands = c .before .before .before .one .given .1 in ((omega (arith, one .standing _ _ stands .0 .len, v .0 .len, p .holds .long), v .3), (runs-after _ _ _ _ _ p _ _ _ _ (v .0) (v .2 p) (omega arith) _ (c .before .before .before .before .before .before .before .before .before .before .alternatives-at .ensures) _ _ one _ _ stands, sieved-after _ _ _ _ _ p _ _ _ _ (v .0) (v .2 p) (omega arith) _ (c .before .before .before .before .before .before .before .before .before .before .alternatives-at .ensures) _ _ one _ _ stands _ (v .4)))
 
 narrow-add-drops : (t : ℕ) → narrow-lts.Need-add-drops (narrow-claims t) (narrow-at t) narrow.Post narrow-Inv-loop narrow-μ-loop
-narrow-add-drops t c = let p = c .before .before .before .before .before .before .before .before .before .before .before .before .before .before .before .before .before .before .before .before .before .before .before .before .before .before .pre .1 in let v = c .before .before .before .before .before .before .before .before .before .before .before .before .before .before .before .loop .inv in let q = c .before .before .before .before .before .before .before .before .before .before .before .before .before .before .loop-test in let a = fewer-small _ _ _ (v .1) in let b = fewer-small _ _ _ (c .before .before .before .before .before .before .before .before .before .narrow-one .ensures .standing _ _ (c .before .before .before .before .before .one .given .1) .1) in omega arith
+narrow-add-drops t c = let p = c .before .before .before .before .before .before .before .before .before .before .before .before .before .before .before .before .before .before .before .before .before .before .before .before .before .pre .1 in let v = c .before .before .before .before .before .before .before .before .before .before .before .before .before .before .loop .inv in let q = c .before .before .before .before .before .before .before .before .before .before .before .before .before .loop-test in let a = fewer-small _ _ _ (v .1) in let b = fewer-small _ _ _ (c .before .before .before .before .before .before .before .before .narrow-one .ensures .standing _ _ (c .before .before .before .before .one .given .1) .1) in omega arith
 
 narrow-add-count-kept : (t : ℕ) → narrow-lts.Need-add-count-kept (narrow-claims t) (narrow-at t) narrow.Post narrow-Inv-loop narrow-μ-loop
-narrow-add-count-kept t c = let p = c .before .before .before .before .before .before .before .before .before .before .before .before .before .before .before .before .before .before .before .before .before .before .before .before .before .before .before .pre .1 in let v = c .before .before .before .before .before .before .before .before .before .before .before .before .before .before .before .before .loop .inv in let q = c .before .before .before .before .before .before .before .before .before .before .before .before .before .before .before .loop-test in let h = narrow-here _ _ _ _ _ p _ _ _ _ (v .0) (v .2 p) (omega arith) in omega arith
+narrow-add-count-kept t c = let p = c .before .before .before .before .before .before .before .before .before .before .before .before .before .before .before .before .before .before .before .before .before .before .before .before .before .before .pre .1 in let v = c .before .before .before .before .before .before .before .before .before .before .before .before .before .before .before .loop .inv in let q = c .before .before .before .before .before .before .before .before .before .before .before .before .before .before .loop-test in let h = narrow-here _ _ _ _ _ p _ _ _ _ (v .0) (v .2 p) (omega arith) in omega arith
 
 narrow-count-kept-requires : (t : ℕ) → narrow-lts.Need-count-kept-requires (narrow-claims t) (narrow-at t) narrow.Post narrow-Inv-loop narrow-μ-loop
-narrow-count-kept-requires t c κs = let p = c .before .before .before .before .before .before .before .before .before .before .before .before .before .before .before .before .before .before .before .before .before .before .before .before .before .before .before .pre .1 in let v = c .before .before .before .before .before .before .before .before .before .before .before .before .before .before .before .before .loop .inv in let q = c .before .before .before .before .before .before .before .before .before .before .before .before .before .before .before .loop-test in asks-after _ _ _ _ _ p _ _ _ _ (v .0) (v .2 p) (omega arith) _ (c .before .before .before .before .before .before .before .before .before .before .before .before .before .alternatives-at .ensures) _ _ (c .before .before .before .before .before .before .before .before .before .before .narrow-one .ensures) _ _ (c .before .before .before .before .before .before .one .given .1)
+narrow-count-kept-requires t c κs = let p = c .before .before .before .before .before .before .before .before .before .before .before .before .before .before .before .before .before .before .before .before .before .before .before .before .before .before .pre .1 in let v = c .before .before .before .before .before .before .before .before .before .before .before .before .before .before .before .loop .inv in let q = c .before .before .before .before .before .before .before .before .before .before .before .before .before .before .loop-test in asks-after _ _ _ _ _ p _ _ _ _ (v .0) (v .2 p) (omega arith) _ (c .before .before .before .before .before .before .before .before .before .before .before .before .alternatives-at .ensures) _ _ (c .before .before .before .before .before .before .before .before .before .narrow-one .ensures) _ _ (c .before .before .before .before .before .one .given .1)
 
 narrow-sub-more : (t : ℕ) → narrow-lts.Need-sub-more (narrow-claims t) (narrow-at t) narrow.Post narrow-Inv-loop narrow-μ-loop
-narrow-sub-more t c = let q = c .before .before .before .before .before .before .before .before .before .before .before .before .before .before .before .before .loop-test in omega arith
+narrow-sub-more t c = let q = c .before .before .before .before .before .before .before .before .before .before .before .before .before .before .before .loop-test in omega arith
 
 narrow-loop-less : (t : ℕ) → narrow-lts.Need-loop-less (narrow-claims t) (narrow-at t) narrow.Post narrow-Inv-loop narrow-μ-loop
-narrow-loop-less t c = let q = c .before .before .before .before .before .before .before .before .before .before .before .before .before .before .before .before .loop-test in omega arith
+narrow-loop-less t c = let q = c .before .before .before .before .before .before .before .before .before .before .before .before .before .before .before .loop-test in omega arith
 
 narrow-loop-again : (t : ℕ) → narrow-lts.Need-loop-again (narrow-claims t) (narrow-at t) narrow.Post narrow-Inv-loop narrow-μ-loop
-narrow-loop-again t c = let p = c .before .before .before .before .before .before .before .before .before .before .before .before .before .before .before .before .before .before .before .before .before .before .before .before .before .before .before .before .pre .1 in let v = c .before .before .before .before .before .before .before .before .before .before .before .before .before .before .before .before .before .loop .inv in let q = c .before .before .before .before .before .before .before .before .before .before .before .before .before .before .before .before .loop-test in (moved-on _ _ _ _ _ p _ _ _ _ (v .0) (v .2 p) (omega arith) _ (c .before .before .before .before .before .before .before .before .before .before .before .before .before .before .alternatives-at .ensures) _ _ (c .before .before .before .before .before .before .before .before .before .before .before .narrow-one .ensures) _ _ (c .before .before .before .before .before .before .before .one .given .1), fewer-trans _ _ _ _ _ (v .1) (c .before .before .before .before .before .before .before .before .before .before .before .narrow-one .ensures .standing _ _ (c .before .before .before .before .before .before .before .one .given .1) .1), λ d. narrow-on _ _ _ _ _ d _ _ _ _ (v .0) (v .2 d) (omega arith) _ (c .before .before .before .before .before .before .before .before .before .before .before .before .before .before .alternatives-at .ensures) _ _ (c .before .before .before .before .before .before .before .before .before .before .before .narrow-one .ensures) _ _ (c .before .before .before .before .before .before .before .one .given .1) _ _ _ (c .count-kept .ensures), c .before .before .before .renew .kept .1 .0 ∙ v .3, c .before .before .before .renew .ensures)
+narrow-loop-again t c = let p = c .before .before .before .before .before .before .before .before .before .before .before .before .before .before .before .before .before .before .before .before .before .before .before .before .before .before .before .pre .1 in let v = c .before .before .before .before .before .before .before .before .before .before .before .before .before .before .before .before .loop .inv in let q = c .before .before .before .before .before .before .before .before .before .before .before .before .before .before .before .loop-test in (moved-on _ _ _ _ _ p _ _ _ _ (v .0) (v .2 p) (omega arith) _ (c .before .before .before .before .before .before .before .before .before .before .before .before .before .alternatives-at .ensures) _ _ (c .before .before .before .before .before .before .before .before .before .before .narrow-one .ensures) _ _ (c .before .before .before .before .before .before .one .given .1), fewer-trans _ _ _ _ _ (v .1) (c .before .before .before .before .before .before .before .before .before .before .narrow-one .ensures .standing _ _ (c .before .before .before .before .before .before .one .given .1) .1), λ d. narrow-on _ _ _ _ _ d _ _ _ _ (v .0) (v .2 d) (omega arith) _ (c .before .before .before .before .before .before .before .before .before .before .before .before .before .alternatives-at .ensures) _ _ (c .before .before .before .before .before .before .before .before .before .before .narrow-one .ensures) _ _ (c .before .before .before .before .before .before .one .given .1) _ _ _ (c .count-kept .ensures), c .before .before .renew .ensures .0, c .before .before .renew .ensures .1)
 
 narrow-same-length-3 : (t : ℕ) → narrow-lts.Need-same-length-3 (narrow-claims t) (narrow-at t) narrow.Post narrow-Inv-loop narrow-μ-loop
 narrow-same-length-3 t c = c .before .loop .inv .0 .len
@@ -440,7 +437,6 @@ pub +narrow+narrow-one+sift+try-one-spec : {M : Type 1} → statement M
     (narrow-back-requires t)
     (narrow-same-length-2 t)
     (narrow-returns-2 t)
-    (narrow-slice-aggregate-renew t)
     (narrow-renew-requires t)
     (narrow-add-drops t)
     (narrow-add-count-kept t)

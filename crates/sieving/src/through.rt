@@ -1,0 +1,24 @@
+// A feature is looked for through the sieve.
+use area::log::wide;
+use classes::chain::look;
+ghost use mathlib.Core.Path.{_≡_};
+ghost use Prim.Native.Nat.{_≤_};
+ghost use lib.ListN.{length, getD};
+ghost use Rattle.area.specs.Map.{SIZE};
+ghost use Rattle.area.specs.Region.{words};
+ghost use Rattle.classes.specs.State.{Runs, Looked};
+ghost use Rattle.sieving.specs.Sieved.{Sieved};
+
+// The first arc with the feature f on the chain of the class of all roots, which begins with the code x, counted from 1, or 0. A sieve may be short: then all is looked through.
+pub fn look_through(w: &[u32], x: usize, f: u32, t: &[u32]) -> usize
+    requires { ⌜ (SIZE ≤ length (now w)) × (x ≡ getD (now w) 0 0) ⌝ }
+    requires { ⌜ Runs (now w) x ⌝ }
+    requires { ⌜ Sieved (now w) (now t) ⌝ }
+    ensures { λ r. ⌜ Looked (words (now (w .entry))) (now (w .entry)) f x r ⌝ }
+{
+    let i = wide(f) % 256;
+    if t.len() <= i {
+        return look(w, x, f);
+    }
+    look(w, wide(t[i]), f)
+}
