@@ -176,7 +176,7 @@ pub record NewArc (F T : List ℕ) (S : ℕ → ℕ) (b x p : ℕ) (vs : Graph) 
   pub before : suc q < p + spans vs
 
 module _ (F T : List ℕ) (S : ℕ → ℕ) (b : ℕ) where
-  arcs-at : (l : List (ℕ × ℕ)) (p : ℕ) → ArcsLie F T b p l → (i : ℕ) → i < length l → (to : ℕ) × (List·Memᴰ (getD F (p + 2 * i) 0, to) l × (getD T (p + 2 * i) 0 ≡ b + to))
+  pub arcs-at : (l : List (ℕ × ℕ)) (p : ℕ) → ArcsLie F T b p l → (i : ℕ) → i < length l → (to : ℕ) × (List·Memᴰ (getD F (p + 2 * i) 0, to) l × (getD T (p + 2 * i) 0 ≡ b + to))
   arcs-at [] p s i h = absurd (omega arith)
   arcs-at (a ∷ l) p s zero h =
       let e : p + 2 * 0 ≡ p = omega arith in
@@ -186,7 +186,7 @@ module _ (F T : List ℕ) (S : ℕ → ℕ) (b : ℕ) where
       let r = arcs-at l (p + 2) (s .1) i (omega arith) in
       (r .0, (rw e (List·Memᴰ·tail (r .1 .0)), rw e (r .1 .1)))
 
-  arcs-find : (l : List (ℕ × ℕ)) (p : ℕ) → ArcsLie F T b p l → (f t : ℕ) → List·Memᴰ (f, t) l → (i : ℕ) × ((i < length l) × ((getD F (p + 2 * i) 0 ≡ f) × (getD T (p + 2 * i) 0 ≡ b + t)))
+  pub arcs-find : (l : List (ℕ × ℕ)) (p : ℕ) → ArcsLie F T b p l → (f t : ℕ) → List·Memᴰ (f, t) l → (i : ℕ) × ((i < length l) × ((getD F (p + 2 * i) 0 ≡ f) × (getD T (p + 2 * i) 0 ≡ b + t)))
   arcs-find [] p s f t m = absurd (List·Memᴰ·not-nil m)
   arcs-find (a ∷ l) p s f t m = ⊎-elim
       (λ q.

@@ -74,7 +74,7 @@ module _ (n : ℕ) (es : List Entry) (k : ℕ) (w : List ℕ) (e : Entry) (h : H
   low : p + spans vs ≤ 2048
   low = let a = c .lies .fits in let b = spans-is in omega arith
 
-  lie : NodesLie F T x p vs
+  pub lie : NodesLie F T x p vs
   lie = nodes-lie F T x follows vs p low (λ r q. let s = spans-is in let l = low in
       let o : WORDS + (p + r) ≡ WORDS + (suc (e .at) + r) = omega arith in
       word-at w (p + r) (omega arith) ∙ (rw o (c .lies .nodes r (omega arith))))
@@ -89,7 +89,7 @@ module _ (n : ℕ) (es : List Entry) (k : ℕ) (w : List ℕ) (e : Entry) (h : H
   arc-off : (q : ℕ) → List·Memᴰ q (G .B) → (q < p) ⊎ (p + spans vs ≤ q)
   arc-off q m = let o = h .tied .arcs q m in let b = o .after in let d = o .before in let s = spans-is in ⊎-elim (λ a. inr (omega arith)) (λ a. inl (omega arith)) (c .aside (o .e) (o .one) .1)
 
-  extends : Extends G pile
+  pub extends : Extends G pile
   extends = record {
     roots = λ i m. List·Memᴰ·tail m;
     nodes = λ i m. numbers-old (G .N) x vs i m;

@@ -21,7 +21,7 @@ pub record Extends (G G' : Pile) : Type 0 where
   pub codes : (i : ℕ) → List·Memᴰ i (G .N) → G' .A i ≡ G .A i
 
 module _ (G G' : Pile) (F T : List ℕ) (x : Extends G G') where
-  same-extends : {i j : ℕ} → Same G F T i j → Same G' F T i j
+  pub same-extends : {i j : ℕ} → Same G F T i j → Same G' F T i j
   same-extends (Same.root {x = i} {y = j} a b) = Same.root (x .roots i a) (x .roots j b)
   same-extends (Same.self i) = Same.self i
   same-extends (Same.back r) = Same.back (same-extends r)

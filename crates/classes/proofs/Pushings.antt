@@ -74,7 +74,7 @@ module _ (n k : ℕ) (w : List ℕ) (g base c : ℕ) where
 
 -- the parts of a header
 module _ (n k : ℕ) (w : List ℕ) (g head : ℕ) (is : head ≡ getD (words w) g 0) where
-  parts : (es : List Entry) (e : Entry) → e .at ≡ g → Comes n es e w → (e .number ≡ head / 1024 % 1024) × (length (e .graph) ≡ head % 1024)
+  pub parts : (es : List Entry) (e : Entry) → e .at ≡ g → Comes n es e w → (e .number ≡ head / 1024 % 1024) × (length (e .graph) ≡ head % 1024)
   parts es e i d =
       let l = d .lies in
       let f = l .fits in let a = l .few in let b = l .low in

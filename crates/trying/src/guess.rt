@@ -1,0 +1,95 @@
+// A flat graph is tried on the classes of the graphs that are pushed, and nothing is written. Its root has an arc to each of its other nodes, in order, and each of these is a leaf: it bears an atom or says nothing.
+use crate::told::Guess;
+use area::log::wide;
+use classes::chain::loaded;
+use classes::chain::look;
+use classes::chain::target;
+use classes::push::class_of;
+ghost use Prim.Native.Nat.{_+_, _*_, _≤_, _<_};
+ghost use Rattle.classes.specs.Holds.{Pushing};
+ghost use Rattle.trying.specs.Leaf.{Anchored, Suits, Leads, LeadsAll};
+ghost use Rattle.trying.specs.Guessed.{Guesses};
+
+// Whether the atom's head v may stand under the feature f of the roots, whose chain begins with the code x.
+fn suit(w: &[u32], n: usize, x: usize, f: u32, v: u32) -> Guess
+    requires { ⌜ Anchored n (now w) x ⌝ }
+    ensures { λ r. ⌜ Suits n (now (w .entry)) f v r ⌝ }
+{
+    let r = look(w, x, f);
+    if r == 0 {
+        return Guess::Agrees;
+    }
+    let y = target(w, r - 1);
+    let c = class_of(w, n, y);
+    let z = w[c];
+    if z == v {
+        return Guess::Agrees;
+    }
+    if z == 0 {
+        Guess::Unsure
+    } else {
+        Guess::Clashes
+    }
+}
+
+// The arc i of the d arcs of the root of the graph at g, whose number is `base`, and the leaf that it leads to.
+fn lead(w: &[u32], n: usize, g: usize, base: usize, d: usize, x: usize, i: usize) -> Guess
+    requires { ⌜ Anchored n (now w) x ⌝ }
+    requires { ⌜ (base < 1024) × ((i < d) × (g + 2 + 3 * d ≤ 2048)) ⌝ }
+    ensures { λ r. ⌜ Leads n (now (w .entry)) g base d i r ⌝ }
+{
+    let at = g + 2 + 2 * i;
+    let to = target(w, at);
+    if to != base + 1 + i {
+        return Guess::Unsure;
+    }
+    let v = loaded(w, g + 2 + 2 * d + i);
+    if v == 0 {
+        return Guess::Agrees;
+    }
+    if v < 65536 {
+        return Guess::Unsure;
+    }
+    let f = loaded(w, at);
+    suit(w, n, x, f, v)
+}
+
+// All the d arcs.
+fn lead_all(w: &[u32], n: usize, g: usize, base: usize, d: usize, x: usize) -> Guess
+    requires { ⌜ Anchored n (now w) x ⌝ }
+    requires { ⌜ (base < 1024) × (g + 2 + 3 * d ≤ 2048) ⌝ }
+    ensures { λ r. ⌜ LeadsAll n (now (w .entry)) g base d r ⌝ }
+{
+    let mut i: usize = 0;
+    while i < d {
+        let one = lead(w, n, g, base, d, x, i);
+        let Guess::Agrees = one else {
+            return one;
+        };
+        i += 1;
+    }
+    Guess::Agrees
+}
+
+// Tells of the graph at g whether it agrees with the graphs that are pushed, where it is flat and that is plain.
+pub fn guess(w: &[u32], k: usize, n: usize, g: usize) -> Guess
+    requires { ⌜ Pushing n k (now w) g ⌝ }
+    ensures { λ r. ⌜ Guesses n k (now (w .entry)) g r ⌝ }
+{
+    let head = wide(loaded(w, g));
+    let c = head % 1024;
+    let base = head / 1024 % 1024;
+    let d = wide(loaded(w, g + 1));
+    if d + 1 != c {
+        return Guess::Unsure;
+    }
+    let a = class_of(w, n, 0);
+    let h = w[a];
+    if h > 2048 {
+        if d == 0 {
+            return Guess::Unsure;
+        }
+        return Guess::Clashes;
+    }
+    lead_all(w, n, g, base, d, wide(h))
+}
