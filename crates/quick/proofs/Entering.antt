@@ -26,6 +26,7 @@ use Rattle.marks.specs.Tallied.{from-kept, Alternatives, Tallied}
 use Rattle.marks.proofs.Reading.{tail-is, disjunctions-is, alternatives-is, read-at}
 use Rattle.marks.proofs.Marks.{marking-frame}
 use Rattle.counting.specs.Nesting.{Nests, NestsAll, NestsAny}
+use Rattle.classes.specs.Entry.{Comes}
 use Rattle.classes.specs.Holds.{Holds, Since, Pushing, Pushes}
 use Rattle.classes.specs.declared.push.Pushed.{Pushed}
 use Rattle.classes.specs.declared.push.Pushed.the-variants.{In, Clashed}
@@ -65,19 +66,16 @@ module _ (n k : ℕ) (w : List ℕ) (g left : ℕ) (c : Entering n k w g left) w
   room = c .holds .long
 
   -- ---- the description's own graph
+  pub own-comes : (K : Graph) (ds : Places) (at : At (c .t) g (c .from) (place K ds) (c .end) (c .to)) → Among (c .U) (c .t) g (c .from) (place K ds) (c .end) (c .to) at → Comes n (c .es) (entry g (c .from) K) w
+  own-comes K ds at u =
+      let more = at-bounds (c .t) (place K ds) g (c .from) (c .end) (c .to) at .2 in
+      c .ground .comes w (c .es) k (c .loaded) (c .holds) (c .inside) (entry g (c .from) K) (u .0) (λ o i q. ⊎-elim (λ b. omega arith) (λ b. omega arith) (c .free o i))
+
   pub asks-own : Pushing n k w g
   asks-own = go (c .d) (c .at) (c .among)
     where
       go : (d : Placed) (at : At (c .t) g (c .from) d (c .end) (c .to)) → Among (c .U) (c .t) g (c .from) d (c .end) (c .to) at → Pushing n k w g
-      go (place K ds) at u =
-          let more = at-bounds (c .t) (place K ds) g (c .from) (c .end) (c .to) at .2 in
-          record {
-            es = c .es;
-            e = entry g (c .from) K;
-            is = refl;
-            holds = c .holds;
-            comes = c .ground .comes w (c .es) k (c .loaded) (c .holds) (c .inside) (entry g (c .from) K) (u .0) (λ o i q. ⊎-elim (λ b. omega arith) (λ b. omega arith) (c .free o i));
-          }
+      go (place K ds) at u = record { es = c .es; e = entry g (c .from) K; is = refl; holds = c .holds; comes = own-comes K ds at u }
 
   inside-all : Inside (c .U) (entered c)
   inside-all = inside-append (c .U) (c .es) (taken (c .t) (marking w) g (c .from) (c .d) (c .end) (c .to) (c .at)) (c .inside) (taken-inside (c .t) (marking w) (c .U) g (c .from) (c .d) (c .end) (c .to) (c .at) (c .among))
@@ -133,7 +131,7 @@ module _ (n k : ℕ) (w : List ℕ) (g left : ℕ) (c : Entering n k w g left) w
               nests = nests;
               among = s .1;
               es = c .es ++ own ∷ [];
-              holds = u .inside log z .1 (c .es) own refl (c .holds) (c .ground .comes w (c .es) k (c .loaded) (c .holds) (c .inside) own (s .0) (λ o i q. ⊎-elim (λ b. omega arith) (λ b. omega arith) (c .free o i)));
+              holds = u .inside log z .1 (c .es) own refl (c .holds) (own-comes K ds at s);
               inside = inside-append (c .U) (c .es) (own ∷ []) (c .inside) (λ o i. ⊎-elim (λ q. subst (λ (x : Entry). List·Memᴰ x (c .U)) (sym q) (s .0)) (λ j. absurd (List·Memᴰ·not-nil j)) (List·Memᴰ·cases-cons i));
               free = free-append (c .from + length K) (c .to) (c .es) (own ∷ []) (free-narrow (c .from) (c .to) (c .from + length K) (c .to) (c .es) (omega arith) (omega arith) (c .free))
                   (λ o i. ⊎-elim (λ q. let v : o .number ≡ c .from = ap (λ (x : Entry). x .number) q in inl (omega arith)) (λ j. absurd (List·Memᴰ·not-nil j)) (List·Memᴰ·cases-cons i));
@@ -314,8 +312,7 @@ enters-own n k w g left o w₁ u z = record {
         entered c ≡ c .es ++ taken (c .t) (marking w) g (c .from) d (c .end) (c .to) at → Clash (graphs (entered c)) × Holds n (c .es) k w₁
     own-clash c (place K ds) at s same =
         let own = entry g (c .from) K in
-        let more = at-bounds (c .t) (place K ds) g (c .from) (c .end) (c .to) at .2 in
-        let told = u .clashed z .1 (c .es) own refl (c .holds) (c .ground .comes w (c .es) k (c .loaded) (c .holds) (c .inside) own (s .0) (λ o i q. ⊎-elim (λ b. omega arith) (λ b. omega arith) (c .free o i))) in
+        let told = u .clashed z .1 (c .es) own refl (c .holds) (own-comes n k w g left c K ds at s) in
         let rest = taken-all (c .t) (marking w) (g + extent K + 1) (c .from + length K) ds (c .end) (c .to) (at .6) in
         let all : entered c ≡ (c .es ++ own ∷ []) ++ rest = same ∙ sym (append-assoc (c .es) (own ∷ []) rest) in
         let first = subst Clash (sym (graphs-append (c .es) (own ∷ []))) (told .0) in

@@ -3,11 +3,13 @@ use crate::step::Step;
 use classes::push::Pushed;
 use classes::push::back;
 use classes::push::push;
+use trying::guess::guess;
+use trying::told::Guess;
 ghost use Rattle.classes.specs.Holds.{Pushing};
 ghost use Rattle.quick.specs.Stepped.{TriesBare};
 
-// Tries the alternative at g: its graph is pushed and taken back.
-pub fn try_bare(w: &mut [u32], k: usize, n: usize, g: usize) -> Step
+// Tries the alternative at g by its graph, which is pushed and taken back.
+fn push_bare(w: &mut [u32], k: usize, n: usize, g: usize) -> Step
     requires { ⌜ Pushing n k (now w) g ⌝ }
     ensures { λ r. ⌜ TriesBare n k (now (w .entry)) g r (now (w .exit)) ⌝ }
 {
@@ -17,4 +19,17 @@ pub fn try_bare(w: &mut [u32], k: usize, n: usize, g: usize) -> Step
     };
     back(w, e, k);
     Step::Stands(k, 0)
+}
+
+// Tries the alternative at g. Mostly its graph need not be pushed for that.
+pub fn try_bare(w: &mut [u32], k: usize, n: usize, g: usize) -> Step
+    requires { ⌜ Pushing n k (now w) g ⌝ }
+    ensures { λ r. ⌜ TriesBare n k (now (w .entry)) g r (now (w .exit)) ⌝ }
+{
+    let told = guess(w, k, n, g);
+    match told {
+        Guess::Agrees => Step::Stands(k, 0),
+        Guess::Clashes => Step::Fails,
+        Guess::Unsure => push_bare(w, k, n, g),
+    }
 }

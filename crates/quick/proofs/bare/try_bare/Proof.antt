@@ -1,43 +1,61 @@
--- `quick::bare::try_bare` meets its contract: the graph is pushed and taken back, or clashes.
+-- `quick::bare::try_bare` meets its contract: what the graph would do is told, or it is pushed.
 -- Assumes nothing.
+use mathlib.Core.Path.{subst}
 use borrow.Author.Needs.{needs}
-use Rattle.quick.proofs.Plain.{bare-clash, bare-stands}
+use Rattle.trying.specs.Guessed.{Guesses}
+use Rattle.quick.proofs.Plain.{told-clash, told-stands}
 use Rattle.quick.proofs.bare.try_bare.Statement.{statement}
 use Rattle.quick.proofs.bare.try_bare.Tie as tie
 
-push-requires : tie.Need-push-requires
-push-requires c κs = search needs
-
-enum-known-own : tie.Need-enum-known-own
-enum-known-own c = search needs
+guess-requires : tie.Need-guess-requires
+guess-requires c κs = search needs
 
 enum-told : tie.Need-enum-told
 enum-told c = search needs
+
+enum-told-2 : tie.Need-enum-told-2
+enum-told-2 c = search needs
+
+enum-told-3 : tie.Need-enum-told-3
+enum-told-3 c = search needs
+
+push-bare-requires : tie.Need-push-bare-requires
+push-bare-requires c κs = search needs
 
 same-length : tie.Need-same-length
 same-length c = search needs
 
 returns : tie.Need-returns
-returns c = record { tries = λ left e z. bare-clash _ _ _ _ left _ _ (c .before .before .before .before .push .ensures) e (c .enum-told .given .1) }
-
-back-requires : tie.Need-back-requires
-back-requires c κs = record { w₀ = c .before .before .before .before .before .before .before .before .before .args .w .now; since = c .before .before .before .before .before .before .push .ensures .inside _ (c .before .before .own .given .1) .0 }
+returns c =
+    let a = c .before .before .before .before .before .args in
+    record { tries = λ left e z. told-stands (a .n) (a .k) (a .w .now) (a .g) left e z (subst (Guesses (a .n) (a .k) (a .w .now) (a .g)) (c .enum-told .given .1) (c .before .before .guess .ensures)) }
 
 same-length-2 : tie.Need-same-length-2
 same-length-2 c = search needs
 
 returns-2 : tie.Need-returns-2
-returns-2 c = record { tries = λ left e z. bare-stands _ _ _ _ left _ _ (c .before .before .before .before .before .before .before .before .before .push .ensures) e _ (c .before .before .before .before .before .own .given .1) z _ (c .before .before .back .ensures) }
+returns-2 c =
+    let a = c .before .before .before .before .before .args in
+    record { tries = λ left e z. told-clash (a .n) (a .k) (a .w .now) (a .g) left e (subst (Guesses (a .n) (a .k) (a .w .now) (a .g)) (c .enum-told2 .given .1) (c .before .before .guess .ensures)) }
+
+same-length-3 : tie.Need-same-length-3
+same-length-3 c = search needs
+
+returns-3 : tie.Need-returns-3
+returns-3 c = search needs
 
 pub try-bare-spec : {M : Type 1} → statement M
 try-bare-spec =
     tie.close
     (tie.spec
-    push-requires
-    enum-known-own
+    guess-requires
     enum-told
+    enum-told-2
+    enum-told-3
+    push-bare-requires
     same-length
     returns
-    back-requires
     same-length-2
-    returns-2)
+    returns-2
+    same-length-3
+    returns-3)
