@@ -10,7 +10,7 @@ use Rattle.area.specs.Region.{words}
 use Rattle.loading.specs.Entry.{Entry, graphs}
 use Rattle.classes.specs.State.{targets, Runs, Looked}
 use Rattle.classes.specs.Holds.{Holds, class, Labelled, Classed}
-use Rattle.classes.specs.Content.{Content}
+use Rattle.classes.proofs.Content.{Content}
 use Rattle.classes.specs.Ask.{AtomOf, TargetOf}
 use Rattle.classes.specs.declared.ask.Borne.the-variants.{Atom, Nothing}
 use Rattle.classes.specs.declared.ask.Led.the-variants.{To, Nowhere}

@@ -11,7 +11,7 @@ use lib.ListN.{length, set, getD, length-set}
 use lib.Seq.{getD-set-same, getD-set-other}
 use Rattle.area.specs.Map.{PARENT, NEXT, LOG, STACK, SIZE}
 use Rattle.area.specs.Region.{region}
-use Rattle.classes.specs.Labels.{relabelled}
+use Rattle.classes.proofs.Relabel.{relabelled}
 use Rattle.area.specs.Log.{Logged, Later, Put}
 use Rattle.classes.specs.Forest.{tops}
 use Rattle.classes.specs.State.{Pile, Done, Same, Clashes, Chain, Seg, First, Near, Framed, Bears, State, Ready, Met, Grow, Last, Runs, frames}

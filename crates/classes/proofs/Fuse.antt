@@ -9,7 +9,8 @@ use lib.ListN.{length, set, getD, length-set, length-append}
 use lib.Seq.{getD-set-same, getD-set-other}
 use Rattle.area.specs.Map.{PARENT, NEXT, SIZE}
 use Rattle.area.specs.Region.{region}
-use Rattle.classes.specs.Labels.{Eq, relab, relabelled}
+use Rattle.classes.specs.Labels.{Eq}
+use Rattle.classes.proofs.Relabel.{relab, relabelled}
 use Rattle.area.specs.Log.{Logged}
 use Rattle.classes.specs.Forest.{Shape, Forest, tops}
 use Rattle.classes.specs.State.{Pile, Done, Same, Chain, First, None, Near, Framed, Bears, State, Grow, total, withPair}

@@ -66,9 +66,6 @@ lies-frame w w' g n K f l =
 pub sits-frame : (w w' : List ℕ) (n : ℕ) (e : Entry) → ((j : ℕ) → WORDS ≤ j → j < MARKS → getD w' j 0 ≡ getD w j 0) → Sits n w e → Sits n w' e
 sits-frame w w' n e f s = record { lies = lies-frame w w' (e .at) (e .number) (e .graph) f (s .lies); canonical = s .canonical; fits = s .fits; inside = s .inside }
 
-pub comes-frame : (n : ℕ) (es : List Entry) (e : Entry) (w w' : List ℕ) → ((j : ℕ) → WORDS ≤ j → j < MARKS → getD w' j 0 ≡ getD w j 0) → Comes n es e w → Comes n es e w'
-comes-frame n es e w w' f c = record { lies = lies-frame w w' (e .at) (e .number) (e .graph) f (c .lies); canonical = c .canonical; fits = c .fits; inside = c .inside; aside = c .aside; room = c .room }
-
 module _ (n : ℕ) (es : List Entry) (k : ℕ) (w : List ℕ) (h : Holds n es k w) where
   -- ---- what the graphs that are pushed agree on
   pub holds-agree : Agree (graphs es)

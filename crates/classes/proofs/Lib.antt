@@ -26,3 +26,6 @@ pub mod Pushings
 pub mod Start
 pub mod Writer
 pub mod Answers
+pub mod Content
+pub mod Relabel
+pub mod Steps

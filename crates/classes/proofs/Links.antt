@@ -8,7 +8,8 @@ use native.Mathlib.Decide.{ℕ-discrete}
 use lib.ListN.{length, set, getD}
 use borrow.Author.Tests.{eq-eqb, ne-eqb}
 use Rattle.area.specs.Map.{NEXT, STACK}
-use Rattle.classes.specs.State.{Chain, Seg, First, None, Way, steps, hops, Grow, Calm, total, frames}
+use Rattle.classes.specs.State.{Chain, Seg, First, None, Way, hops, Grow, Calm, total, frames}
+use Rattle.classes.proofs.Steps.{steps}
 
 -- ---- a chain
 pub chain-same : (w w' : List ℕ) (x : ℕ) (xs : List ℕ) → ((q : ℕ) → List·Memᴰ q xs → getD w' (NEXT + q) 0 ≡ getD w (NEXT + q) 0) → Chain w x xs → Chain w' x xs

@@ -7,7 +7,7 @@ use native.Mathlib.Omega.{arith}
 use native.Mathlib.Decide.{ℕ-discrete}
 use lib.ListN.{length, set, getD, length-map, length-set, List·getD-map}
 use lib.Seq.{getD-set-same, getD-set-other}
-use Rattle.classes.specs.Labels.{relab, relabelled}
+use Rattle.classes.proofs.Relabel.{relab, relabelled}
 use lib.Dec.{eqb}
 use borrow.Author.Tests.{eq-eqb, ne-eqb}
 use Rattle.classes.specs.Forest.{Shape, Forest, tops}

@@ -16,7 +16,7 @@ use Rattle.classes.specs.State.{targets, First}
 use Rattle.loading.specs.Entry.{Entry, graphs}
 use Rattle.classes.specs.Entry.{Spots, number-of}
 use Rattle.classes.specs.Holds.{Holds, class}
-use Rattle.classes.specs.Content.{Content}
+use Rattle.classes.proofs.Content.{Content}
 use Rattle.area.proofs.Region.{length-region}
 use Rattle.classes.proofs.Fuse.{label-low, top, short}
 use Rattle.classes.proofs.Links.{first-mem}

@@ -69,12 +69,7 @@ abbrev pub Way : List ℕ → List ℕ → ℕ → ℕ → List ℕ → ℕ → 
 Way w F f x [] q = (x ≡ suc q) × (getD F q 0 ≡ f)
 Way w F f x (j ∷ js) q = (x ≡ suc j) × ((j < 2048) × ((getD F j 0 ≡ f → ⊥) × Way w F f (getD w (NEXT + j) 0) js q))
 
--- for measures: the length of the chain from x, and of that up to b
-unfoldable pub steps : ℕ → List ℕ → ℕ → ℕ
-steps zero w x = 0
-steps (suc f) w zero = 0
-steps (suc f) w (suc j) = suc (steps f w (getD w (NEXT + j) 0))
-
+-- for measures: the length of the chain from x up to b
 abbrev pub orSuc : Bool → ℕ → ℕ
 orSuc true m = 0
 orSuc false m = suc m

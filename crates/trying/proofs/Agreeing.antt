@@ -16,7 +16,7 @@ use Rattle.loading.specs.Entry.{Entry, graphs}
 use Rattle.classes.specs.State.{targets, Chain, First, None}
 use Rattle.classes.specs.Entry.{Spots, number-of, Comes}
 use Rattle.classes.specs.Holds.{Holds, class}
-use Rattle.classes.specs.Content.{Content}
+use Rattle.classes.proofs.Content.{Content}
 use Rattle.classes.proofs.Links.{first-case, first-det, none-first}
 use Rattle.classes.proofs.Places.{chain-det}
 use Rattle.classes.proofs.Added.{arcs-find}

@@ -21,7 +21,7 @@ use Rattle.classes.specs.Labels.{pick}
 use Rattle.classes.specs.Forest.{tops}
 use Rattle.classes.specs.Entry.{Spots, number-of}
 use Rattle.classes.specs.Holds.{Holds, class}
-use Rattle.classes.specs.Content.{Content}
+use Rattle.classes.proofs.Content.{Content}
 use Rattle.classes.proofs.Links.{first-mem, first-feature}
 use Rattle.classes.proofs.Fuse.{label-low}
 use Rattle.classes.proofs.Writer.{holds-room, spot-low, class-low, class-top, class-root, same-class, class-same, content}

@@ -4,7 +4,7 @@ use mathlib.Core.Path.{_≡_, refl, ap, _∙_}
 use mathlib.Core.Logic.{⊎-elim}
 use native.Mathlib.Omega.{arith}
 use lib.ListN.{length, getD}
-use Rattle.classes.specs.State.{steps}
+use Rattle.classes.proofs.Steps.{steps}
 use Rattle.classes.proofs.Walks.{some, runs-below, runs-less}
 use Rattle.sieving.proofs.Gathering.{Noted, noted-new, noted-old, Noting, note-start, note-turn, note-end, note-none}
 use borrow.Author.Needs.{needs}
