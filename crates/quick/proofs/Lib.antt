@@ -10,7 +10,7 @@ pub mod Trying
 pub mod Sifting
 mod Choosing
 mod Narrowing
-mod Plain
+pub mod Plain
 mod Passing
 pub mod Pairs
 mod Rounds

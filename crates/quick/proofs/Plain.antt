@@ -7,6 +7,7 @@ use mathlib.Core.Bool.{Bool, true, false}
 use mathlib.Core.List.{List, [], _∷_, _++_}
 use lib.ListN.{getD}
 use Rattle.theory.specs.Net.{Graph, Agree}
+use Rattle.theory.specs.Descr.{agree}
 use Rattle.theory.proofs.Mean.{Fine}
 use Rattle.area.specs.Region.{words}
 use Rattle.area.proofs.Region.{words-same}
@@ -70,13 +71,16 @@ module _ (n k : ℕ) (w : List ℕ) (g left : ℕ) (o : Pushed) (w₁ : List ℕ
 -- ---- what its graph would do is told
 module _ (n k : ℕ) (w : List ℕ) (g left : ℕ) (c : Entering n k w g left) where
   -- it clashes
-  pub told-clash : Guesses n k w g Clashes → Tries n k w g left Fails w
-  told-clash s = bare-clash n k w g left Clashed w (record {
+  pub told-enters : Guesses n k w g Clashes → Enters n k w g left Clashed w
+  told-enters s = enters-own n k w g left Clashed w (record {
     len = refl;
     rest = λ j h. refl;
     inside = λ j y. let x : _≡_ {A = ℕ} 0 1 = cc in absurd (omega arith);
     clashed = λ y. ((since-refl n (c .es) k w (c .holds), refl), λ es e i h d. (s .clashes refl es e i h d, h));
-  }) c refl
+  }) refl
+
+  pub told-clash : Guesses n k w g Clashes → Tries n k w g left Fails w
+  told-clash s = tries-clash n k w g left Clashed w (told-enters s) c refl
 
   module _ (none : disjunctions-at w (tail-at w g) ≡ 0) where
     -- the description is its graph
@@ -96,12 +100,12 @@ module _ (n k : ℕ) (w : List ℕ) (g left : ℕ) (c : Entering n k w g left) w
 
     -- it agrees
     module _ (s : Guesses n k w g Agrees) where
+      pub bare-good : agree (graphs (c .es) ++ bare-one .0 ∷ []) ≡ true
+      bare-good = agrees-true (graphs (c .es) ++ bare-one .0 ∷ []) (subst (λ (d : Placed). Fine (graphs (c .es) ++ flat (strip (keep (marking w) d)))) (bare-one .1 .0) (fine n k w g left c)) (bare-one .1 .1 s)
+
       bare-stays : try-at (graphs (c .es)) (marking w) (c .d) ≡ stands (graphs (c .es) ++ bare-one .0 ∷ []) (marking w)
       unfolding try-at
-      bare-stays =
-          let K = bare-one .0 in
-          let good = agrees-true (graphs (c .es) ++ K ∷ []) (subst (λ (d : Placed). Fine (graphs (c .es) ++ flat (strip (keep (marking w) d)))) (bare-one .1 .0) (fine n k w g left c)) (bare-one .1 .1 s) in
-          ap (try-at (graphs (c .es)) (marking w)) (bare-one .1 .0) ∙ ap (λ (b : Bool). elim b [ false ↦ fails (marking w) | true ↦ stands (graphs (c .es) ++ K ∷ []) (marking w) ]) good
+      bare-stays = ap (try-at (graphs (c .es)) (marking w)) (bare-one .1 .0) ∙ ap (λ (b : Bool). elim b [ false ↦ fails (marking w) | true ↦ stands (graphs (c .es) ++ bare-one .0 ∷ []) (marking w) ]) bare-good
 
 pub told-stands : (n k : ℕ) (w : List ℕ) (g left : ℕ) → Entering n k w g left → disjunctions-at w (tail-at w g) ≡ 0 → Guesses n k w g Agrees → Tries n k w g left (Stands k 0) w
 told-stands n k w g left c none s = record {

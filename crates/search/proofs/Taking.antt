@@ -88,8 +88,14 @@ module _ (n k : ℕ) (w : List ℕ) (g : ℕ) (a : Agenda) where
     agree-is : (b : Bool) → agree (graphs (c .s .es) ++ flat (strip (keep (marking w) (c .d)))) ≡ b → agree (graphs (c .s .es) ++ flat (strip (keep (c .s .m) (c .d)))) ≡ b
     agree-is b e = ap (λ (m : Marking). agree (graphs (c .s .es) ++ flat (strip (keep m (c .d))))) (sym (c .s .marks)) ∙ e
 
+    -- nothing is found with one that clashes
+    pub clash-none : Clash (graphs pushed-all) → taken-with c ≡ []
+    clash-none z =
+        let bad = agree-is false (clash-false (graphs (c .s .es) ++ flat (strip (keep (marking w) (c .d)))) (fine n k w g depth-limit asks-enter) (subst Clash (entered-graphs n k w g depth-limit asks-enter) z)) in
+        ap (taking (c .from)) (dive-clashed (c .s .m) (graphs (c .s .es)) (c .d) left-of bad)
+
     -- what is read of it
-    read : (v : List ℕ) → 16384 ≤ length v → words v ≡ c .s .t → Read v g (c .from) (c .end)
+    pub read : (v : List ℕ) → 16384 ≤ length v → words v ≡ c .s .t → Read v g (c .from) (c .end)
     read v room e = read-at v room (c .d) g (c .from) (c .end) (c .to) (subst (λ (t : List ℕ). At t g (c .from) (c .d) (c .end) (c .to)) (sym e) (c .at)) small
 
   module _ (o : Pushed) (w₁ : List ℕ) (u : Enters n k w g depth-limit o w₁) (c₀ : Taking n k w g a) where
@@ -111,8 +117,7 @@ module _ (n k : ℕ) (w : List ℕ) (g : ℕ) (a : Agenda) where
       moved = record { len = u .len; rest = λ j h. u .rest j (omega arith); since = u .clashed z .0 };
       found = λ c.
           let told = u .clashed z .1 (asks-enter c) in
-          let bad = agree-is c false (clash-false (graphs (c .s .es) ++ flat (strip (keep (marking w) (c .d)))) (fine n k w g depth-limit (asks-enter c)) (subst Clash (entered-graphs n k w g depth-limit (asks-enter c)) (told .0))) in
-          finds-same n k w (c .s .es) [] (taken-with c) 0 w₁ (ap (taking (c .from)) (dive-clashed (c .s .m) (graphs (c .s .es)) (c .d) (left-of c) bad))
+          finds-same n k w (c .s .es) [] (taken-with c) 0 w₁ (clash-none c (told .0))
           (finds-under n k k w w₁ w₁ w₁ (c .s .es) (c .s .es) [] 0 lights₁ marks₁ (finds-none n k w₁ (c .s .es) (told .1)) refl refl (told .1));
     }
 

@@ -4,6 +4,7 @@ use crate::agenda::after;
 use crate::agenda::before;
 use crate::agenda::descend;
 use crate::agenda::nothing;
+use crate::foresee::foresee;
 use area::map::SECOND;
 use classes::push::Pushed;
 use classes::push::back;
@@ -15,6 +16,7 @@ use marks::positions::alternatives_at;
 use marks::positions::number_at;
 use marks::tally::count_kept;
 use quick::enter::enter;
+use trying::told::Guess;
 ghost use Rattle.search.specs.Searched.{Noting, Notes, Resuming, Resumes, Taking, Takes, Choosing, Chooses, Searching, Searches};
 
 // "Alternatives may be nested at most 4 deep"
@@ -81,11 +83,22 @@ fn choose(w: &mut [u32], k: usize, n: usize, p: usize, count: usize, a: Agenda) 
     sum
 }
 
-// The same with the alternative at g, which is entered and taken back.
+// The same with the alternative at g, which is entered and taken back. Where it clashes, or nothing is left with it or after it, that is mostly told without.
 fn take(w: &mut [u32], k: usize, n: usize, g: usize, a: Agenda) -> u32
     requires { ⌜ Taking n k (now w) g a ⌝ }
     ensures { λ r. ⌜ Takes n k (now (w .entry)) g a r (now (w .exit)) ⌝ }
 {
+    let told = foresee(w, k, n, g, a.frames);
+    match told {
+        Guess::Agrees => {
+            note(w, g, 1);
+            return 1;
+        }
+        Guess::Clashes => {
+            return NONE;
+        }
+        Guess::Unsure => {}
+    }
     let pushed = enter(w, k, n, g, DEPTH);
     let Pushed::In(e) = pushed else {
         return NONE;

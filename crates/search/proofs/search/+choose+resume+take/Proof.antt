@@ -2,7 +2,7 @@
 -- Assumes nothing.
 use native.Mathlib.Omega.{arith}
 use borrow.Author.Needs.{needs}
-use mathlib.Core.Path.{_∙_}
+use mathlib.Core.Path.{refl, _∙_}
 use mathlib.Core.Logic.{⊎-elim}
 use Rattle.quick.specs.Stepped.{Moved}
 use Rattle.search.specs.Frames.{slots}
@@ -10,6 +10,7 @@ use Rattle.search.specs.Searched.{Choosing}
 use Rattle.search.proofs.Finding.{finds-small}
 use Rattle.search.proofs.Planning.{reach}
 use Rattle.search.proofs.Taking.{asks-enter, takes-clash, take-opens, take-asks, take-falls, take-back, take-notes, takes-found}
+use Rattle.search.proofs.Foreseeing.{takes-none, alone-notes, takes-one}
 use Rattle.search.proofs.Choosing.{Going, Turn, skipped, took, choose-moved, choose-start, choose-done, choose-small, choose-here, choose-asks, turn-moved, turn-inside, turn-on}
 use Rattle.search.proofs.Resuming.{resumes-leaf, resume-here, resume-reach, resume-some, resume-counts, resume-room, resumes-none, one-opens, one-asks, one-falls, one-notes, resumes-one, several-asks, resumes-several}
 use Prim.Native.Nat.{ℕ, _+_, _-_, _*_, _<_}
@@ -35,6 +36,7 @@ use Rattle.quick.proofs.enter.enter.Reads as enter-reads
 use Rattle.search.proofs.agenda.after.Reads as after-reads
 use Rattle.search.proofs.agenda.before.Reads as before-reads
 use Rattle.search.proofs.agenda.descend.Reads as descend-reads
+use Rattle.search.proofs.foresee.foresee.Reads as foresee-reads
 use Rattle.search.proofs.search.note.Reads as note-reads
 use Rattle.search.proofs.search.+choose+resume+take.{statement}
 use Rattle.search.proofs.search.+choose+resume+take.Tie.{close}
@@ -201,6 +203,10 @@ resume-returns-4 t c = resumes-several _ _ _ _ (c .before .before .before .befor
 
 abbrev take-claims : ℕ → take-lts.Claims
 take-claims t = (
+  foresee-reads.Asked,
+  foresee-reads.Learnt,
+  note-reads.Asked,
+  note-reads.Learnt,
   enter-reads.Asked,
   enter-reads.Learnt,
   descend-reads.Asked,
@@ -209,42 +215,67 @@ take-claims t = (
   resume.Post,
   back-reads.Asked,
   back-reads.Learnt,
-  note-reads.Asked,
-  note-reads.Learnt,
 )
 
-take-enter-requires : (t : ℕ) → take-lts.Need-enter-requires (take-claims t) (take-at t) take.Post
-take-enter-requires t c κs = asks-enter _ _ _ _ _ (c .before .before .pre .1)
-
-take-enum-known-pushed : (t : ℕ) → take-lts.Need-enum-known-pushed (take-claims t) (take-at t) take.Post
-take-enum-known-pushed t c = search needs
+take-foresee-requires : (t : ℕ) → take-lts.Need-foresee-requires (take-claims t) (take-at t) take.Post
+take-foresee-requires t c κs = let p = c .before .before .pre .1 in record { a = c .before .before .args .a; many = refl; taking = p }
 
 take-enum-told : (t : ℕ) → take-lts.Need-enum-told (take-claims t) (take-at t) take.Post
 take-enum-told t c = search needs
 
+take-note-requires : (t : ℕ) → take-lts.Need-note-requires (take-claims t) (take-at t) take.Post
+take-note-requires t c κs = alone-notes _ _ _ _ _ (c .before .before .before .before .before .before .pre .1)
+
 take-same-length : (t : ℕ) → take-lts.Need-same-length (take-claims t) (take-at t) take.Post
-take-same-length t c = c .before .before .before .before .enter .ensures .len
+take-same-length t c = c .before .before .note .ensures .len
 
 take-returns : (t : ℕ) → take-lts.Need-returns (take-claims t) (take-at t) take.Post
-take-returns t c = takes-clash _ _ _ _ _ _ _ (c .before .before .before .before .enter .ensures) (c .before .before .before .before .before .before .before .pre .1) (c .enum-told .given .1)
+take-returns t c = takes-one _ _ _ _ _ (c .before .before .before .before .before .before .before .before .before .pre .1) _ (c .before .before .before .before .before .before .foresee .ensures) (c .before .before .before .before .enum-told .given .1) _ (c .before .before .note .ensures)
 
-take-descend-requires : (t : ℕ) → take-lts.Need-descend-requires (take-claims t) (take-at t) take.Post
-take-descend-requires t c κs = take-opens _ _ _ _ _ _ _ (c .before .before .before .before .before .before .enter .ensures) (c .before .before .before .before .before .before .before .before .before .pre .1) _ (c .before .before .pushed .given .1)
-
-take-resume-requires : (t : ℕ) → take-lts.Need-resume-requires (take-claims t) (take-at t) take.Post
-take-resume-requires t c κs = (let h = take-falls _ _ _ _ _ _ _ (c .before .before .before .before .before .before .before .before .enter .ensures) (c .before .before .before .before .before .before .before .before .before .before .before .pre .1) _ (c .before .before .before .before .pushed .given .1) _ (c .before .descend .ensures) in let e = c .before .before .before .before .before .before .before .before .before .before .before .pre .0 in omega arith, take-asks _ _ _ _ _ _ _ (c .before .before .before .before .before .before .before .before .enter .ensures) (c .before .before .before .before .before .before .before .before .before .before .before .pre .1) _ (c .before .before .before .before .pushed .given .1) _ (c .before .descend .ensures))
-
-take-back-requires : (t : ℕ) → take-lts.Need-back-requires (take-claims t) (take-at t) take.Post
-take-back-requires t c κs = take-back _ _ _ _ _ _ _ (c .before .before .before .before .before .before .before .before .before .before .before .before .enter .ensures) (c .before .before .before .before .before .before .before .before .before .before .before .before .before .before .before .pre .1) _ (c .before .before .before .before .before .before .before .before .pushed .given .1) _ (c .before .before .before .before .before .descend .ensures) _ _ (c .before .before .before .resume .ensures)
-
-take-note-requires : (t : ℕ) → take-lts.Need-note-requires (take-claims t) (take-at t) take.Post
-take-note-requires t c κs = take-notes _ _ _ _ _ _ _ (c .before .before .before .before .before .before .before .before .before .before .before .before .before .before .before .before .enter .ensures) (c .before .before .before .before .before .before .before .before .before .before .before .before .before .before .before .before .before .before .before .pre .1) _ (c .before .before .before .before .before .before .before .before .before .before .before .before .pushed .given .1) _ (c .before .before .before .before .before .before .before .before .before .descend .ensures) _ _ (c .before .before .before .before .before .before .before .resume .ensures) _ (c .before .before .before .back .ensures)
+take-enum-told-2 : (t : ℕ) → take-lts.Need-enum-told-2 (take-claims t) (take-at t) take.Post
+take-enum-told-2 t c = search needs
 
 take-same-length-2 : (t : ℕ) → take-lts.Need-same-length-2 (take-claims t) (take-at t) take.Post
-take-same-length-2 t c = c .before .before .note .ensures .len ∙ c .before .before .before .before .before .before .back .ensures .len ∙ c .before .before .before .before .before .before .before .before .before .before .resume .ensures .moved .len ∙ c .before .before .before .before .before .before .before .before .before .before .before .before .before .before .before .before .before .before .before .enter .ensures .len
+take-same-length-2 t c = search needs
 
 take-returns-2 : (t : ℕ) → take-lts.Need-returns-2 (take-claims t) (take-at t) take.Post
-take-returns-2 t c = takes-found _ _ _ _ _ _ _ (c .before .before .before .before .before .before .before .before .before .before .before .before .before .before .before .before .before .before .before .enter .ensures) (c .before .before .before .before .before .before .before .before .before .before .before .before .before .before .before .before .before .before .before .before .before .before .pre .1) _ (c .before .before .before .before .before .before .before .before .before .before .before .before .before .before .before .pushed .given .1) _ (c .before .before .before .before .before .before .before .before .before .before .before .before .descend .ensures) _ _ (c .before .before .before .before .before .before .before .before .before .before .resume .ensures) _ (c .before .before .before .before .before .before .back .ensures) _ (c .before .before .note .ensures)
+take-returns-2 t c = takes-none _ _ _ _ _ (c .before .before .before .before .before .pre .1) _ (c .before .before .foresee .ensures) (c .enum-told2 .given .1)
+
+take-enum-told-3 : (t : ℕ) → take-lts.Need-enum-told-3 (take-claims t) (take-at t) take.Post
+take-enum-told-3 t c = search needs
+
+take-enter-requires : (t : ℕ) → take-lts.Need-enter-requires (take-claims t) (take-at t) take.Post
+take-enter-requires t c κs = asks-enter _ _ _ _ _ (c .before .before .before .before .before .before .pre .1)
+
+take-enum-known-pushed : (t : ℕ) → take-lts.Need-enum-known-pushed (take-claims t) (take-at t) take.Post
+take-enum-known-pushed t c = search needs
+
+take-enum-told-4 : (t : ℕ) → take-lts.Need-enum-told-4 (take-claims t) (take-at t) take.Post
+take-enum-told-4 t c = search needs
+
+take-same-length-3 : (t : ℕ) → take-lts.Need-same-length-3 (take-claims t) (take-at t) take.Post
+take-same-length-3 t c = c .before .before .before .before .enter .ensures .len
+
+take-returns-3 : (t : ℕ) → take-lts.Need-returns-3 (take-claims t) (take-at t) take.Post
+take-returns-3 t c = takes-clash _ _ _ _ _ _ _ (c .before .before .before .before .enter .ensures) (c .before .before .before .before .before .before .before .before .before .before .before .pre .1) (c .enum-told4 .given .1)
+
+take-descend-requires : (t : ℕ) → take-lts.Need-descend-requires (take-claims t) (take-at t) take.Post
+take-descend-requires t c κs = take-opens _ _ _ _ _ _ _ (c .before .before .before .before .before .before .enter .ensures) (c .before .before .before .before .before .before .before .before .before .before .before .before .before .pre .1) _ (c .before .before .pushed .given .1)
+
+take-resume-requires : (t : ℕ) → take-lts.Need-resume-requires (take-claims t) (take-at t) take.Post
+take-resume-requires t c κs = (let h = take-falls _ _ _ _ _ _ _ (c .before .before .before .before .before .before .before .before .enter .ensures) (c .before .before .before .before .before .before .before .before .before .before .before .before .before .before .before .pre .1) _ (c .before .before .before .before .pushed .given .1) _ (c .before .descend .ensures) in let e = c .before .before .before .before .before .before .before .before .before .before .before .before .before .before .before .pre .0 in omega arith, take-asks _ _ _ _ _ _ _ (c .before .before .before .before .before .before .before .before .enter .ensures) (c .before .before .before .before .before .before .before .before .before .before .before .before .before .before .before .pre .1) _ (c .before .before .before .before .pushed .given .1) _ (c .before .descend .ensures))
+
+take-back-requires : (t : ℕ) → take-lts.Need-back-requires (take-claims t) (take-at t) take.Post
+take-back-requires t c κs = take-back _ _ _ _ _ _ _ (c .before .before .before .before .before .before .before .before .before .before .before .before .enter .ensures) (c .before .before .before .before .before .before .before .before .before .before .before .before .before .before .before .before .before .before .before .pre .1) _ (c .before .before .before .before .before .before .before .before .pushed .given .1) _ (c .before .before .before .before .before .descend .ensures) _ _ (c .before .before .before .resume .ensures)
+
+take-note-requires-2 : (t : ℕ) → take-lts.Need-note-requires-2 (take-claims t) (take-at t) take.Post
+take-note-requires-2 t c κs = take-notes _ _ _ _ _ _ _ (c .before .before .before .before .before .before .before .before .before .before .before .before .before .before .before .before .enter .ensures) (c .before .before .before .before .before .before .before .before .before .before .before .before .before .before .before .before .before .before .before .before .before .before .before .pre .1) _ (c .before .before .before .before .before .before .before .before .before .before .before .before .pushed .given .1) _ (c .before .before .before .before .before .before .before .before .before .descend .ensures) _ _ (c .before .before .before .before .before .before .before .resume .ensures) _ (c .before .before .before .back .ensures)
+
+take-same-length-4 : (t : ℕ) → take-lts.Need-same-length-4 (take-claims t) (take-at t) take.Post
+take-same-length-4 t c = c .before .before .note2 .ensures .len ∙ c .before .before .before .before .before .before .back .ensures .len ∙ c .before .before .before .before .before .before .before .before .before .before .resume .ensures .moved .len ∙ c .before .before .before .before .before .before .before .before .before .before .before .before .before .before .before .before .before .before .before .enter .ensures .len
+
+take-returns-4 : (t : ℕ) → take-lts.Need-returns-4 (take-claims t) (take-at t) take.Post
+take-returns-4 t c = takes-found _ _ _ _ _ _ _ (c .before .before .before .before .before .before .before .before .before .before .before .before .before .before .before .before .before .before .before .enter .ensures) (c .before .before .before .before .before .before .before .before .before .before .before .before .before .before .before .before .before .before .before .before .before .before .before .before .before .before .pre .1) _ (c .before .before .before .before .before .before .before .before .before .before .before .before .before .before .before .pushed .given .1) _ (c .before .before .before .before .before .before .before .before .before .before .before .before .descend .ensures) _ _ (c .before .before .before .before .before .before .before .before .before .before .resume .ensures) _ (c .before .before .before .before .before .before .back .ensures) _ (c .before .before .note2 .ensures)
 
 pub +choose+resume+take-spec : {M : Type 1} → statement M
 +choose+resume+take-spec = close μ-choose μ-resume μ-take (λ t. choose-lts.spec (choose-claims t)
@@ -303,6 +334,10 @@ pub +choose+resume+take-spec : {M : Type 1} → statement M
     (resume-same-length-3 t)
     (resume-returns-4 t))
     λ t. take-lts.spec (
+      foresee-reads.Asked,
+      foresee-reads.Learnt,
+      note-reads.Asked,
+      note-reads.Learnt,
       enter-reads.Asked,
       enter-reads.Learnt,
       descend-reads.Asked,
@@ -311,19 +346,26 @@ pub +choose+resume+take-spec : {M : Type 1} → statement M
       resume.Post,
       back-reads.Asked,
       back-reads.Learnt,
-      note-reads.Asked,
-      note-reads.Learnt,
     )
     (take-at t)
     take.Post
-    (take-enter-requires t)
-    (take-enum-known-pushed t)
+    (take-foresee-requires t)
     (take-enum-told t)
+    (take-note-requires t)
     (take-same-length t)
     (take-returns t)
+    (take-enum-told-2 t)
+    (take-same-length-2 t)
+    (take-returns-2 t)
+    (take-enum-told-3 t)
+    (take-enter-requires t)
+    (take-enum-known-pushed t)
+    (take-enum-told-4 t)
+    (take-same-length-3 t)
+    (take-returns-3 t)
     (take-descend-requires t)
     (take-resume-requires t)
     (take-back-requires t)
-    (take-note-requires t)
-    (take-same-length-2 t)
-    (take-returns-2 t)
+    (take-note-requires-2 t)
+    (take-same-length-4 t)
+    (take-returns-4 t)
