@@ -3,9 +3,10 @@ use crate::step::Step;
 use classes::push::Pushed;
 use classes::push::back;
 use classes::push::push;
-use trying::guess::guess;
+use trying::guess::guess_through;
 use trying::told::Guess;
 ghost use Rattle.classes.specs.Holds.{Pushing};
+ghost use Rattle.sieving.specs.Sieved.{Sieved};
 ghost use Rattle.quick.specs.Stepped.{TriesBare};
 
 // Tries the alternative at g by its graph, which is pushed and taken back.
@@ -22,11 +23,12 @@ fn push_bare(w: &mut [u32], k: usize, n: usize, g: usize) -> Step
 }
 
 // Tries the alternative at g. Mostly its graph need not be pushed for that.
-pub fn try_bare(w: &mut [u32], k: usize, n: usize, g: usize) -> Step
+pub fn try_bare(w: &mut [u32], k: usize, n: usize, g: usize, t: &[u32]) -> Step
     requires { ⌜ Pushing n k (now w) g ⌝ }
+    requires { ⌜ Sieved (now w) (now t) ⌝ }
     ensures { λ r. ⌜ TriesBare n k (now (w .entry)) g r (now (w .exit)) ⌝ }
 {
-    let told = guess(w, k, n, g);
+    let told = guess_through(w, k, n, g, t);
     match told {
         Guess::Agrees => Step::Stands(k, 0),
         Guess::Clashes => Step::Fails,

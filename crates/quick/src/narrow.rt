@@ -29,7 +29,7 @@ fn try_one(w: &mut [u32], k: usize, n: usize, g: usize, left: u32, t: &[u32]) ->
     let e = tail_at(w, g);
     let more = disjunctions_at(w, e);
     if more == 0 {
-        return try_bare(w, k, n, g);
+        return try_bare(w, k, n, g, t);
     }
     let pushed = enter(w, k, n, g, left);
     let Pushed::In(m) = pushed else {

@@ -29,6 +29,10 @@ blank zero i = refl
 blank (suc n) zero = refl
 blank (suc n) (suc i) = blank n i
 
+-- a sieve of no words tells nothing
+pub sieved-none : (w : List ℕ) → Sieved w []
+sieved-none w = record { runs = λ f h. absurd (omega arith); same = λ f r h. absurd (omega arith) }
+
 -- ---- the arc y, from which the feature f is looked for
 module _ (w t : List ℕ) (s : Sieved w t) (f g : ℕ) (e : g ≡ f) (h : g % 256 < length t) (y : ℕ) (is : y ≡ getD t (g % 256) 0) where
   there : y ≡ getD t (f % 256) 0

@@ -11,6 +11,7 @@ use Rattle.classes.specs.Holds.{Holds, class, Classed}
 use Rattle.classes.proofs.Links.{first-det, none-first}
 use Rattle.classes.proofs.Answers.{asked-low, asked-runs, target-low}
 use Rattle.classes.proofs.Writer.{class-low, class-top}
+use Rattle.sieving.proofs.Keeping.{roots-first}
 use Rattle.trying.specs.Leaf.{Anchored, Under, held, Suits}
 use Rattle.trying.specs.declared.told.Guess.the-variants.{Agrees, Clashes, Unsure}
 
@@ -19,6 +20,10 @@ pub root-chain : (n : ℕ) (es : List Entry) (k : ℕ) (w : List ℕ) (h : Holds
 root-chain n es k w h some low = let l = class-low n es k w h 0 some in (getD (h .state .C) (class h 0) [], h .state .chain (class h 0) (omega arith) (class-top n es k w h 0 some) low)
 
 module _ (n : ℕ) (w : List ℕ) (x : ℕ) (a : Anchored n w x) where
+  -- that class is the one of the number 0
+  pub anchored-first : x ≡ getD w 0 0
+  anchored-first = let g = a .labelled in a .is ∙ ap (λ (z : ℕ). getD w z 0) (a .classed .is (g .es) (g .k) (g .holds) ∙ roots-first n (g .es) (g .k) w (g .holds) (a .some))
+
   pub anchored-runs : Runs w x
   anchored-runs = let l = a .low in let e = a .is in subst (Runs w) (sym (a .is)) (asked-runs n w 0 (a .some) (a .c) (a .classed) (a .labelled) (omega arith))
 

@@ -2,20 +2,22 @@
 use crate::told::Guess;
 use area::log::wide;
 use classes::chain::loaded;
-use classes::chain::look;
 use classes::chain::target;
 use classes::push::class_of;
+use sieving::through::look_through;
 ghost use Prim.Native.Nat.{_+_, _*_, _≤_, _<_};
 ghost use Rattle.classes.specs.Holds.{Pushing};
+ghost use Rattle.sieving.specs.Sieved.{Sieved};
 ghost use Rattle.trying.specs.Leaf.{Anchored, Suits, Leads, LeadsAll};
 ghost use Rattle.trying.specs.Guessed.{Guesses};
 
 // Whether the atom's head v may stand under the feature f of the roots, whose chain begins with the code x.
-fn suit(w: &[u32], n: usize, x: usize, f: u32, v: u32) -> Guess
+fn suit(w: &[u32], n: usize, x: usize, f: u32, v: u32, t: &[u32]) -> Guess
     requires { ⌜ Anchored n (now w) x ⌝ }
+    requires { ⌜ Sieved (now w) (now t) ⌝ }
     ensures { λ r. ⌜ Suits n (now (w .entry)) f v r ⌝ }
 {
-    let r = look(w, x, f);
+    let r = look_through(w, x, f, t);
     if r == 0 {
         return Guess::Agrees;
     }
@@ -33,8 +35,18 @@ fn suit(w: &[u32], n: usize, x: usize, f: u32, v: u32) -> Guess
 }
 
 // The arc i of the d arcs of the root of the graph at g, whose number is `base`, and the leaf that it leads to.
-fn lead(w: &[u32], n: usize, g: usize, base: usize, d: usize, x: usize, i: usize) -> Guess
+fn lead(
+    w: &[u32],
+    n: usize,
+    g: usize,
+    base: usize,
+    d: usize,
+    x: usize,
+    i: usize,
+    t: &[u32],
+) -> Guess
     requires { ⌜ Anchored n (now w) x ⌝ }
+    requires { ⌜ Sieved (now w) (now t) ⌝ }
     requires { ⌜ (base < 1024) × ((i < d) × (g + 2 + 3 * d ≤ 2048)) ⌝ }
     ensures { λ r. ⌜ Leads n (now (w .entry)) g base d i r ⌝ }
 {
@@ -51,18 +63,19 @@ fn lead(w: &[u32], n: usize, g: usize, base: usize, d: usize, x: usize, i: usize
         return Guess::Unsure;
     }
     let f = loaded(w, at);
-    suit(w, n, x, f, v)
+    suit(w, n, x, f, v, t)
 }
 
 // All the d arcs.
-fn lead_all(w: &[u32], n: usize, g: usize, base: usize, d: usize, x: usize) -> Guess
+fn lead_all(w: &[u32], n: usize, g: usize, base: usize, d: usize, x: usize, t: &[u32]) -> Guess
     requires { ⌜ Anchored n (now w) x ⌝ }
+    requires { ⌜ Sieved (now w) (now t) ⌝ }
     requires { ⌜ (base < 1024) × (g + 2 + 3 * d ≤ 2048) ⌝ }
     ensures { λ r. ⌜ LeadsAll n (now (w .entry)) g base d r ⌝ }
 {
     let mut i: usize = 0;
     while i < d {
-        let one = lead(w, n, g, base, d, x, i);
+        let one = lead(w, n, g, base, d, x, i, t);
         let Guess::Agrees = one else {
             return one;
         };
@@ -71,9 +84,10 @@ fn lead_all(w: &[u32], n: usize, g: usize, base: usize, d: usize, x: usize) -> G
     Guess::Agrees
 }
 
-// Tells of the graph at g whether it agrees with the graphs that are pushed, where it is flat and that is plain.
-pub fn guess(w: &[u32], k: usize, n: usize, g: usize) -> Guess
+// Tells of the graph at g whether it agrees with the graphs that are pushed, where it is flat and that is plain. Features are looked for through the sieve t.
+pub fn guess_through(w: &[u32], k: usize, n: usize, g: usize, t: &[u32]) -> Guess
     requires { ⌜ Pushing n k (now w) g ⌝ }
+    requires { ⌜ Sieved (now w) (now t) ⌝ }
     ensures { λ r. ⌜ Guesses n k (now (w .entry)) g r ⌝ }
 {
     let head = wide(loaded(w, g));
@@ -91,5 +105,14 @@ pub fn guess(w: &[u32], k: usize, n: usize, g: usize) -> Guess
         }
         return Guess::Clashes;
     }
-    lead_all(w, n, g, base, d, wide(h))
+    lead_all(w, n, g, base, d, wide(h), t)
+}
+
+// The same without a sieve: one of no words tells nothing.
+pub fn guess(w: &[u32], k: usize, n: usize, g: usize) -> Guess
+    requires { ⌜ Pushing n k (now w) g ⌝ }
+    ensures { λ r. ⌜ Guesses n k (now (w .entry)) g r ⌝ }
+{
+    let none: [u32; 0] = [0; 0];
+    guess_through(w, k, n, g, &none)
 }

@@ -7,8 +7,8 @@ use Rattle.quick.proofs.Plain.{told-clash, told-stands}
 use Rattle.quick.proofs.bare.try_bare.Statement.{statement}
 use Rattle.quick.proofs.bare.try_bare.Tie as tie
 
-guess-requires : tie.Need-guess-requires
-guess-requires c κs = search needs
+guess-through-requires : tie.Need-guess-through-requires
+guess-through-requires c κs = search needs
 
 enum-told : tie.Need-enum-told
 enum-told c = search needs
@@ -27,16 +27,16 @@ same-length c = search needs
 
 returns : tie.Need-returns
 returns c =
-    let a = c .before .before .before .before .before .args in
-    record { tries = λ left e z. told-stands (a .n) (a .k) (a .w .now) (a .g) left e z (subst (Guesses (a .n) (a .k) (a .w .now) (a .g)) (c .enum-told .given .1) (c .before .before .guess .ensures)) }
+    let a = c .before .before .before .before .before .before .args in
+    record { tries = λ left e z. told-stands (a .n) (a .k) (a .w .now) (a .g) left e z (subst (Guesses (a .n) (a .k) (a .w .now) (a .g)) (c .enum-told .given .1) (c .before .before .guess-through .ensures)) }
 
 same-length-2 : tie.Need-same-length-2
 same-length-2 c = search needs
 
 returns-2 : tie.Need-returns-2
 returns-2 c =
-    let a = c .before .before .before .before .before .args in
-    record { tries = λ left e z. told-clash (a .n) (a .k) (a .w .now) (a .g) left e (subst (Guesses (a .n) (a .k) (a .w .now) (a .g)) (c .enum-told2 .given .1) (c .before .before .guess .ensures)) }
+    let a = c .before .before .before .before .before .before .args in
+    record { tries = λ left e z. told-clash (a .n) (a .k) (a .w .now) (a .g) left e (subst (Guesses (a .n) (a .k) (a .w .now) (a .g)) (c .enum-told2 .given .1) (c .before .before .guess-through .ensures)) }
 
 same-length-3 : tie.Need-same-length-3
 same-length-3 c = search needs
@@ -48,7 +48,7 @@ pub try-bare-spec : {M : Type 1} → statement M
 try-bare-spec =
     tie.close
     (tie.spec
-    guess-requires
+    guess-through-requires
     enum-told
     enum-told-2
     enum-told-3

@@ -345,7 +345,7 @@ try-one-disjunctions-at-requires : (t : ℕ) → try-one-lts.Need-disjunctions-a
 try-one-disjunctions-at-requires t c κs = let p = c .before .before .before .before .before .pre .1 .0 in (let e = c .before .tail-at .ensures in let h = tried-starts _ _ _ _ _ p .1 in omega arith, p .holds .long)
 
 try-one-try-bare-requires : (t : ℕ) → try-one-lts.Need-try-bare-requires (try-one-claims t) (try-one-at t) try-one.Post
-try-one-try-bare-requires t c κs = asks-own _ _ _ _ _ (c .before .before .before .before .before .before .before .before .pre .1 .0)
+try-one-try-bare-requires t c κs = (asks-own _ _ _ _ _ (c .before .before .before .before .before .before .before .before .pre .1 .0), c .before .before .before .before .before .before .before .before .pre .1 .1)
 
 try-one-same-length : (t : ℕ) → try-one-lts.Need-same-length (try-one-claims t) (try-one-at t) try-one.Post
 try-one-same-length t c = c .before .before .try-bare .ensures .tries _ (c .before .before .before .before .before .before .before .before .before .before .before .pre .1 .0) (ap (disjunctions-at _) (sym (c .before .before .before .before .before .before .before .tail-at .ensures)) ∙ sym (c .before .before .before .before .before .disjunctions-at .ensures) ∙ c .before .before .before .before .if1 .taken) .moved .len

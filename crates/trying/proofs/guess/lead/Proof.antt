@@ -56,7 +56,7 @@ suit-requires c κs = search needs
 
 returns-4 : tie.Need-returns-4
 returns-4 c =
-    let a = c .before .before .before .before .before .before .before .before .args in
+    let a = c .before .before .before .before .before .before .before .before .before .args in
     let e = c .before .before .before .before .loaded .ensures in
     leads-atom (a .n) (a .w .now) (a .g) (a .base) (a .d) (a .i) (sym (c .before .before .before .before .before .before .target .ensures) ∙ c .before .before .before .before .before .if1 .left) (omega (arith, c .before .before .if3 .left)) (c .suit .result) (rw (← e, ← c .before .loaded2 .ensures) (c .suit .ensures))
 
