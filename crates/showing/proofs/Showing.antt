@@ -5,18 +5,21 @@ use native.Mathlib.Omega.{arith}
 use mathlib.Core.Path.{_≡_, sym, ap, ap₂, subst, _∙_}
 use mathlib.Core.Option.{Option, none, some}
 use mathlib.Core.List.{List, [], _∷_, _++_}
-use lib.ListN.{length, getD, set, length-append}
+use lib.ListN.{length, getD, set, length-append, length-set}
+use lib.Seq.{getD-set-same, getD-set-other}
 use Rattle.theory.specs.Limits.{depth-limit}
 use Rattle.theory.specs.Net.{Graph, Joined}
 use Rattle.theory.specs.Join.{join}
-use Rattle.theory.specs.Descr.{Disjs, _then_, disjs}
+use Rattle.theory.specs.Descr.{Disjs, end, _then_, disjs}
 use Rattle.theory.specs.Layout.{disjs-words}
 use Rattle.theory.specs.Layout as layout
 use Rattle.theory.proofs.Mean.{CanAll, joined-of}
-use Rattle.area.specs.Map.{RESULT, SECOND}
+use Rattle.area.specs.Map.{RESULT, SECOND, SIZE}
 use Rattle.area.specs.Region.{words}
+use Rattle.area.proofs.Region.{words-same}
 use Rattle.layout.specs.Standing.{Stands, graph-words}
-use Rattle.engine.specs.Placed.{Placed, place, strip, strip-all}
+use Rattle.layout.proofs.Standing.{stands-append, stands-nil, stands-cons, stands-length}
+use Rattle.engine.specs.Placed.{Placed, place, Places, stop, _also_, strip, strip-all}
 use Rattle.engine.specs.Marks.{Marking, keep, keep-all}
 use Rattle.engine.specs.Beside.{_next_, joined-placed}
 use Rattle.engine.specs.Certain.{flat}
@@ -26,15 +29,20 @@ use Rattle.engine.proofs.Sane.{SaneAll}
 use Rattle.engine.proofs.Beside.{strip-next}
 use Rattle.engine.proofs.Joined.{keep-next}
 use Rattle.loading.specs.Entry.{graphs}
+use Rattle.loading.specs.Loaded.{number-step}
+use Rattle.loading.specs.Numbered.{places}
+use Rattle.loading.specs.At.{At}
 use Rattle.loading.proofs.Putting.{stands-frame}
+use Rattle.marks.specs.Positions.{tail-at, disjunctions-at}
 use Rattle.marks.specs.Marked.{marking}
+use Rattle.marks.proofs.Reading.{read-at, tail-is, disjunctions-is}
 use Rattle.classes.specs.Holds.{Remembers, Backs, Undoable}
 use Rattle.classes.proofs.Laws.{undoable-asks, undoable-back}
 use Rattle.writing.specs.Writing.{Writing, Writes}
 use Rattle.showing.specs.Putting.{Written, Base, lead, later, left-all, Disjoining, Disjoins}
-use Rattle.showing.specs.Showing.{outcome, Showing, Shows}
+use Rattle.showing.specs.Showing.{disjunctions-in, outcome, Showing, Shows}
 use Rattle.showing.proofs.Written.{written-order, written-append, written-between, written-same, based}
-use Rattle.showing.proofs.Leaving.{then-words, then-count, shown-next, few-disjunctions, description-words, can-parts, sane-parts}
+use Rattle.showing.proofs.Leaving.{then-words, then-count, shown-next, few-disjunctions, nothing-left, description-words, can-parts, sane-parts}
 use Rattle.showing.proofs.Leading.{lead-joins, weight-words}
 use Rattle.showing.proofs.Describing.{inner-can, inner-sane}
 use Rattle.quick.proofs.Pairs.{half-low}
@@ -48,6 +56,14 @@ both-later (place g ds) (place h es) j m = go (join (g ∷ h ∷ []))
     go (some k) e =
         let f : place k (ds next es) ≡ j = cc in
         ap (left-all m) (sym f) ∙ ap strip-all (keep-next m ds es) ∙ strip-next (keep-all m ds) (keep-all m es)
+
+-- of a description without disjunctions none are left
+none-left : (w : List ℕ) → 16384 ≤ length w → (m : Marking) (d : Placed) (p n q l : ℕ) → At (words w) p n d q l → l < number-step → disjunctions-at w (tail-at w p) ≡ 0 → shown-all (left-all m d) ≡ end
+none-left w long m (place g ds) p n q l at low h = go ds (sym (disjunctions-is w long g ds p n q l at low) ∙ ap (disjunctions-at w) (sym (tail-is w long g ds p n q l at low)) ∙ h)
+  where
+    go : (ds : Places) → places ds ≡ 0 → shown-all (strip-all (keep-all m ds)) ≡ end
+    go stop e = nothing-left
+    go (a also ds) e = absurd (omega arith)
 
 module _ (n k : ℕ) (w : List ℕ) (c : Showing n k w) where
   abbrev m : Marking
@@ -111,6 +127,58 @@ module _ (n k : ℕ) (w : List ℕ) (c : Showing n k w) where
   pub show-back : (e : ℕ) (w₁ : List ℕ) → Writes n k w 0 e w₁ → Remembers 0 k w₁
   show-back e w₁ u = undoable-asks n k w₁ (undoable₁ e w₁ u)
 
+  near : (e : ℕ) (w₁ : List ℕ) → Writes n k w 0 e w₁ → e + 1 + length (disjs-words first) + length (disjs-words second) ≤ 2048
+  near e w₁ u = omega (arith, room, weight-words G, u .told (c .stage .es) G (c .stage .ready .holds) joined-is .0)
+
+  pub show-near : (e : ℕ) (w₁ : List ℕ) → Writes n k w 0 e w₁ → e < 2048
+  show-near e w₁ u = omega (arith, near e w₁ u)
+
+  -- ---- neither input has a disjunction
+  module _ (e : ℕ) (w₁ : List ℕ) (u : Writes n k w 0 e w₁) where
+    long₁ : 16384 ≤ length w₁
+    long₁ = omega (arith, long, u .kept .len)
+
+    loaded₁ : words w₁ ≡ c .t
+    loaded₁ = words-same w w₁ long (u .kept .len) (λ i h l. u .kept .mid i h (omega arith)) ∙ c .stage .ready .loaded
+
+    at-a : At (words w₁) 0 0 a (c .p .inputs .end-a) (c .p .inputs .half)
+    at-a = subst (λ (t : List ℕ). At t 0 0 a (c .p .inputs .end-a) (c .p .inputs .half)) (sym loaded₁) (c .p .inputs .at-a)
+
+    at-b : At (words w₁) SECOND (c .p .inputs .half) b (c .p .inputs .end-b) n
+    at-b = subst (λ (t : List ℕ). At t SECOND (c .p .inputs .half) b (c .p .inputs .end-b) n) (sym loaded₁) (c .p .inputs .at-b)
+
+    low-a : c .p .inputs .half < number-step
+    low-a = omega (arith, half-low n (c .t) (c .p .inputs), c .p .inputs .ground .few)
+
+    pub show-reads : (tail-at w₁ 0 < 2048) × (tail-at w₁ SECOND < 2048) × (SIZE ≤ length w₁)
+    show-reads = (
+      read-at w₁ long₁ a 0 0 (c .p .inputs .end-a) (c .p .inputs .half) at-a low-a .inside,
+      read-at w₁ long₁ b SECOND (c .p .inputs .half) (c .p .inputs .end-b) n at-b (c .p .inputs .ground .few) .inside,
+      long₁,
+    )
+
+    module _ (h : disjunctions-in w₁ ≡ 0) where
+      plain-words : layout.words (outcome w (c .p)) ≡ graph-words G ++ 0 ∷ []
+      plain-words = all-words ∙ ap₂ {C = List ℕ} (λ (x y : Disjs). graph-words G ++ (disjs x + disjs y) ∷ (disjs-words x ++ disjs-words y))
+          (none-left w₁ long₁ m a 0 0 (c .p .inputs .end-a) (c .p .inputs .half) at-a low-a (omega arith))
+          (none-left w₁ long₁ m b SECOND (c .p .inputs .half) (c .p .inputs .end-b) n at-b (c .p .inputs .ground .few) (omega arith))
+
+      pub plain-told : (length (set w₁ (RESULT + e) 0) ≡ length w) × ((h : ℕ) → RESULT + 2048 ≤ h → getD (set w₁ (RESULT + e) 0) h 0 ≡ getD w h 0) × (e + 1 ≡ length (layout.words (outcome w (c .p)))) × Stands (set w₁ (RESULT + e) 0) RESULT (layout.words (outcome w (c .p))) (RESULT + (e + 1))
+      plain-told =
+          let w₂ = set w₁ (RESULT + e) 0 in
+          let low = show-near e w₁ u in
+          let far = long₁ in
+          let same = length-set w₁ (RESULT + e) 0 in
+          let other : (j : ℕ) → (j ≡ RESULT + e → ⊥) → getD w₂ j 0 ≡ getD w₁ j 0 = λ j h. getD-set-other w₁ (RESULT + e) j 0 0 h in
+          let stands : Stands w₂ RESULT (graph-words G ++ 0 ∷ []) (RESULT + (e + 1)) = stands-append w₂ (graph-words G) (0 ∷ []) RESULT (RESULT + (e + 1)) .1 (
+            RESULT + e,
+            stands-frame w₁ w₂ (graph-words G) RESULT (RESULT + e) (λ j h l x. (omega arith, other j (λ q. omega arith))) (u .told (c .stage .es) G (c .stage .ready .holds) joined-is .1 .0),
+            stands-cons w₂ 0 [] (RESULT + e) (RESULT + (e + 1)) .1 (omega arith, getD-set-same w₁ (RESULT + e) 0 0 (omega arith), stands-nil w₂ (RESULT + e + 1) (RESULT + (e + 1)) .1 (omega arith)),
+          ) in
+          let all = subst (λ (xs : List ℕ). Stands w₂ RESULT xs (RESULT + (e + 1))) (sym plain-words) stands in
+          (same ∙ u .kept .len, λ h l. other h (λ q. omega arith) ∙ u .kept .high h (omega arith), omega (arith, stands-length w₂ (layout.words (outcome w (c .p))) RESULT (RESULT + (e + 1)) all), all)
+
+  -- ---- one has
   module _ (e : ℕ) (w₁ : List ℕ) (u : Writes n k w 0 e w₁) (w₂ : List ℕ) (v : Backs 0 k w₁ w₂) where
     top : Written n w 0 (graph-words G) e w₂
     top =
@@ -124,12 +192,6 @@ module _ (n k : ℕ) (w : List ℕ) (c : Showing n k w) where
           stands = stands-frame w₁ w₂ (graph-words G) RESULT (RESULT + e) (λ i h l x. (omega arith, v .rest i (omega arith))) (told .1 .0);
           holds = undoable-back n k w₁ (undoable₁ e w₁ u) w₂ v;
         }
-
-    near : e + 1 + length (disjs-words first) + length (disjs-words second) ≤ 2048
-    near = omega (arith, room, written-order n w 0 (graph-words G) e w₂ top)
-
-    pub show-near : e < 2048
-    show-near = omega (arith, near)
 
     abbrev base₂ : Base n w₂
     base₂ =
@@ -151,7 +213,7 @@ module _ (n k : ℕ) (w : List ℕ) (c : Showing n k w) where
           lies = record { d = a; from = 0; end = i .end-a; to = i .half; at = i .at-a; low = omega arith; nests = i .nests-a; among = i .among-a };
           can = cans .0;
           sane = sanes .0;
-          room = omega (arith, near);
+          room = omega (arith, near e w₁ u);
         }
 
     module _ (r i : ℕ) (w₃ : List ℕ) (x : Disjoins n w₂ 0 depth-limit (e + 1) r i w₃) where
@@ -167,7 +229,7 @@ module _ (n k : ℕ) (w : List ℕ) (c : Showing n k w) where
             lies = record { d = b; from = s .half; end = s .end-b; to = n; at = s .at-b; low = omega arith; nests = s .nests-b; among = s .among-b };
             can = cans .1;
             sane = sanes .1;
-            room = omega (arith, near, written-order n w₂ (e + 1) (disjs-words first) r w₃ (told .0));
+            room = omega (arith, near e w₁ u, written-order n w₂ (e + 1) (disjs-words first) r w₃ (told .0));
           }
 
       module _ (q l : ℕ) (w₄ : List ℕ) (y : Disjoins n w₃ SECOND depth-limit r q l w₄) where
@@ -176,10 +238,10 @@ module _ (n k : ℕ) (w : List ℕ) (c : Showing n k w) where
         told₂ = y show-second
 
         pub show-few : i + l ≤ 2048
-        show-few = omega (arith, near, told .1, told₂ .1, few-disjunctions first, few-disjunctions second)
+        show-few = omega (arith, near e w₁ u, told .1, told₂ .1, few-disjunctions first, few-disjunctions second)
 
         pub show-long : RESULT + e < length w₄
-        show-long = omega (arith, told₂ .0 .holds .long, near)
+        show-long = omega (arith, told₂ .0 .holds .long, near e w₁ u)
 
         whole : Written n w 0 (layout.words (outcome w (c .p))) q (set w₄ (RESULT + e) (i + l))
         whole =
@@ -187,7 +249,7 @@ module _ (n k : ℕ) (w : List ℕ) (c : Showing n k w) where
             let later = written-append n w₂ (e + 1) (disjs-words first) r w₃ (disjs-words second) q w₄ (told .0) (told₂ .0) in
             subst (λ (xs : List ℕ). Written n w 0 xs q w₅) (sym all-words)
             (subst (λ (h : ℕ). Written n w 0 (graph-words G ++ h ∷ (disjs-words first ++ disjs-words second)) q w₅) (ap₂ _+_ (told .1) (told₂ .1))
-            (written-between n w 0 (graph-words G) e w₂ (disjs-words first ++ disjs-words second) q w₄ (i + l) top later show-near))
+            (written-between n w 0 (graph-words G) e w₂ (disjs-words first ++ disjs-words second) q w₄ (i + l) top later (show-near e w₁ u)))
 
         pub show-told : (length (set w₄ (RESULT + e) (i + l)) ≡ length w) × ((h : ℕ) → RESULT + 2048 ≤ h → getD (set w₄ (RESULT + e) (i + l)) h 0 ≡ getD w h 0) × (q ≡ length (layout.words (outcome w (c .p)))) × Stands (set w₄ (RESULT + e) (i + l)) RESULT (layout.words (outcome w (c .p))) (RESULT + q)
         show-told =
@@ -200,3 +262,8 @@ pub shows : (n k : ℕ) (w : List ℕ) → Showing n k w → (e : ℕ) (w₁ : L
 shows n k w c e w₁ u w₂ v r i w₃ x q l w₄ y =
     let own = show-told n k w c e w₁ u w₂ v r i w₃ x q l w₄ y in
     record { len = own .0; rest = own .1; told = λ d. let s = show-told n k w d e w₁ u w₂ v r i w₃ x q l w₄ y in (s .2, s .3) }
+
+pub plain : (n k : ℕ) (w : List ℕ) → Showing n k w → (e : ℕ) (w₁ : List ℕ) → Writes n k w 0 e w₁ → disjunctions-in w₁ ≡ 0 → Shows n k w (e + 1) (set w₁ (RESULT + e) 0)
+plain n k w c e w₁ u h =
+    let own = plain-told n k w c e w₁ u h in
+    record { len = own .0; rest = own .1; told = λ d. let s = plain-told n k w d e w₁ u h in (s .2, s .3) }

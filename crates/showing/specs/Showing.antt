@@ -7,14 +7,19 @@ use lib.ListN.{length, getD}
 use Rattle.theory.specs.Descr.{Desc}
 use Rattle.theory.specs.Layout.{words}
 use Rattle.theory.proofs.Mean.{Can}
-use Rattle.area.specs.Map.{RESULT}
+use Rattle.area.specs.Map.{SECOND, RESULT}
 use Rattle.layout.specs.Standing.{Stands}
 use Rattle.engine.specs.Placed.{strip}
 use Rattle.engine.specs.Marks.{keep}
 use Rattle.engine.specs.Shown.{shown}
 use Rattle.engine.proofs.Sane.{Sane}
+use Rattle.marks.specs.Positions.{tail-at, disjunctions-at}
 use Rattle.marks.specs.Marked.{marking}
 use Rattle.quick.specs.Stage.{Pair, Stage}
+
+-- how many disjunctions the inputs have that stand loaded
+abbrev pub disjunctions-in : List ℕ → ℕ
+disjunctions-in w = disjunctions-at w (tail-at w 0) + disjunctions-at w (tail-at w SECOND)
 
 -- what the marks leave of the joined description, folded
 abbrev pub outcome : {n : ℕ} {t : List ℕ} → List ℕ → Pair n t → Desc
