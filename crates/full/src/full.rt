@@ -3,14 +3,12 @@ use area::map::SECOND;
 use classes::push::Pushed;
 use classes::push::back;
 use counting::choices::count_both;
+use layout::limits::DEPTH_LIMIT;
 use marks::marking::keep_lit;
 use quick::enter::enter;
 use search::search::search;
 ghost use Rattle.full.specs.Restarted.{Restarting, Restarts};
 ghost use Rattle.full.specs.Fulled.{Fulling, Fulls};
-
-// "Alternatives may be nested at most 4 deep"
-const DEPTH: u32 = 4;
 
 // "over 4,096 choices"
 const CHOICE_LIMIT: u32 = 4096;
@@ -28,11 +26,11 @@ fn restart(w: &mut [u32], k: usize, n: usize) -> Pushed
     ensures { λ r. ⌜ Restarts n k (now (w .entry)) r (now (w .exit)) ⌝ }
 {
     back(w, k, 0);
-    let first = enter(w, 0, n, 0, DEPTH);
+    let first = enter(w, 0, n, 0, DEPTH_LIMIT);
     let Pushed::In(j) = first else {
         return Pushed::Clashed;
     };
-    enter(w, j, n, SECOND, DEPTH)
+    enter(w, j, n, SECOND, DEPTH_LIMIT)
 }
 
 // Drops every alternative that stands in no consistent choice, where k entries in the log are what is certain after the quick step.
@@ -40,7 +38,7 @@ pub fn full(w: &mut [u32], k: usize, n: usize) -> Fully
     requires { ⌜ Fulling n k (now w) ⌝ }
     ensures { λ r. ⌜ Fulls n k (now (w .entry)) r (now (w .exit)) ⌝ }
 {
-    let choices = count_both(w, DEPTH);
+    let choices = count_both(w, DEPTH_LIMIT);
     if CHOICE_LIMIT < choices {
         return Fully::Over;
     }

@@ -9,6 +9,7 @@ use area::map::SECOND;
 use classes::push::Pushed;
 use classes::push::back;
 use counting::choices::capped;
+use layout::limits::DEPTH_LIMIT;
 use marks::marking::kept;
 use marks::marking::light;
 use marks::positions::after_at;
@@ -18,9 +19,6 @@ use marks::tally::count_kept;
 use quick::enter::enter;
 use trying::told::Guess;
 ghost use Rattle.search.specs.Searched.{Noting, Notes, Resuming, Resumes, Taking, Takes, Choosing, Chooses, Searching, Searches};
-
-// "Alternatives may be nested at most 4 deep"
-const DEPTH: u32 = 4;
 
 // The consistent choices with an alternative that clashes.
 const NONE: u32 = 0;
@@ -99,7 +97,7 @@ fn take(w: &mut [u32], k: usize, n: usize, g: usize, a: Agenda) -> u32
         }
         Guess::Unsure => {}
     }
-    let pushed = enter(w, k, n, g, DEPTH);
+    let pushed = enter(w, k, n, g, DEPTH_LIMIT);
     let Pushed::In(e) = pushed else {
         return NONE;
     };

@@ -3,6 +3,7 @@ use crate::put::put_disjunctions;
 use area::map::RESULT;
 use area::map::SECOND;
 use classes::push::back;
+use layout::limits::DEPTH_LIMIT;
 use marks::positions::disjunctions_at;
 use marks::positions::tail_at;
 use writing::graph::write_graph;
@@ -12,9 +13,6 @@ ghost use lib.ListN.{length};
 ghost use Rattle.area.specs.Map.{SECOND, SIZE};
 ghost use Rattle.marks.specs.Positions.{tail-at};
 ghost use Rattle.showing.specs.Showing.{disjunctions-in, Showing, Shows};
-
-// "Alternatives may be nested at most 4 deep"
-const DEPTH: u32 = 4;
 
 // How many disjunctions both inputs have.
 fn disjunctions(w: &[u32]) -> usize
@@ -37,9 +35,9 @@ pub fn show(w: &mut [u32], k: usize, n: usize) -> usize
         return e + 1;
     }
     back(w, k, 0);
-    let first = put_disjunctions(w, n, 0, DEPTH, e + 1);
+    let first = put_disjunctions(w, n, 0, DEPTH_LIMIT, e + 1);
     let middle = first.at;
-    let second = put_disjunctions(w, n, SECOND, DEPTH, middle);
+    let second = put_disjunctions(w, n, SECOND, DEPTH_LIMIT, middle);
     let count = first.count + second.count;
     w[RESULT + e] = count as u32;
     second.at
