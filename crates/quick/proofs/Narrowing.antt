@@ -17,7 +17,7 @@ use Rattle.engine.specs.Quickly.{fails, stands, narrow-at, inside-at, any-at}
 use Rattle.loading.specs.Entry.{Entry, graphs}
 use Rattle.loading.specs.Loaded.{extent, number-step}
 use Rattle.loading.specs.Numbered.{places, options}
-use Rattle.loading.specs.At.{At, AtAll, AtAny}
+use Rattle.loading.specs.At.{At, AtAll}
 use Rattle.loading.proofs.Walking.{at-bounds, all-bounds, any-bounds}
 use Rattle.marks.specs.Positions.{tail-at, disjunctions-at, alternatives-at}
 use Rattle.marks.specs.Marked.{marking}
@@ -37,6 +37,7 @@ use Rattle.quick.specs.Clear.{Outside, Clear, ClearAll, ClearAny}
 use Rattle.quick.specs.Stepped.{total, Fewer, Off, Moved, Stood, Narrowing, NarrowStands, NarrowFails, Narrows, Choosing, ChooseStands, ChooseFails, Chooses}
 use Rattle.quick.proofs.Mirror.{Alike}
 use Rattle.quick.proofs.Clearing.{all-alike, any-alike}
+use Rattle.quick.proofs.Choosing.{chosen}
 use Rattle.quick.proofs.Sifting.{moved-trans, moved-words}
 
 narrow-more : (S : List Graph) (m : Marking) (a : Options) (ds : Places) (s : quickly.Step) → any-at S m a ≡ s → narrow-at S m (a also ds) ≡ elim s [ fails n ↦ fails n | stands T n ↦ narrow-at T n ds ]
@@ -177,19 +178,12 @@ module _ (n k : ℕ) (w : List ℕ) (g left : ℕ) where
         asks-one = asks
 
         module _ (r : Step) (w₂ : List ℕ) (v : Chooses n log w₁ (at + 1) count (left - 1) r w₂) where
-          -- what is counted after it
-          pub asks-count : (room : 16384 ≤ length w₂) → words w₂ ≡ words w₁ → Alternatives w₂ (at + 1) count
-          asks-count room same = record { room = room; a = next .a; n = s .l; q = next .o .0; m = next .o .1; at = subst (λ (t : List ℕ). AtAny t (at + 1) (s .l) (next .a) (next .o .0) (next .o .1)) (sym (same ∙ loaded₁)) (next .o .4); low = omega (arith, last, c .low, c .ground .few); many = asks .many }
-
           module _ (j i : ℕ) (y : r ≡ Stands j i) where
             pub moved-on : Moved k w j w₂
             moved-on = moved-trans k w log w₁ j w₂ m (v .standing j i y .0)
 
             told : ChooseStands n log w₁ (at + 1) count (left - 1) j w₂ asks
             told = v .standing j i y .2 asks
-
-            pub asks-after : Alternatives w₂ (at + 1) count
-            asks-after = asks-count (omega (arith, v .standing j i y .0 .len, m .len, c .holds .long)) (moved-words log w₁ j w₂ (omega (arith, m .len, c .holds .long)) (v .standing j i y .0))
 
             -- the sieve is gathered again, or tells the same
             pub runs-after : getD w₂ 0 0 ≤ 2048 → Runs w₂ (getD w₂ 0 0)
@@ -198,15 +192,14 @@ module _ (n k : ℕ) (w : List ℕ) (g left : ℕ) where
             pub sieved-after : (t : List ℕ) → Sieved w₁ t → j ≡ log → Sieved w₂ t
             sieved-after t u e = sieved-since log w₁ w₂ t (omega (arith, m .len, c .holds .long)) (subst (λ (i : ℕ). Since log w₁ i w₂) e (v .standing j i y .0 .since)) u
 
-            pub narrow-on : (kept first' after : ℕ) → ((a : Alternatives w₂ (at + 1) count) → Tallied w₂ a kept first' after) → Going c (more - 1) after j w₂
-            unfolding asks-after asks-count
+            pub narrow-on : (kept first' after : ℕ) → ((a : Alternatives w₁ (at + 1) count) → Tallied w₁ a kept first' after) → Going c (more - 1) after j w₂
             narrow-on kept first' after tally =
                 let count' = next .later in
                 let above = s .above in
                 let near = first .2 in
                 let far = last in
                 let there = next .o .2 in
-                subst (λ (p : ℕ). Going c (more - 1) p j w₂) (sym (tally asks-after .after-is)) (record {
+                subst (λ (p : ℕ). Going c (more - 1) p j w₂) (sym (tally (chosen n log w₁ (at + 1) count (left - 1) asks) .after-is)) (record {
                   ds = next .ds;
                   l = next .o .1;
                   stand = next .o .5;

@@ -15,6 +15,8 @@ use marks::positions::tail_at;
 use marks::tally::count_kept;
 use sieving::gather::gather;
 use sieving::gather::renew;
+ghost use Prim.Native.Nat.{ℕ};
+ghost use Rattle.marks.specs.Tallied.{Alternatives, Tallied};
 ghost use Rattle.sieving.specs.Sieved.{Sieved};
 ghost use Rattle.quick.specs.Entered.{Entering};
 ghost use Rattle.quick.specs.Settled.{Alternating};
@@ -61,7 +63,18 @@ pub fn narrow(w: &mut [u32], k: usize, n: usize, g: usize, left: u32) -> Step
     let mut drops: usize = 0;
     while 0 < more {
         let count = alternatives_at(w, at);
-        let one = narrow_one(w, log, n, at + 1, count, left - 1, &t);
+        let tally = count_kept(w, at + 1, count);
+        let one = narrow_one(
+            w,
+            log,
+            n,
+            at + 1,
+            count,
+            tally.kept,
+            tally.first,
+            left - 1,
+            &t,
+        );
         let Step::Stands(j, i) = one else {
             back(w, log, k);
             return Step::Fails;
@@ -69,33 +82,33 @@ pub fn narrow(w: &mut [u32], k: usize, n: usize, g: usize, left: u32) -> Step
         renew(w, &mut t, log, j);
         log = j;
         drops += i;
-        let tally = count_kept(w, at + 1, count);
         at = tally.after;
         more -= 1;
     }
     Step::Stands(log, drops)
 }
 
-// Narrows one disjunction, whose `count` alternatives stand from p on.
+// Narrows one disjunction, whose `count` alternatives stand from p on. Of these `found` are kept, the first of them at `first`.
 fn narrow_one(
     w: &mut [u32],
     k: usize,
     n: usize,
     p: usize,
     count: usize,
+    found: usize,
+    first: usize,
     left: u32,
     t: &[u32],
 ) -> Step
     requires { ⌜ Choosing n k (now w) p count left ⌝ }
+    requires { ⌜ ((after : ℕ) × ((s : Alternatives (now w) p count) → Tallied (now w) s found first after)) ⌝ }
     requires { ⌜ Sieved (now w) (now t) ⌝ }
     ensures { λ r. ⌜ Chooses n k (now (w .entry)) p count left r (now (w .exit)) ⌝ }
 {
-    let tally = count_kept(w, p, count);
-    if tally.kept == 0 {
+    if found == 0 {
         return Step::Fails;
     }
-    if tally.kept == 1 {
-        let first = tally.first;
+    if found == 1 {
         return narrow(w, k, n, first, left);
     }
     let drops = sift(w, k, n, p, count, left, t);

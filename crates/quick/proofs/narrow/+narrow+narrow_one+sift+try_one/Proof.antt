@@ -17,7 +17,7 @@ use Rattle.quick.proofs.Entering.{asks-own}
 use Rattle.quick.proofs.Trying.{tried-starts, tries-clash, asks-narrow, asks-back, tries-fails, tries-stands}
 use Rattle.quick.proofs.Sifting.{fewer-none, fewer-trans, fewer-small, Sifting, Turn, skipped, stood, failed, moved-none, sift-start, sift-here, sift-asks, turn-moved, turn-inside, turn-fewer, turn-on, sift-done}
 use Rattle.quick.proofs.Choosing.{chosen, chooses-none, asks-alone, chooses-one, asks-sift, asks-settle, chooses-still, chooses-fails, chooses-stands}
-use Rattle.quick.proofs.Narrowing.{Going, narrow-starts, narrow-runs, moved-start, narrow-begin, narrow-done, narrow-here, narrow-deep, asks-one, asks-after, moved-on, runs-after, sieved-after, narrow-on, moved-back, fewer-back, narrow-fails, narrows-stands, narrows-fails, narrows-len}
+use Rattle.quick.proofs.Narrowing.{Going, narrow-starts, narrow-runs, moved-start, narrow-begin, narrow-done, narrow-here, narrow-deep, asks-one, moved-on, runs-after, sieved-after, narrow-on, moved-back, fewer-back, narrow-fails, narrows-stands, narrows-fails, narrows-len}
 use borrow.Fn.Kinds.{In}
 use borrow.Fn.PlainCycle.{Measures, is, falls, and}
 use Rattle.quick.proofs.narrow.narrow.Reads as narrow
@@ -53,7 +53,7 @@ abbrev μ-narrow : Measures 1 narrow-kinds.ps ℕ
 μ-narrow κs a = 4 * a .1 .1 .1 .1 .0
 
 abbrev μ-narrow-one : Measures 2 narrow-one-kinds.ps ℕ
-μ-narrow-one κs a = 4 * a .1 .1 .1 .1 .1 .0 + 3
+μ-narrow-one κs a = 4 * a .1 .1 .1 .1 .1 .1 .1 .0 + 3
 
 abbrev μ-sift : Measures 2 sift-kinds.ps ℕ
 μ-sift κs a = 4 * a .1 .1 .1 .1 .1 .0 + 2
@@ -103,14 +103,14 @@ narrow-claims t = (
   gather-reads.Learnt,
   alternatives-at-reads.Asked,
   alternatives-at-reads.Learnt,
+  count-kept-reads.Asked,
+  count-kept-reads.Learnt,
   narrow-one-below t,
   narrow-one.Post,
   back-reads.Asked,
   back-reads.Learnt,
   renew-reads.Asked,
   renew-reads.Learnt,
-  count-kept-reads.Asked,
-  count-kept-reads.Learnt,
 )
 
 narrow-tail-at-requires : (t : ℕ) → narrow-lts.Need-tail-at-requires (narrow-claims t) (narrow-at t) narrow.Post narrow-Inv-loop narrow-μ-loop
@@ -140,17 +140,23 @@ narrow-loop-holds t c = let p = c .before .before .before .before .before .befor
 narrow-alternatives-at-requires : (t : ℕ) → narrow-lts.Need-alternatives-at-requires (narrow-claims t) (narrow-at t) narrow.Post narrow-Inv-loop narrow-μ-loop
 narrow-alternatives-at-requires t c κs = let p = c .before .before .before .before .before .before .before .before .before .before .before .before .before .pre .1 in let v = c .before .before .loop .inv in let q = c .before .loop-test in (narrow-here _ _ _ _ _ p _ _ _ _ (v .0) (v .2 p) (omega arith), omega (arith, v .0 .len, p .holds .long))
 
+narrow-add-count-kept : (t : ℕ) → narrow-lts.Need-add-count-kept (narrow-claims t) (narrow-at t) narrow.Post narrow-Inv-loop narrow-μ-loop
+narrow-add-count-kept t c = let p = c .before .before .before .before .before .before .before .before .before .before .before .before .before .before .before .pre .1 in let v = c .before .before .before .before .loop .inv in let q = c .before .before .before .loop-test in let h = narrow-here _ _ _ _ _ p _ _ _ _ (v .0) (v .2 p) (omega arith) in omega arith
+
+narrow-count-kept-requires : (t : ℕ) → narrow-lts.Need-count-kept-requires (narrow-claims t) (narrow-at t) narrow.Post narrow-Inv-loop narrow-μ-loop
+narrow-count-kept-requires t c κs = let p = c .before .before .before .before .before .before .before .before .before .before .before .before .before .before .before .pre .1 in let v = c .before .before .before .before .loop .inv in let q = c .before .before .before .loop-test in chosen _ _ _ _ _ _ (asks-one _ _ _ _ _ p _ _ _ _ (v .0) (v .2 p) (omega arith) _ (c .before .alternatives-at .ensures))
+
 narrow-add-narrow-one : (t : ℕ) → narrow-lts.Need-add-narrow-one (narrow-claims t) (narrow-at t) narrow.Post narrow-Inv-loop narrow-μ-loop
-narrow-add-narrow-one t c = let p = c .before .before .before .before .before .before .before .before .before .before .before .before .before .before .before .pre .1 in let v = c .before .before .before .before .loop .inv in let q = c .before .before .before .loop-test in let h = narrow-here _ _ _ _ _ p _ _ _ _ (v .0) (v .2 p) (omega arith) in omega arith
+narrow-add-narrow-one t c = let p = c .before .before .before .before .before .before .before .before .before .before .before .before .before .before .before .before .before .pre .1 in let v = c .before .before .before .before .before .before .loop .inv in let q = c .before .before .before .before .before .loop-test in let h = narrow-here _ _ _ _ _ p _ _ _ _ (v .0) (v .2 p) (omega arith) in omega arith
 
 narrow-sub-narrow-one : (t : ℕ) → narrow-lts.Need-sub-narrow-one (narrow-claims t) (narrow-at t) narrow.Post narrow-Inv-loop narrow-μ-loop
-narrow-sub-narrow-one t c = let p = c .before .before .before .before .before .before .before .before .before .before .before .before .before .before .before .pre .1 in let v = c .before .before .before .before .loop .inv in let q = c .before .before .before .loop-test in let h = narrow-deep _ _ _ _ _ p _ _ _ _ (v .0) (v .2 p) (omega arith) in omega arith
+narrow-sub-narrow-one t c = let p = c .before .before .before .before .before .before .before .before .before .before .before .before .before .before .before .before .before .pre .1 in let v = c .before .before .before .before .before .before .loop .inv in let q = c .before .before .before .before .before .loop-test in let h = narrow-deep _ _ _ _ _ p _ _ _ _ (v .0) (v .2 p) (omega arith) in omega arith
 
 narrow-slice-aggregate-narrow-one : (t : ℕ) → narrow-lts.Need-slice-aggregate-narrow-one (narrow-claims t) (narrow-at t) narrow.Post narrow-Inv-loop narrow-μ-loop
-narrow-slice-aggregate-narrow-one t c = sym (c .before .before .before .before .before .loop .inv .3)
+narrow-slice-aggregate-narrow-one t c = sym (c .before .before .before .before .before .before .before .loop .inv .3)
 
 narrow-narrow-one-requires : (t : ℕ) → narrow-lts.Need-narrow-one-requires (narrow-claims t) (narrow-at t) narrow.Post narrow-Inv-loop narrow-μ-loop
-narrow-narrow-one-requires t c κs = let p = c .before .before .before .before .before .before .before .before .before .before .before .before .before .before .before .before .pre .1 in let v = c .before .before .before .before .before .loop .inv in let q = c .before .before .before .before .loop-test in (let h = narrow-deep _ _ _ _ _ p _ _ _ _ (v .0) (v .2 p) (omega arith) in omega (arith, c .before .before .before .before .before .before .before .before .before .before .before .before .before .before .before .before .pre .0), (asks-one _ _ _ _ _ p _ _ _ _ (v .0) (v .2 p) (omega arith) _ (c .before .before .alternatives-at .ensures), v .4))
+narrow-narrow-one-requires t c κs = let p = c .before .before .before .before .before .before .before .before .before .before .before .before .before .before .before .before .before .before .pre .1 in let v = c .before .before .before .before .before .before .before .loop .inv in let q = c .before .before .before .before .before .before .loop-test in (let h = narrow-deep _ _ _ _ _ p _ _ _ _ (v .0) (v .2 p) (omega arith) in omega (arith, c .before .before .before .before .before .before .before .before .before .before .before .before .before .before .before .before .before .before .pre .0), (asks-one _ _ _ _ _ p _ _ _ _ (v .0) (v .2 p) (omega arith) _ (c .before .before .before .before .alternatives-at .ensures), ((_, c .before .before .count-kept .ensures), v .4)))
 
 narrow-enum-known-one : (t : ℕ) → narrow-lts.Need-enum-known-one (narrow-claims t) (narrow-at t) narrow.Post narrow-Inv-loop narrow-μ-loop
 narrow-enum-known-one t c = search needs
@@ -159,25 +165,19 @@ narrow-enum-told : (t : ℕ) → narrow-lts.Need-enum-told (narrow-claims t) (na
 narrow-enum-told t c = search needs
 
 narrow-back-requires : (t : ℕ) → narrow-lts.Need-back-requires (narrow-claims t) (narrow-at t) narrow.Post narrow-Inv-loop narrow-μ-loop
-narrow-back-requires t c κs = let p = c .before .before .before .before .before .before .before .before .before .before .before .before .before .before .before .before .before .before .before .before .before .before .pre .1 in let v = c .before .before .before .before .before .before .before .before .before .before .before .loop .inv in let q = c .before .before .before .before .before .before .before .before .before .before .loop-test in record { w₀ = c .before .before .before .before .before .before .before .before .before .before .before .before .before .before .before .before .before .before .before .before .before .before .args .w .now; since = since-trans _ _ _ _ _ _ (v .0 .since) (c .before .before .before .before .before .narrow-one .ensures .failing (c .before .enum-told .given .1) .0 .since) }
+narrow-back-requires t c κs = let p = c .before .before .before .before .before .before .before .before .before .before .before .before .before .before .before .before .before .before .before .before .before .before .before .before .pre .1 in let v = c .before .before .before .before .before .before .before .before .before .before .before .before .before .loop .inv in let q = c .before .before .before .before .before .before .before .before .before .before .before .before .loop-test in record { w₀ = c .before .before .before .before .before .before .before .before .before .before .before .before .before .before .before .before .before .before .before .before .before .before .before .before .args .w .now; since = since-trans _ _ _ _ _ _ (v .0 .since) (c .before .before .before .before .before .narrow-one .ensures .failing (c .before .enum-told .given .1) .0 .since) }
 
 narrow-same-length-2 : (t : ℕ) → narrow-lts.Need-same-length-2 (narrow-claims t) (narrow-at t) narrow.Post narrow-Inv-loop narrow-μ-loop
-narrow-same-length-2 t c = let p = c .before .before .before .before .before .before .before .before .before .before .before .before .before .before .before .before .before .before .before .before .before .before .before .before .before .pre .1 in let v = c .before .before .before .before .before .before .before .before .before .before .before .before .before .before .loop .inv in let q = c .before .before .before .before .before .before .before .before .before .before .before .before .before .loop-test in moved-back _ _ _ _ _ p _ _ _ _ (v .0) (v .2 p) (omega arith) _ (c .before .before .before .before .before .before .before .before .before .before .before .alternatives-at .ensures) _ _ (c .before .before .before .before .before .before .before .before .narrow-one .ensures) (c .before .before .before .before .enum-told .given .1) _ (c .before .before .back .ensures) .len
+narrow-same-length-2 t c = let p = c .before .before .before .before .before .before .before .before .before .before .before .before .before .before .before .before .before .before .before .before .before .before .before .before .before .before .before .pre .1 in let v = c .before .before .before .before .before .before .before .before .before .before .before .before .before .before .before .before .loop .inv in let q = c .before .before .before .before .before .before .before .before .before .before .before .before .before .before .before .loop-test in moved-back _ _ _ _ _ p _ _ _ _ (v .0) (v .2 p) (omega arith) _ (c .before .before .before .before .before .before .before .before .before .before .before .before .before .alternatives-at .ensures) _ _ (c .before .before .before .before .before .before .before .before .narrow-one .ensures) (c .before .before .before .before .enum-told .given .1) _ (c .before .before .back .ensures) .len
 
 narrow-returns-2 : (t : ℕ) → narrow-lts.Need-returns-2 (narrow-claims t) (narrow-at t) narrow.Post narrow-Inv-loop narrow-μ-loop
-narrow-returns-2 t c = let p = c .before .before .before .before .before .before .before .before .before .before .before .before .before .before .before .before .before .before .before .before .before .before .before .before .before .pre .1 in let v = c .before .before .before .before .before .before .before .before .before .before .before .before .before .before .loop .inv in let q = c .before .before .before .before .before .before .before .before .before .before .before .before .before .loop-test in narrows-fails _ _ _ _ _ _ (moved-back _ _ _ _ _ p _ _ _ _ (v .0) (v .2 p) (omega arith) _ (c .before .before .before .before .before .before .before .before .before .before .before .alternatives-at .ensures) _ _ (c .before .before .before .before .before .before .before .before .narrow-one .ensures) (c .before .before .before .before .enum-told .given .1) _ (c .before .before .back .ensures)) (fewer-back _ _ _ _ _ p _ _ _ _ (v .0) (v .2 p) (omega arith) _ (c .before .before .before .before .before .before .before .before .before .before .before .alternatives-at .ensures) _ _ (c .before .before .before .before .before .before .before .before .narrow-one .ensures) (c .before .before .before .before .enum-told .given .1) _ (c .before .before .back .ensures) _ (v .1)) (λ d. narrow-fails _ _ _ _ _ d _ _ _ _ (v .0) (v .2 d) (omega arith) _ (c .before .before .before .before .before .before .before .before .before .before .before .alternatives-at .ensures) _ _ (c .before .before .before .before .before .before .before .before .narrow-one .ensures) (c .before .before .before .before .enum-told .given .1) _ (c .before .before .back .ensures))
+narrow-returns-2 t c = let p = c .before .before .before .before .before .before .before .before .before .before .before .before .before .before .before .before .before .before .before .before .before .before .before .before .before .before .before .pre .1 in let v = c .before .before .before .before .before .before .before .before .before .before .before .before .before .before .before .before .loop .inv in let q = c .before .before .before .before .before .before .before .before .before .before .before .before .before .before .before .loop-test in narrows-fails _ _ _ _ _ _ (moved-back _ _ _ _ _ p _ _ _ _ (v .0) (v .2 p) (omega arith) _ (c .before .before .before .before .before .before .before .before .before .before .before .before .before .alternatives-at .ensures) _ _ (c .before .before .before .before .before .before .before .before .narrow-one .ensures) (c .before .before .before .before .enum-told .given .1) _ (c .before .before .back .ensures)) (fewer-back _ _ _ _ _ p _ _ _ _ (v .0) (v .2 p) (omega arith) _ (c .before .before .before .before .before .before .before .before .before .before .before .before .before .alternatives-at .ensures) _ _ (c .before .before .before .before .before .before .before .before .narrow-one .ensures) (c .before .before .before .before .enum-told .given .1) _ (c .before .before .back .ensures) _ (v .1)) (λ d. narrow-fails _ _ _ _ _ d _ _ _ _ (v .0) (v .2 d) (omega arith) _ (c .before .before .before .before .before .before .before .before .before .before .before .before .before .alternatives-at .ensures) _ _ (c .before .before .before .before .before .before .before .before .narrow-one .ensures) (c .before .before .before .before .enum-told .given .1) _ (c .before .before .back .ensures))
 
 narrow-renew-requires : (t : ℕ) → narrow-lts.Need-renew-requires (narrow-claims t) (narrow-at t) narrow.Post narrow-Inv-loop narrow-μ-loop
-narrow-renew-requires t c κs = let p = c .before .before .before .before .before .before .before .before .before .before .before .before .before .before .before .before .before .before .before .before .before .before .before .before .pre .1 in let v = c .before .before .before .before .before .before .before .before .before .before .before .before .before .loop .inv in let q = c .before .before .before .before .before .before .before .before .before .before .before .before .loop-test in let one = c .before .before .before .before .before .before .before .narrow-one .ensures in let stands = c .before .before .before .one .given .1 in ((omega (arith, one .standing _ _ stands .0 .len, v .0 .len, p .holds .long), v .3), (runs-after _ _ _ _ _ p _ _ _ _ (v .0) (v .2 p) (omega arith) _ (c .before .before .before .before .before .before .before .before .before .before .alternatives-at .ensures) _ _ one _ _ stands, sieved-after _ _ _ _ _ p _ _ _ _ (v .0) (v .2 p) (omega arith) _ (c .before .before .before .before .before .before .before .before .before .before .alternatives-at .ensures) _ _ one _ _ stands _ (v .4)))
+narrow-renew-requires t c κs = let p = c .before .before .before .before .before .before .before .before .before .before .before .before .before .before .before .before .before .before .before .before .before .before .before .before .before .before .pre .1 in let v = c .before .before .before .before .before .before .before .before .before .before .before .before .before .before .before .loop .inv in let q = c .before .before .before .before .before .before .before .before .before .before .before .before .before .before .loop-test in let one = c .before .before .before .before .before .before .before .narrow-one .ensures in let stands = c .before .before .before .one .given .1 in ((omega (arith, one .standing _ _ stands .0 .len, v .0 .len, p .holds .long), v .3), (runs-after _ _ _ _ _ p _ _ _ _ (v .0) (v .2 p) (omega arith) _ (c .before .before .before .before .before .before .before .before .before .before .before .before .alternatives-at .ensures) _ _ one _ _ stands, sieved-after _ _ _ _ _ p _ _ _ _ (v .0) (v .2 p) (omega arith) _ (c .before .before .before .before .before .before .before .before .before .before .before .before .alternatives-at .ensures) _ _ one _ _ stands _ (v .4)))
 
 narrow-add-drops : (t : ℕ) → narrow-lts.Need-add-drops (narrow-claims t) (narrow-at t) narrow.Post narrow-Inv-loop narrow-μ-loop
-narrow-add-drops t c = let p = c .before .before .before .before .before .before .before .before .before .before .before .before .before .before .before .before .before .before .before .before .before .before .before .before .before .pre .1 in let v = c .before .before .before .before .before .before .before .before .before .before .before .before .before .before .loop .inv in let q = c .before .before .before .before .before .before .before .before .before .before .before .before .before .loop-test in let a = fewer-small _ _ _ (v .1) in let b = fewer-small _ _ _ (c .before .before .before .before .before .before .before .before .narrow-one .ensures .standing _ _ (c .before .before .before .before .one .given .1) .1) in omega arith
-
-narrow-add-count-kept : (t : ℕ) → narrow-lts.Need-add-count-kept (narrow-claims t) (narrow-at t) narrow.Post narrow-Inv-loop narrow-μ-loop
-narrow-add-count-kept t c = let p = c .before .before .before .before .before .before .before .before .before .before .before .before .before .before .before .before .before .before .before .before .before .before .before .before .before .before .pre .1 in let v = c .before .before .before .before .before .before .before .before .before .before .before .before .before .before .before .loop .inv in let q = c .before .before .before .before .before .before .before .before .before .before .before .before .before .before .loop-test in let h = narrow-here _ _ _ _ _ p _ _ _ _ (v .0) (v .2 p) (omega arith) in omega arith
-
-narrow-count-kept-requires : (t : ℕ) → narrow-lts.Need-count-kept-requires (narrow-claims t) (narrow-at t) narrow.Post narrow-Inv-loop narrow-μ-loop
-narrow-count-kept-requires t c κs = let p = c .before .before .before .before .before .before .before .before .before .before .before .before .before .before .before .before .before .before .before .before .before .before .before .before .before .before .pre .1 in let v = c .before .before .before .before .before .before .before .before .before .before .before .before .before .before .before .loop .inv in let q = c .before .before .before .before .before .before .before .before .before .before .before .before .before .before .loop-test in asks-after _ _ _ _ _ p _ _ _ _ (v .0) (v .2 p) (omega arith) _ (c .before .before .before .before .before .before .before .before .before .before .before .before .alternatives-at .ensures) _ _ (c .before .before .before .before .before .before .before .before .before .narrow-one .ensures) _ _ (c .before .before .before .before .before .one .given .1)
+narrow-add-drops t c = let p = c .before .before .before .before .before .before .before .before .before .before .before .before .before .before .before .before .before .before .before .before .before .before .before .before .before .before .before .pre .1 in let v = c .before .before .before .before .before .before .before .before .before .before .before .before .before .before .before .before .loop .inv in let q = c .before .before .before .before .before .before .before .before .before .before .before .before .before .before .before .loop-test in let a = fewer-small _ _ _ (v .1) in let b = fewer-small _ _ _ (c .before .before .before .before .before .before .before .before .narrow-one .ensures .standing _ _ (c .before .before .before .before .one .given .1) .1) in omega arith
 
 narrow-sub-more : (t : ℕ) → narrow-lts.Need-sub-more (narrow-claims t) (narrow-at t) narrow.Post narrow-Inv-loop narrow-μ-loop
 narrow-sub-more t c = let q = c .before .before .before .before .before .before .before .before .before .before .before .before .before .before .before .loop-test in omega arith
@@ -186,7 +186,7 @@ narrow-loop-less : (t : ℕ) → narrow-lts.Need-loop-less (narrow-claims t) (na
 narrow-loop-less t c = let q = c .before .before .before .before .before .before .before .before .before .before .before .before .before .before .before .loop-test in omega arith
 
 narrow-loop-again : (t : ℕ) → narrow-lts.Need-loop-again (narrow-claims t) (narrow-at t) narrow.Post narrow-Inv-loop narrow-μ-loop
-narrow-loop-again t c = let p = c .before .before .before .before .before .before .before .before .before .before .before .before .before .before .before .before .before .before .before .before .before .before .before .before .before .before .before .pre .1 in let v = c .before .before .before .before .before .before .before .before .before .before .before .before .before .before .before .before .loop .inv in let q = c .before .before .before .before .before .before .before .before .before .before .before .before .before .before .before .loop-test in (moved-on _ _ _ _ _ p _ _ _ _ (v .0) (v .2 p) (omega arith) _ (c .before .before .before .before .before .before .before .before .before .before .before .before .before .alternatives-at .ensures) _ _ (c .before .before .before .before .before .before .before .before .before .before .narrow-one .ensures) _ _ (c .before .before .before .before .before .before .one .given .1), fewer-trans _ _ _ _ _ (v .1) (c .before .before .before .before .before .before .before .before .before .before .narrow-one .ensures .standing _ _ (c .before .before .before .before .before .before .one .given .1) .1), λ d. narrow-on _ _ _ _ _ d _ _ _ _ (v .0) (v .2 d) (omega arith) _ (c .before .before .before .before .before .before .before .before .before .before .before .before .before .alternatives-at .ensures) _ _ (c .before .before .before .before .before .before .before .before .before .before .narrow-one .ensures) _ _ (c .before .before .before .before .before .before .one .given .1) _ _ _ (c .count-kept .ensures), c .before .before .renew .ensures .0, c .before .before .renew .ensures .1)
+narrow-loop-again t c = let p = c .before .before .before .before .before .before .before .before .before .before .before .before .before .before .before .before .before .before .before .before .before .before .before .before .before .before .before .pre .1 in let v = c .before .before .before .before .before .before .before .before .before .before .before .before .before .before .before .before .loop .inv in let q = c .before .before .before .before .before .before .before .before .before .before .before .before .before .before .before .loop-test in (moved-on _ _ _ _ _ p _ _ _ _ (v .0) (v .2 p) (omega arith) _ (c .before .before .before .before .before .before .before .before .before .before .before .before .before .alternatives-at .ensures) _ _ (c .before .before .before .before .before .before .before .before .narrow-one .ensures) _ _ (c .before .before .before .before .one .given .1), fewer-trans _ _ _ _ _ (v .1) (c .before .before .before .before .before .before .before .before .narrow-one .ensures .standing _ _ (c .before .before .before .before .one .given .1) .1), λ d. narrow-on _ _ _ _ _ d _ _ _ _ (v .0) (v .2 d) (omega arith) _ (c .before .before .before .before .before .before .before .before .before .before .before .before .before .alternatives-at .ensures) _ _ (c .before .before .before .before .before .before .before .before .narrow-one .ensures) _ _ (c .before .before .before .before .one .given .1) _ _ _ (c .before .before .before .before .before .before .before .before .before .before .before .count-kept .ensures), c .renew .ensures .0, c .renew .ensures .1)
 
 narrow-same-length-3 : (t : ℕ) → narrow-lts.Need-same-length-3 (narrow-claims t) (narrow-at t) narrow.Post narrow-Inv-loop narrow-μ-loop
 narrow-same-length-3 t c = c .before .loop .inv .0 .len
@@ -196,8 +196,6 @@ narrow-returns-3 t c = let v = c .before .loop .inv in narrows-stands _ _ _ _ _ 
 
 abbrev narrow-one-claims : ℕ → narrow-one-lts.Claims
 narrow-one-claims t = (
-  count-kept-reads.Asked,
-  count-kept-reads.Learnt,
   narrow-below t,
   narrow.Post,
   sift-below t,
@@ -206,35 +204,29 @@ narrow-one-claims t = (
   settle-reads.Learnt,
 )
 
-narrow-one-count-kept-requires : (t : ℕ) → narrow-one-lts.Need-count-kept-requires (narrow-one-claims t) (narrow-one-at t) narrow-one.Post
-narrow-one-count-kept-requires t c κs = chosen _ _ _ _ _ _ (c .before .before .before .pre .1 .0)
-
-narrow-one-same-length : (t : ℕ) → narrow-one-lts.Need-same-length (narrow-one-claims t) (narrow-one-at t) narrow-one.Post
-narrow-one-same-length t c = search needs
-
 narrow-one-returns : (t : ℕ) → narrow-one-lts.Need-returns (narrow-one-claims t) (narrow-one-at t) narrow-one.Post
-narrow-one-returns t c = chooses-none _ _ _ _ _ _ _ _ _ (c .before .before .count-kept .ensures) (c .before .before .before .before .before .before .pre .1 .0) (omega arith)
+narrow-one-returns t c = chooses-none _ _ _ _ _ _ _ _ _ (c .before .before .before .pre .1 .1 .0 .1) (c .before .before .before .pre .1 .0) (omega arith)
 
 narrow-one-narrow-requires : (t : ℕ) → narrow-one-lts.Need-narrow-requires (narrow-one-claims t) (narrow-one-at t) narrow-one.Post
-narrow-one-narrow-requires t c κs = (omega (arith, c .before .before .before .before .before .before .before .before .before .pre .0), asks-alone _ _ _ _ _ _ _ _ _ (c .before .before .before .before .before .count-kept .ensures) (omega arith) (c .before .before .before .before .before .before .before .before .before .pre .1 .0))
+narrow-one-narrow-requires t c κs = (omega (arith, c .before .before .before .before .before .pre .0), asks-alone _ _ _ _ _ _ _ _ _ (c .before .before .before .before .before .pre .1 .1 .0 .1) (omega arith) (c .before .before .before .before .before .pre .1 .0))
 
-narrow-one-same-length-2 : (t : ℕ) → narrow-one-lts.Need-same-length-2 (narrow-one-claims t) (narrow-one-at t) narrow-one.Post
-narrow-one-same-length-2 t c = narrows-len _ _ _ _ _ _ _ (c .before .before .narrow .ensures)
+narrow-one-same-length : (t : ℕ) → narrow-one-lts.Need-same-length (narrow-one-claims t) (narrow-one-at t) narrow-one.Post
+narrow-one-same-length t c = narrows-len _ _ _ _ _ _ _ (c .before .before .narrow .ensures)
 
 narrow-one-returns-2 : (t : ℕ) → narrow-one-lts.Need-returns-2 (narrow-one-claims t) (narrow-one-at t) narrow-one.Post
-narrow-one-returns-2 t c = chooses-one _ _ _ _ _ _ _ _ _ (c .before .before .before .before .before .before .before .before .count-kept .ensures) (omega arith) _ _ (c .before .before .narrow .ensures)
+narrow-one-returns-2 t c = chooses-one _ _ _ _ _ _ _ _ _ (c .before .before .before .before .before .before .before .before .pre .1 .1 .0 .1) (omega arith) _ _ (c .before .before .narrow .ensures)
 
 narrow-one-sift-requires : (t : ℕ) → narrow-one-lts.Need-sift-requires (narrow-one-claims t) (narrow-one-at t) narrow-one.Post
-narrow-one-sift-requires t c κs = (omega (arith, c .before .before .before .before .before .before .before .before .before .pre .0), (asks-sift _ _ _ _ _ _ _ _ _ (c .before .before .before .before .before .count-kept .ensures) (omega arith) (c .before .before .before .before .before .before .before .before .before .pre .1 .0), c .before .before .before .before .before .before .before .before .before .pre .1 .1))
+narrow-one-sift-requires t c κs = (omega (arith, c .before .before .before .before .before .pre .0), (asks-sift _ _ _ _ _ _ _ _ _ (c .before .before .before .before .before .pre .1 .1 .0 .1) (omega arith) (c .before .before .before .before .before .pre .1 .0), c .before .before .before .before .before .pre .1 .1 .1))
 
-narrow-one-same-length-3 : (t : ℕ) → narrow-one-lts.Need-same-length-3 (narrow-one-claims t) (narrow-one-at t) narrow-one.Post
-narrow-one-same-length-3 t c = c .before .before .before .sift .ensures .moved .len
+narrow-one-same-length-2 : (t : ℕ) → narrow-one-lts.Need-same-length-2 (narrow-one-claims t) (narrow-one-at t) narrow-one.Post
+narrow-one-same-length-2 t c = c .before .before .before .sift .ensures .moved .len
 
 narrow-one-returns-3 : (t : ℕ) → narrow-one-lts.Need-returns-3 (narrow-one-claims t) (narrow-one-at t) narrow-one.Post
-narrow-one-returns-3 t c = chooses-still _ _ _ _ _ _ _ _ _ (c .before .before .before .before .before .before .before .before .before .count-kept .ensures) (omega arith) (c .before .before .before .before .before .before .before .before .before .before .before .before .before .pre .1 .0) _ _ (c .before .before .before .sift .ensures) (omega arith)
+narrow-one-returns-3 t c = chooses-still _ _ _ _ _ _ _ _ _ (c .before .before .before .before .before .before .before .before .before .pre .1 .1 .0 .1) (omega arith) (c .before .before .before .before .before .before .before .before .before .pre .1 .0) _ _ (c .before .before .before .sift .ensures) (omega arith)
 
 narrow-one-settle-requires : (t : ℕ) → narrow-one-lts.Need-settle-requires (narrow-one-claims t) (narrow-one-at t) narrow-one.Post
-narrow-one-settle-requires t c κs = asks-settle _ _ _ _ _ _ _ _ _ (c .before .before .before .before .before .before .before .before .before .before .count-kept .ensures) (omega arith) (c .before .before .before .before .before .before .before .before .before .before .before .before .before .before .pre .1 .0) _ _ (c .before .before .before .before .sift .ensures)
+narrow-one-settle-requires t c κs = asks-settle _ _ _ _ _ _ _ _ _ (c .before .before .before .before .before .before .before .before .before .before .pre .1 .1 .0 .1) (omega arith) (c .before .before .before .before .before .before .before .before .before .before .pre .1 .0) _ _ (c .before .before .before .before .sift .ensures)
 
 narrow-one-enum-known-end : (t : ℕ) → narrow-one-lts.Need-enum-known-end (narrow-one-claims t) (narrow-one-at t) narrow-one.Post
 narrow-one-enum-known-end t c = search needs
@@ -242,17 +234,17 @@ narrow-one-enum-known-end t c = search needs
 narrow-one-enum-told : (t : ℕ) → narrow-one-lts.Need-enum-told (narrow-one-claims t) (narrow-one-at t) narrow-one.Post
 narrow-one-enum-told t c = search needs
 
-narrow-one-same-length-4 : (t : ℕ) → narrow-one-lts.Need-same-length-4 (narrow-one-claims t) (narrow-one-at t) narrow-one.Post
-narrow-one-same-length-4 t c = c .before .before .before .before .settle .ensures .len ∙ c .before .before .before .before .before .before .before .before .before .sift .ensures .moved .len
+narrow-one-same-length-3 : (t : ℕ) → narrow-one-lts.Need-same-length-3 (narrow-one-claims t) (narrow-one-at t) narrow-one.Post
+narrow-one-same-length-3 t c = c .before .before .before .before .settle .ensures .len ∙ c .before .before .before .before .before .before .before .before .before .sift .ensures .moved .len
 
 narrow-one-returns-4 : (t : ℕ) → narrow-one-lts.Need-returns-4 (narrow-one-claims t) (narrow-one-at t) narrow-one.Post
-narrow-one-returns-4 t c = chooses-fails _ _ _ _ _ _ _ _ _ (c .before .before .before .before .before .before .before .before .before .before .before .before .before .before .before .count-kept .ensures) (omega arith) (c .before .before .before .before .before .before .before .before .before .before .before .before .before .before .before .before .before .before .before .pre .1 .0) _ _ (c .before .before .before .before .before .before .before .before .before .sift .ensures) _ _ (c .before .before .before .before .settle .ensures) (c .enum-told .given .1)
+narrow-one-returns-4 t c = chooses-fails _ _ _ _ _ _ _ _ _ (c .before .before .before .before .before .before .before .before .before .before .before .before .before .before .before .pre .1 .1 .0 .1) (omega arith) (c .before .before .before .before .before .before .before .before .before .before .before .before .before .before .before .pre .1 .0) _ _ (c .before .before .before .before .before .before .before .before .before .sift .ensures) _ _ (c .before .before .before .before .settle .ensures) (c .enum-told .given .1)
 
-narrow-one-same-length-5 : (t : ℕ) → narrow-one-lts.Need-same-length-5 (narrow-one-claims t) (narrow-one-at t) narrow-one.Post
-narrow-one-same-length-5 t c = c .before .before .before .before .before .settle .ensures .len ∙ c .before .before .before .before .before .before .before .before .before .before .sift .ensures .moved .len
+narrow-one-same-length-4 : (t : ℕ) → narrow-one-lts.Need-same-length-4 (narrow-one-claims t) (narrow-one-at t) narrow-one.Post
+narrow-one-same-length-4 t c = c .before .before .before .before .before .settle .ensures .len ∙ c .before .before .before .before .before .before .before .before .before .before .sift .ensures .moved .len
 
 narrow-one-returns-5 : (t : ℕ) → narrow-one-lts.Need-returns-5 (narrow-one-claims t) (narrow-one-at t) narrow-one.Post
-narrow-one-returns-5 t c = chooses-stands _ _ _ _ _ _ _ _ _ (c .before .before .before .before .before .before .before .before .before .before .before .before .before .before .before .before .count-kept .ensures) (omega arith) (c .before .before .before .before .before .before .before .before .before .before .before .before .before .before .before .before .before .before .before .before .pre .1 .0) _ _ (c .before .before .before .before .before .before .before .before .before .before .sift .ensures) _ _ (c .before .before .before .before .before .settle .ensures) _ (c .before .end .given .1)
+narrow-one-returns-5 t c = chooses-stands _ _ _ _ _ _ _ _ _ (c .before .before .before .before .before .before .before .before .before .before .before .before .before .before .before .before .pre .1 .1 .0 .1) (omega arith) (c .before .before .before .before .before .before .before .before .before .before .before .before .before .before .before .before .pre .1 .0) _ _ (c .before .before .before .before .before .before .before .before .before .before .sift .ensures) _ _ (c .before .before .before .before .before .settle .ensures) _ (c .before .end .given .1)
 
 abbrev sift-Inv-loop : sift-lts.InvT-loop
 sift-Inv-loop w₀ k n p count left t rest₀ at₀ drops₀ w rest at drops = Moved k w₀ k w × Fewer drops (marking w₀) (marking w) × ((c : Alternating n k w₀ p count left) → Sifting n k w₀ p count left c rest at w)
@@ -406,14 +398,14 @@ pub +narrow+narrow-one+sift+try-one-spec : {M : Type 1} → statement M
       gather-reads.Learnt,
       alternatives-at-reads.Asked,
       alternatives-at-reads.Learnt,
+      count-kept-reads.Asked,
+      count-kept-reads.Learnt,
       narrow-one-below t,
       narrow-one.Post,
       back-reads.Asked,
       back-reads.Learnt,
       renew-reads.Asked,
       renew-reads.Learnt,
-      count-kept-reads.Asked,
-      count-kept-reads.Learnt,
     )
     (narrow-at t)
     narrow.Post
@@ -428,6 +420,8 @@ pub +narrow+narrow-one+sift+try-one-spec : {M : Type 1} → statement M
     (narrow-add-at t)
     (narrow-loop-holds t)
     (narrow-alternatives-at-requires t)
+    (narrow-add-count-kept t)
+    (narrow-count-kept-requires t)
     (narrow-add-narrow-one t)
     (narrow-sub-narrow-one t)
     (narrow-slice-aggregate-narrow-one t)
@@ -439,16 +433,12 @@ pub +narrow+narrow-one+sift+try-one-spec : {M : Type 1} → statement M
     (narrow-returns-2 t)
     (narrow-renew-requires t)
     (narrow-add-drops t)
-    (narrow-add-count-kept t)
-    (narrow-count-kept-requires t)
     (narrow-sub-more t)
     (narrow-loop-less t)
     (narrow-loop-again t)
     (narrow-same-length-3 t)
     (narrow-returns-3 t))
     (λ t. narrow-one-lts.spec (
-      count-kept-reads.Asked,
-      count-kept-reads.Learnt,
       narrow-below t,
       narrow.Post,
       sift-below t,
@@ -458,21 +448,19 @@ pub +narrow+narrow-one+sift+try-one-spec : {M : Type 1} → statement M
     )
     (narrow-one-at t)
     narrow-one.Post
-    (narrow-one-count-kept-requires t)
-    (narrow-one-same-length t)
     (narrow-one-returns t)
     (narrow-one-narrow-requires t)
-    (narrow-one-same-length-2 t)
+    (narrow-one-same-length t)
     (narrow-one-returns-2 t)
     (narrow-one-sift-requires t)
-    (narrow-one-same-length-3 t)
+    (narrow-one-same-length-2 t)
     (narrow-one-returns-3 t)
     (narrow-one-settle-requires t)
     (narrow-one-enum-known-end t)
     (narrow-one-enum-told t)
-    (narrow-one-same-length-4 t)
+    (narrow-one-same-length-3 t)
     (narrow-one-returns-4 t)
-    (narrow-one-same-length-5 t)
+    (narrow-one-same-length-4 t)
     (narrow-one-returns-5 t))
     (λ t. sift-lts.spec (
       number-at-reads.Asked,
