@@ -1,5 +1,6 @@
 -- What a sieve asks, what it is good for, and what it survives: it tells the same as long as what is pushed and the loaded words stay. Assumes nothing.
 use mathlib.Core.Path.{_≡_, refl, sym, ap, _∙_, subst}
+use mathlib.Core.Logic.{_⊎_, ⊎-elim}
 use mathlib.Core.List.{List, [], _∷_}
 use Prim.Native.Nat.{ℕ, zero, suc, _+_, _-_, _%_, _≤_, _<_}
 use native.Mathlib.Omega.{arith}
@@ -33,19 +34,22 @@ blank (suc n) (suc i) = blank n i
 pub sieved-none : (w : List ℕ) → Sieved w []
 sieved-none w = record { runs = λ f h. absurd (omega arith); same = λ f r h. absurd (omega arith) }
 
--- ---- the arc y, from which the feature f is looked for
-module _ (w t : List ℕ) (s : Sieved w t) (f g : ℕ) (e : g ≡ f) (h : g % 256 < length t) (y : ℕ) (is : y ≡ getD t (g % 256) 0) where
-  there : y ≡ getD t (f % 256) 0
-  there = is ∙ ap (λ (i : ℕ). getD t (i % 256) 0) e
+-- ---- from the code y on the feature f is looked for: the one that t has for it, or the first of the chain
+module _ (w t : List ℕ) (s : Sieved w t) (f g : ℕ) (e : g ≡ f) (x : ℕ) (is : x ≡ getD w 0 0) (y : ℕ) (o : ((g % 256 < length t) × (y ≡ getD t (g % 256) 0)) ⊎ (y ≡ x)) where
+  low : g % 256 < length t → f % 256 < length t
+  low = subst (λ (i : ℕ). i % 256 < length t) e
 
-  low : f % 256 < length t
-  low = subst (λ (i : ℕ). i % 256 < length t) e h
+  there : y ≡ getD t (g % 256) 0 → y ≡ getD t (f % 256) 0
+  there q = q ∙ ap (λ (i : ℕ). getD t (i % 256) 0) e
 
-  pub through-runs : Runs w y
-  through-runs = subst (Runs w) (sym there) (s .runs f low)
+  pub through-runs : Runs w x → Runs w y
+  through-runs r = ⊎-elim (λ u. subst (Runs w) (sym (there (u .1))) (s .runs f (low (u .0)))) (λ u. subst (Runs w) (sym u) r) o
 
-  pub through-same : (x r : ℕ) → x ≡ getD w 0 0 → Looked (words w) w f y r → Looked (words w) w f x r
-  through-same x r q k = subst (λ (z : ℕ). Looked (words w) w f z r) (sym q) (s .same f r low (subst (λ (z : ℕ). Looked (words w) w f z r) there k))
+  pub through-same : (r : ℕ) → Looked (words w) w f y r → Looked (words w) w f x r
+  through-same r k = ⊎-elim (λ u. at (sym is) (s .same f r (low (u .0)) (at (there (u .1)) k))) (λ u. at u k) o
+    where
+      at : {i j : ℕ} → i ≡ j → Looked (words w) w f i r → Looked (words w) w f j r
+      at q = subst (λ (z : ℕ). Looked (words w) w f z r) q
 
 -- ---- the same words before the log, and the same loaded words
 chain-same : (w w' : List ℕ) → ((j : ℕ) → j < LOG → getD w' j 0 ≡ getD w j 0) → (x : ℕ) (xs : List ℕ) → Chain w x xs → Chain w' x xs

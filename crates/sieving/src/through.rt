@@ -17,8 +17,9 @@ pub fn look_through(w: &[u32], x: usize, f: u32, t: &[u32]) -> usize
     ensures { λ r. ⌜ Looked (words (now (w .entry))) (now (w .entry)) f x r ⌝ }
 {
     let i = wide(f) % 256;
-    if t.len() <= i {
-        return look(w, x, f);
+    let mut y = x;
+    if i < t.len() {
+        y = wide(t[i]);
     }
-    look(w, wide(t[i]), f)
+    look(w, y, f)
 }

@@ -1,5 +1,6 @@
 -- `sieving::through::look_through` meets its contract. Assumes nothing.
-use native.Mathlib.Omega.{arith}
+use mathlib.Core.Path.{_∙_}
+use mathlib.Core.Logic.{inl, inr, ⊎-elim}
 use Rattle.sieving.proofs.Keeping.{through-runs, through-same}
 use borrow.Author.Needs.{needs}
 use Rattle.sieving.proofs.through.look_through.Statement.{statement}
@@ -7,12 +8,6 @@ use Rattle.sieving.proofs.through.look_through.Tie as tie
 
 wide-requires : tie.Need-wide-requires
 wide-requires c κs = search needs
-
-look-requires : tie.Need-look-requires
-look-requires c κs = search needs
-
-returns : tie.Need-returns
-returns c = search needs
 
 mul-wide : tie.Need-mul-wide
 mul-wide c = search needs
@@ -23,21 +18,23 @@ shared-slice-read-wide c = search needs
 wide-requires-2 : tie.Need-wide-requires-2
 wide-requires-2 c κs = search needs
 
-look-requires-2 : tie.Need-look-requires-2
-look-requires-2 c κs = (c .before .before .before .before .before .before .pre .0 .0, through-runs _ _ (c .before .before .before .before .before .before .pre .1 .1) _ _ (c .before .before .before .wide .ensures) (omega arith) _ (c .wide2 .ensures))
+look-requires : tie.Need-look-requires
+look-requires c κs =
+    let p = c .before .before .before .before .pre in
+    (p .0 .0, through-runs _ _ (p .1 .1) _ _ (c .before .wide .ensures) _ (p .0 .1) _ (⊎-elim (λ u. inl (u .0 .taken, u .3 ∙ u .2 .ensures)) (λ u. inr (u .1)) (c .if1 .came)) (p .1 .0))
 
-returns-2 : tie.Need-returns-2
-returns-2 c = through-same _ _ (c .before .before .before .before .before .before .before .pre .1 .1) _ _ (c .before .before .before .before .wide .ensures) (omega arith) _ (c .before .wide2 .ensures) _ _ (c .before .before .before .before .before .before .before .pre .0 .1) (c .look2 .ensures)
+returns : tie.Need-returns
+returns c =
+    let p = c .before .before .before .before .before .pre in
+    through-same _ _ (p .1 .1) _ _ (c .before .before .wide .ensures) _ (p .0 .1) _ (⊎-elim (λ u. inl (u .0 .taken, u .3 ∙ u .2 .ensures)) (λ u. inr (u .1)) (c .before .if1 .came)) _ (c .look .ensures)
 
 pub look-through-spec : {M : Type 1} → statement M
 look-through-spec =
     tie.close
     (tie.spec
     wide-requires
-    look-requires
-    returns
     mul-wide
     shared-slice-read-wide
     wide-requires-2
-    look-requires-2
-    returns-2)
+    look-requires
+    returns)
