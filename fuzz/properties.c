@@ -120,15 +120,13 @@ static void check_modes(const Case *this) {
     }
 }
 
-// The call's own room decides between 0 and 8 and changes nothing else.
-static void check_room(const Case *this) {
+// The room decides between 0 and 8 and changes nothing else.
+static void check_room(const Case *this, uint32_t mode, size_t room) {
     const Call *call = this->call;
-    const Outcome *ample = &this->outcomes[call->mode];
-    if (call->mode == MODE_FULL && !this->few) {
-        return;
-    }
-    Outcome outcome = call_run(call);
-    if (ample->length > call->room) {
+    const Outcome *ample = &this->outcomes[mode];
+    Outcome outcome = unify(mode, call->first.at, call->first.count, call->second.at,
+                            call->second.count, room, WORKING_NEEDED);
+    if (ample->length > room) {
         demand(call, outcome.number == RESULT_LONG && outcome.length == ample->length &&
                          outcome.readings == 0 && outcome.result.count == 0,
                "a result longer than the room gives 8 and its length");
@@ -136,6 +134,16 @@ static void check_room(const Case *this) {
         demand(call, outcomes_equal(&outcome, ample), "room that suffices changes nothing");
     }
     words_free(&outcome.result);
+}
+
+// The call's own room, the exact room, and a word less.
+static void check_rooms(const Case *this, uint32_t mode) {
+    uint32_t length = this->outcomes[mode].length;
+    check_room(this, mode, this->call->room);
+    if (length > 0) {
+        check_room(this, mode, length);
+        check_room(this, mode, length - 1);
+    }
 }
 
 // Exchanging the inputs changes the order of the disjunctions alone.
@@ -386,15 +394,13 @@ static void check_read(const Call *call) {
     for (uint32_t mode = MODE_JOIN; mode < MODES; mode++) {
         if (mode != MODE_FULL || this.few) {
             check_exchanged(&this, mode);
+            check_rooms(&this, mode);
         }
     }
     check_stays(&this);
     check_structures(&this);
     if (call->first.count + call->second.count <= SMALL_INPUTS) {
         check_by_enumeration(&this);
-    }
-    if (refusal_number(call) == SUCCESS) {
-        check_room(&this);
     }
     for (uint32_t mode = MODE_JOIN; mode < MODES; mode++) {
         words_free(&this.outcomes[mode].result);
