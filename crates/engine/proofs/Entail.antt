@@ -11,7 +11,7 @@ use Rattle.theory.specs.Net.{Graph, Canonical}
 use Rattle.theory.specs.Join.{join}
 use Rattle.theory.proofs.Instance.{AllCanonical}
 use Rattle.theory.proofs.Sets.{Within}
-use Rattle.theory.proofs.Mean.{Ctx, Fine, canon-append, fine-append, alike-flat, clash-stays, join-canonical, within-both, in-l, in-r}
+use Rattle.theory.proofs.Mean.{Ctx, Fine, canon-append, fine-append, alike-flat, clash-stays, join-canonical, within-both, in-l, in-r, Alike}
 use Rattle.theory.proofs.Live.{Agrees}
 use Rattle.theory.proofs.Modes.{join-order}
 
@@ -115,21 +115,27 @@ says-second c a b s g m = s g (Memᴰ·append-right a m)
 pub says-none : (c : Ctx) → SaysAll c []
 says-none c g m = absurd (List·Memᴰ·not-nil m)
 
--- a join stands for what it joins
-pub join-says : (gs : Ctx) → Fine gs → (K : Graph) → join gs ≡ some K → SaysAll (K ∷ []) gs
-join-says gs f K e g m hs h =
+-- what stands for others in every join says them, and they say it
+pub stands-says : (gs : Ctx) → Fine gs → (K : Graph) → Alike (K ∷ []) gs → SaysAll (K ∷ []) gs
+stands-says gs f K a g m hs h =
     let c : Canonical g = canon-in gs (f .1) g m in
-    alike-flat gs f K e hs h ∙ says-in gs g f c m hs h ∙ sym (alike-flat gs f K e (g ∷ hs) (c, h))
+    a hs h ∙ says-in gs g f c m hs h ∙ sym (a (g ∷ hs) (c, h))
 
-pub says-join : (gs : Ctx) → Fine gs → (K : Graph) → join gs ≡ some K → Says gs K
-says-join gs f K e hs h =
-    let cK : Canonical K = join-canonical gs f K e in
+pub says-stands : (gs : Ctx) → Fine gs → (K : Graph) → Canonical K → Alike (K ∷ []) gs → Says gs K
+says-stands gs f K cK a hs h =
     let gh : AllCanonical (gs ++ hs) = canon-append gs hs (f .1) h in
     join-order (gs ++ hs) (gs ++ (gs ++ hs)) (fine-append gs hs f h) (fine-append gs (gs ++ hs) f gh) (in-r gs (gs ++ hs)) (within-both gs (gs ++ hs) (gs ++ hs) (in-l gs hs) (w-self (gs ++ hs)))
-    ∙ sym (alike-flat gs f K e (gs ++ hs) gh)
+    ∙ sym (a (gs ++ hs) gh)
     ∙ join-order (K ∷ (gs ++ hs)) (gs ++ K ∷ hs) (fine-cons K (gs ++ hs) cK gh) (fine-append gs (K ∷ hs) f (cK, h))
     (w-cons K (gs ++ hs) (gs ++ K ∷ hs) (Memᴰ·append-right gs (List·Memᴰ·head refl)) (within-both gs hs (gs ++ K ∷ hs) (in-l gs (K ∷ hs)) (w-right hs gs (K ∷ hs) (w-tail K hs hs (w-self hs)))))
     (within-both gs (K ∷ hs) (K ∷ (gs ++ hs)) (w-tail K gs (gs ++ hs) (in-l gs hs)) (w-cons K hs (K ∷ (gs ++ hs)) (List·Memᴰ·head refl) (w-tail K hs (gs ++ hs) (in-r gs hs))))
+
+-- a join stands for what it joins
+pub join-says : (gs : Ctx) → Fine gs → (K : Graph) → join gs ≡ some K → SaysAll (K ∷ []) gs
+join-says gs f K e = stands-says gs f K (alike-flat gs f K e)
+
+pub says-join : (gs : Ctx) → Fine gs → (K : Graph) → join gs ≡ some K → Says gs K
+says-join gs f K e = says-stands gs f K (join-canonical gs f K e) (alike-flat gs f K e)
 
 -- what agrees agrees with all that it says
 pub agrees-says : (A B : Ctx) → Fine A → Fine B → SaysAll A B → Agrees A → Agrees B

@@ -17,7 +17,7 @@ use Rattle.theory.proofs.Live.{Agrees}
 use Rattle.engine.specs.Certain.{flat, sure, sure-any}
 use Rattle.engine.proofs.Entail.{Says, SaysAll, w-tail, w-trans, fine-cons, says-append, says-cons, agrees-says, says-here, says-there, says-first, says-second, says-none}
 use Rattle.engine.proofs.Stable.{PartAll, PartAny, StableAll, StableSome, StableEach, Best, Hopeless, sure-can, part-all-can, part-any-can, stable-each-less, stable-each}
-use Rattle.engine.proofs.Sane.{Sane, SaneAll, SaneAny, stable-sane, stable-each-sane, rest, fine-flat, graph-says, says-graph, lone-in-place, lone-after, shape}
+use Rattle.engine.proofs.Sane.{Sane, SaneAll, SaneAny, stable-sane, stable-each-sane, rest, fine-flat, graph-says, says-graph, lone-in-place, lone-after, shape, agrees-glues, glued-canonical, flat-some}
 
 -- rounds one after the other
 abbrev plus : Round → Round → Round
@@ -74,6 +74,9 @@ pub record RoundBest (K : Graph) (ds : Disjs) (r : Round) : Type 0 where
   pub to : (c : Ctx) → Fine c → SaysAll c (sure ds) → SaysAll c (r .folded) → SaysAll c (sure new)
   pub from : (c : Ctx) → Fine c → SaysAll c (sure new) → SaysAll c (r .folded) × SaysAll c (sure ds)
   pub good : (c : Ctx) → Fine c → Agrees c → SaysAll c (sure new) → SaneAll new × (r .left ≡ fold-all new .left)
+  -- something is certain in it only where something was before or is folded in now
+  pub fresh : sure new ≡ [] → (r .folded ≡ []) × (sure ds ≡ [])
+  pub stale : r .folded ≡ [] → sure ds ≡ [] → sure new ≡ []
   pub settled : r .folded ≡ [] → (S : Ctx) → Fine S → SaysAll (K ∷ []) S → StableAll S new
   pub greatest : (es : Disjs) → PartAll ds es → (S : Ctx) → Fine S → Says S K → Agrees S → Within (sure es) S → StableAll S es → PartAll new es
 
@@ -88,7 +91,7 @@ nil-both : (a b : Ctx) → a ++ b ≡ [] → (a ≡ []) × (b ≡ [])
 nil-both [] b e = (refl, e)
 nil-both (x ∷ a) b e = let z : _≡_ {A = ℕ} 0 1 = cc in absurd (omega arith)
 
-cons-nil : (x : Graph) (a : Ctx) → x ∷ a ≡ [] → ⊥
+pub cons-nil : (x : Graph) (a : Ctx) → x ∷ a ≡ [] → ⊥
 cons-nil x a e = let z : _≡_ {A = ℕ} 0 1 = cc in omega arith
 
 module _ (K : Graph) (cK : Canonical K) (n : ℕ) (t : Desc → Option Desc) (H : (d : Desc) → Can d → Sane d → size (fold d) ≤ n → TidiedBest (K ∷ []) d (t (fold d))) where
@@ -181,6 +184,8 @@ module _ (K : Graph) (cK : Canonical K) (n : ℕ) (t : Desc → Option Desc) (H 
           let hy = y .from c f (says-second c (g ∷ sure (x .new)) (sure (y .new)) h) in
           (says-append c (r .folded) (s .folded) (hx .0) (hy .0), says-append c (g ∷ sure ds) (sure es) (says-cons c g (sure ds) (says-here c g (sure (x .new) ++ sure (y .new)) h) (hx .1)) (hy .1));
       good = good-lone;
+      fresh = λ e. absurd (cons-nil g (sure (x .new) ++ sure (y .new)) e);
+      stale = λ z e. absurd (cons-nil g (sure ds ++ sure es) e);
       settled = λ e S f k. let q = nil-both (r .folded) (s .folded) e in (x .settled (q .0) S f k, y .settled (q .1) S f k);
       greatest = lone-part (λ zs. (S : Ctx) → Fine S → Says S K → Agrees S → Within (sure zs) S → StableAll S zs → PartAll ((desc g (x .new) or fail) and y .new) zs)
           (λ xs ys p q S f k a w st. (inl ((refl, x .greatest xs p S f k a (w-inner xs ys S w) (st .0)), tt), y .greatest ys q S f k a (w-later xs ys S w) (st .1)))
@@ -192,14 +197,17 @@ module _ (K : Graph) (cK : Canonical K) (n : ℕ) (t : Desc → Option Desc) (H 
             let cx : CanAll (x .new) = part-all-can ds (x .new) (x .part) cs in
             let gx = x .good c f a (says-first c (sure (x .new)) (sure (y .new)) (says-there c g (sure (x .new) ++ sure (y .new)) h)) in
             let gy = y .good c f a (says-second c (g ∷ sure (x .new)) (sure (y .new)) h) in
-            let sx : Sane (desc g (x .new)) = (agrees-says c (g ∷ sure (x .new)) f (fine-cons g (sure (x .new)) cg (sure-can (x .new) cx)) (says-first c (g ∷ sure (x .new)) (sure (y .new)) h) a, gx .0) in
+            let sx : Sane (desc g (x .new)) = (agrees-glues g (sure (x .new)) (agrees-says c (g ∷ sure (x .new)) f (fine-cons g (sure (x .new)) cg (sure-can (x .new) cx)) (says-first c (g ∷ sure (x .new)) (sure (y .new)) h) a), gx .0) in
             let (k, e, q) = shape (desc g (x .new)) (cg, cx) sx in
             (((sx, tt), gy .0), ap₂ {C = Disjs} _then_ (gx .1) (gy .1) ∙ sym (ap (λ (z : Round). z .left) (lone-in-place (desc g (x .new)) (fold-all (y .new)) k q)))
 
   -- two or more alternatives
-  module _ (a : Alts) (ca : CanAny a) (many : (c : Ctx) → SaysAll c (sure-any a)) (ds : Disjs) (cs : CanAll ds) where
+  module _ (a : Alts) (ca : CanAny a) (none-sure : sure-any a ≡ []) (ds : Disjs) (cs : CanAll ds) where
     fine-K : Fine (K ∷ [])
     fine-K = fine-cons K [] cK tt
+
+    many : (c : Ctx) → SaysAll c (sure-any a)
+    many c = subst (SaysAll c) (sym none-sure) (says-none c)
 
     each-K : (b : Alts) → PartAny a b → (S : Ctx) → Fine S → Says S K → Agrees S → Within (sure-any b) S → StableSome S b → StableEach (K ∷ []) b
     each-K b p S f k g w s = stable-each b S (K ∷ []) (part-any-can a b p ca) f fine-K (says-cons S K [] k (says-none S)) g w s
@@ -235,12 +243,14 @@ module _ (K : Graph) (cK : Canonical K) (n : ℕ) (t : Desc → Option Desc) (H 
           subst (RoundedBest K (a and ds)) (sym (lone-after d r k q)) (record {
             new = (d or fail) and R .new;
             part = (p, R .part);
-            canon = (join-canonical (flat d) (fine-flat d cd) k e, R .canon);
+            canon = (glued-canonical d cd k e, R .canon);
             to = λ c f x y. says-append c (flat d) (sure (R .new)) (graph-says d c cd f k e (says-here c k (r .folded) y)) (R .to c f (says-second c (sure-any a) (sure ds) x) (says-there c k (r .folded) y));
             from = λ c f x. let z = R .from c f (says-second c (flat d) (sure (R .new)) x) in
                 (says-cons c k (r .folded) (says-graph d c cd f k e (says-first c (flat d) (sure (R .new)) x)) (z .0), says-append c (sure-any a) (sure ds) (many c) (z .1));
             good = λ c f g x. let z = R .good c f g (says-second c (flat d) (sure (R .new)) x) in
                 (((sd, tt), z .0), ap (λ (l : Disjs). rest d then l) (z .1) ∙ sym (ap (λ (y : Round). y .left) (lone-in-place d (fold-all (R .new)) k q)));
+            fresh = λ z. absurd (flat-some d (sure (R .new)) z);
+            stale = λ z. absurd (cons-nil k (r .folded) z);
             settled = λ z. absurd (cons-nil k (r .folded) z);
             greatest = both-greatest (d or fail) h;
           })
@@ -253,6 +263,8 @@ module _ (K : Graph) (cK : Canonical K) (n : ℕ) (t : Desc → Option Desc) (H 
             to = λ c f x y. R .to c f (says-second c (sure-any a) (sure ds) x) y;
             from = λ c f x. let z = R .from c f x in (z .0, says-append c (sure-any a) (sure ds) (many c) (z .1));
             good = λ c f g x. let z = R .good c f g x in ((stable-each-sane (d or (e or b)) (K ∷ []) cn fine-K s, z .0), ap (λ (l : Disjs). (fold d or (fold e or fold-any b)) and l) (z .1));
+            fresh = λ z. let q = R .fresh z in (q .0, ap (λ (l : Ctx). l ++ sure ds) none-sure ∙ q .1);
+            stale = λ z e. R .stale z (nil-both (sure-any a) (sure ds) e .1);
             settled = λ z S f k. (stable-each-less (d or (e or b)) (K ∷ []) S cn fine-K f k s, R .settled z S f k);
             greatest = both-greatest (d or (e or b)) h;
           }
@@ -289,7 +301,7 @@ module _ (K : Graph) (cK : Canonical K) (n : ℕ) (t : Desc → Option Desc) (H 
       let a : Alts = d or (e or b) in
       let q = kept-best a ca sa (omega arith) in
       subst (λ (z : Alts). RoundedBest K (a and ds) (elim (round t (fold-all ds .left)) [ none ↦ none | some r ↦ after z r ])) (sym (q .same))
-      (round-many a ca (λ c. says-none c) ds cs (q .new) (q .part) (q .stable) (q .greatest) (round t (fold-all ds .left)) R)
+      (round-many a ca refl ds cs (q .new) (q .part) (q .stable) (q .greatest) (round t (fold-all ds .left)) R)
 
   mutual
     unfolding fold
@@ -302,6 +314,8 @@ module _ (K : Graph) (cK : Canonical K) (n : ℕ) (t : Desc → Option Desc) (H 
       to = λ c f x y. x;
       from = λ c f x. (x, x);
       good = λ c f g x. (tt, refl);
+      fresh = λ z. (refl, refl);
+      stale = λ z e. refl;
       settled = λ z S f k. tt;
       greatest = λ es p S f k a w s. p;
     }

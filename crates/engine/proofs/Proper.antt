@@ -8,15 +8,14 @@ use native.Mathlib.Omega.{arith}
 use Rattle.theory.specs.Net.{Graph}
 use Rattle.theory.specs.Join.{join}
 use Rattle.theory.specs.Descr.{Desc, desc, Disjs, end, _and_, Alts, fail, _or_, alts, _then_}
-use Rattle.theory.specs.Modes.{size, joined, tidy, quick, fold, fold-all, fold-any, folded-in, in-place, Round}
+use Rattle.theory.specs.Modes.{size, joined, tidy, quick, fold, fold-all, fold-any, folded-in, glue, in-place, Round}
 use Rattle.theory.specs.Layout.{WellFormed, WellAll, WellAny}
-use Rattle.theory.proofs.Mean.{Ctx, Can, CanAll, CanAny, can-then, join-canonical}
+use Rattle.theory.proofs.Mean.{Ctx, Can, CanAll, CanAny, Glues, can-then, join-canonical}
 use Rattle.theory.proofs.Quick.{nil, nil-canonical}
-use Rattle.theory.proofs.Live.{Agrees}
 use Rattle.engine.specs.Certain.{sure, sure-any}
 use Rattle.engine.proofs.Shown.{fold-some}
 use Rattle.engine.proofs.Entail.{fine-cons}
-use Rattle.engine.proofs.Stable.{join-one, best-one}
+use Rattle.engine.proofs.Stable.{best-one}
 use Rattle.engine.proofs.Sane.{Sane, SaneAll, SaneAny}
 use Rattle.engine.proofs.Greatest.{TidiedBest}
 use Rattle.engine.proofs.Tidy.{tidy-best}
@@ -60,7 +59,7 @@ proper-sure (a and ds) p = ap₂ {C = Ctx} _++_ (proper-sure-any a (p .0)) (prop
 
 mutual
   pub proper-sane : (d : Desc) → Can d → Proper d → Sane d
-  proper-sane (desc g ds) c p = (subst (λ (z : Ctx). Agrees (g ∷ z)) (sym (proper-sure ds p)) (g, join-one g (c .0)), proper-sane-all ds (c .1) p)
+  proper-sane (desc g ds) c p = (subst (λ (z : Ctx). Glues g z) (sym (proper-sure ds p)) (g, refl), proper-sane-all ds (c .1) p)
 
   proper-sane-all : (ds : Disjs) → CanAll ds → ProperAll ds → SaneAll ds
   proper-sane-all end c p = tt
@@ -79,7 +78,7 @@ mutual
   unfolding fold folded-in
 
   pub proper-fold : (d : Desc) → Can d → Proper d → fold d ≡ d
-  proper-fold (desc g ds) c p = ap (λ (r : Round). folded-in g r (join (g ∷ r .folded))) (proper-fold-all ds (c .1) p) ∙ ap (folded-in g (record { folded = []; left = ds })) (join-one g (c .0))
+  proper-fold (desc g ds) c p = ap (λ (r : Round). folded-in g r (glue g (r .folded))) (proper-fold-all ds (c .1) p)
 
   proper-fold-all : (ds : Disjs) → CanAll ds → ProperAll ds → fold-all ds ≡ record { folded = []; left = ds }
   proper-fold-all end c p = refl

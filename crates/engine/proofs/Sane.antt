@@ -1,25 +1,27 @@
 -- Descriptions that can be folded: where all that is certain agrees, at every depth, folding joins exactly that.
 -- Assumes nothing.
 use mathlib.Core.Path.{_≡_, refl, ap, sym, _∙_, subst}
-use mathlib.Core.Option.{some}
+use mathlib.Core.Option.{Option, some}
 use mathlib.Core.List.{[], _∷_, _++_, List·Memᴰ·head, List·Memᴰ·tail, List·Memᴰ·not-nil}
-use Rattle.theory.specs.Net.{Graph}
+use Prim.Native.Nat.{ℕ}
+use native.Mathlib.Omega.{arith}
+use Rattle.theory.specs.Net.{Graph, Canonical}
 use Rattle.theory.specs.Join.{join}
 use Rattle.theory.specs.Descr.{Desc, desc, Disjs, end, _and_, Alts, fail, _or_, _then_}
-use Rattle.theory.specs.Modes.{Round, after, in-place, folded-in, fold, fold-all, fold-any}
+use Rattle.theory.specs.Modes.{Round, after, in-place, folded-in, glue, fold, fold-all, fold-any}
 use Rattle.theory.proofs.Instance.{AllCanonical}
 use Rattle.theory.proofs.Sets.{Within}
-use Rattle.theory.proofs.Mean.{Ctx, Fine, Can, CanAll, CanAny, fine-append, in-l, in-r, join-canonical}
+use Rattle.theory.proofs.Mean.{Ctx, Fine, Can, CanAll, CanAny, fine-append, in-l, in-r, Alike, Glues, glues-of, glue-canonical, glue-alike, glue-same}
 use Rattle.theory.proofs.Full.{fold-all-ok}
 use Rattle.theory.proofs.Live.{Agrees}
 use Rattle.engine.specs.Certain.{flat, sure, sure-any}
-use Rattle.engine.proofs.Entail.{Says, SaysAll, w-self, w-right, w-tail, w-trans, fine-cons, says-in, says-within, says-cut, says-trans, says-append, says-cons, join-says, says-join, agrees-says, join-both, says-here, says-there, says-first, says-second, says-none}
+use Rattle.engine.proofs.Entail.{Says, SaysAll, w-self, w-right, w-tail, w-trans, fine-cons, says-in, says-within, says-cut, says-trans, says-append, says-cons, stands-says, says-stands, agrees-says, join-both, says-here, says-there, says-first, says-second, says-none}
 use Rattle.engine.proofs.Stable.{Stable, StableAll, StableEach, sure-can, stable-each}
 
 -- every description in d, at any depth, can be folded
 abbrev mutual
   pub Sane : Desc → Type 0
-  Sane (desc g ds) = Agrees (g ∷ sure ds) × SaneAll ds
+  Sane (desc g ds) = Glues g (sure ds) × SaneAll ds
 
   pub SaneAll : Disjs → Type 0
   SaneAll end = Unit {0}
@@ -29,12 +31,15 @@ abbrev mutual
   SaneAny fail = Unit {0}
   SaneAny (d or a) = Sane d × SaneAny a
 
+pub agrees-glues : (g : Graph) (hs : Ctx) → Agrees (g ∷ hs) → Glues g hs
+agrees-glues g hs a = glues-of g hs (a .0) (a .1)
+
 mutual
   pub stable-sane : (d : Desc) (S : Ctx) → Can d → Fine S → Stable S d → Sane d
   stable-sane (desc g ds) S c f s =
       let fx : AllCanonical (g ∷ sure ds) = (c .0, sure-can ds (c .1)) in
       let fS = fine-append S (g ∷ sure ds) f fx in (
-        agrees-says (S ++ g ∷ sure ds) (g ∷ sure ds) fS (fine-cons g (sure ds) (c .0) (fx .1)) (says-within (S ++ g ∷ sure ds) (g ∷ sure ds) fS (in-r S (g ∷ sure ds))) (s .0),
+        agrees-glues g (sure ds) (agrees-says (S ++ g ∷ sure ds) (g ∷ sure ds) fS (fine-cons g (sure ds) (c .0) (fx .1)) (says-within (S ++ g ∷ sure ds) (g ∷ sure ds) fS (in-r S (g ∷ sure ds))) (s .0)),
         stable-all-sane ds (S ++ g ∷ sure ds) (c .1) fS (s .0) (w-right (sure ds) S (g ∷ sure ds) (w-tail g (sure ds) (sure ds) (w-self (sure ds)))) (s .1),
       )
 
@@ -53,21 +58,31 @@ mutual
 abbrev pub rest : Desc → Disjs
 rest (desc g ds) = fold-all ds .left
 
+-- its graph with all that is certain folded in
+abbrev pub glued : Desc → Option Graph
+glued (desc g ds) = glue g (sure ds)
+
 abbrev pub Shape : Desc → Type 0
-Shape d = (k : Graph) × (join (flat d) ≡ some k) × (fold d ≡ desc k (rest d))
+Shape d = (k : Graph) × (glued d ≡ some k) × (fold d ≡ desc k (rest d))
 
 pub fine-flat : (d : Desc) → Can d → Fine (flat d)
 fine-flat (desc g ds) c = fine-cons g (sure ds) (c .0) (sure-can ds (c .1))
 
-pub graph-says : (d : Desc) (c : Ctx) → Can d → Fine c → (k : Graph) → join (flat d) ≡ some k → Says c k → SaysAll c (flat d)
+pub glued-canonical : (d : Desc) → Can d → (k : Graph) → glued d ≡ some k → Canonical k
+glued-canonical (desc g ds) p k e = glue-canonical g (p .0) (sure ds) (sure-can ds (p .1)) k e
+
+glued-alike : (d : Desc) → Can d → (k : Graph) → glued d ≡ some k → Alike (k ∷ []) (flat d)
+glued-alike (desc g ds) p k e = glue-alike g (p .0) (sure ds) (sure-can ds (p .1)) k e
+
+pub graph-says : (d : Desc) (c : Ctx) → Can d → Fine c → (k : Graph) → glued d ≡ some k → Says c k → SaysAll c (flat d)
 graph-says d c p f k e s =
     let ff = fine-flat d p in
-    says-trans c (k ∷ []) (flat d) f (fine-cons k [] (join-canonical (flat d) ff k e) tt) (ff .1) (says-cons c k [] s (λ g m. absurd (List·Memᴰ·not-nil m))) (join-says (flat d) ff k e)
+    says-trans c (k ∷ []) (flat d) f (fine-cons k [] (glued-canonical d p k e) tt) (ff .1) (says-cons c k [] s (λ g m. absurd (List·Memᴰ·not-nil m))) (stands-says (flat d) ff k (glued-alike d p k e))
 
-pub says-graph : (d : Desc) (c : Ctx) → Can d → Fine c → (k : Graph) → join (flat d) ≡ some k → SaysAll c (flat d) → Says c k
+pub says-graph : (d : Desc) (c : Ctx) → Can d → Fine c → (k : Graph) → glued d ≡ some k → SaysAll c (flat d) → Says c k
 says-graph d c p f k e s =
     let ff = fine-flat d p in
-    says-cut c (flat d) k f ff (join-canonical (flat d) ff k e) s (says-join (flat d) ff k e)
+    says-cut c (flat d) k f ff (glued-canonical d p k e) s (says-stands (flat d) ff k (glued-canonical d p k e) (glued-alike d p k e))
 
 -- an alternative alone, folded
 pub lone-in-place : (d : Desc) (r : Round) (k : Graph) → fold d ≡ desc k (rest d) → in-place (fold d or fail) r ≡ record { folded = k ∷ r .folded; left = rest d then r .left }
@@ -75,6 +90,27 @@ lone-in-place d r k e = ap (λ (z : Desc). in-place (z or fail) r) e
 
 pub lone-after : (d : Desc) (r : Round) (k : Graph) → fold d ≡ desc k (rest d) → after (fold d or fail) r ≡ some (record { folded = k ∷ r .folded; left = rest d then r .left })
 lone-after d r k e = ap (λ (z : Desc). after (z or fail) r) e
+
+-- something is folded in exactly where something is certain
+pub flat-some : (d : Desc) (l : Ctx) → flat d ++ l ≡ [] → ⊥
+flat-some (desc g ds) l e = let z : _≡_ {A = ℕ} 0 1 = cc in omega arith
+
+place-some : (d : Desc) (r : Round) → in-place (d or fail) r .folded ≡ [] → ⊥
+place-some (desc g ds) r e = let z : _≡_ {A = ℕ} 0 1 = cc in omega arith
+
+fold-none : (ds : Disjs) → fold-all ds .folded ≡ [] → sure ds ≡ []
+unfolding fold
+fold-none end e = refl
+fold-none (fail and ds) e = fold-none ds e
+fold-none ((d or fail) and ds) e = absurd (place-some (fold d) (fold-all ds) e)
+fold-none ((d or (x or b)) and ds) e = fold-none ds e
+
+none-fold : (ds : Disjs) → sure ds ≡ [] → fold-all ds .folded ≡ []
+unfolding fold
+none-fold end e = refl
+none-fold (fail and ds) e = none-fold ds e
+none-fold ((d or fail) and ds) e = absurd (flat-some d (sure ds) e)
+none-fold ((d or (x or b)) and ds) e = none-fold ds e
 
 mutual
   unfolding fold folded-in
@@ -89,7 +125,7 @@ mutual
       let e : join a ≡ join b = join-both a b fa fb
       (says-cons a g (sure ds) (says-in a g fa (c .0) (List·Memᴰ·head refl)) (folded-says ds (c .1) (s .1) a fa (says-within a (fold-all ds .folded) fa (λ x m. List·Memᴰ·tail m))))
       (says-cons b g (fold-all ds .folded) (says-in b g fb (c .0) (List·Memᴰ·head refl)) (says-folded ds (c .1) (s .1) b fb (says-within b (sure ds) fb (λ x m. List·Memᴰ·tail m)))) in
-      (s .0 .0, s .0 .1, ap (folded-in g (fold-all ds)) (e ∙ s .0 .1))
+      (s .0 .0, s .0 .1, ap (folded-in g (fold-all ds)) (glue-same g (fold-all ds .folded) (sure ds) (fold-none ds) (none-fold ds) e ∙ s .0 .1))
 
   pub folded-says : (ds : Disjs) → CanAll ds → SaneAll ds → (c : Ctx) → Fine c → SaysAll c (fold-all ds .folded) → SaysAll c (sure ds)
   folded-says end p s c f h = h

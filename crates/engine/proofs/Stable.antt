@@ -10,11 +10,9 @@ use Rattle.theory.specs.Net.{Graph, Canonical}
 use Rattle.theory.specs.Join.{join}
 use Rattle.theory.specs.Descr.{Desc, desc, Disjs, end, _and_, Alts, fail, _or_}
 use Rattle.theory.specs.Modes.{size, size-all, size-any}
-use Rattle.theory.proofs.Meaning.{canonical-some}
 use Rattle.theory.proofs.Instance.{AllCanonical}
 use Rattle.theory.proofs.Sets.{Within}
 use Rattle.theory.proofs.Mean.{Ctx, Fine, Can, CanAll, CanAny, canon-append, fine-append, within-both, in-l, in-r}
-use Rattle.theory.proofs.Fit.{same-node, fit-test}
 use Rattle.theory.proofs.Live.{Agrees}
 use Rattle.theory.proofs.Modes.{join-order}
 use Rattle.engine.specs.Certain.{flat, sure, sure-any}
@@ -65,10 +63,6 @@ pub record Best (S : Ctx) (d e : Desc) : Type 0 where
 
 abbrev pub Hopeless : Ctx → Desc → Type 0
 Hopeless S d = (f : Desc) → Part d f → Stable S f → ⊥
-
-pub join-one : (g : Graph) → Canonical g → join (g ∷ []) ≡ some g
-join-one g c = join-order (g ∷ []) (g ∷ g ∷ []) (fine-cons g [] c tt) (fine-cons g (g ∷ []) c (c, tt)) (λ x m. List·Memᴰ·tail m) (w-cons g (g ∷ []) (g ∷ []) (List·Memᴰ·head refl) (w-self (g ∷ [])))
-    ∙ fit-test g c g c .1 (record { to = λ x. x; root-to = λ x r. same-node g c x (0, canonical-some g c) r; atom-to = λ x a u. u; arc-to = λ x f y u. u })
 
 mutual
   pub flat-can : (d : Desc) → Can d → AllCanonical (flat d)

@@ -2,32 +2,51 @@
 -- Assumes nothing.
 use mathlib.Core.Path.{_≡_, refl, ap, ap₂, sym, _∙_, subst}
 use mathlib.Core.Option.{Option, none, some}
-use mathlib.Core.List.{[], _∷_, List·Memᴰ·head, List·Memᴰ·tail}
+use mathlib.Core.List.{[], _∷_, append-nil, List·Memᴰ·head, List·Memᴰ·tail}
 use Prim.Native.Nat.{ℕ, zero, suc, _+_, _≤_}
 use native.Mathlib.Omega.{arith}
 use lib.ListN.{length}
 use Rattle.theory.specs.Net.{Graph, Canonical}
 use Rattle.theory.specs.Join.{join}
 use Rattle.theory.specs.Descr.{Desc, desc, Disjs}
-use Rattle.theory.specs.Modes.{size, size-all, Round, round, finish, tidy, fold, fold-all}
+use Rattle.theory.specs.Modes.{size, size-all, glue, Round, round, finish, tidy, fold, fold-all}
 use Rattle.theory.proofs.Sets.{Within}
-use Rattle.theory.proofs.Mean.{Ctx, Fine, Can, CanAll, join-canonical}
+use Rattle.theory.proofs.Mean.{Ctx, Fine, Can, CanAll, join-canonical, alike-flat}
+use Rattle.theory.proofs.Instance.{AllCanonical}
 use Rattle.theory.proofs.Fuel.{Less, round-less, tidy-small}
 use Rattle.theory.proofs.Live.{Agrees, not-none}
 use Rattle.engine.specs.Certain.{flat, sure}
 use Rattle.engine.proofs.Entail.{Says, SaysAll, w-self, w-cons, w-tail, w-trans, fine-cons, says-in, says-within, says-cut, says-cons, join-says, says-join, agrees-says, join-both, says-here, says-there, says-none}
-use Rattle.engine.proofs.Stable.{Part, PartAll, Stable, Hopeless, join-one, sure-can, part-all-can, part-trans, some-size, sure-part}
-use Rattle.engine.proofs.Sane.{Sane, shape, fine-flat, graph-says, says-graph}
-use Rattle.engine.proofs.Greatest.{TidiedBest, RoundBest, RoundedBest, rounds-best}
+use Rattle.engine.proofs.Stable.{Part, PartAll, Stable, Hopeless, sure-can, part-all-can, part-trans, some-size, sure-part}
+use Rattle.engine.proofs.Sane.{Sane, shape, agrees-glues, glued-canonical, graph-says, says-graph}
+use Rattle.engine.proofs.Greatest.{TidiedBest, cons-nil, RoundBest, RoundedBest, rounds-best}
 
 some-same : (a b : Graph) → some a ≡ some b → a ≡ b
 some-same a b e = cc
+
+-- a join alone is its own join
+join-alone : (gs : Ctx) → Fine gs → (K : Graph) → join gs ≡ some K → join (K ∷ []) ≡ some K
+join-alone gs f K e = alike-flat gs f K e [] tt ∙ ap join (append-nil gs) ∙ e
+
+glue-agrees : (k : Graph) (l : Ctx) (x : Graph) → glue k l ≡ some x → Agrees (k ∷ []) → Agrees (k ∷ l)
+glue-agrees k [] x e a = a
+glue-agrees k (h ∷ l) x e a = (x, e)
+
+-- k for g with what is certain in it
+glue-moves : (g : Graph) → Canonical g → (k : Graph) (ds : Ctx) → AllCanonical ds → glue g ds ≡ some k → (new folded : Ctx) → (new ≡ [] → (folded ≡ []) × (ds ≡ [])) → (folded ≡ [] → ds ≡ [] → new ≡ []) →
+    join (g ∷ new) ≡ join (k ∷ folded) → glue g new ≡ glue k folded
+glue-moves g cg k [] f e [] [] p q j = e
+glue-moves g cg k (d ∷ ds) f e [] [] p q j = absurd (cons-nil d ds (p refl .1))
+glue-moves g cg k ds f e [] (y ∷ folded) p q j = absurd (cons-nil y folded (p refl .0))
+glue-moves g cg k [] f e (x ∷ new) [] p q j = absurd (cons-nil x new (q refl refl))
+glue-moves g cg k (d ∷ ds) f e (x ∷ new) [] p q j = j ∙ join-alone (g ∷ d ∷ ds) (fine-cons g (d ∷ ds) cg f) k e
+glue-moves g cg k ds f e (x ∷ new) (y ∷ folded) p q j = j
 
 -- a part of a description has its graph
 pub with-part : (g : Graph) (ds : Disjs) (P : Desc → Type 0) → ((es : Disjs) → PartAll ds es → P (desc g es)) → (f : Desc) → Part (desc g ds) f → P f
 with-part g ds P h (desc k es) p = subst (λ (z : Graph). P (desc z es)) (p .0) (h es (p .1))
 
-module _ (C : Graph) (cC : Canonical C) (g : Graph) (ds : Disjs) (c : Can (desc g ds)) (k : Graph) (ek : join (g ∷ sure ds) ≡ some k) where
+module _ (C : Graph) (cC : Canonical C) (g : Graph) (ds : Disjs) (c : Can (desc g ds)) (k : Graph) (ek : glue g (sure ds) ≡ some k) where
   abbrev d : Desc
   d = desc g ds
 
@@ -38,7 +57,7 @@ module _ (C : Graph) (cC : Canonical C) (g : Graph) (ds : Disjs) (c : Can (desc 
   fine-stack es p = fine-cons C (g ∷ sure es) cC (c .0, sure-can es (part-all-can ds es p (c .1)))
 
   ck : Canonical k
-  ck = join-canonical (flat d) (fine-flat d c) k ek
+  ck = glued-canonical d c k ek
 
   fCk : Fine (C ∷ k ∷ [])
   fCk = fine-cons C (k ∷ []) cC (ck, tt)
@@ -82,7 +101,7 @@ module _ (C : Graph) (cC : Canonical C) (g : Graph) (ds : Disjs) (c : Can (desc 
       below-all = with-part g ds (λ f. Stable (C ∷ []) f → Part e₁ f) (λ es p s. (refl, below es p s))
 
       -- the new description, folded: its graph joins the old one and what was folded
-      new-shape : (x : Graph) → join (k ∷ r .folded) ≡ some x → Sane e₁ × (fold e₁ ≡ desc x (r .left))
+      new-shape : (x : Graph) → glue k (r .folded) ≡ some x → Sane e₁ × (fold e₁ ≡ desc x (r .left))
       new-shape x ex =
           let b : Ctx = k ∷ r .folded in
           let n : Ctx = g ∷ sure (R .new) in
@@ -90,20 +109,20 @@ module _ (C : Graph) (cC : Canonical C) (g : Graph) (ds : Disjs) (c : Can (desc 
           let bd : SaysAll b (flat d) = graph-says d b c fb k ek (says-in b k fb ck (List·Memᴰ·head refl)) in
           let bn : SaysAll b (sure (R .new)) = R .to b fb (says-there b g (sure ds) bd) (says-within b (r .folded) fb (λ y m. List·Memᴰ·tail m)) in
           let bgn : SaysAll b n = says-cons b g (sure (R .new)) (says-here b g (sure ds) bd) bn in
-          let ab : Agrees b = (x, ex) in
+          let ab : Agrees b = glue-agrees k (r .folded) x ex (agrees-says (C ∷ k ∷ []) (k ∷ []) fCk (fine-cons k [] ck tt) (says-within (C ∷ k ∷ []) (k ∷ []) fCk (λ y m. List·Memᴰ·tail m)) (K, eK)) in
           let gd = R .good b fb ab bn in
-          let sn : Sane e₁ = (agrees-says b n fb fn bgn ab, gd .0) in
+          let sn : Sane e₁ = (agrees-glues g (sure (R .new)) (agrees-says b n fb fn bgn ab), gd .0) in
           let nf = R .from n fn (says-within n (sure (R .new)) fn (w-tail g (sure (R .new)) (sure (R .new)) (w-self (sure (R .new))))) in
           let ng : Says n g = says-in n g fn (c .0) (List·Memᴰ·head refl) in
           let nb : SaysAll n b = says-cons n k (r .folded) (says-graph d n c fn k ek (says-cons n g (sure ds) ng (nf .1))) (nf .0) in
           let (k′, e′, q′) = shape e₁ (c .0, cn) sn in
-          let same : k′ ≡ x = some-same k′ x (sym e′ ∙ join-both n b fn fb nb bgn ∙ ex) in
+          let same : k′ ≡ x = some-same k′ x (sym e′ ∙ glue-moves g (c .0) k (sure ds) (sure-can ds (c .1)) ek (sure (R .new)) (r .folded) (R .fresh) (R .stale) (join-both n b fn fb nb bgn) ∙ ex) in
           (sn, q′ ∙ ap₂ {C = Desc} desc same (sym (gd .1)))
 
       -- nothing folded
       last-round : r .folded ≡ [] → TidiedBest (C ∷ []) d (some (desc k (r .left)))
       last-round z =
-          let w = new-shape k (ap (λ (l : Ctx). join (k ∷ l)) z ∙ join-one k ck) in
+          let w = new-shape k (ap (glue k) z) in
           let kc : SaysAll (K ∷ []) (C ∷ k ∷ []) = join-says (C ∷ k ∷ []) fCk K eK in
           let kd : SaysAll (K ∷ []) (flat d) = graph-says d (K ∷ []) c fK k ek (kc k (List·Memᴰ·tail (List·Memᴰ·head refl))) in
           let kn : SaysAll (K ∷ []) (sure (R .new)) = R .to (K ∷ []) fK (says-there (K ∷ []) g (sure ds) kd) (subst (SaysAll (K ∷ [])) (sym z) (says-none (K ∷ []))) in
@@ -112,7 +131,7 @@ module _ (C : Graph) (cC : Canonical C) (g : Graph) (ds : Disjs) (c : Can (desc 
             e₁,
             record {
               part = (refl, R .part);
-              stable = (agrees-says (K ∷ []) (stack (R .new)) fK fs ks (K, join-one K cK), R .settled z (stack (R .new)) fs ks);
+              stable = (agrees-says (K ∷ []) (stack (R .new)) fK fs ks (K, join-alone (C ∷ k ∷ []) fCk K eK), R .settled z (stack (R .new)) fs ks);
               greatest = below-all;
             },
             sym (w .1),
@@ -149,7 +168,7 @@ module _ (C : Graph) (cC : Canonical C) (g : Graph) (ds : Disjs) (c : Can (desc 
             go : (o : Option Graph) → join (k ∷ x ∷ xs) ≡ o → TidiedBest (C ∷ []) d (elim o [ none ↦ none | some y ↦ tidy n C (desc y (r .left)) ])
             go none e = fold-clash (ap (λ (l : Ctx). join (k ∷ l)) z ∙ e)
             go (some y) e =
-                let w = new-shape y (ap (λ (l : Ctx). join (k ∷ l)) z ∙ e) in
+                let w = new-shape y (ap (glue k) z ∙ e) in
                 let b : size (fold e₁) ≤ n = subst (λ (v : Desc). size v ≤ n) (sym (w .1)) (omega arith) in
                 carry (tidy n C (desc y (r .left))) (subst (λ (v : Desc). TidiedBest (C ∷ []) e₁ (tidy n C v)) (w .1) (ih e₁ (c .0, cn) (w .0) b))
 
@@ -163,7 +182,7 @@ tidy-best (suc n) C cC (desc g ds) c s l =
     L : Disjs
     L = fold-all ds .left
 
-    go : (k : Graph) → join (g ∷ sure ds) ≡ some k → suc (size-all L) ≤ suc n → ((K : Graph) → Canonical K → (d : Desc) → Can d → Sane d → size (fold d) ≤ n → TidiedBest (K ∷ []) d (tidy n K (fold d))) →
+    go : (k : Graph) → glue g (sure ds) ≡ some k → suc (size-all L) ≤ suc n → ((K : Graph) → Canonical K → (d : Desc) → Can d → Sane d → size (fold d) ≤ n → TidiedBest (K ∷ []) d (tidy n K (fold d))) →
         TidiedBest (C ∷ []) (desc g ds) (tidy (suc n) C (desc k L))
     go k ek b ih = one (join (C ∷ k ∷ [])) refl
       where

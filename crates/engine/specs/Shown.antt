@@ -1,10 +1,9 @@
 -- What is left, as a writer puts it out: all that is certain is joined at once, and the disjunctions of an alternative that stands alone come in its place.
 -- Assumes nothing: these are definitions.
 use mathlib.Core.Option.{Option, none, some}
-use mathlib.Core.List.{_∷_}
 use Rattle.theory.specs.Net.{Graph}
-use Rattle.theory.specs.Join.{join}
 use Rattle.theory.specs.Descr.{Desc, desc, Disjs, end, _and_, Alts, fail, _or_, _then_}
+use Rattle.theory.specs.Modes.{glue}
 use Rattle.engine.specs.Certain.{sure}
 
 abbrev pub or-else : Graph → Option Graph → Graph
@@ -14,7 +13,7 @@ or-else g (some k) = k
 -- "fold all disjunctions with one alternative left, at every depth, in place"
 unfoldable mutual
   pub shown : Desc → Desc
-  shown (desc g ds) = desc (or-else g (join (g ∷ sure ds))) (shown-all ds)
+  shown (desc g ds) = desc (or-else g (glue g (sure ds))) (shown-all ds)
 
   pub shown-all : Disjs → Disjs
   shown-all end = end

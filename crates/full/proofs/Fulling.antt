@@ -152,7 +152,7 @@ module _ (n k : ℕ) (w : List ℕ) where
           module _ (o : Pushed) (w₃ : List ℕ) (q : Restarts n k w₂ o w₃) where
             -- every consistent choice takes what is certain: there is no clash
             pub fulls-never : o ≡ Clashed → Fulling n k w → Fulls n k w Nothing w₃
-            fulls-never z c = absurd (both-agrees n (c .t) (c .p) (marking w₂) (folds c .1) (q .clashed z (restarting c)))
+            fulls-never z c = absurd (both-agrees n (c .t) (c .p) (marking w₂) (folds c .0) (folds c .1) (q .clashed z (restarting c)))
 
             module _ (log : ℕ) (z : o ≡ In log) where
               left : (c : Fulling n k w) → Leaving n (c .t) (c .p) (marking w) log r w₃

@@ -11,11 +11,12 @@ use Rattle.theory.specs.Net.{Graph, Clash}
 use Rattle.theory.specs.Descr.{Desc, desc, agree}
 use Rattle.theory.proofs.Mean.{Ctx, Can}
 use Rattle.theory.proofs.Live.{Agrees, not-none}
+use Rattle.theory.proofs.Ties.{glue-joins}
 use Rattle.area.specs.Map.{SECOND}
 use Rattle.area.specs.Region.{words}
 use Rattle.engine.specs.Placed.{Placed, place, Places, strip, strip-all, inner}
 use Rattle.engine.specs.Marks.{Marking, keep, keep-all}
-use Rattle.engine.specs.Certain.{flat, certain}
+use Rattle.engine.specs.Certain.{flat, sure, certain}
 use Rattle.engine.specs.Beside.{_next_, joined-placed}
 use Rattle.engine.proofs.Entail.{agrees-says}
 use Rattle.engine.proofs.Sane.{Sane}
@@ -48,8 +49,8 @@ both-same (place g ds) (place h es) j e ca cb m =
     subst (λ (z : Placed). Same (flat (strip (keep m (place g ds))) ++ flat (strip (keep m (place h es)))) (flat (strip (keep m z)))) (x .is)
     (subst (λ (l : List Graph). Same (flat (strip (keep m (place g ds))) ++ flat (strip (keep m (place h es)))) (x .k ∷ l)) (sym (certain-next m ds es)) (joined-same g h (x .k) (certain m ds) (certain m es) (ca .0) (cb .0) (sure-can (strip-all (keep-all m ds)) cx) (sure-can (strip-all (keep-all m es)) cy) (x .joins)))
 
-sane-agrees : (d : Desc) → Sane d → Agrees (flat d)
-sane-agrees (desc g ds) s = s .0
+sane-agrees : (d : Desc) → Can d → Sane d → Agrees (flat d)
+sane-agrees (desc g ds) c s = (s .0 .0, glue-joins g (c .0) (sure ds) (s .0 .0) (s .0 .1))
 
 no-clash : (gs : Ctx) → agree gs ≡ false → Agrees gs → ⊥
 no-clash gs e a = go (agree gs) (agreeing-view gs) e
@@ -83,8 +84,8 @@ module _ (n : ℕ) (t : List ℕ) (p : Pair n t) where
     same : Same (graphs both) (flat (strip (keep m (p .j))))
     same = subst (λ (l : List Graph). Same l (flat (strip (keep m (p .j))))) (sym both-graphs) (both-same (p .inputs .a) (p .inputs .b) (p .j) (p .joined) (first-can n t p) (second-can n t p) m)
 
-    pub both-agrees : Sane (strip (keep m (p .j))) → Clash (graphs both) → ⊥
-    both-agrees s z = no-clash (graphs both) (clash-false (graphs both) (same .fine₁) z) (agrees-says (flat (strip (keep m (p .j)))) (graphs both) (same .fine₂) (same .fine₁) (same .from) (sane-agrees (strip (keep m (p .j))) s))
+    pub both-agrees : Can (strip (keep m (p .j))) → Sane (strip (keep m (p .j))) → Clash (graphs both) → ⊥
+    both-agrees c s z = no-clash (graphs both) (clash-false (graphs both) (same .fine₁) z) (agrees-says (flat (strip (keep m (p .j)))) (graphs both) (same .fine₂) (same .fine₁) (same .from) (sane-agrees (strip (keep m (p .j))) c s))
 
     pub both-stage : (k : ℕ) (w : List ℕ) → words w ≡ t → marking w ≡ m → Holds n both k w → Undoable n k w → Stage n t p k w
     both-stage k w loaded marks holds undoable = record {

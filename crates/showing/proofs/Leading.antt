@@ -7,18 +7,19 @@ use mathlib.Core.Option.{Option, none, some}
 use mathlib.Core.List.{List, [], _∷_, List·Memᴰ·not-nil}
 use lib.ListN.{length, length-append}
 use Rattle.theory.specs.Net.{Graph, Clash, Joined}
+use Rattle.theory.proofs.Ties.{glue-joins}
 use Rattle.theory.specs.Join.{join}
 use Rattle.theory.specs.Descr.{Desc, desc, disjs}
 use Rattle.theory.specs.Layout.{disjs-words}
 use Rattle.theory.proofs.Instance.{none-join}
-use Rattle.theory.proofs.Mean.{Ctx, Fine, joined-of}
+use Rattle.theory.proofs.Mean.{Ctx, Fine, Can, joined-of}
 use Rattle.theory.proofs.Live.{not-none}
 use Rattle.theory.proofs.Weight.{weight}
 use Rattle.area.specs.Map.{RESULT}
 use Rattle.layout.specs.Standing.{graph-words}
 use Rattle.engine.specs.Placed.{strip}
 use Rattle.engine.specs.Marks.{Marking, keep}
-use Rattle.engine.specs.Certain.{flat}
+use Rattle.engine.specs.Certain.{flat, sure}
 use Rattle.engine.specs.Shown.{or-else, shown-all}
 use Rattle.engine.proofs.Sane.{Sane, fine-flat}
 use Rattle.loading.specs.Entry.{graphs}
@@ -34,8 +35,8 @@ use Rattle.showing.specs.Putting.{Written, Describing, lead, left-all}
 use Rattle.showing.proofs.Leaving.{description-words}
 
 -- what agrees joins to the graph that a description leads with
-pub lead-joins : (d : Desc) → Sane d → join (flat d) ≡ some (lead d)
-lead-joins (desc g ds) s = s .0 .1 ∙ sym (ap (λ (o : Option Graph). some (or-else g o)) (s .0 .1))
+pub lead-joins : (d : Desc) → Can d → Sane d → join (flat d) ≡ some (lead d)
+lead-joins (desc g ds) c s = glue-joins g (c .0) (sure ds) (s .0 .0) (s .0 .1) ∙ sym (ap (λ (o : Option Graph). some (or-else g o)) (s .0 .1))
 
 clashes : (gs : Ctx) → Fine gs → Clash gs → join gs ≡ none
 clashes [] f k = let h = f .0 in absurd (omega arith)
@@ -75,10 +76,10 @@ module _ (n : ℕ) (w : List ℕ) (g left o : ℕ) (c : Describing n w g left o)
   pushed-flat = taken-flat (c .base .t) (marking w) g (c .lies .from) (c .lies .d) (c .lies .end) (c .lies .to) (c .lies .at) ∙ ap (λ (m : Marking). flat (strip (keep m (c .lies .d)))) (c .base .marks)
 
   joined-lead : Joined (graphs (entered asks-enter)) (lead whole)
-  joined-lead = subst (λ (l : List Graph). Joined l (lead whole)) (sym pushed-flat) (joined-of (flat whole) (fine-flat whole (c .can)) (lead whole) (lead-joins whole (c .sane)))
+  joined-lead = subst (λ (l : List Graph). Joined l (lead whole)) (sym pushed-flat) (joined-of (flat whole) (fine-flat whole (c .can)) (lead whole) (lead-joins whole (c .can) (c .sane)))
 
   never : Clash (graphs (entered asks-enter)) → ⊥
-  never k = not-none (flat whole) (lead whole, lead-joins whole (c .sane)) (clashes (flat whole) (fine-flat whole (c .can)) (subst Clash pushed-flat k))
+  never k = not-none (flat whole) (lead whole, lead-joins whole (c .can) (c .sane)) (clashes (flat whole) (fine-flat whole (c .can)) (subst Clash pushed-flat k))
 
   pub lead-room : o + length (graph-words (lead whole)) + 1 + length (disjs-words (shown-all (left-all (c .base .m) (c .lies .d)))) ≤ 2048
   lead-room =

@@ -8,7 +8,7 @@ use mathlib.Core.Bool.{Bool, false}
 use mathlib.Core.List.{List, [], _∷_}
 use lib.ListN.{length}
 use Rattle.theory.specs.Net.{Graph}
-use Rattle.theory.specs.Join.{join}
+use Rattle.theory.specs.Modes.{glue}
 use Rattle.theory.proofs.Mean.{Can}
 use Rattle.area.specs.Map.{RESULT}
 use Rattle.area.specs.Region.{words}
@@ -17,7 +17,6 @@ use Rattle.engine.specs.Placed.{Placed, place, strip, own}
 use Rattle.engine.specs.Marks.{Marking, keep}
 use Rattle.engine.specs.Certain.{sure}
 use Rattle.engine.specs.Shown.{or-else}
-use Rattle.engine.proofs.Stable.{join-one}
 use Rattle.loading.specs.Loading.{Put}
 use Rattle.loading.specs.At.{At}
 use Rattle.classes.proofs.Laws.{holds-frame}
@@ -27,7 +26,7 @@ use Rattle.showing.specs.Copying.{Graphing, Graphs}
 use Rattle.showing.proofs.Leading.{lead-room}
 
 lead-own : (d : Placed) (m : Marking) → Can (strip (keep m d)) → sure (left-all m d) ≡ [] → lead (strip (keep m d)) ≡ own d
-lead-own (place g ds) m c e = ap (λ (l : List Graph). or-else g (join (g ∷ l))) e ∙ ap (or-else g) (join-one g (c .0))
+lead-own (place g ds) m c e = ap (λ (l : List Graph). or-else g (glue g l)) e
 
 module _ (n : ℕ) (w : List ℕ) (g left o : ℕ) (c : Describing n w g left o) where
   here : At (words w) g (c .lies .from) (c .lies .d) (c .lies .end) (c .lies .to)

@@ -99,7 +99,7 @@ module _ (n k : ℕ) (w : List ℕ) (c : Showing n k w) where
   joined-is : Joined (graphs (c .stage .es)) G
   joined-is =
       let s = c .stage .same in
-      joined-of (graphs (c .stage .es)) (s .fine₁) G (join-both (graphs (c .stage .es)) (flat (strip (keep m j))) (s .fine₁) (s .fine₂) (s .to) (s .from) ∙ lead-joins (strip (keep m j)) (c .sane))
+      joined-of (graphs (c .stage .es)) (s .fine₁) G (join-both (graphs (c .stage .es)) (flat (strip (keep m j))) (s .fine₁) (s .fine₂) (s .to) (s .from) ∙ lead-joins (strip (keep m j)) (c .can) (c .sane))
 
   -- the words of the whole
   abbrev all : List ℕ

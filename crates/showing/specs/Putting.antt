@@ -5,7 +5,7 @@ use mathlib.Core.Path.{_≡_}
 use mathlib.Core.List.{List, [], _∷_}
 use lib.ListN.{length, getD}
 use Rattle.theory.specs.Net.{Graph}
-use Rattle.theory.specs.Join.{join}
+use Rattle.theory.specs.Modes.{glue}
 use Rattle.theory.specs.Descr.{Desc, desc, Disjs, disjs, end, _and_}
 use Rattle.theory.specs.Layout.{disjs-words, alts-words}
 use Rattle.theory.specs.Layout as layout
@@ -71,7 +71,7 @@ Describes n w g left o r w' = (c : Describing n w g left o) → Written n w o (l
 
 -- "its graph is joined to the definite graph": engine's `shown` has this graph
 abbrev pub lead : Desc → Graph
-lead (desc g ds) = or-else g (join (g ∷ sure ds))
+lead (desc g ds) = or-else g (glue g (sure ds))
 
 abbrev pub Leads : (n : ℕ) (w : List ℕ) (g left o r : ℕ) (w' : List ℕ) → Type 0
 Leads n w g left o r w' = (c : Describing n w g left o) → Written n w o (graph-words (lead (strip (keep (c .base .m) (c .lies .d))))) r w'

@@ -11,8 +11,8 @@ use Rattle.theory.specs.Net.{Graph, Canonical}
 use Rattle.theory.proofs.Instance.{AllCanonical}
 use Rattle.theory.specs.Join.{join}
 use Rattle.theory.specs.Descr.{Desc, desc, Disjs, end, _and_, Alts, fail, _or_, each, pairs, choices, choices-all, choices-any, answers, agree}
-use Rattle.theory.specs.Modes.{some-agree, Round, in-place, folded-in, prune, prune-all, prune-any, fold, fold-all, fold-any}
-use Rattle.theory.proofs.Mean.{Ctx, Fine, fine-append, run, run-each, run-append, run-pairs, run-cong, run-none, run-dead, run-same, good-run, Good, AllFine, Can, CanAll, CanAny, choices-fine, choices-all-fine, choices-any-fine, Holds, Rounded, after-ok, join-canonical, canon-append, alike-set, alike-after, clash-stays, within-both, in-l, in-r}
+use Rattle.theory.specs.Modes.{some-agree, Round, in-place, folded-in, glue, prune, prune-all, prune-any, fold, fold-all, fold-any}
+use Rattle.theory.proofs.Mean.{Ctx, Fine, fine-append, run, run-each, run-append, run-pairs, run-cong, run-none, run-dead, run-same, good-run, Good, AllFine, Can, CanAll, CanAny, choices-fine, choices-all-fine, choices-any-fine, Holds, Rounded, after-ok, canon-append, alike-set, glue-canonical, glue-after, glue-none, clash-stays, within-both, in-l, in-r}
 use Rattle.theory.proofs.Quick.{nil, nil-canonical, nil-holds, one, leaf, good-leaf, meanings}
 
 -- membership of a choice in a list of choices
@@ -67,7 +67,7 @@ in-place-ok fail ca ds r R = (R .0, (tt, R .1), λ c f h k g. refl)
 in-place-ok (desc g′ ds′ or fail) ca ds r R = after-ok nil nil-canonical ds r R (desc g′ ds′ or fail) ca
 in-place-ok (d or (e or a)) ca ds r R = after-ok nil nil-canonical ds r R (d or (e or a)) ca
 
-folded-ok : (g : Graph) → Canonical g → (ds : Disjs) (r : Round) → Rounded nil ds (some r) → (o : Option Graph) → join (g ∷ r .folded) ≡ o → Keeps (desc g ds) (folded-in g r o)
+folded-ok : (g : Graph) → Canonical g → (ds : Disjs) (r : Round) → Rounded nil ds (some r) → (o : Option Graph) → glue g (r .folded) ≡ o → Keeps (desc g ds) (folded-in g r o)
 unfolding folded-in
 folded-ok g cg ds r R o e = go o e
   where
@@ -85,13 +85,13 @@ folded-ok g cg ds r R o e = go o e
         let f : Fine (c ++ g ∷ []) = (simp length-append (omega arith), canon-append c (g ∷ []) fc (cg, tt)) in
         run-each (g ∷ []) (choices-all ds) c k ∙ R .2 (c ++ g ∷ []) f (nil-holds-any (c ++ g ∷ []) (f .1)) k gk ∙ ap (λ (z : Ctx). run (choices-all (r .left)) z k) (append-assoc c (g ∷ []) (r .folded))
 
-    go : (o : Option Graph) → join gs ≡ o → Keeps (desc g ds) (folded-in g r o)
-    go none e = ((cg, (tt, tt)), λ c fc k gk. start c fc k gk ∙ run-dead (choices-all (r .left)) (c ++ gs) k (choices-all-fine (r .left) (R .1)) gk (fcgs c fc) (clash-stays gs (c ++ gs) fgs (fcgs c fc) (in-r c gs) e))
+    go : (o : Option Graph) → glue g (r .folded) ≡ o → Keeps (desc g ds) (folded-in g r o)
+    go none e = ((cg, (tt, tt)), λ c fc k gk. start c fc k gk ∙ run-dead (choices-all (r .left)) (c ++ gs) k (choices-all-fine (r .left) (R .1)) gk (fcgs c fc) (clash-stays gs (c ++ gs) fgs (fcgs c fc) (in-r c gs) (glue-none g (r .folded) e)))
     go (some K) e =
-        let cK : Canonical K = join-canonical gs fgs K e in (
+        let cK : Canonical K = glue-canonical g cg (r .folded) (R .0) K e in (
           (cK, R .1),
           λ c fc k gk. start c fc k gk
-              ∙ sym (run-same (choices-all (r .left)) (c ++ K ∷ []) (c ++ gs) k (choices-all-fine (r .left) (R .1)) gk (simp length-append (omega arith), canon-append c (K ∷ []) fc (cK, tt)) (fcgs c fc) (alike-after c gs fc fgs K e))
+              ∙ sym (run-same (choices-all (r .left)) (c ++ K ∷ []) (c ++ gs) k (choices-all-fine (r .left) (R .1)) gk (simp length-append (omega arith), canon-append c (K ∷ []) fc (cK, tt)) (fcgs c fc) (glue-after g cg c (r .folded) fc (R .0) K e))
               ∙ sym (run-each (K ∷ []) (choices-all (r .left)) c k),
         )
 
@@ -111,7 +111,7 @@ mutual
   unfolding fold
 
   pub fold-ok : (d : Desc) → Can d → Keeps d (fold d)
-  fold-ok (desc g ds) p = folded-ok g (p .0) ds (fold-all ds) (fold-all-ok ds (p .1)) (join (g ∷ fold-all ds .folded)) refl
+  fold-ok (desc g ds) p = folded-ok g (p .0) ds (fold-all ds) (fold-all-ok ds (p .1)) (glue g (fold-all ds .folded)) refl
 
   pub fold-all-ok : (ds : Disjs) → CanAll ds → Rounded nil ds (some (fold-all ds))
   fold-all-ok end p = (tt, tt, λ c f h k g. ap (λ (z : Ctx). k z ++ []) (sym (append-nil (c ++ []))))

@@ -8,17 +8,16 @@ use mathlib.Core.List.{List, [], _∷_, _++_, append-assoc, List·Memᴰ, List·
 use Prim.Native.Nat.{ℕ, zero, suc, _+_, _≤_, _<_}
 use native.Mathlib.Omega.{arith}
 use lib.ListN.{length-append}
-use Rattle.theory.specs.Net.{Graph, Canonical, Joined}
+use Rattle.theory.specs.Net.{Graph, Canonical}
 use Rattle.theory.specs.Join.{join}
 use Rattle.theory.specs.Descr.{Desc, desc, Disjs, end, _and_, Alts, fail, _or_, alts, pairs, choices, choices-all, choices-any, answers, agree}
-use Rattle.theory.specs.Modes.{joined, some-agree, prune, prune-all, prune-any, Round, in-place, folded-in, fold, fold-all, fold-any, full}
-use Rattle.theory.proofs.Instance.{AllCanonical, join-some}
+use Rattle.theory.specs.Modes.{joined, some-agree, prune, prune-all, prune-any, Round, in-place, folded-in, glue, fold, fold-all, fold-any, full}
+use Rattle.theory.proofs.Instance.{AllCanonical}
 use Rattle.theory.proofs.Sets.{Within}
-use Rattle.theory.proofs.Mean.{Ctx, Fine, fine-append, AllFine, Can, CanAll, CanAny, choices-fine, choices-all-fine, choices-any-fine, canon-append, clash-stays, within-both, in-l, in-r, run}
+use Rattle.theory.proofs.Mean.{Ctx, Fine, fine-append, AllFine, Can, CanAll, CanAny, choices-fine, choices-all-fine, choices-any-fine, canon-append, clash-stays, Glues, within-both, in-l, in-r, run}
 use Rattle.theory.proofs.Quick.{one, leaf, good-leaf}
 use Rattle.theory.proofs.Full.{each-in, each-from, pairs-in, pairs-from, SomeAgree, none-agrees, some-agree-view, AllFull, full-pairs, full-graph, fine-full, whole, whole-fine, fold-ok}
-use Rattle.theory.proofs.Weight.{joined-weight}
-use Rattle.theory.proofs.Soft.{SoftGraph, Soft, SoftAll, SoftAny, soft-can, soft-all-up, soft-then, joined-soft, len, len-all, len-any, len-then, JoinKept, joined-kept, RoundKept}
+use Rattle.theory.proofs.Soft.{SoftGraph, Soft, SoftAll, SoftAny, soft-can, soft-all-up, soft-then, glue-kept, len, len-all, len-any, len-then, JoinKept, joined-kept, RoundKept}
 
 -- the graphs of a choice can be joined
 abbrev pub Agrees : Ctx → Type 0
@@ -145,11 +144,11 @@ run-some (c ∷ l) r i a e = go (List·Memᴰ·cases-cons i) (run-some l r) (joi
     go (inr j) s none f e = s j a e
     go w s (some G) f e = let z : _≡_ {A = ℕ} 0 1 = cc in omega arith
 
-pub fold-joins : (g : Graph) (ds : Disjs) → Can (desc g ds) → Live (desc g ds) → Agrees (g ∷ fold-all ds .folded)
+pub fold-joins : (g : Graph) (ds : Disjs) → Can (desc g ds) → Live (desc g ds) → Glues g (fold-all ds .folded)
 unfolding fold folded-in
-fold-joins g ds p l = go (join (g ∷ fold-all ds .folded)) refl (fold-ok (desc g ds) p .1 [] tt leaf good-leaf)
+fold-joins g ds p l = go (glue g (fold-all ds .folded)) refl (fold-ok (desc g ds) p .1 [] tt leaf good-leaf)
   where
-    go : (o : Option Graph) → join (g ∷ fold-all ds .folded) ≡ o → run (choices (desc g ds)) [] leaf ≡ run (choices (folded-in g (fold-all ds) o)) [] leaf → Agrees (g ∷ fold-all ds .folded)
+    go : (o : Option Graph) → glue g (fold-all ds .folded) ≡ o → run (choices (desc g ds)) [] leaf ≡ run (choices (folded-in g (fold-all ds) o)) [] leaf → Glues g (fold-all ds .folded)
     go none e h = absurd (run-some (choices (desc g ds)) (l .0 .0) (l .0 .1) (l .0 .2) h)
     go (some G) e h = (G, e)
 
@@ -194,15 +193,14 @@ in-place-kept n b (desc g es or fail) ds r z p h R =
     ((p .0 .0, R .0), (p .0 .1, R .1), soft-then 2 es (r .left) (suc n) (soft-all-up 2 es n (p .0 .2)) (R .2), omega (arith, l, k, h))
 in-place-kept n b (d or (e or a)) ds r z p h R = let k = R .3 in (R .0, R .1, (omega arith, p, R .2), omega (arith, k, h))
 
-folded-kept : (g : Graph) (ds : Disjs) (n : ℕ) (r : Round) → Canonical g → SoftGraph g → RoundKept n ds (some r) → (o : Option Graph) → join (g ∷ r .folded) ≡ o → Agrees (g ∷ r .folded) → Soft 2 (folded-in g r o) n × (len (folded-in g r o) ≤ len (desc g ds))
+folded-kept : (g : Graph) (ds : Disjs) (n : ℕ) (r : Round) → Canonical g → SoftGraph g → RoundKept n ds (some r) → (o : Option Graph) → glue g (r .folded) ≡ o → Glues g (r .folded) → Soft 2 (folded-in g r o) n × (len (folded-in g r o) ≤ len (desc g ds))
 unfolding folded-in len
-folded-kept g ds n r c s R none e a = absurd (not-none (g ∷ r .folded) a e)
+folded-kept g ds n r c s R none e a = let d : none ≡ some (a .0) = sym e ∙ a .1 in let z : _≡_ {A = ℕ} 0 1 = cc in absurd (omega arith)
 folded-kept g ds n r c s R (some k) e a =
-    let cs : AllCanonical (g ∷ r .folded) = (c, R .0) in
-    let j : Joined (g ∷ r .folded) k = join-some g (r .folded) cs k e in
-    let w = joined-weight (g ∷ r .folded) cs k j in
+    let j = glue-kept g (r .folded) c (R .0) s (R .1) k e in
+    let w = j .2 in
     let h = R .3 in
-    ((j .canonical, joined-soft (g ∷ r .folded) (s, R .1) k j, R .2), omega (arith, w, h))
+    ((j .0, j .1, R .2), omega (arith, w, h))
 
 alts-fold : (a : Alts) → alts (fold-any a) ≡ alts a
 unfolding fold
@@ -216,7 +214,7 @@ mutual
   fold-kept (desc g ds) n p l =
       let (r, m, a) = l .0 in
       let (s, j, e) = each-from (g ∷ []) (choices-all ds) r m in
-      folded-kept g ds n (fold-all ds) (p .0) (p .1) (fold-all-kept ds n (p .2) (l .1) s j) (join (g ∷ fold-all ds .folded)) refl (fold-joins g ds (soft-can 0 (desc g ds) n p) l)
+      folded-kept g ds n (fold-all ds) (p .0) (p .1) (fold-all-kept ds n (p .2) (l .1) s j) (glue g (fold-all ds .folded)) refl (fold-joins g ds (soft-can 0 (desc g ds) n p) l)
 
   fold-all-kept : (ds : Disjs) (n : ℕ) → SoftAll 0 ds n → LiveAll ds → (s : Ctx) → List·Memᴰ s (choices-all ds) → RoundKept n ds (some (fold-all ds))
   fold-all-kept end n p l s i = (tt, tt, tt, omega arith)

@@ -13,7 +13,7 @@ use Rattle.theory.proofs.Instance.{AllCanonical, join-some, join-none, 
 use Rattle.theory.proofs.Sets.{Within, clash-within, joined-within, join-same}
 use Rattle.theory.specs.Join.{join}
 use Rattle.theory.specs.Descr.{Desc, desc, Disjs, end, _and_, Alts, fail, _or_, each, pairs, choices, choices-all, choices-any, _then_}
-use Rattle.theory.specs.Modes.{kept, Round, after, round, finish, tidy}
+use Rattle.theory.specs.Modes.{kept, Round, after, round, finish, tidy, glue}
 
 abbrev pub Ctx : Type 0
 Ctx = List Graph
@@ -89,6 +89,41 @@ alike-after c gs fc f K e =
     let fcg : Fine (c ++ gs) = (simp length-append (omega arith), canon-append c gs fc (f .1)) in
     alike-trans (c ++ K ∷ []) ((K ∷ []) ++ c) (c ++ gs) (alike-set (c ++ K ∷ []) ((K ∷ []) ++ c) fcK fKc (swap-within c (K ∷ [])) (swap-within (K ∷ []) c))
     (alike-trans ((K ∷ []) ++ c) (gs ++ c) (c ++ gs) (alike-more (K ∷ []) gs c fc (alike-flat gs f K e)) (alike-set (gs ++ c) (c ++ gs) fgc fcg (swap-within gs c) (swap-within c gs)))
+
+-- a graph with those folded into it stands for all of them
+module _ (g : Graph) (cg : Canonical g) where
+  some-one : (K : Graph) → some g ≡ some K → g ≡ K
+  some-one K e = cc
+
+  pub glue-canonical : (hs : Ctx) → AllCanonical hs → (K : Graph) → glue g hs ≡ some K → Canonical K
+  glue-canonical [] f K e = subst Canonical (some-one K e) cg
+  glue-canonical (h ∷ hs) f K e = join-canonical (g ∷ h ∷ hs) (omega arith, (cg, f)) K e
+
+  pub glue-alike : (hs : Ctx) → AllCanonical hs → (K : Graph) → glue g hs ≡ some K → Alike (K ∷ []) (g ∷ hs)
+  glue-alike [] f K e = subst (λ (z : Graph). Alike (z ∷ []) (g ∷ [])) (some-one K e) (λ hs h. refl)
+  glue-alike (h ∷ hs) f K e = alike-flat (g ∷ h ∷ hs) (omega arith, (cg, f)) K e
+
+  pub glue-after : (c hs : Ctx) → AllCanonical c → AllCanonical hs → (K : Graph) → glue g hs ≡ some K → Alike (c ++ K ∷ []) (c ++ g ∷ hs)
+  glue-after c [] fc f K e = subst (λ (z : Graph). Alike (c ++ z ∷ []) (c ++ g ∷ [])) (some-one K e) (λ hs h. refl)
+  glue-after c (h ∷ hs) fc f K e = alike-after c (g ∷ h ∷ hs) fc (omega arith, (cg, f)) K e
+
+pub glue-none : (g : Graph) (hs : Ctx) → glue g hs ≡ none → join (g ∷ hs) ≡ none
+glue-none g [] e = let z : _≡_ {A = ℕ} 0 1 = cc in absurd (omega arith)
+glue-none g (h ∷ hs) e = e
+
+-- they can be folded in
+abbrev pub Glues : Graph → Ctx → Type 0
+Glues g hs = (K : Graph) × (glue g hs ≡ some K)
+
+pub glues-of : (g : Graph) (hs : Ctx) (K : Graph) → join (g ∷ hs) ≡ some K → Glues g hs
+glues-of g [] K e = (g, refl)
+glues-of g (h ∷ hs) K e = (K, e)
+
+pub glue-same : (g : Graph) (hs ks : Ctx) → (hs ≡ [] → ks ≡ []) → (ks ≡ [] → hs ≡ []) → join (g ∷ hs) ≡ join (g ∷ ks) → glue g hs ≡ glue g ks
+glue-same g [] [] p q e = refl
+glue-same g [] (k ∷ ks) p q e = let d : k ∷ ks ≡ [] = p refl in let z : _≡_ {A = ℕ} 0 1 = cc in absurd (omega arith)
+glue-same g (h ∷ hs) [] p q e = let d : h ∷ hs ≡ [] = q refl in let z : _≡_ {A = ℕ} 0 1 = cc in absurd (omega arith)
+glue-same g (h ∷ hs) (k ∷ ks) p q e = e
 
 -- run through the choices
 abbrev pub run : List Ctx → Ctx → (Ctx → List Graph) → List Graph

@@ -12,7 +12,7 @@ use Rattle.theory.specs.Net.{Node, atom, arcs, Graph, nodeAt, arcsOf, Ca
 use Rattle.theory.specs.Join.{join}
 use Rattle.theory.specs.Descr.{Desc, desc, Disjs, end, _and_, Alts, fail, _or_, disjs, alts, _then_}
 use Rattle.theory.specs.Layout.{arc-words, node-words, nodes-words, words, disjs-words, alts-words, ArcsFit, GraphFits, WellFormed, WellAll, WellAny}
-use Rattle.theory.specs.Modes.{joined, kept, Round, after, round, finish, tidy, size, quick}
+use Rattle.theory.specs.Modes.{glue, joined, kept, Round, after, round, finish, tidy, size, quick}
 use Rattle.theory.proofs.Instance.{AllCanonical, join-some}
 use Rattle.theory.proofs.Sets.{graph-of, number, graph-in, spot-atom, spot-arc}
 use Rattle.theory.proofs.Mean.{Can, CanAll, CanAny}
@@ -72,6 +72,15 @@ pub joined-soft : (gs : List Graph) → SoftGraphs gs → (G : Graph) → Joined
 joined-soft gs p G j = soft-graph G
     (λ n f t i. let (x, y, d, e, u) = j .arc-from n f t i in soft-arc (graph-of gs x) (soft-in gs p (graph-of gs x) (graph-in gs x)) (number gs x) f (number gs y) (spot-arc gs x f y u .1))
     (λ n a e. let (x, d, u) = j .atom-from n a e in soft-atom (graph-of gs x) (soft-in gs p (graph-of gs x) (graph-in gs x)) (number gs x) a (spot-atom gs x a u))
+
+-- so does what is folded in
+pub glue-kept : (g : Graph) (hs : List Graph) → Canonical g → AllCanonical hs → SoftGraph g → SoftGraphs hs → (k : Graph) → glue g hs ≡ some k → Canonical k × SoftGraph k × (weight k + length (g ∷ hs) ≤ suc (weights (g ∷ hs)))
+glue-kept g [] c f s t k e = let i : g ≡ k = cc in subst (λ (z : Graph). Canonical z × SoftGraph z × (weight z + length (g ∷ []) ≤ suc (weights (g ∷ [])))) i (c, s, omega arith)
+glue-kept g (h ∷ hs) c f s t k e =
+    let gs : List Graph = g ∷ h ∷ hs in
+    let cs : AllCanonical gs = (c, f) in
+    let j : Joined gs k = join-some g (h ∷ hs) cs k e in
+    (j .canonical, joined-soft gs (s, t) k j, joined-weight gs cs k j)
 
 -- at least m alternatives, nested at most n deep
 abbrev mutual

@@ -89,9 +89,14 @@ unfoldable pub folded-in : Graph → Round → Option Graph → Desc
 folded-in g r none = desc g (fail and end)
 folded-in g r (some k) = desc k (r .left)
 
+-- a graph with those folded into it; one into which nothing is folded stays as it came
+abbrev pub glue : Graph → List Graph → Option Graph
+glue g [] = some g
+glue g (h ∷ hs) = join (g ∷ h ∷ hs)
+
 unfoldable mutual
   pub fold : Desc → Desc
-  fold (desc g ds) = let r = fold-all ds in folded-in g r (join (g ∷ r .folded))
+  fold (desc g ds) = let r = fold-all ds in folded-in g r (glue g (r .folded))
 
   pub fold-all : Disjs → Round
   fold-all end = record { folded = []; left = end }
