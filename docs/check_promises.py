@@ -5,7 +5,8 @@ A citation is `name` in `path`, or `name`, `name` in `path`: the file must be th
 - PROMISES has one table. Each row has the promise, a statement and a proof with a citation each, and two wrong answers,
   each shown by an edit under must-fail/ or by a theorem in proofs/, or marked none. Every edit is cited by a row, and
   every public function of a library is named at the head of one, as **`name`** (`crate`).
-- AUDIT names every public definition of the crates in READ, and every file under specs/.
+- AUDIT names every public definition of the crates in READ, and every file under specs/. Layout one's instance of a
+  definition, which is that of the same file and name with what layout one has for its parameters, needs no row.
 Prints what is wrong and exits with 1; exits with 2 if there is nothing to look up.
 """
 import pathlib
@@ -13,7 +14,7 @@ import re
 import sys
 
 TOP = pathlib.Path(__file__).resolve().parent.parent
-READ = ["theory", "unify", "fit", "meet_text", "reply"]
+READ = ["descriptions", "theory", "unify", "fit", "meet_text", "reply"]
 CELLS = ["promise", "statement", "proof", "wrong answer", "edit or theorem", "second wrong answer", "second edit or theorem"]
 
 wrong = []
@@ -123,10 +124,16 @@ def public(file):
         if depth is not None:
             continue
         found = re.match(r"^ *(?:abbrev |unfoldable )?pub (record |data )?(\S+)", line)
-        if found and found.group(2) != "mod":
+        if found and found.group(2) not in ("mod", "use"):
             yield found.group(2)
             if found.group(1):
                 depth = indent
+
+
+def instances(file):
+    """The names that a file gives to the definition of the same file and name in another crate, made one for layout one."""
+    body = file.read_text(encoding="utf-8")
+    return set(re.findall(rf"^(\S+) = Rattle·\w+\.specs\.{file.stem}\.\1(?: [\w-]+)*$", body, re.M))
 
 
 def check_complete(doc, text):
@@ -138,7 +145,7 @@ def check_complete(doc, text):
         if f"`{path}`" not in text:
             says(doc, f"does not name {path}")
         if path.split("/")[1] in READ:
-            for name in public(file):
+            for name in set(public(file)) - instances(file):
                 if (name, path) not in named:
                     says(doc, f"no row has `{name}` in {path}")
 

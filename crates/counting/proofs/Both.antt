@@ -8,7 +8,7 @@ use mathlib.Core.List.{List, [], _∷_}
 use Rattle.theory.specs.Limits.{choice-stop}
 use Rattle.theory.specs.Net.{Graph}
 use Rattle.theory.specs.Join.{join}
-use Rattle.theory.proofs.Counting.{cap-one}
+use Rattle.descriptions.proofs.Counting.{cap-one}
 use Rattle.area.specs.Map.{SECOND}
 use Rattle.engine.specs.Placed.{Placed, place, Places, stop, _also_}
 use Rattle.engine.specs.Marks.{Marking}

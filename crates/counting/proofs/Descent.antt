@@ -7,13 +7,13 @@ use mathlib.Core.Bool.{Bool, true, false}
 use mathlib.Core.List.{List}
 use lib.ListN.{length}
 use Rattle.theory.specs.Limits.{choice-stop}
-use Rattle.theory.proofs.Counting.{cap-one}
+use Rattle.descriptions.proofs.Counting.{cap-one}
 use Rattle.area.specs.Region.{words}
 use Rattle.area.proofs.Region.{words-many}
 use Rattle.engine.specs.Placed.{Placed, place, Places, stop, _also_, Options, no-more, option}
 use Rattle.engine.specs.Marks.{Marking}
 use Rattle.engine.specs.Counting.{count-at, count-all-at, count-any-at}
-use Rattle.engine.proofs.Counting.{count-left}
+use Rattle.modes_by_marks.proofs.Counting.{count-left}
 use Rattle.loading.specs.Loaded.{number-step}
 use Rattle.loading.specs.Numbered.{places, options}
 use Rattle.loading.specs.At.{At, AtAll, AtAny}

@@ -8,7 +8,7 @@ use lib.Dec.{lit<}
 use mir.Syntax.{w32}
 use mir.Val.{Fits}
 use Rattle.theory.specs.Limits.{choice-stop}
-use Rattle.theory.proofs.Counting.{cap-one}
+use Rattle.descriptions.proofs.Counting.{cap-one}
 
 module _ (L : ℕ) where
   -- a factor counts up to the limit

@@ -9,13 +9,13 @@ use lib.ListN.{length}
 use Rattle.theory.specs.Limits.{choice-limit, choice-stop}
 use Rattle.theory.specs.Descr.{Desc, desc, Disjs, end, _and_, Alts, fail, _or_, number, capped}
 use Rattle.theory.specs.Layout.{WellFormed, WellAll, WellAny}
-use Rattle.theory.proofs.Counting.{capped-number, over-limit}
+use Rattle.descriptions.proofs.Counting.{capped-number, over-limit}
 use Rattle.area.specs.Region.{words}
 use Rattle.engine.specs.Placed.{strip}
 use Rattle.engine.specs.Marks.{Marking, all-kept}
 use Rattle.engine.specs.Counting.{count-at}
-use Rattle.engine.proofs.Marks.{keep-all-marked}
-use Rattle.engine.proofs.Counting.{count-left}
+use Rattle.modes_by_marks.proofs.Marks.{keep-all-marked}
+use Rattle.modes_by_marks.proofs.Counting.{count-left}
 use Rattle.loading.specs.Loaded.{number-step, nodes-in, nodes-any}
 use Rattle.loading.specs.Numbered.{numbered, numbered-all, numbered-any}
 use Rattle.loading.specs.At.{At}

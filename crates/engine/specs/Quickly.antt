@@ -1,68 +1,40 @@
 -- The quick step by marks: "1, quick" with alternatives dropped and none folded. Of a stack of graphs one thing is asked, whether they agree.
 -- Assumes nothing: these are definitions.
-use mathlib.Core.Path.{_≡_}
-use mathlib.Core.Bool.{true, false}
-use mathlib.Core.Option.{Option, none, some}
-use mathlib.Core.List.{List, [], _∷_, _++_}
-use Prim.Native.Nat.{ℕ, zero, suc}
-use lib.Dec.{eqb}
+use mathlib.Core.Option.{Option}
+use mathlib.Core.List.{List}
+use Prim.Native.Nat.{ℕ}
 use Rattle.theory.specs.Net.{Graph}
-use Rattle.theory.specs.Descr.{agree}
-use Rattle.theory.specs.Modes.{size}
-use Rattle.engine.specs.Placed.{Placed, place, Places, stop, _also_, Options, no-more, option, strip}
-use Rattle.engine.specs.Marks.{Marking, all-kept, drop, kept-of, keep, left-by}
-use Rattle.engine.specs.Certain.{certain, certain-any}
+use Rattle.engine.specs.Placed.{Placed, Places, Options}
+use Rattle.engine.specs.Marks.{Marking}
+use Rattle.theory.specs.JoiningOne.{joining-one}
+pub use Rattle.modes_by_marks.specs.Quickly.{fails, stands, tried}
 
--- what a step comes to: it fails, or it stands with these graphs pushed. The marks are as the step leaves them; those inside an alternative that failed are of no account
-pub data Step : Type 0 where
-  fails : Marking → Step
-  stands : List Graph → Marking → Step
+abbrev pub Step : Type 0
+Step = Rattle.modes_by_marks.specs.Quickly.Step Graph
 
--- the marks after the alternative numbered x was tried and all that was pushed for it taken back: "drop those that fail, and keep the others in their tidied form"
-abbrev pub tried : ℕ → Step → Marking
-tried x (fails n) = drop x n
-tried x (stands T n) = n
-
--- after the alternatives of a disjunction were tried. "A disjunction with none left fails the description. One with exactly one left is folded": all that is certain in it is pushed, and a clash fails
 abbrev pub settle-at : List Graph → Marking → Options → Step
-settle-at S m a = elim (kept-of m a) [
-  | zero ↦ fails m
-  | suc k ↦ elim k [ zero ↦ elim (agree (S ++ certain-any m a)) [ false ↦ fails m | true ↦ stands (S ++ certain-any m a) m ] | suc l ↦ stands S m ]
-]
+settle-at = Rattle.modes_by_marks.specs.Quickly.settle-at joining-one
 
-unfoldable mutual
-  -- "To tidy a description under a condition: join condition and definite graph; a clash means it fails." The condition is the stack
-  pub try-at : List Graph → Marking → Placed → Step
-  try-at S m (place g ds) = elim (agree (S ++ g ∷ certain m ds)) [ false ↦ fails m | true ↦ narrow-at (S ++ g ∷ certain m ds) m ds ]
+abbrev pub try-at : List Graph → Marking → Placed → Step
+try-at = Rattle.modes_by_marks.specs.Quickly.try-at joining-one
 
-  -- the disjunctions in order
-  pub narrow-at : List Graph → Marking → Places → Step
-  narrow-at S m stop = stands S m
-  narrow-at S m (a also ds) = elim (any-at S m a) [ fails n ↦ fails n | stands T n ↦ narrow-at T n ds ]
+abbrev pub narrow-at : List Graph → Marking → Places → Step
+narrow-at = Rattle.modes_by_marks.specs.Quickly.narrow-at joining-one
 
-  -- one disjunction: an alternative that stands alone is on the stack already
-  pub any-at : List Graph → Marking → Options → Step
-  any-at S m no-more = fails m
-  any-at S m (option x d a) = elim (m x) [ false ↦ any-at S m a | true ↦ elim (kept-of m a) [ zero ↦ inside-at S m d | suc k ↦ settle-at S (sift-at S (tried x (try-at S m d)) a) (option x d a) ] ]
+abbrev pub any-at : List Graph → Marking → Options → Step
+any-at = Rattle.modes_by_marks.specs.Quickly.any-at joining-one
 
-  -- the disjunctions of the one that stands alone: they "take its place in the list"
-  pub inside-at : List Graph → Marking → Placed → Step
-  inside-at S m (place g ds) = narrow-at S m ds
+abbrev pub inside-at : List Graph → Marking → Placed → Step
+inside-at = Rattle.modes_by_marks.specs.Quickly.inside-at joining-one
 
-  -- "tidy each alternative under that join"
-  pub sift-at : List Graph → Marking → Options → Marking
-  sift-at S m no-more = m
-  sift-at S m (option x d a) = elim (m x) [ false ↦ sift-at S m a | true ↦ sift-at S (tried x (try-at S m d)) a ]
+abbrev pub sift-at : List Graph → Marking → Options → Marking
+sift-at = Rattle.modes_by_marks.specs.Quickly.sift-at joining-one
 
--- passes until nothing is dropped; the first argument bounds their number
-unfoldable pub passes-at : ℕ → Marking → Placed → Option Marking
-passes-at zero m d = some m
-passes-at (suc n) m d = elim (try-at [] m d) [ fails k ↦ none | stands T k ↦ elim (eqb (size (strip (keep k d))) (size (strip (keep m d)))) [ true ↦ some k | false ↦ passes-at n k d ] ]
+abbrev pub passes-at : ℕ → Marking → Placed → Option Marking
+passes-at = Rattle.modes_by_marks.specs.Quickly.passes-at joining-one
 
--- "Take the joined description and tidy it under the graph that says nothing": the marks that mode 1 leaves on it
-unfoldable pub quick-at : Placed → Option Marking
-quick-at d = passes-at (size (strip d)) all-kept d
+abbrev pub quick-at : Placed → Option Marking
+quick-at = Rattle.modes_by_marks.specs.Quickly.quick-at joining-one
 
--- these marks leave what the quick step leaves; the marks inside a dropped alternative are free
 abbrev pub Leaves : Placed → Marking → Type 0
-Leaves d m = left-by d (quick-at d) ≡ some (strip (keep m d))
+Leaves = Rattle.modes_by_marks.specs.Quickly.Leaves joining-one

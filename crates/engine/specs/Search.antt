@@ -1,65 +1,29 @@
 -- The full step by marks: a search of the choices, depth first, on a stack of graphs.
 -- Assumes nothing: these are definitions.
-use mathlib.Core.Bool.{Bool, true, false, _||_}
-use mathlib.Core.Option.{Option, none, some}
-use mathlib.Core.List.{List, [], _∷_, _++_}
-use Prim.Native.Nat.{ℕ, zero, suc}
-use lib.Dec.{eqb}
-use lib.ListN.{length}
+use mathlib.Core.Option.{Option}
+use mathlib.Core.List.{List}
+use Prim.Native.Nat.{ℕ}
 use Rattle.theory.specs.Net.{Graph}
-use Rattle.theory.specs.Descr.{Desc, agree}
-use Rattle.engine.specs.Placed.{Placed, place, Places, stop, _also_, Options, no-more, option, strip, strip-all}
-use Rattle.engine.specs.Marks.{Marking, keep}
-use Rattle.engine.specs.Certain.{sure}
+use Rattle.theory.specs.Descr.{Desc}
+use Rattle.engine.specs.Placed.{Placed, Options}
+use Rattle.engine.specs.Marks.{Marking}
+use Rattle.theory.specs.JoiningOne.{joining-one}
+pub use Rattle.modes_by_marks.specs.Search.{Found, taking, lit}
 
--- the consistent choices found, each as the numbers of the alternatives that it takes
-abbrev pub Found : Type 0
-Found = List (List ℕ)
+abbrev pub dive : List Graph → Placed → (List Graph → Found) → Found
+dive = Rattle.modes_by_marks.specs.Search.dive joining-one
 
-abbrev pub taking : ℕ → Found → Found
-taking x [] = []
-taking x (l ∷ f) = (x ∷ l) ∷ taking x f
+abbrev pub dive-any : List Graph → Options → (List Graph → Found) → Found
+dive-any = Rattle.modes_by_marks.specs.Search.dive-any joining-one
 
--- "A choice takes one alternative of each disjunction and, within it, a choice of that alternative." In the order of the words; k is what comes after. An alternative is pushed with all that is certain in it; one that stands alone is on the stack already
-unfoldable mutual
-  pub dive : List Graph → Placed → (List Graph → Found) → Found
-  dive S (place g ds) k = elim (agree (S ++ g ∷ sure (strip-all ds))) [ false ↦ [] | true ↦ dive-all (S ++ g ∷ sure (strip-all ds)) ds k ]
+abbrev pub dive-each : List Graph → Options → (List Graph → Found) → Found
+dive-each = Rattle.modes_by_marks.specs.Search.dive-each joining-one
 
-  pub dive-all : List Graph → Places → (List Graph → Found) → Found
-  dive-all S stop k = k S
-  dive-all S (a also ds) k = dive-any S a (λ T. dive-all T ds k)
+abbrev pub search : Placed → Found
+search = Rattle.modes_by_marks.specs.Search.search joining-one
 
-  pub dive-any : List Graph → Options → (List Graph → Found) → Found
-  dive-any S no-more k = []
-  dive-any S (option x d a) k = elim a [ no-more ↦ taking x (dive-in S d k) | option y e b ↦ taking x (dive S d k) ++ dive-each S a k ]
+abbrev pub full-readings-by : Marking → Placed → ℕ
+full-readings-by = Rattle.modes_by_marks.specs.Search.full-readings-by joining-one
 
-  pub dive-in : List Graph → Placed → (List Graph → Found) → Found
-  dive-in S (place g ds) k = dive-all S ds k
-
-  pub dive-each : List Graph → Options → (List Graph → Found) → Found
-  dive-each S no-more k = []
-  dive-each S (option x d a) k = taking x (dive S d k) ++ dive-each S a k
-
--- "With no disjunctions there is exactly one choice."
-abbrev pub leaf-found : List Graph → Found
-leaf-found S = [] ∷ []
-
-unfoldable pub search : Placed → Found
-search d = dive [] d leaf-found
-
--- the marks: every alternative on the way to a leaf
-abbrev pub among : ℕ → List ℕ → Bool
-among x [] = false
-among x (y ∷ l) = eqb x y || among x l
-
-abbrev pub lit : Found → Marking
-lit [] x = false
-lit (l ∷ f) x = among x l || lit f x
-
--- "mode 2: consistent choices of the joined description"; m are the marks of the quick step
-unfoldable pub full-readings-by : Marking → Placed → ℕ
-full-readings-by m d = length (search (keep m d))
-
--- "drop every alternative that stands in no consistent choice of the whole; if there is no consistent choice, clash"
-unfoldable pub full-left : Marking → Placed → Option Desc
-full-left m d = elim (length (search (keep m d))) [ zero ↦ none | suc n ↦ some (strip (keep (lit (search (keep m d))) d)) ]
+abbrev pub full-left : Marking → Placed → Option Desc
+full-left = Rattle.modes_by_marks.specs.Search.full-left joining-one

@@ -10,7 +10,8 @@ use lib.Dec.{eqb}
 use Rattle.theory.specs.Limits.{depth-limit, input-limit}
 use Rattle.theory.specs.Net.{Graph}
 use Rattle.theory.specs.Descr.{Desc, desc, Disjs, end, _and_, disjs}
-use Rattle.theory.specs.Layout.{words, WellFormed, Image}
+use Rattle.theory.specs.Layout.{words, WellFormed}
+use Rattle.theory.specs.LayoutOne.{Image}
 use Rattle.theory.specs.FitTest.{FitGiven, fits, six, nine}
 use Rattle.theory.specs.Fitted.{fitted}
 use Rattle.theory.specs.Satisfaction.{Sat}

@@ -7,7 +7,8 @@ use lib.ListN.{length}
 use Rattle.theory.specs.Limits.{depth-limit, input-limit}
 use Rattle.theory.specs.Net.{Graph, graph, Canonical}
 use Rattle.theory.specs.Descr.{Desc, Alts, alts}
-use Rattle.theory.specs.Layout.{words, alts-words, GraphFits, WellFormed, WellAny, Image}
+use Rattle.theory.specs.Layout.{words, alts-words, GraphFits, WellFormed, WellAny}
+use Rattle.theory.specs.LayoutOne.{Image}
 use Rattle.theory.specs.FitTest.{Map, Fits, FitsAny}
 use Rattle.layout.specs.Standing.{Stands, graph-words, disjunction-words}
 use Rattle.fit.specs.Parts.{graphIn}

@@ -42,11 +42,11 @@ use Rattle.full.proofs.Stages.{pair-keeps, both-agrees, both-stage}
 
 -- ---- engine's full step, by whether anything was found
 left-none : (m : Marking) (d : Placed) → length (engine.search (keep m d)) ≡ 0 → full-left m d ≡ none
-unfolding full-left
+unfolding Rattle.modes_by_marks.specs.Search.full-left
 left-none m d e = ap (λ (c : ℕ). elim c [ zero ↦ none | suc k ↦ some (strip (keep (lit (engine.search (keep m d))) d)) ]) e
 
 left-some : (m : Marking) (d : Placed) (k : ℕ) → length (engine.search (keep m d)) ≡ suc k → full-left m d ≡ some (strip (keep (lit (engine.search (keep m d))) d))
-unfolding full-left
+unfolding Rattle.modes_by_marks.specs.Search.full-left
 left-some m d k e = ap {B = Option Desc} (λ (c : ℕ). elim c [ zero ↦ none | suc k ↦ some (strip (keep (lit (engine.search (keep m d))) d)) ]) e
 
 over-true : (L x : ℕ) → L < x → ltb L x ≡ true
@@ -156,7 +156,7 @@ module _ (n k : ℕ) (w : List ℕ) where
 
             module _ (log : ℕ) (z : o ≡ In log) where
               left : (c : Fulling n k w) → Leaving n (c .t) (c .p) (marking w) log r w₃
-              unfolding full-readings-by
+              unfolding Rattle.modes_by_marks.specs.Search.full-readings-by
               left c =
                   let room₂ : 16384 ≤ length w₂ = omega (arith, l .len, room₁ c) in
                   let marks₃ : marking w₃ ≡ marking w₂ = marking-frame w₂ w₃ room₂ (q .len) (λ j a b. q .rest j (omega arith)) in

@@ -15,7 +15,7 @@ use Rattle.engine.specs.Quickly.{Leaves}
 use Rattle.engine.specs.Counting.{count-at}
 use Rattle.engine.specs.Search.{search, lit}
 use Rattle.engine.proofs.Sane.{Sane}
-use Rattle.engine.proofs.Counting.{count-left}
+use Rattle.modes_by_marks.proofs.Counting.{count-left}
 use Rattle.engine.proofs.Finding.{search-count}
 use Rattle.engine.proofs.Joined.{keep-can}
 use Rattle.engine.proofs.Whole.{full-can}

@@ -11,7 +11,7 @@ use Rattle.theory.specs.Net.{Graph, Clash}
 use Rattle.theory.specs.Descr.{Desc, desc, agree}
 use Rattle.theory.proofs.Mean.{Ctx, Can}
 use Rattle.theory.proofs.Live.{Agrees, not-none}
-use Rattle.theory.proofs.Ties.{glue-joins}
+use Rattle.theory.proofs.Laws.{glue-joins}
 use Rattle.area.specs.Map.{SECOND}
 use Rattle.area.specs.Region.{words}
 use Rattle.engine.specs.Placed.{Placed, place, Places, strip, strip-all, inner}
@@ -22,9 +22,11 @@ use Rattle.engine.proofs.Entail.{agrees-says}
 use Rattle.engine.proofs.Sane.{Sane}
 use Rattle.engine.proofs.Stack.{Same}
 use Rattle.engine.proofs.Stable.{sure-can}
-use Rattle.engine.proofs.Passes.{Agreeing, cannot, agreeing-view}
-use Rattle.engine.proofs.Marks.{keep-same}
-use Rattle.engine.proofs.Joined.{keep-can, joined-is, certain-next, joined-same, keep-next}
+use Rattle.engine.proofs.Passes.{Agreeing, agreeing-view}
+use Rattle.modes_by_marks.proofs.Passes.{cannot}
+use Rattle.modes_by_marks.proofs.Marks.{keep-same}
+use Rattle.engine.proofs.Joined.{keep-can, joined-is, joined-same}
+use Rattle.modes_by_marks.proofs.Joined.{certain-next, keep-next}
 use Rattle.loading.specs.Entry.{Entry, graphs}
 use Rattle.loading.proofs.Walking.{at-names}
 use Rattle.marks.specs.Marked.{marking}

@@ -9,7 +9,8 @@ use mathlib.Core.List.{List}
 use lib.ListN.{length}
 use Rattle.theory.specs.Limits.{depth-limit}
 use Rattle.theory.specs.Descr.{Desc}
-use Rattle.theory.specs.Layout.{words, WellFormed, Image}
+use Rattle.theory.specs.Layout.{words, WellFormed}
+use Rattle.theory.specs.LayoutOne.{Image}
 use Rattle.theory.specs.Reading.{decode}
 use Rattle.theory.proofs.Decode.{Decoded, is, decoded, decode-iff, one-image}
 use Rattle.layout.specs.declared.reading.Read.the-variants.{Fine, Wrong}

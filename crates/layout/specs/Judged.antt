@@ -3,7 +3,7 @@
 use Prim.Native.Nat.{ℕ}
 use mathlib.Core.Path.{_≡_}
 use mathlib.Core.List.{List}
-use Rattle.theory.specs.Layout.{Image}
+use Rattle.theory.specs.LayoutOne.{Image}
 use Rattle.layout.specs.declared.reading.Judgement.{Judgement}
 use Rattle.layout.specs.declared.reading.Judgement.the-variants.{Accepted}
 

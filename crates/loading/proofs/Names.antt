@@ -10,7 +10,7 @@ use Rattle.theory.specs.Descr.{Desc, desc, Disjs, end, _and_, Alts, fail, _or_,
 use Rattle.theory.proofs.Meaning.{canonical-some}
 use Rattle.theory.proofs.Mean.{Can, CanAll, CanAny}
 use Rattle.engine.specs.Placed.{strip, strip-all, strip-any}
-use Rattle.engine.proofs.Names.{names, names-all, names-any, Apart, Distinct, DistinctAll, DistinctAny}
+use Rattle.modes_by_marks.proofs.Names.{names, names-all, names-any, Apart, Distinct, DistinctAll, DistinctAny}
 use Rattle.loading.specs.Loaded.{nodes-in, nodes-all, nodes-any}
 use Rattle.loading.specs.Numbered.{numbered, numbered-all, numbered-any, places, options}
 

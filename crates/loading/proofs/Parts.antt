@@ -10,7 +10,7 @@ use Rattle.theory.specs.Limits.{code-limit, input-limit, depth-limit}
 use Rattle.theory.specs.Net.{atom, arcs, Graph, Canonical}
 use Rattle.theory.specs.Descr.{desc, disjs, alts}
 use Rattle.theory.specs.Layout.{arc-words, nodes-words, words, disjs-words}
-use Rattle.theory.proofs.Kept.{well-can}
+use Rattle.theory.proofs.Reading.{well-can}
 use Rattle.layout.specs.Standing.{Stands, graph-words}
 use Rattle.layout.proofs.Standing.{stands-nil, stands-length, stands-order, stands-within, stands-whole, stands-atom, stands-node, stands-arc, stands-graph, stands-disjunction, stands-description}
 use Rattle.loading.specs.Loaded.{extent, number-step, extent-step, end-step, header, closing, moved-arcs, located, loaded, loaded-all, loaded-any}

@@ -7,7 +7,7 @@ use mathlib.Core.List.{List, [], _∷_, _++_}
 use lib.ListN.{length, getD}
 use Rattle.theory.specs.Net.{Graph}
 use Rattle.engine.specs.Placed.{Placed, place, Places, stop, _also_, Options, no-more, option}
-use Rattle.engine.proofs.Names.{names, names-all, names-any}
+use Rattle.modes_by_marks.proofs.Names.{names, names-all, names-any}
 use Rattle.loading.specs.Loaded.{extent, number-step, extent-step, end-step}
 use Rattle.loading.specs.Numbered.{places, options}
 use Rattle.loading.specs.At.{At, AtAll, AtAny}

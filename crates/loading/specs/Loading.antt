@@ -8,7 +8,8 @@ use lib.ListN.{length, getD}
 use Rattle.theory.specs.Limits.{input-limit, depth-limit}
 use Rattle.theory.specs.Net.{Node, Graph, arcsOf}
 use Rattle.theory.specs.Descr.{Desc, Alts, alts}
-use Rattle.theory.specs.Layout.{arc-words, node-words, nodes-words, words, NodeFits, GraphFits, WellFormed, WellAny, Image}
+use Rattle.theory.specs.Layout.{arc-words, node-words, nodes-words, words, NodeFits, GraphFits, WellFormed, WellAny}
+use Rattle.theory.specs.LayoutOne.{Image}
 use Rattle.layout.specs.Standing.{Stands, graph-words, disjunction-words}
 use Rattle.loading.specs.Loaded.{header, moved-arcs, moved-node, located, nodes-in, nodes-any, loaded, loaded-any}
 

@@ -6,7 +6,7 @@ use mathlib.Core.Path.{_≡_, refl, ap, _∙_}
 use mathlib.Core.Bool.{Bool, true, false}
 use Rattle.engine.specs.Placed.{Placed, Options, no-more, option}
 use Rattle.engine.specs.Marks.{Marking, kept-of, keep, keep-any}
-use Rattle.engine.proofs.Marks.{keep-true, keep-false}
+use Rattle.modes_by_marks.proofs.Marks.{keep-true, keep-false}
 use Rattle.marks.specs.Tallied.{from-kept}
 
 module _ (m : Marking) (x : ℕ) (d : Placed) (a : Options) where

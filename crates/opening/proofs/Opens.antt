@@ -11,7 +11,7 @@ use Rattle.theory.specs.Limits.{input-limit, depth-limit}
 use Rattle.theory.specs.Net.{Clash}
 use Rattle.theory.specs.Descr.{Desc, desc}
 use Rattle.theory.specs.Layout.{words, WellFormed}
-use Rattle.theory.proofs.Kept.{well-can}
+use Rattle.theory.proofs.Reading.{well-can}
 use Rattle.theory.proofs.Sets.{clash-within}
 use Rattle.loading.specs.Entry.{Entry}
 use Rattle.loading.specs.Loaded.{nodes-in}

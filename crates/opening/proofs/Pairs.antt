@@ -9,7 +9,7 @@ use lib.ListN.{length}
 use Rattle.theory.specs.Limits.{input-limit}
 use Rattle.theory.specs.Descr.{Desc}
 use Rattle.theory.specs.Layout.{words}
-use Rattle.theory.proofs.Kept.{well-can}
+use Rattle.theory.proofs.Reading.{well-can}
 use Rattle.layout.specs.Standing.{Stands}
 use Rattle.loading.specs.Loaded.{nodes-in, loaded}
 use Rattle.loading.specs.Loading.{Put, Loadable, LoadedAt}

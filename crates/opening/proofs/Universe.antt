@@ -11,7 +11,7 @@ use Rattle.theory.specs.Net.{Canonical}
 use Rattle.theory.specs.Descr.{Desc, desc, Disjs, end, _and_, Alts, fail, _or_}
 use Rattle.theory.specs.Layout.{words, alts-words, GraphFits, WellFormed, WellAll, WellAny}
 use Rattle.theory.proofs.Weight.{weight}
-use Rattle.theory.proofs.Kept.{well-can}
+use Rattle.theory.proofs.Reading.{well-can}
 use Rattle.layout.specs.Standing.{Stands}
 use Rattle.layout.proofs.Standing.{stands-cons, stands-bounds}
 use Rattle.loading.specs.Entry.{Entry}

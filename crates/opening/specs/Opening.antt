@@ -7,7 +7,8 @@ use lib.ListN.{length, getD}
 use Rattle.theory.specs.Limits.{input-limit, depth-limit}
 use Rattle.theory.specs.Net.{Clash}
 use Rattle.theory.specs.Descr.{Desc, desc}
-use Rattle.theory.specs.Layout.{words, WellFormed, Image}
+use Rattle.theory.specs.Layout.{words, WellFormed}
+use Rattle.theory.specs.LayoutOne.{Image}
 use Rattle.layout.specs.Standing.{Stands}
 use Rattle.loading.specs.Entry.{Entry}
 use Rattle.loading.specs.Loaded.{nodes-in, loaded}

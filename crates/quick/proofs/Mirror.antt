@@ -12,8 +12,8 @@ use Rattle.engine.specs.Placed.{Placed, place, Places, stop, _also_, Options, n
 use Rattle.engine.specs.Marks.{Marking, kept-of, keep-any}
 use Rattle.engine.specs.Certain.{sure-any, certain-any}
 use Rattle.engine.specs.Quickly.{Step, fails, stands, tried, settle-at, try-at, any-at, inside-at, sift-at}
-use Rattle.engine.proofs.Names.{Distinct, DistinctAll, DistinctAny}
-use Rattle.engine.proofs.Marks.{kept-alts, keep-false}
+use Rattle.modes_by_marks.proofs.Names.{Distinct, DistinctAll, DistinctAny}
+use Rattle.modes_by_marks.proofs.Marks.{kept-alts, keep-false}
 use Rattle.engine.proofs.QuickStep.{sift-at-ok}
 use Rattle.loading.specs.Loaded.{extent}
 use Rattle.loading.specs.At.{At, AtAll, AtAny}
@@ -48,16 +48,16 @@ module _ (t : List ℕ) where
 -- ---- one disjunction
 module _ (S : List Graph) (m : Marking) where
   pub any-dropped : (x : ℕ) (d : Placed) (a : Options) → m x ≡ false → any-at S m (option x d a) ≡ any-at S m a
-  unfolding any-at
+  unfolding Rattle.modes_by_marks.specs.Quickly.any-at
   any-dropped x d a e = ap (λ (b : Bool). elim b [ false ↦ any-at S m a | true ↦ elim (kept-of m a) [ zero ↦ inside-at S m d | suc k ↦ settle-at S (sift-at S (tried x (try-at S m d)) a) (option x d a) ] ]) e
 
   any-kept : (x : ℕ) (d : Placed) (a : Options) → m x ≡ true → any-at S m (option x d a) ≡ elim (kept-of m a) [ zero ↦ inside-at S m d | suc k ↦ settle-at S (sift-at S (tried x (try-at S m d)) a) (option x d a) ]
-  unfolding any-at
+  unfolding Rattle.modes_by_marks.specs.Quickly.any-at
   any-kept x d a e = ap (λ (b : Bool). elim b [ false ↦ any-at S m a | true ↦ elim (kept-of m a) [ zero ↦ inside-at S m d | suc k ↦ settle-at S (sift-at S (tried x (try-at S m d)) a) (option x d a) ] ]) e
 
   -- none is kept
   pub any-none : (a : Options) → kept-of m a ≡ 0 → any-at S m a ≡ fails m
-  unfolding any-at
+  unfolding Rattle.modes_by_marks.specs.Quickly.any-at
   any-none no-more z = refl
   any-none (option x d a) z = go (m x) refl (any-none a)
     where
@@ -70,11 +70,11 @@ module _ (S : List Graph) (m : Marking) where
   any-alone x d a e z = any-kept x d a e ∙ ap (λ (c : ℕ). elim c [ zero ↦ inside-at S m d | suc k ↦ settle-at S (sift-at S (tried x (try-at S m d)) a) (option x d a) ]) z
 
   pub sift-dropped : (x : ℕ) (d : Placed) (a : Options) → m x ≡ false → sift-at S m (option x d a) ≡ sift-at S m a
-  unfolding sift-at
+  unfolding Rattle.modes_by_marks.specs.Quickly.sift-at
   sift-dropped x d a e = ap (λ (b : Bool). elim b [ false ↦ sift-at S m a | true ↦ sift-at S (tried x (try-at S m d)) a ]) e
 
   pub sift-kept : (x : ℕ) (d : Placed) (a : Options) → m x ≡ true → sift-at S m (option x d a) ≡ sift-at S (tried x (try-at S m d)) a
-  unfolding sift-at
+  unfolding Rattle.modes_by_marks.specs.Quickly.sift-at
   sift-kept x d a e = ap (λ (b : Bool). elim b [ false ↦ sift-at S m a | true ↦ sift-at S (tried x (try-at S m d)) a ]) e
 
 -- a dropped alternative does not count when its disjunction is settled

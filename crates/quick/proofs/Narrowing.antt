@@ -41,7 +41,7 @@ use Rattle.quick.proofs.Choosing.{chosen}
 use Rattle.quick.proofs.Sifting.{moved-trans, moved-words}
 
 narrow-more : (S : List Graph) (m : Marking) (a : Options) (ds : Places) (s : quickly.Step) → any-at S m a ≡ s → narrow-at S m (a also ds) ≡ elim s [ fails n ↦ fails n | stands T n ↦ narrow-at T n ds ]
-unfolding narrow-at
+unfolding Rattle.modes_by_marks.specs.Quickly.narrow-at
 narrow-more S m a ds s e = ap (λ (o : quickly.Step). elim o [ fails n ↦ fails n | stands T n ↦ narrow-at T n ds ]) e
 
 module _ (n k : ℕ) (w : List ℕ) (g left : ℕ) where
@@ -82,7 +82,7 @@ module _ (n k : ℕ) (w : List ℕ) (g left : ℕ) where
     moved-start = record { len = refl; rest = λ j h. refl; since = since-refl n (c .es) k w (c .holds) }
 
     pub narrow-begin : (e more : ℕ) → e ≡ tail-at w g → more ≡ disjunctions-at w e → Going c more (e + 1) k w
-    unfolding inside-at
+    unfolding Rattle.modes_by_marks.specs.Quickly.inside-at
     narrow-begin e more f h = go (c .d) (c .at) here (c .among) (c .nests) (c .clear) refl (λ E K x. x)
       where
         go : (d : Placed) (at : At (c .t) g (c .from) d (c .end) (c .to)) → At (words w) g (c .from) d (c .end) (c .to) → Among (c .U) (c .t) g (c .from) d (c .end) (c .to) at → Nests d left → Clear (c .es) (c .t) (marking w) g (c .from) d (c .end) (c .to) at →
@@ -108,7 +108,7 @@ module _ (n k : ℕ) (w : List ℕ) (g left : ℕ) where
 
   module _ (c : Narrowing n k w g left) (more at log : ℕ) (w₁ : List ℕ) (m : Moved k w log w₁) (s : Going c more at log w₁) where
     pub narrow-done : more ≤ 0 → NarrowStands n k w g left log w₁ c
-    unfolding narrow-at
+    unfolding Rattle.modes_by_marks.specs.Quickly.narrow-at
     narrow-done h = record { es' = s .es₁; stood = s .stood; clear' = s .behind (s .es₁) (marking w₁) (λ y a b. refl) (λ o i. inl i) (s .ahead); off = s .off; is = go (s .ds) (s .many) (s .is) }
       where
         go : (ds : Places) → places ds ≡ more → inside-at (graphs (c .es)) (marking w) (c .d) ≡ narrow-at (graphs (s .es₁)) (marking w₁) ds → inside-at (graphs (c .es)) (marking w) (c .d) ≡ stands (graphs (s .es₁)) (marking w₁)

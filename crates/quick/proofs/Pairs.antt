@@ -8,12 +8,14 @@ use mathlib.Core.List.{List, []}
 use Rattle.theory.specs.Limits.{depth-limit}
 use Rattle.theory.specs.Modes.{joined}
 use Rattle.theory.proofs.Mean.{Can}
-use Rattle.theory.proofs.Kept.{well-can}
+use Rattle.theory.proofs.Reading.{well-can}
 use Rattle.area.specs.Map.{SECOND}
 use Rattle.engine.specs.Placed.{strip}
-use Rattle.engine.proofs.Names.{names, Apart, Distinct}
-use Rattle.engine.proofs.Proper.{Proper, well-proper, Comes, joined-comes}
-use Rattle.engine.proofs.Beside.{strip-some, joined-strip, SomeDistinct, joined-distinct}
+use Rattle.modes_by_marks.proofs.Names.{names, Apart, Distinct}
+use Rattle.engine.proofs.Proper.{well-proper, Comes, joined-comes}
+use Rattle.modes_by_marks.proofs.Proper.{Proper}
+use Rattle.engine.proofs.Beside.{joined-strip, joined-distinct}
+use Rattle.modes_by_marks.proofs.Beside.{strip-some, SomeDistinct}
 use Rattle.loading.specs.Loaded.{nodes-in}
 use Rattle.loading.proofs.Names.{numbered-strip, between-apart, between-wide}
 use Rattle.loading.proofs.Walking.{at-names, at-bounds}

@@ -33,7 +33,7 @@ after : quickly.Step → (List Graph → Marking → quickly.Step) → quickly.S
 after s f = elim s [ fails n ↦ fails n | stands T n ↦ f T n ]
 
 narrow-next : (S : List Graph) (m : Marking) (ds es : Places) → narrow-at S m (ds next es) ≡ after (narrow-at S m ds) (λ T n. narrow-at T n es)
-unfolding narrow-at after
+unfolding Rattle.modes_by_marks.specs.Quickly.narrow-at after
 narrow-next S m stop es = refl
 narrow-next S m (a also ds) es = go (any-at S m a) (λ T n. narrow-next T n ds es)
   where
@@ -43,7 +43,7 @@ narrow-next S m (a also ds) es = go (any-at S m a) (λ T n. narrow-next T n ds e
     go (stands T n) on = on T n
 
 narrow-both : (S : List Graph) (m : Marking) (a b : Placed) → narrow-at S m (beside a b) ≡ after (inside-at S m a) (λ T n. inside-at T n b)
-unfolding narrow-at
+unfolding Rattle.modes_by_marks.specs.Quickly.narrow-at
 narrow-both S m (place g ds) (place h es) = narrow-next S m ds es
 
 module _ (n k : ℕ) (w : List ℕ) where

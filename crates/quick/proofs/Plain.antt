@@ -104,7 +104,7 @@ module _ (n k : ℕ) (w : List ℕ) (g left : ℕ) (c : Entering n k w g left) w
       bare-good = agrees-true (graphs (c .es) ++ bare-one .0 ∷ []) (subst (λ (d : Placed). Fine (graphs (c .es) ++ flat (strip (keep (marking w) d)))) (bare-one .1 .0) (fine n k w g left c)) (bare-one .1 .1 s)
 
       bare-stays : try-at (graphs (c .es)) (marking w) (c .d) ≡ stands (graphs (c .es) ++ bare-one .0 ∷ []) (marking w)
-      unfolding try-at
+      unfolding Rattle.modes_by_marks.specs.Quickly.try-at
       bare-stays = ap (try-at (graphs (c .es)) (marking w)) (bare-one .1 .0) ∙ ap (λ (b : Bool). elim b [ false ↦ fails (marking w) | true ↦ stands (graphs (c .es) ++ bare-one .0 ∷ []) (marking w) ]) bare-good
 
 pub told-stands : (n k : ℕ) (w : List ℕ) (g left : ℕ) → Entering n k w g left → disjunctions-at w (tail-at w g) ≡ 0 → Guesses n k w g Agrees → Tries n k w g left (Stands k 0) w

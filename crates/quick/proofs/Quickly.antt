@@ -11,9 +11,10 @@ use Rattle.engine.specs.Placed.{Placed, strip}
 use Rattle.engine.specs.Marks.{Marking, all-kept, keep}
 use Rattle.engine.specs.Quickly.{quick-at, Leaves}
 use Rattle.engine.specs.Shown.{shown}
-use Rattle.engine.proofs.Marks.{keep-all-marked}
+use Rattle.modes_by_marks.proofs.Marks.{keep-all-marked}
 use Rattle.engine.proofs.Sane.{Sane}
-use Rattle.engine.proofs.Proper.{Proper, proper-sane, proper-fold}
+use Rattle.engine.proofs.Proper.{proper-sane, proper-fold}
+use Rattle.modes_by_marks.proofs.Proper.{Proper}
 use Rattle.engine.proofs.Shown.{shown-ok}
 use Rattle.engine.proofs.Whole as whole
 use Rattle.quick.specs.Stage.{Pair}

@@ -17,8 +17,8 @@ use Rattle.engine.specs.Placed.{Placed, place, Places, strip}
 use Rattle.engine.specs.Marks.{Marking, all-kept, keep}
 use Rattle.engine.specs.Certain.{flat, certain}
 use Rattle.engine.specs.Quickly.{quick-at, Leaves}
-use Rattle.engine.proofs.Names.{Distinct}
-use Rattle.engine.proofs.Marks.{false-true}
+use Rattle.modes_by_marks.proofs.Names.{Distinct}
+use Rattle.modes_by_marks.proofs.Marks.{false-true}
 use Rattle.engine.proofs.Stack.{Same}
 use Rattle.engine.proofs.Loop.{Loop, loop-start, loop-pass, loop-still, loop-fails}
 use Rattle.engine.proofs.Joined.{joined-is}

@@ -17,7 +17,7 @@ use Rattle.engine.specs.Placed.{Placed, Options, no-more, option}
 use Rattle.engine.specs.Marks.{Marking, drop}
 use Rattle.engine.specs.Quickly as quickly
 use Rattle.engine.specs.Quickly.{fails, stands, tried, try-at, sift-at}
-use Rattle.engine.proofs.Marks.{drop-self, drop-other}
+use Rattle.modes_by_marks.proofs.Marks.{drop-self, drop-other}
 use Rattle.loading.specs.Entry.{Entry, graphs}
 use Rattle.loading.specs.Loaded.{number-step}
 use Rattle.loading.specs.Numbered.{options}
@@ -131,7 +131,7 @@ module _ (n k : ℕ) (w : List ℕ) (p count left : ℕ) where
   moved-none c = record { len = refl; rest = λ j h. refl; since = since-refl n (c .es) k w (c .holds) }
 
   pub sift-done : (c : Alternating n k w p count left) (rest at : ℕ) (w₁ : List ℕ) → Sifting c rest at w₁ → rest ≤ 0 → Sifted n k w p count left w₁ c
-  unfolding sift-at
+  unfolding Rattle.modes_by_marks.specs.Quickly.sift-at
   sift-done c rest at w₁ s h = record { holds' = s .holds; off = s .off; is = go (s .b) (s .many) (s .is) }
     where
       go : (b : Options) → options b ≡ rest → sift-at (graphs (c .es)) (marking w) (c .a) ≡ sift-at (graphs (c .es)) (marking w₁) b → sift-at (graphs (c .es)) (marking w) (c .a) ≡ marking w₁

@@ -15,7 +15,7 @@ use Rattle.theory.specs.Layout as layout
 use Rattle.theory.specs.Layout.{WellFormed}
 use Rattle.theory.proofs.Mean.{Ctx, Fine}
 use Rattle.theory.proofs.Live.{Agrees}
-use Rattle.theory.proofs.Kept.{well-can}
+use Rattle.theory.proofs.Reading.{well-can}
 use Rattle.area.specs.Map.{SECOND, MARKS, SIZE}
 use Rattle.area.specs.Region.{words}
 use Rattle.area.proofs.Region.{words-same}
@@ -24,8 +24,8 @@ use Rattle.engine.specs.Marks.{Marking, all-kept, keep}
 use Rattle.engine.specs.Certain.{flat}
 use Rattle.engine.specs.Beside.{joined-placed}
 use Rattle.engine.proofs.Entail.{fine-cons}
-use Rattle.engine.proofs.Proper.{Proper, proper-sure}
-use Rattle.engine.proofs.Marks.{keep-all-marked}
+use Rattle.modes_by_marks.proofs.Proper.{Proper, proper-sure}
+use Rattle.modes_by_marks.proofs.Marks.{keep-all-marked}
 use Rattle.engine.proofs.Stack.{Same}
 use Rattle.engine.proofs.Joined.{joined-same}
 use Rattle.loading.specs.Entry.{Entry, graphs}

@@ -44,7 +44,7 @@ use Rattle.quick.proofs.Clearing.{clear-taken}
 
 -- ---- engine's `try-at`, by whether what is pushed agrees
 try-by : (S : List Graph) (m : Marking) (d : Placed) (b : Bool) → agree (S ++ flat (strip (keep m d))) ≡ b → try-at S m d ≡ elim b [ false ↦ fails m | true ↦ inside-at (S ++ flat (strip (keep m d))) m d ]
-unfolding try-at
+unfolding Rattle.modes_by_marks.specs.Quickly.try-at
 try-by S m (place g ds) b e = ap (λ (b : Bool). elim b [ false ↦ fails m | true ↦ narrow-at (S ++ g ∷ certain m ds) m ds ]) e
 
 module _ (n k : ℕ) (w : List ℕ) (g left : ℕ) where

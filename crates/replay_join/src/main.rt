@@ -12,7 +12,7 @@ ghost use mathlib.Core.Path.{_≡_};
 ghost use mathlib.Core.Bool.{false};
 ghost use Prim.Native.Nat.{_≤_};
 ghost use lib.ListN.{length};
-ghost use Rattle.theory.specs.Layout.{Image};
+ghost use Rattle.theory.specs.LayoutOne.{Image};
 ghost use Rattle.area.specs.Map.{SIZE};
 
 // How a pair came out: its joined graph has so many words, or it clashes; or an input is malformed.

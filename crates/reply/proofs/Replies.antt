@@ -11,7 +11,8 @@ use lib.Seq.{take-all, take-append-seam}
 use borrow.Author.Tests.{ne-eqb, ltb-true, ltb-false}
 use Rattle.theory.specs.Unified.{unified}
 use Rattle.theory.specs.Outcome.{Outcome}
-use Rattle.theory.proofs.Areas.{Writes, nothing, result, given-writes}
+use Rattle.theory.proofs.Areas.{given-writes}
+use Rattle.descriptions.proofs.Areas.{Writes, nothing, result}
 use Rattle.theory.proofs.Table.{outcome-answer}
 use Rattle.meet_text.specs.Call.{Asked, heard, told}
 use Rattle.meet_text.specs.declared.call.Call.{Call}

@@ -20,7 +20,8 @@ use Rattle.engine.specs.Certain.{flat}
 use Rattle.engine.specs.Beside.{_next_, joined-placed}
 use Rattle.engine.specs.Search as engine
 use Rattle.engine.specs.Agenda.{resume-at}
-use Rattle.engine.proofs.Passes.{Agreeing, can, agreeing-view}
+use Rattle.engine.proofs.Passes.{Agreeing, agreeing-view}
+use Rattle.modes_by_marks.proofs.Passes.{can}
 use Rattle.engine.proofs.Stack.{Same}
 use Rattle.engine.proofs.Joined.{keep-can, joined-is, resume-at-after, resume-at-next}
 use Rattle.engine.proofs.SearchStack.{search-standing}

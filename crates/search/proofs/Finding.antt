@@ -12,7 +12,7 @@ use borrow.Author.Tests.{ltb-true, ltb-false}
 use Rattle.theory.specs.Limits.{choice-stop}
 use Rattle.engine.specs.Search.{Found, taking, lit}
 use Rattle.engine.specs.Marks.{Marking}
-use Rattle.engine.proofs.Agenda.{taking-count, lit-append, lit-taking, any-found}
+use Rattle.modes_by_marks.proofs.Agenda.{taking-count, lit-append, lit-taking, any-found}
 use Rattle.loading.specs.Entry.{Entry}
 use Rattle.marks.specs.Marked.{marking, lights, Lighted}
 use Rattle.marks.specs.Positions.{number-at}

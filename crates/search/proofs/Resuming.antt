@@ -14,7 +14,7 @@ use Rattle.engine.specs.Placed.{Placed, place, Places, stop, _also_, Options, n
 use Rattle.engine.specs.Marks.{Marking, kept-of, keep, keep-any}
 use Rattle.engine.specs.Search.{Found, taking, dive, dive-any, dive-each}
 use Rattle.engine.specs.Agenda.{resume, resume-at, each-at}
-use Rattle.engine.proofs.Marks.{kept-alts}
+use Rattle.modes_by_marks.proofs.Marks.{kept-alts}
 use Rattle.engine.proofs.Agenda.{resume-at-leaf, resume-at-more, choose-at-none, choose-at}
 use Rattle.loading.specs.Entry.{graphs}
 use Rattle.loading.specs.Loaded.{number-step}
@@ -49,14 +49,14 @@ module _ (m : Marking) (S : List Graph) (o : Options) (fs : List Places) where
       none (option y f b) h = absurd (omega arith)
 
   choose-alone : (x : ℕ) (d : Placed) → keep-any m o ≡ option x (keep m d) no-more → choose-at m S o fs ≡ taking x (resume-at m (inner d ∷ fs) S)
-  unfolding dive resume
+  unfolding Rattle.modes_by_marks.specs.Search.dive Rattle.modes_by_marks.specs.Agenda.resume
   choose-alone x d e = ap (λ (z : Options). dive-any S z (resume-at m fs)) e ∙ go d
     where
       go : (d : Placed) → dive-any S (option x (keep m d) no-more) (resume-at m fs) ≡ taking x (resume-at m (inner d ∷ fs) S)
       go (place K ds) = refl
 
   choose-several : 1 < kept-of m o → choose-at m S o fs ≡ each-at m S o fs
-  unfolding dive
+  unfolding Rattle.modes_by_marks.specs.Search.dive
   choose-several h =
       let f = first-kept m o (omega arith) in
       let c = f .count in

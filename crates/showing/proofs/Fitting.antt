@@ -11,7 +11,7 @@ use Rattle.theory.specs.Layout.{words}
 use Rattle.theory.specs.Modes.{joined, quick}
 use Rattle.theory.specs.Rules.{mode-result}
 use Rattle.theory.proofs.Mean.{Can}
-use Rattle.theory.proofs.Kept.{result-words}
+use Rattle.theory.proofs.Reading.{result-words}
 use Rattle.engine.specs.Placed.{strip}
 use Rattle.engine.specs.Marks.{Marking, all-kept, keep}
 use Rattle.engine.specs.Quickly.{Leaves}

@@ -7,12 +7,12 @@ use mathlib.Core.Option.{Option, none, some}
 use mathlib.Core.List.{List, [], _∷_, List·Memᴰ·not-nil}
 use lib.ListN.{length, length-append}
 use Rattle.theory.specs.Net.{Graph, Clash, Joined}
-use Rattle.theory.proofs.Ties.{glue-joins}
+use Rattle.theory.proofs.Laws.{glue-joins, joined-of}
 use Rattle.theory.specs.Join.{join}
 use Rattle.theory.specs.Descr.{Desc, desc, disjs}
 use Rattle.theory.specs.Layout.{disjs-words}
 use Rattle.theory.proofs.Instance.{none-join}
-use Rattle.theory.proofs.Mean.{Ctx, Fine, Can, joined-of}
+use Rattle.theory.proofs.Mean.{Ctx, Fine, Can}
 use Rattle.theory.proofs.Live.{not-none}
 use Rattle.theory.proofs.Weight.{weight}
 use Rattle.area.specs.Map.{RESULT}

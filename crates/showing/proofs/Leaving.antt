@@ -13,7 +13,7 @@ use Rattle.engine.specs.Placed.{Placed, place, strip, strip-all}
 use Rattle.engine.specs.Marks.{Marking, keep, keep-all}
 use Rattle.engine.specs.Shown.{shown, shown-all, shown-then, shown-any, shown-in}
 use Rattle.engine.proofs.Sane.{SaneAll}
-use Rattle.engine.proofs.Greatest.{then-assoc}
+use Rattle.modes_by_marks.proofs.Greatest.{then-assoc}
 use Rattle.loading.proofs.Sizes.{weights-fit-all}
 use Rattle.showing.specs.Putting.{lead, left-all}
 
@@ -31,13 +31,13 @@ then-end end = refl
 then-end (a and x) = ap (_and_ a) (then-end x)
 
 shown-front : (a : Alts) (x y : Disjs) → shown-then a (x then y) ≡ shown-then a x then y
-unfolding shown
+unfolding Rattle.modes_by_marks.specs.Shown.shown
 shown-front fail x y = refl
 shown-front (d or fail) x y = then-assoc (shown-in d) x y
 shown-front (d or (e or b)) x y = refl
 
 pub shown-next : (x y : Disjs) → shown-all (x then y) ≡ shown-all x then shown-all y
-unfolding shown
+unfolding Rattle.modes_by_marks.specs.Shown.shown
 shown-next end y = refl
 shown-next (a and x) y = ap (shown-then a) (shown-next x y) ∙ shown-front a (shown-all x) (shown-all y)
 
@@ -50,36 +50,36 @@ pub few-disjunctions : (x : Disjs) → disjs x ≤ length (disjs-words x)
 few-disjunctions x = omega (arith, weights-fit-all x)
 
 pub nothing-left : shown-all end ≡ end
-unfolding shown
+unfolding Rattle.modes_by_marks.specs.Shown.shown
 nothing-left = refl
 
 -- ---- one disjunction
 pub shown-alone : (d : Placed) (m : Marking) → shown-all ((strip (keep m d) or fail) and end) ≡ shown-all (left-all m d)
-unfolding shown
+unfolding Rattle.modes_by_marks.specs.Shown.shown
 shown-alone (place g ds) m = then-end (shown-all (strip-all (keep-all m ds)))
 
 pub shown-several : (a : Alts) → (alts a ≡ 1 → ⊥) → shown-all (a and end) ≡ shown-any a and end
-unfolding shown
+unfolding Rattle.modes_by_marks.specs.Shown.shown
 shown-several fail h = refl
 shown-several (d or fail) h = absurd (h refl)
 shown-several (d or (e or b)) h = refl
 
 pub shown-count : (a : Alts) → alts (shown-any a) ≡ alts a
-unfolding shown
+unfolding Rattle.modes_by_marks.specs.Shown.shown
 shown-count fail = refl
 shown-count (d or a) = ap suc (shown-count a)
 
 pub any-words : (d : Desc) (a : Alts) → alts-words (shown-any (d or a)) ≡ words (shown d) ++ alts-words (shown-any a)
-unfolding shown
+unfolding Rattle.modes_by_marks.specs.Shown.shown
 any-words d a = refl
 
 pub no-words : alts-words (shown-any fail) ≡ []
-unfolding shown
+unfolding Rattle.modes_by_marks.specs.Shown.shown
 no-words = refl
 
 -- ---- a description
 pub description-words : (d : Placed) (m : Marking) → words (shown (strip (keep m d))) ≡ graph-words (lead (strip (keep m d))) ++ disjs (shown-all (left-all m d)) ∷ disjs-words (shown-all (left-all m d))
-unfolding shown
+unfolding Rattle.modes_by_marks.specs.Shown.shown
 description-words (place g ds) m = refl
 
 -- ---- both inputs

@@ -12,7 +12,7 @@ use Rattle.area.proofs.Region.{words-many}
 use Rattle.engine.specs.Placed.{Placed, place, Places, stop, _also_, Options, strip-all, strip-any}
 use Rattle.engine.specs.Marks.{Marking, keep-all, keep-any}
 use Rattle.engine.specs.Certain.{sure, sure-any}
-use Rattle.engine.proofs.Marks.{kept-alts}
+use Rattle.modes_by_marks.proofs.Marks.{kept-alts}
 use Rattle.loading.specs.Loaded.{extent}
 use Rattle.loading.specs.Numbered.{places, options}
 use Rattle.loading.specs.At.{At, AtAll, AtAny}

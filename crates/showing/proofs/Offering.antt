@@ -14,7 +14,7 @@ use Rattle.area.specs.Region.{words}
 use Rattle.engine.specs.Placed.{Placed, Options, no-more, option, strip, strip-any}
 use Rattle.engine.specs.Marks.{Marking, keep, keep-any}
 use Rattle.engine.specs.Shown.{shown, shown-any}
-use Rattle.engine.proofs.Marks.{keep-true, keep-false}
+use Rattle.modes_by_marks.proofs.Marks.{keep-true, keep-false}
 use Rattle.engine.proofs.Sane.{SaneAny}
 use Rattle.loading.specs.Loaded.{number-step}
 use Rattle.loading.specs.Numbered.{options}

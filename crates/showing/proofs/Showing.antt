@@ -13,7 +13,8 @@ use Rattle.theory.specs.Join.{join}
 use Rattle.theory.specs.Descr.{Disjs, end, _then_, disjs}
 use Rattle.theory.specs.Layout.{disjs-words}
 use Rattle.theory.specs.Layout as layout
-use Rattle.theory.proofs.Mean.{CanAll, joined-of}
+use Rattle.theory.proofs.Mean.{CanAll}
+use Rattle.theory.proofs.Laws.{joined-of}
 use Rattle.area.specs.Map.{RESULT, SECOND, SIZE}
 use Rattle.area.specs.Region.{words}
 use Rattle.area.proofs.Region.{words-same}
@@ -26,8 +27,8 @@ use Rattle.engine.specs.Certain.{flat}
 use Rattle.engine.specs.Shown.{shown-all}
 use Rattle.engine.proofs.Entail.{join-both}
 use Rattle.engine.proofs.Sane.{SaneAll}
-use Rattle.engine.proofs.Beside.{strip-next}
-use Rattle.engine.proofs.Joined.{keep-next}
+use Rattle.modes_by_marks.proofs.Beside.{strip-next}
+use Rattle.modes_by_marks.proofs.Joined.{keep-next}
 use Rattle.loading.specs.Entry.{graphs}
 use Rattle.loading.specs.Loaded.{number-step}
 use Rattle.loading.specs.Numbered.{places}

@@ -15,7 +15,7 @@ use Rattle.area.proofs.Region.{words-many}
 use Rattle.engine.specs.Placed.{Options, no-more, option, strip-any}
 use Rattle.engine.specs.Marks.{Marking, kept-of, keep-any}
 use Rattle.engine.specs.Shown.{shown-all, shown-any}
-use Rattle.engine.proofs.Marks.{kept-alts}
+use Rattle.modes_by_marks.proofs.Marks.{kept-alts}
 use Rattle.engine.proofs.Sane.{SaneAny}
 use Rattle.loading.specs.Numbered.{options}
 use Rattle.loading.specs.At.{AtAny}

@@ -20,9 +20,9 @@ use Rattle.theory.specs.Unified.{unified, in-mode, complete, deliver}
 use Rattle.theory.specs.Demands.{Unifier, Demand2, Step, start, reached, ways, items, Demand3}
 use Rattle.theory.specs.Known.{gives}
 use Rattle.theory.proofs.Decode.{one-image}
-use Rattle.theory.proofs.Quick.{nil, nil-canonical, no-arc}
+use Rattle.theory.proofs.Nothing.{nil, nil-canonical, no-arc}
 use Rattle.theory.proofs.Fit.{structure}
-use Rattle.theory.proofs.Model.{structure-itself}
+use Rattle.theory.proofs.Senses.{structure-itself}
 
 -- descriptions to try them on
 abbrev plain : Graph → Desc
@@ -89,7 +89,7 @@ unfolding always-clash
 clash-2 D = D .clash 0 dN dN wN wN 2048 16384 refl bare bare-nothing bare-nothing
 
 ways-nothing : ways (dN ∷ []) ≡ 1
-unfolding agreeing agree join
+unfolding Rattle.descriptions.specs.Descr.agreeing Rattle.descriptions.specs.Descr.agree join
 ways-nothing = refl
 
 pub clash-3 : Demand3 always-clash → ⊥
@@ -108,11 +108,11 @@ nothing-2 n D =
     bare-not-A (s .means bare .0 (subst (Sat bare) i bare-nothing) .0)
 
 ways-A-B : ways (dA ∷ dB ∷ []) ≡ 0
-unfolding agreeing agree join
+unfolding Rattle.descriptions.specs.Descr.agreeing Rattle.descriptions.specs.Descr.agree join
 ways-A-B = refl
 
 readings-nothing : readings dN ≡ 1
-unfolding readings agreeing agree join
+unfolding Rattle.descriptions.specs.Descr.readings Rattle.descriptions.specs.Descr.agreeing Rattle.descriptions.specs.Descr.agree join
 readings-nothing = refl
 
 pub nothing-3 : (n : ℕ) → Demand3 (always-nothing n) → ⊥
@@ -148,7 +148,7 @@ wrong-length U a b d p q z k n D =
     n (ap length (s .written) ∙ ap (λ (z : Desc). length (words z)) i)
 
 quick-P-A : quick dP dA ≡ some dA
-unfolding quick size tidy finish joined join
+unfolding Rattle.descriptions.specs.Modes.quick size Rattle.descriptions.specs.Modes.tidy Rattle.descriptions.specs.Modes.finish Rattle.descriptions.specs.Modes.joined join
 quick-P-A = refl
 
 joins-P-A : joins-always 1 (words dP) (words dA) 2048 16384 ≡ unified 0 (words dP) (words dA) 2048 16384
@@ -156,7 +156,7 @@ unfolding joins-always
 joins-P-A = refl
 
 joined-P-A : (unified 0 (words dP) (words dA) 2048 16384 .number ≡ 0) × (length (unified 0 (words dP) (words dA) 2048 16384 .result) ≡ 19)
-unfolding unified in-mode deliver decode joined join
+unfolding Rattle.descriptions.specs.Unified.unified Rattle.descriptions.specs.Unified.in-mode Rattle.descriptions.specs.Unified.deliver decode Rattle.descriptions.specs.Modes.joined join
 joined-P-A = (refl, refl)
 
 pub joins-2 : Demand2 joins-always → ⊥
@@ -183,11 +183,11 @@ abbrev dF′ : Desc
 dF′ = plain (arcs ((1, 1) ∷ (2, 2) ∷ (3, 3) ∷ []) ∷ atom 10 ∷ atom 10 ∷ atom 10 ∷ [])
 
 quick-F : quick dF dN ≡ some dF′
-unfolding quick size tidy finish joined join
+unfolding Rattle.descriptions.specs.Modes.quick size Rattle.descriptions.specs.Modes.tidy Rattle.descriptions.specs.Modes.finish Rattle.descriptions.specs.Modes.joined join
 quick-F = refl
 
 once-F : (first-round 1 (words dF) (words dN) 2048 16384 .number ≡ 0) × (length (first-round 1 (words dF) (words dN) 2048 16384 .result) ≡ 22)
-unfolding first-round quick-once tidy-once size finish joined join deliver decode
+unfolding first-round quick-once tidy-once size Rattle.descriptions.specs.Modes.finish Rattle.descriptions.specs.Modes.joined join Rattle.descriptions.specs.Unified.deliver decode
 once-F = (refl, refl)
 
 pub once-2 : Demand2 first-round → ⊥
@@ -198,15 +198,15 @@ pub made-up : ℕ → Unifier
 made-up n mode a b room work = let r = unified mode a b room work in record { number = r .number; extent = r .extent; readings = n; result = r .result }
 
 zero-N : unified 2 start (words dN) 2048 16384 .number ≡ 0
-unfolding unified in-mode complete consistent deliver decode joined quick full size tidy finish some-agree prune fold folded-in agree agreeing readings number join
+unfolding Rattle.descriptions.specs.Unified.unified Rattle.descriptions.specs.Unified.in-mode Rattle.descriptions.specs.Unified.complete Rattle.descriptions.specs.Answer.consistent Rattle.descriptions.specs.Unified.deliver decode Rattle.descriptions.specs.Modes.joined Rattle.descriptions.specs.Modes.quick Rattle.descriptions.specs.Modes.full size Rattle.descriptions.specs.Modes.tidy Rattle.descriptions.specs.Modes.finish Rattle.descriptions.specs.Modes.some-agree Rattle.descriptions.specs.Modes.prune Rattle.descriptions.specs.Modes.fold folded-in Rattle.descriptions.specs.Descr.agree Rattle.descriptions.specs.Descr.agreeing Rattle.descriptions.specs.Descr.readings number join
 zero-N = refl
 
 zero-P : unified 2 start (words dP) 2048 16384 .number ≡ 0
-unfolding unified in-mode complete consistent deliver decode joined quick full size tidy finish some-agree prune fold folded-in agree agreeing readings number join
+unfolding Rattle.descriptions.specs.Unified.unified Rattle.descriptions.specs.Unified.in-mode Rattle.descriptions.specs.Unified.complete Rattle.descriptions.specs.Answer.consistent Rattle.descriptions.specs.Unified.deliver decode Rattle.descriptions.specs.Modes.joined Rattle.descriptions.specs.Modes.quick Rattle.descriptions.specs.Modes.full size Rattle.descriptions.specs.Modes.tidy Rattle.descriptions.specs.Modes.finish Rattle.descriptions.specs.Modes.some-agree Rattle.descriptions.specs.Modes.prune Rattle.descriptions.specs.Modes.fold folded-in Rattle.descriptions.specs.Descr.agree Rattle.descriptions.specs.Descr.agreeing Rattle.descriptions.specs.Descr.readings number join
 zero-P = refl
 
 ways-P : ways (dP ∷ []) ≡ 2
-unfolding agreeing agree join
+unfolding Rattle.descriptions.specs.Descr.agreeing Rattle.descriptions.specs.Descr.agree join
 ways-P = refl
 
 pub made-up-3 : (n : ℕ) → Demand3 (made-up n) → ⊥
@@ -223,7 +223,7 @@ pub miscounted : (ℕ → ℕ) → Unifier
 miscounted f mode a b room work = let r = unified mode a b room work in record { number = r .number; extent = r .extent; readings = f (r .readings); result = r .result }
 
 one-N : unified 2 start (words dN) 2048 16384 .readings ≡ 1
-unfolding unified in-mode complete consistent deliver decode joined quick full size tidy finish some-agree prune fold folded-in agree agreeing readings number join
+unfolding Rattle.descriptions.specs.Unified.unified Rattle.descriptions.specs.Unified.in-mode Rattle.descriptions.specs.Unified.complete Rattle.descriptions.specs.Answer.consistent Rattle.descriptions.specs.Unified.deliver decode Rattle.descriptions.specs.Modes.joined Rattle.descriptions.specs.Modes.quick Rattle.descriptions.specs.Modes.full size Rattle.descriptions.specs.Modes.tidy Rattle.descriptions.specs.Modes.finish Rattle.descriptions.specs.Modes.some-agree Rattle.descriptions.specs.Modes.prune Rattle.descriptions.specs.Modes.fold folded-in Rattle.descriptions.specs.Descr.agree Rattle.descriptions.specs.Descr.agreeing Rattle.descriptions.specs.Descr.readings number join
 one-N = refl
 
 pub miscounted-3 : (f : ℕ → ℕ) → (f 1 ≡ 1 → ⊥) → Demand3 (miscounted f) → ⊥
@@ -235,11 +235,11 @@ trail : List Step
 trail = step dP wP 0 ∷ step dP wP 1 ∷ step dP wP 2 ∷ []
 
 trail-reached : reached unified start trail ≡ some (1 ∷ 0 ∷ 3 ∷ 2 ∷ (words dA ++ words dB ++ 2 ∷ (words dA ++ words dB ++ 2 ∷ (words dA ++ words dB))))
-unfolding trail unified in-mode complete consistent deliver decode joined quick full size tidy finish some-agree prune fold folded-in agree agreeing readings number join
+unfolding trail Rattle.descriptions.specs.Unified.unified Rattle.descriptions.specs.Unified.in-mode Rattle.descriptions.specs.Unified.complete Rattle.descriptions.specs.Answer.consistent Rattle.descriptions.specs.Unified.deliver decode Rattle.descriptions.specs.Modes.joined Rattle.descriptions.specs.Modes.quick Rattle.descriptions.specs.Modes.full size Rattle.descriptions.specs.Modes.tidy Rattle.descriptions.specs.Modes.finish Rattle.descriptions.specs.Modes.some-agree Rattle.descriptions.specs.Modes.prune Rattle.descriptions.specs.Modes.fold folded-in Rattle.descriptions.specs.Descr.agree Rattle.descriptions.specs.Descr.agreeing Rattle.descriptions.specs.Descr.readings number join
 trail-reached = refl
 
 trail-ways : (ways (items trail) ≡ 2) × (ways (items trail ++ plain (one-arc 1 12) ∷ []) ≡ 0)
-unfolding trail agreeing agree join
+unfolding trail Rattle.descriptions.specs.Descr.agreeing Rattle.descriptions.specs.Descr.agree join
 trail-ways = (refl, refl)
 
 -- What the two demands leave to the table of numbers: a program that refuses always meets both.
@@ -247,7 +247,7 @@ pub always-refuse : Unifier
 always-refuse mode a b room work = refuse 1
 
 ways-none : ways [] ≡ 1
-unfolding agreeing agree join
+unfolding Rattle.descriptions.specs.Descr.agreeing Rattle.descriptions.specs.Descr.agree join
 ways-none = refl
 
 pub refuse-meets-2 : Demand2 always-refuse
@@ -272,5 +272,5 @@ refuse-meets-3 = record {
 
 -- the table does not let it pass
 pub refuse-table : unified 0 start start 2048 16384 ≡ always-refuse 0 start start 2048 16384 → ⊥
-unfolding always-refuse unified in-mode deliver decode joined join
+unfolding always-refuse Rattle.descriptions.specs.Unified.unified Rattle.descriptions.specs.Unified.in-mode Rattle.descriptions.specs.Unified.deliver decode Rattle.descriptions.specs.Modes.joined join
 refuse-table e = let h : _≡_ {A = ℕ} 0 1 = ap (λ (r : Answer). r .number) e in omega arith

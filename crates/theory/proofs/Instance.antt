@@ -1,7 +1,7 @@
 -- The nodes of several canonical graphs side by side, as numbers; and `join`.
 -- Assumes nothing.
 use mathlib.Core.Path.{_≡_, refl, ap, sym, _∙_, subst}
-use mathlib.Core.Logic.{_⊎_, inl, inr, ⊎-elim}
+use mathlib.Core.Logic.{_⊎_, inl, inr, ⊎-elim, _↔_}
 use mathlib.Core.HLevel.{Σ-prop-path}
 use mathlib.Core.Bool.{Bool, true, false}
 use mathlib.Core.Option.{Option, none, some}
@@ -11,6 +11,7 @@ use native.Mathlib.Bridge.{le-prop}
 use native.Mathlib.Omega.{arith}
 use lib.ListN.{length}
 use lib.Dec.{eqb}
+use Rattle.descriptions.proofs.Laws.{All}
 use Rattle.theory.specs.Net.{Node, atom, arcs, Graph, nodeAt, arcsOf, Net, beside, roots, Same, seed, self, along, Clash, InOrder, met, Numbered, Canonical, Joined}
 use Rattle.theory.proofs.Meaning.{canonical-some, joined-agrees}
 use Rattle.theory.proofs.Unique.{joined-unique}
@@ -201,8 +202,7 @@ code-one o (g ∷ gs) (inr x) (inl m) e = absurd (omega (arith, code-low (o + le
 code-one o (g ∷ gs) (inr x) (inr y) e = ap {B = beside (g ∷ gs) .Spot} inr (code-one (o + length g) gs x y e)
 
 abbrev pub AllCanonical : List Graph → Type 0
-AllCanonical [] = Unit {0}
-AllCanonical (g ∷ gs) = Canonical g × AllCanonical gs
+AllCanonical = All Canonical
 
 edge-of : (o : ℕ) (gs : List Graph) (x : beside gs .Spot) (f : ℕ) (y : beside gs .Spot) → beside gs .Arc x f y → List·Memᴰ {A = Edge} (code o gs x, f, code o gs y) (edges o gs)
 edge-of o (g ∷ gs) (inl n) f (inl m) u = Memᴰ·append-left (edges (o + length g) gs) (let e : 0 + n .0 ≡ n .0 = omega arith in rw e at (edges-in o 0 g (n .0) f (m .0) (n .1) u))
@@ -370,3 +370,10 @@ module _ (g : Graph) (gs′ : List Graph) (can : AllCanonical (g ∷ gs′)) whe
       go : (o : Option Graph) → Answer o → _≡_ {A = Option Graph} o none
       go (some H) (is-joined K i) = absurd (joined-agrees N (roots N) H i k)
       go none (is-clash k′) = refl
+
+  -- the program that joins and the classes of document 01 are one
+  pub join-iff : (G : Graph) → (join gs ≡ some G) ↔ Joined gs G
+  join-iff G = (join-some G, some-join G)
+
+  pub clash-iff : (join gs ≡ none) ↔ Clash gs
+  clash-iff = (join-none, none-join)

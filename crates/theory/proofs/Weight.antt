@@ -9,6 +9,7 @@ use native.Mathlib.Bridge.{le-prop}
 use native.Mathlib.Omega.{arith}
 use lib.ListN.{length, length-append, length-map}
 use lib.Dec.{ltb}
+use Rattle.descriptions.proofs.Weights.{total as sum}
 use Rattle.theory.specs.Net.{Node, atom, arcs, Graph, nodeAt, arcsOf, NodeOf, beside, Rising, met, Numbered, Joined}
 use Rattle.theory.specs.Layout.{arc-words, node-words, nodes-words}
 use Rattle.theory.proofs.Decode.{Tells, holds, fails, tells-lt}
@@ -200,8 +201,7 @@ arcs-found (g ∷ gs) c (inr x) f (inr y) u = Memᴰ·append-right (map (under (
 
 -- the weights of several graphs, and the nodes beside the root
 abbrev pub weights : List Graph → ℕ
-weights [] = 0
-weights (g ∷ gs) = weight g + weights gs
+weights = sum weight
 
 pub weights-append : (a b : List Graph) → weights (a ++ b) ≡ weights a + weights b
 weights-append [] b = omega arith

@@ -1,102 +1,27 @@
 -- Descriptions, their choices and their readings.
 -- Assumes nothing: these are definitions.
-use mathlib.Core.Bool.{Bool, true, false}
-use mathlib.Core.Option.{Option, none, some}
-use mathlib.Core.List.{List, [], _∷_, _++_}
-use Prim.Native.Nat.{ℕ, suc, _+_, _*_, min}
-use Rattle.theory.specs.Limits.{choice-stop}
+use mathlib.Core.Bool.{Bool}
+use mathlib.Core.List.{List}
+use Prim.Native.Nat.{ℕ}
 use Rattle.theory.specs.Net.{Graph}
-use Rattle.theory.specs.Join.{join}
+use Rattle.theory.specs.JoiningOne.{joining-one}
+pub use Rattle.descriptions.specs.Descr.{desc, end, _and_, fail, _or_, disjs, alts, choices, answers, _then_}
+unfoldable pub use Rattle.descriptions.specs.Descr.{number, capped}
 
--- "A description is a definite graph and a list of disjunctions; a disjunction is a list of two or more alternatives, each a description." That they are two or more is asked in `WellFormed`.
-mutual
-  pub data Desc : Type 0 where
-    desc : Graph → Disjs → Desc
+abbrev pub Desc : Type 0
+Desc = Rattle.descriptions.specs.Descr.Desc Graph
 
-  pub data Disjs : Type 0 where
-    end : Disjs
-    _and_ : Alts → Disjs → Disjs
+abbrev pub Disjs : Type 0
+Disjs = Rattle.descriptions.specs.Descr.Disjs Graph
 
-  pub data Alts : Type 0 where
-    fail : Alts
-    _or_ : Desc → Alts → Alts
+abbrev pub Alts : Type 0
+Alts = Rattle.descriptions.specs.Descr.Alts Graph
 
-infixr 5 _and_
-infixr 6 _or_
-abbrev pub disjs : Disjs → ℕ
-disjs end = 0
-disjs (a and ds) = suc (disjs ds)
+abbrev pub agree : List Graph → Bool
+agree = Rattle.descriptions.specs.Descr.agree joining-one
 
-abbrev pub alts : Alts → ℕ
-alts fail = 0
-alts (d or a) = suc (alts a)
+abbrev pub agreeing : List (List Graph) → ℕ
+agreeing = Rattle.descriptions.specs.Descr.agreeing joining-one
 
--- "A choice (also: a reading) of a description takes one alternative of each disjunction and, within it, a choice of that alternative. With no disjunctions there is exactly one choice." A choice stands here as the list of the graphs that it takes, the definite graph first; the list of choices holds one entry for each.
-abbrev pub each : List Graph → List (List Graph) → List (List Graph)
-each c [] = []
-each c (r ∷ l) = (c ++ r) ∷ each c l
-
-abbrev pub pairs : List (List Graph) → List (List Graph) → List (List Graph)
-pairs [] l = []
-pairs (c ∷ k) l = each c l ++ pairs k l
-
-abbrev mutual
-  pub choices : Desc → List (List Graph)
-  choices (desc g ds) = each (g ∷ []) (choices-all ds)
-
-  pub choices-all : Disjs → List (List Graph)
-  choices-all end = [] ∷ []
-  choices-all (a and ds) = pairs (choices-any a) (choices-all ds)
-
-  pub choices-any : Alts → List (List Graph)
-  choices-any fail = []
-  choices-any (d or a) = choices d ++ choices-any a
-
--- "A choice is consistent when the definite graph and all graphs it takes can be joined."
-abbrev pub answers : Option Graph → Bool
-answers none = false
-answers (some G) = true
-
-unfoldable pub agree : List Graph → Bool
-agree gs = answers (join gs)
-
--- how many of these agree; "two choices with one structure count twice"
-unfoldable pub agreeing : List (List Graph) → ℕ
-agreeing [] = 0
-agreeing (c ∷ l) = elim (agree c) [ true ↦ suc (agreeing l) | false ↦ agreeing l ]
-
--- the consistent readings
-unfoldable pub readings : Desc → ℕ
-readings d = agreeing (choices d)
-
--- "The number of choices of a description is the product over its disjunctions of the sum over their alternatives"
-unfoldable mutual
-  pub number : Desc → ℕ
-  number (desc g ds) = number-all ds
-
-  pub number-all : Disjs → ℕ
-  number-all end = 1
-  number-all (a and ds) = number-any a * number-all ds
-
-  pub number-any : Alts → ℕ
-  number-any fail = 0
-  number-any (d or a) = number d + number-any a
-
--- "it is worked out by descent over the nesting, stopping at 4,097"; tied to `number` by `capped-number`
-unfoldable mutual
-  pub capped : Desc → ℕ
-  capped (desc g ds) = capped-all ds
-
-  pub capped-all : Disjs → ℕ
-  capped-all end = 1
-  capped-all (a and ds) = min (capped-any a * capped-all ds) choice-stop
-
-  pub capped-any : Alts → ℕ
-  capped-any fail = 0
-  capped-any (d or a) = min (capped d + capped-any a) choice-stop
-
--- "those of the first input, then those of the second, in order"
-infixr 5 _then_
-abbrev pub _then_ : Disjs → Disjs → Disjs
-end then es = es
-(a and ds) then es = a and (ds then es)
+abbrev pub readings : Desc → ℕ
+readings = Rattle.descriptions.specs.Descr.readings joining-one

@@ -1,36 +1,11 @@
 -- The outcome of a call: number, length, readings, and every word of both areas.
 -- Assumes nothing: these are definitions.
-use mathlib.Core.Path.{_≡_}
-use mathlib.Core.Bool.{true, false}
-use mathlib.Core.List.{List, [], _++_}
-use Prim.Native.Nat.{ℕ, zero, suc}
-use lib.ListN.{length, drop, replicate}
-use lib.Dec.{ltb}
-use Rattle.theory.specs.Limits.{working-size}
-use Rattle.theory.specs.Answer.{Answer}
-use Rattle.theory.specs.Rules.{Given}
+use mathlib.Core.List.{List}
+use Prim.Native.Nat.{ℕ}
+use Rattle.theory.specs.LayoutOne.{layout-one}
+use Rattle.theory.specs.JoiningOne.{joining-one}
+pub use Rattle.descriptions.specs.Outcome.{Areas}
+unfoldable pub use Rattle.descriptions.specs.Outcome.{wiped}
 
--- both areas
-pub record Areas : Type 0 where
-  pub result : List ℕ
-  pub working : List ℕ
-
--- the first n words zero
-unfoldable pub wiped : ℕ → List ℕ → List ℕ
-wiped n w = replicate n 0 ++ drop n w
-
--- "Working area: untouched by 1 to 5; after 6, 7, 8 and 0 its first 16,384 words are zero and later ones untouched."
-unfoldable pub worked : ℕ → List ℕ → List ℕ
-worked zero w = wiped working-size w
-worked (suc n) w = elim (ltb n 5) [ true ↦ w | false ↦ wiped working-size w ]
-
--- number, length, readings and every word of both areas after a call
-pub record Outcome (mode : ℕ) (a b : List ℕ) (before : Areas) (number extent readings : ℕ) (after : Areas) : Type 0 where
-  pub answer : Answer
-  pub given : Given mode a b (length (before .result)) (length (before .working)) answer
-  pub the-number : number ≡ answer .number
-  pub the-extent : extent ≡ answer .extent
-  pub the-readings : readings ≡ answer .readings
-  -- "only number 0 writes, the first so many words; the rest stays"
-  pub the-result : after .result ≡ answer .result ++ drop (length (answer .result)) (before .result)
-  pub the-working : after .working ≡ worked number (before .working)
+abbrev pub Outcome : (mode : ℕ) (a b : List ℕ) (before : Areas) (number extent readings : ℕ) (after : Areas) → Type 0
+Outcome = Rattle.descriptions.specs.Outcome.Outcome joining-one layout-one

@@ -1,52 +1,21 @@
 -- The table of numbers as a program, so that cases compute: `unified` gives exactly what the rules give (`table`).
 -- Assumes nothing: these are definitions.
-use mathlib.Core.Bool.{true, false, _||_}
-use mathlib.Core.Option.{Option, none, some}
-use mathlib.Core.List.{List, []}
-use Prim.Native.Nat.{ℕ, zero, suc}
-use lib.ListN.{length}
-use lib.Dec.{ltb}
-use Rattle.theory.specs.Limits.{input-limit, working-size, choice-limit}
-use Rattle.theory.specs.Descr.{Desc, number}
-use Rattle.theory.specs.Layout.{words}
-use Rattle.theory.specs.Reading.{decode}
-use Rattle.theory.specs.Modes.{joined, quick, full}
-use Rattle.theory.specs.Answer.{Answer, refuse, consistent}
+use mathlib.Core.Option.{Option}
+use mathlib.Core.List.{List}
+use Prim.Native.Nat.{ℕ}
+use Rattle.theory.specs.Descr.{Desc}
+use Rattle.theory.specs.Answer.{Answer}
+use Rattle.theory.specs.LayoutOne.{layout-one}
+use Rattle.theory.specs.JoiningOne.{joining-one}
 
--- "6 | clash", "8 | result longer than the result area | words needed | 0", "0 | otherwise | words written"
-unfoldable pub deliver : ℕ → ℕ → Option Desc → Answer
-deliver room r none = refuse 6
-deliver room r (some d) = elim (ltb room (length (words d))) [
-  | true ↦ record { number = 8; extent = length (words d); readings = 0; result = [] }
-  | false ↦ record { number = 0; extent = length (words d); readings = r; result = words d }
-]
+abbrev pub deliver : ℕ → ℕ → Option Desc → Answer
+deliver = Rattle.descriptions.specs.Unified.deliver layout-one
 
--- "7 | mode 2, quick step did not fail, its result has over 4,096 choices"
-unfoldable pub complete : ℕ → Desc → Desc → Answer
-complete room d e = elim (quick d e) [ none ↦ refuse 6 | some q ↦ elim (ltb choice-limit (number q)) [ true ↦ refuse 7 | false ↦ deliver room (consistent d e) (full d e) ] ]
+abbrev pub complete : ℕ → Desc → Desc → Answer
+complete = Rattle.descriptions.specs.Unified.complete joining-one layout-one
 
-unfoldable pub in-mode : ℕ → Desc → Desc → ℕ → Answer
-in-mode zero d e room = deliver room 0 (joined d e)
-in-mode (suc zero) d e room = deliver room 0 (quick d e)
-in-mode (suc (suc m)) d e room = complete room d e
+abbrev pub in-mode : ℕ → Desc → Desc → ℕ → Answer
+in-mode = Rattle.descriptions.specs.Unified.in-mode joining-one layout-one
 
--- "1 | mode above 2", "2 | working area under 16,384 words", "3 | either input over 1,024 words", "4 | first input malformed", "5 | second input malformed"; "Checks run in the order of the table"
-unfoldable pub unified : ℕ → List ℕ → List ℕ → ℕ → ℕ → Answer
-unified mode a b room work =
-    elim (ltb 2 mode) [
-      | true ↦ refuse 1
-      | false ↦
-          elim (ltb work working-size) [
-            | true ↦ refuse 2
-            | false ↦
-                elim (ltb input-limit (length a) || ltb input-limit (length b)) [
-                  | true ↦ refuse 3
-                  | false ↦
-                      elim (decode a) [
-                        | none ↦ refuse 4
-                        | some d ↦
-                            elim (decode b) [ none ↦ refuse 5 | some e ↦ in-mode mode d e room ]
-                      ]
-                ]
-          ]
-    ]
+abbrev pub unified : ℕ → List ℕ → List ℕ → ℕ → ℕ → Answer
+unified = Rattle.descriptions.specs.Unified.unified joining-one layout-one

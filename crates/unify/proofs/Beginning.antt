@@ -25,8 +25,8 @@ use Rattle.quick.proofs.Stages.{first-stage}
 use Rattle.unify.specs.Making.{Begun, Begins}
 
 clash-none : (d e : Desc) → WellFormed d depth-limit → WellFormed e depth-limit → (w : List ℕ) → Told w d e Clashed → joined d e ≡ none
-unfolding joined
-clash-none (desc g ds) (desc h es) p q w c = let z : join (g ∷ h ∷ []) ≡ none = none-join g (h ∷ []) (p .0, (q .0, tt)) c in rw (z, joined) refl
+unfolding Rattle.descriptions.specs.Modes.joined
+clash-none (desc g ds) (desc h es) p q w c = let z : join (g ∷ h ∷ []) ≡ none = none-join g (h ∷ []) (p .0, (q .0, tt)) c in rw (z, Rattle.descriptions.specs.Modes.joined) refl
 
 loaded-again : (w w′ : List ℕ) → SIZE ≤ length w → Cleared w w′ → region WORDS 2048 w ≡ words w′
 unfolding words

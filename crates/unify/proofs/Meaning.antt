@@ -16,7 +16,8 @@ use Rattle.theory.specs.Modes.{joined, quick, full}
 use Rattle.theory.specs.Answer.{consistent}
 use Rattle.theory.specs.Rules as rules
 use Rattle.theory.specs.Rules.{mode-result, mode-readings, Clashes}
-use Rattle.theory.proofs.Table.{FullView, full-some, full-none, full-view}
+use Rattle.theory.proofs.Table.{FullView, full-view}
+use Rattle.descriptions.proofs.Table.{full-some, full-none}
 use Rattle.layout.specs.Standing.{Stands}
 use Rattle.engine.specs.Placed.{strip}
 use Rattle.engine.specs.Marks.{Marking, all-kept, keep}

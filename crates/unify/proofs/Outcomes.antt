@@ -8,12 +8,13 @@ use lib.ListN.{length, take, drop, getD, replicate, length-drop}
 use lib.Seq.{ext-getD, getD-drop, drop-cons}
 use Rattle.theory.specs.Limits.{input-limit, working-size}
 use Rattle.theory.specs.Descr.{Desc}
-use Rattle.theory.specs.Layout.{words, Image}
+use Rattle.theory.specs.Layout.{words}
+use Rattle.theory.specs.LayoutOne.{Image}
 use Rattle.theory.specs.Answer.{refuse}
 use Rattle.theory.specs.Rules as rules
 use Rattle.theory.specs.Rules.{mode-readings, Accepted, Given, one, two, three, four, five, six, seven, six-after, eight, done}
 use Rattle.theory.specs.Outcome.{Areas, wiped, Outcome}
-use Rattle.theory.proofs.Areas.{worked-same, worked-zero, worked-more}
+use Rattle.descriptions.proofs.Areas.{worked-same, worked-zero, worked-more}
 use Rattle.layout.specs.Standing.{Stands}
 use Rattle.layout.specs.Judged.{Judged}
 use Rattle.layout.specs.declared.reading.Judgement.{Judgement}

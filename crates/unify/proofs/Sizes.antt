@@ -10,7 +10,7 @@ use Rattle.theory.specs.Answer.{Answer}
 use Rattle.theory.specs.Rules.{mode-result, Accepted, Given, one, two, three, four, five, six, seven, six-after, eight, done}
 use mathlib.Core.Option.{some}
 use Rattle.theory.specs.Outcome.{Areas, Outcome}
-use Rattle.theory.proofs.Kept.{result-words}
+use Rattle.theory.proofs.Reading.{result-words}
 use Rattle.unify.specs.declared.Answer.{Answer as Reply}
 use Rattle.unify.specs.Number.{number-of, extent-of, readings-of}
 

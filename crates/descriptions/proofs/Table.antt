@@ -1,0 +1,304 @@
+-- `unified` gives exactly the answers of the table, one for each input.
+-- Assumes nothing.
+use mathlib.Core.Path.{_≡_, refl, ap, sym, _∙_, subst}
+use mathlib.Core.Logic.{inl, inr, _↔_}
+use mathlib.Core.Bool.{Bool, true, false, _||_}
+use mathlib.Core.Option.{Option, none, some}
+use mathlib.Core.List.{List, [], _∷_, _++_}
+use Prim.Native.Nat.{ℕ, zero, suc, _≤_, _<_}
+use native.Mathlib.Omega.{arith}
+use lib.ListN.{length, drop}
+use lib.Dec.{ltb}
+use borrow.Author.Tests.{le-ltb, lt-ltb}
+use Rattle.descriptions.specs.Limits.{choice-limit, depth-limit, input-limit, working-size}
+use Rattle.descriptions.specs.Descr.{Desc, agree, agreeing, choices, number, readings}
+use Rattle.descriptions.specs.Modes.{fold, full, joined, prune, quick, some-agree}
+use Rattle.descriptions.specs.Answer.{Answer, consistent, refuse}
+use Rattle.descriptions.specs.Outcome.{Areas, Outcome, worked}
+use Rattle.descriptions.specs.Unified.{complete, deliver, in-mode, unified}
+use Rattle.descriptions.specs.Rules.{Accepted, Clashes, Given, TooMany, done, eight, five, four, mode-readings, mode-result, one, seven, six, six-after, three, two}
+use Rattle.descriptions.proofs.Tests.{Tells, fails, holds, none-is, tells-lt}
+use Rattle.descriptions.proofs.Layouts.{Decoded, Reads, is, malformed}
+use Rattle.descriptions.proofs.Full.{whole}
+use Rattle.descriptions.specs.Joining.{Joining}
+use Rattle.descriptions.specs.Layout.{Layout}
+use Rattle.descriptions.proofs.Laws.{Laws}
+
+module _ {Graph : Type 0} (𝓕 : Layout Graph) where
+  open Layout 𝓕 using (words)
+
+  deliver-none : (room n : ℕ) → deliver 𝓕 room n none ≡ refuse 6
+  unfolding deliver
+  deliver-none room n = refl
+
+  deliver-eight : (room n : ℕ) (r : Desc Graph) → room < length (words r) → deliver 𝓕 room n (some r) ≡ record { number = 8; extent = length (words r); readings = 0; result = [] }
+  unfolding deliver
+  deliver-eight room n r h = rw (lt-ltb room (length (words r)) h, deliver)
+
+  deliver-done : (room n : ℕ) (r : Desc Graph) → length (words r) ≤ room → deliver 𝓕 room n (some r) ≡ record { number = 0; extent = length (words r); readings = n; result = words r }
+  unfolding deliver
+  deliver-done room n r h = rw (le-ltb room (length (words r)) h, deliver)
+
+module _ {Graph : Type 0} (J : Joining Graph) where
+  open Joining J using (join)
+
+  -- a quick result is there only where the join is
+  pub quick-joined : (d e : Desc Graph) → joined J d e ≡ none → quick J d e ≡ none
+  unfolding quick
+  quick-joined d e h = rw (h, quick)
+
+  -- no consistent choice
+  agreeing-none : (l : List (List Graph)) → some-agree J l ≡ false → agreeing J l ≡ 0
+  unfolding some-agree agreeing
+  agreeing-none [] h = refl
+  agreeing-none (c ∷ l) h = go (agree J c) (agreeing-none l) h
+    where
+      go : (t : Bool) → (some-agree J l ≡ false → agreeing J l ≡ 0) → _≡_ {A = Bool} (elim t [ true ↦ true | false ↦ some-agree J l ]) false → _≡_ {A = ℕ} (elim t [ true ↦ suc (agreeing J l) | false ↦ agreeing J l ]) 0
+      go true s h = let z : _≡_ {A = ℕ} 0 1 = cc in absurd (omega arith)
+      go false s h = s h
+
+  agreeing-some : (l : List (List Graph)) → some-agree J l ≡ true → 0 < agreeing J l
+  unfolding some-agree agreeing
+  agreeing-some [] h = let z : _≡_ {A = ℕ} 0 1 = cc in absurd (omega arith)
+  agreeing-some (c ∷ l) h = go (agree J c) (agreeing-some l) h
+    where
+      go : (t : Bool) → (some-agree J l ≡ true → 0 < agreeing J l) → _≡_ {A = Bool} (elim t [ true ↦ true | false ↦ some-agree J l ]) true → 0 < elim t [ true ↦ suc (agreeing J l) | false ↦ agreeing J l ]
+      go true s h = omega arith
+      go false s h = s h
+
+  pub data FullView (d e : Desc Graph) : Option (Desc Graph) → Type 0 where
+    full-some : (r : Desc Graph) → 0 < consistent J d e → FullView d e (some r)
+    full-none : consistent J d e ≡ 0 → FullView d e none
+
+  clash-zero : (d e r : Desc Graph) → joined J d e ≡ some r → ¬ (Clashes J 0 d e)
+  clash-zero d e r h (inl p) = none-is r (sym p ∙ h)
+  clash-zero d e r h (inr p) = let l = p .0 in omega (arith, l)
+
+  clash-more : (mode : ℕ) (d e q : Desc Graph) → quick J d e ≡ some q → ¬ (Clashes J mode d e)
+  clash-more mode d e q h (inl p) = none-is q (sym (quick-joined d e p) ∙ h)
+  clash-more mode d e q h (inr p) = none-is q (sym (p .1) ∙ h)
+
+  few : (mode : ℕ) (d e : Desc Graph) → mode < 2 → ¬ (TooMany J mode d e)
+  few mode d e h p = let l = p .0 in omega (arith, l)
+
+  few-two : (mode : ℕ) (d e q : Desc Graph) → quick J d e ≡ some q → ¬ (choice-limit < number q) → ¬ (TooMany J mode d e)
+  few-two mode d e q h n (l, p, s, m) = let k : some p ≡ some q = sym s ∙ h in let i : p ≡ q = cc in n (subst (λ (z : Desc Graph). choice-limit < number z) i m)
+
+module _ {Graph : Type 0} (J : Joining Graph) (𝓕 : Layout Graph) where
+  open Layout 𝓕 using (words)
+
+  pub full-view : (d e : Desc Graph) → FullView J d e (full J d e)
+  unfolding full consistent readings
+  full-view d e = go (joined J d e) refl
+    where
+      two : (j : Desc Graph) → joined J d e ≡ some j → (t : Bool) → some-agree J (choices j) ≡ t → FullView J d e (elim t [ true ↦ some (fold J (prune J whole j)) | false ↦ none ])
+      two j h true s = full-some (fold J (prune J whole j)) (rw (h, consistent) (agreeing-some J (choices j) s))
+      two j h false s = full-none (rw (h, consistent) (agreeing-none J (choices j) s))
+
+      go : (o : Option (Desc Graph)) → joined J d e ≡ o → FullView J d e (elim o [ none ↦ none | some j ↦ elim (some-agree J (choices j)) [ true ↦ some (fold J (prune J whole j)) | false ↦ none ] ])
+      go none h = full-none (rw (h, consistent))
+      go (some j) h = two j h (some-agree J (choices j)) refl
+
+  module _ (mode : ℕ) (a b : List ℕ) (room work : ℕ) where
+    abbrev G : Answer → Type 0
+    G r = Given J 𝓕 mode a b room work r
+
+    -- the answer where a result is there or not
+    give : (d e : Desc Graph) → Accepted 𝓕 mode a b work d e → ¬ (Clashes J mode d e) → ¬ (TooMany J mode d e) → (r : Desc Graph) → mode-result J mode d e ≡ some r → G (deliver 𝓕 room (mode-readings J mode d e) (some r))
+    unfolding deliver
+    give d e A c m r h = go (ltb room (length (words r))) (tells-lt room (length (words r)))
+      where
+        go : (t : Bool) → Tells (room < length (words r)) t → G (elim t [
+          | true ↦ record { number = 8; extent = length (words r); readings = 0; result = [] }
+          | false ↦ record { number = 0; extent = length (words r); readings = mode-readings J mode d e; result = words r }
+        ])
+        go true (holds l) = eight d e r A c m h l
+        go false (fails n) = done d e r A c m h (omega arith)
+
+  none-of : (mode : ℕ) (a b : List ℕ) (room work n : ℕ) → Given J 𝓕 mode a b room work (refuse 6) → Given J 𝓕 mode a b room work (deliver 𝓕 room n none)
+  unfolding deliver
+  none-of mode a b room work n g = g
+
+  six-of : (mode : ℕ) (a b : List ℕ) (room work : ℕ) (d e : Desc Graph) (n : ℕ) → Accepted 𝓕 mode a b work d e → Clashes J mode d e → Given J 𝓕 mode a b room work (deliver 𝓕 room n none)
+  six-of mode a b room work d e n A c = none-of mode a b room work n (six d e A c)
+
+  in-mode-given : (mode : ℕ) (a b : List ℕ) (room work : ℕ) (d e : Desc Graph) → Accepted 𝓕 mode a b work d e → Given J 𝓕 mode a b room work (in-mode J 𝓕 mode d e room)
+  unfolding in-mode complete
+  in-mode-given zero a b room work d e A = go (joined J d e) refl
+    where
+      go : (o : Option (Desc Graph)) → joined J d e ≡ o → Given J 𝓕 0 a b room work (deliver 𝓕 room 0 o)
+      go none h = six-of 0 a b room work d e 0 A (inl h)
+      go (some r) h = give 0 a b room work d e A (clash-zero J d e r h) (few J 0 d e (omega arith)) r h
+  in-mode-given (suc zero) a b room work d e A = go (quick J d e) refl
+    where
+      go : (o : Option (Desc Graph)) → quick J d e ≡ o → Given J 𝓕 1 a b room work (deliver 𝓕 room 0 o)
+      go none h = six-of 1 a b room work d e 0 A (inr (omega arith, h))
+      go (some r) h = give 1 a b room work d e A (clash-more J 1 d e r h) (few J 1 d e (omega arith)) r h
+  in-mode-given (suc (suc m)) a b room work d e A = go (quick J d e) refl
+    where
+      two-is : suc (suc m) ≡ 2
+      two-is = let h = A .mode-fine in omega (arith, h)
+
+      after : (q : Desc Graph) → quick J d e ≡ some q → ¬ (choice-limit < number q) → (o : Option (Desc Graph)) → full J d e ≡ o → FullView J d e o → Given J 𝓕 (suc (suc m)) a b room work (deliver 𝓕 room (consistent J d e) o)
+      after q h n none f (full-none c) = none-of (suc (suc m)) a b room work (consistent J d e) (six-after d e A (clash-more J (suc (suc m)) d e q h) (few-two J (suc (suc m)) d e q h n) two-is c)
+      after q h n (some r) f v = give (suc (suc m)) a b room work d e A (clash-more J (suc (suc m)) d e q h) (few-two J (suc (suc m)) d e q h n) r f
+
+      limit : (q : Desc Graph) → quick J d e ≡ some q → (t : Bool) → Tells (choice-limit < number q) t → Given J 𝓕 (suc (suc m)) a b room work (elim t [ true ↦ refuse 7 | false ↦ deliver 𝓕 room (consistent J d e) (full J d e) ])
+      limit q h true (holds l) = seven d e A (clash-more J (suc (suc m)) d e q h) (two-is, q, h, l)
+      limit q h false (fails n) = after q h n (full J d e) refl (full-view d e)
+
+      go : (o : Option (Desc Graph)) → quick J d e ≡ o → Given J 𝓕 (suc (suc m)) a b room work (elim o [ none ↦ refuse 6 | some q ↦ elim (ltb choice-limit (number q)) [ true ↦ refuse 7 | false ↦ deliver 𝓕 room (consistent J d e) (full J d e) ] ])
+      go none h = six d e A (inr (omega arith, h))
+      go (some q) h = limit q h (ltb choice-limit (number q)) (tells-lt choice-limit (number q))
+
+  -- mode 2, the quick step done and the choices few
+  complete-full : (room : ℕ) (d e : Desc Graph) → ¬ (Clashes J 2 d e) → ¬ (TooMany J 2 d e) → complete J 𝓕 room d e ≡ deliver 𝓕 room (consistent J d e) (full J d e)
+  unfolding complete
+  complete-full room d e c t = go (quick J d e) refl
+    where
+      go : (o : Option (Desc Graph)) → quick J d e ≡ o → _≡_ {A = Answer} (elim o [ none ↦ refuse 6 | some q ↦ elim (ltb choice-limit (number q)) [ true ↦ refuse 7 | false ↦ deliver 𝓕 room (consistent J d e) (full J d e) ] ]) (deliver 𝓕 room (consistent J d e) (full J d e))
+      go none h = absurd (c (inr (omega arith, h)))
+      go (some q) h = two (ltb choice-limit (number q)) (tells-lt choice-limit (number q))
+        where
+          two : (s : Bool) → Tells (choice-limit < number q) s → _≡_ {A = Answer} (elim s [ true ↦ refuse 7 | false ↦ deliver 𝓕 room (consistent J d e) (full J d e) ]) (deliver 𝓕 room (consistent J d e) (full J d e))
+          two true (holds l) = absurd (t (refl, q, h, l))
+          two false n = refl
+
+  in-mode-result : (mode : ℕ) (d e : Desc Graph) (room : ℕ) → mode ≤ 2 → ¬ (Clashes J mode d e) → ¬ (TooMany J mode d e) → in-mode J 𝓕 mode d e room ≡ deliver 𝓕 room (mode-readings J mode d e) (mode-result J mode d e)
+  unfolding in-mode
+  in-mode-result zero d e room m c t = refl
+  in-mode-result (suc zero) d e room m c t = refl
+  in-mode-result (suc (suc k)) d e room m c t = let z : suc (suc k) ≡ 2 = omega arith in complete-full room d e (subst (λ (n : ℕ). ¬ (Clashes J n d e)) z c) (subst (λ (n : ℕ). ¬ (TooMany J n d e)) z t)
+
+  in-mode-clash : (mode : ℕ) (d e : Desc Graph) (room : ℕ) → Clashes J mode d e → in-mode J 𝓕 mode d e room ≡ refuse 6
+  unfolding in-mode complete
+  in-mode-clash zero d e room (inl h) = ap (deliver 𝓕 room 0) h ∙ deliver-none 𝓕 room 0
+  in-mode-clash zero d e room (inr h) = let l = h .0 in absurd (omega (arith, l))
+  in-mode-clash (suc zero) d e room (inl h) = ap (deliver 𝓕 room 0) (quick-joined J d e h) ∙ deliver-none 𝓕 room 0
+  in-mode-clash (suc zero) d e room (inr h) = ap (deliver 𝓕 room 0) (h .1) ∙ deliver-none 𝓕 room 0
+  in-mode-clash (suc (suc m)) d e room (inl h) = rw (quick-joined J d e h, complete)
+  in-mode-clash (suc (suc m)) d e room (inr h) = let k = h .1 in rw (k, complete)
+
+  in-mode-many : (mode : ℕ) (d e : Desc Graph) (room : ℕ) → TooMany J mode d e → in-mode J 𝓕 mode d e room ≡ refuse 7
+  unfolding in-mode complete
+  in-mode-many mode d e room (z, q, h, l) = let k : in-mode J 𝓕 2 d e room ≡ refuse 7 = rw (h, lt-ltb choice-limit (number q) l, complete) in rw z k
+
+  pub full-is : (d e : Desc Graph) → consistent J d e ≡ 0 → full J d e ≡ none
+  full-is d e c = go (full J d e) (full-view d e)
+    where
+      go : (o : Option (Desc Graph)) → FullView J d e o → o ≡ none
+      go none v = refl
+      go (some r) (full-some s h) = absurd (omega (arith, h, c))
+
+module _ {Graph : Type 0} {J : Joining Graph} {𝓛 : Laws J} {𝓕 : Layout Graph} (𝓡 : Reads 𝓛 𝓕) where
+  open Layout 𝓕 using (words, WellFormed, decode)
+  open Reads 𝓡 using (decoded, decode-words)
+
+  -- every answer of `unified` is given by the table
+  pub unified-given : (mode : ℕ) (a b : List ℕ) (room work : ℕ) → Given J 𝓕 mode a b room work (unified J 𝓕 mode a b room work)
+  unfolding unified
+  unified-given mode a b room work = first (ltb 2 mode) (tells-lt 2 mode)
+    where
+      G : Answer → Type 0
+      G r = Given J 𝓕 mode a b room work r
+
+      fifth : mode ≤ 2 → working-size ≤ work → length a ≤ input-limit → length b ≤ input-limit → (d : Desc Graph) → WellFormed d depth-limit → a ≡ words d → (o : Option (Desc Graph)) → Decoded 𝓕 b o → G (elim o [ none ↦ refuse 5 | some e ↦ in-mode J 𝓕 mode d e room ])
+      fifth m w la lb d p h none (malformed n) = five m w la lb (d, p, h) n
+      fifth m w la lb d p h (some e) (is f q k) = in-mode-given J 𝓕 mode a b room work d e (record { mode-fine = m; area-fine = w; first-short = la; second-short = lb; first-well = p; second-well = q; first-is = h; second-is = k })
+
+      fourth : mode ≤ 2 → working-size ≤ work → length a ≤ input-limit → length b ≤ input-limit → (o : Option (Desc Graph)) → Decoded 𝓕 a o → G (elim o [ none ↦ refuse 4 | some d ↦ elim (decode b) [ none ↦ refuse 5 | some e ↦ in-mode J 𝓕 mode d e room ] ])
+      fourth m w la lb none (malformed n) = four m w la lb n
+      fourth m w la lb (some d) (is f p h) = fifth m w la lb d p h (decode b) (decoded b)
+
+      third : mode ≤ 2 → working-size ≤ work → (s t : Bool) → Tells (input-limit < length a) s → Tells (input-limit < length b) t →
+          G (elim (s || t) [ true ↦ refuse 3 | false ↦ elim (decode a) [ none ↦ refuse 4 | some d ↦ elim (decode b) [ none ↦ refuse 5 | some e ↦ in-mode J 𝓕 mode d e room ] ] ])
+      third m w true t (holds l) y = three m w (inl l)
+      third m w false true (fails n) (holds l) = three m w (inr l)
+      third m w false false (fails n) (fails k) = fourth m w (omega arith) (omega arith) (decode a) (decoded a)
+
+      second : mode ≤ 2 → (t : Bool) → Tells (work < working-size) t → G (elim t [
+        | true ↦ refuse 2
+        | false ↦
+            elim (ltb input-limit (length a) || ltb input-limit (length b)) [ true ↦ refuse 3 | false ↦ elim (decode a) [ none ↦ refuse 4 | some d ↦ elim (decode b) [ none ↦ refuse 5 | some e ↦ in-mode J 𝓕 mode d e room ] ] ]
+      ])
+      second m true (holds l) = two m l
+      second m false (fails n) = third m (omega arith) (ltb input-limit (length a)) (ltb input-limit (length b)) (tells-lt input-limit (length a)) (tells-lt input-limit (length b))
+
+      first : (t : Bool) → Tells (2 < mode) t → G (elim t [
+        | true ↦ refuse 1
+        | false ↦ elim (ltb work working-size) [
+          | true ↦ refuse 2
+          | false ↦
+              elim (ltb input-limit (length a) || ltb input-limit (length b)) [ true ↦ refuse 3 | false ↦ elim (decode a) [ none ↦ refuse 4 | some d ↦ elim (decode b) [ none ↦ refuse 5 | some e ↦ in-mode J 𝓕 mode d e room ] ] ]
+        ]
+      ])
+      first true (holds l) = one l
+      first false (fails n) = second (omega arith) (ltb work working-size) (tells-lt work working-size)
+
+  -- and the table gives no other
+  accepted-unified : (mode : ℕ) (a b : List ℕ) (room work : ℕ) (d e : Desc Graph) → Accepted 𝓕 mode a b work d e → unified J 𝓕 mode a b room work ≡ in-mode J 𝓕 mode d e room
+  unfolding unified
+  accepted-unified mode a b room work d e A =
+      let e₁ : ltb 2 mode ≡ false = le-ltb 2 mode (A .mode-fine) in
+      let e₂ : ltb work working-size ≡ false = le-ltb work working-size (A .area-fine) in
+      let e₃ : ltb input-limit (length a) ≡ false = le-ltb input-limit (length a) (A .first-short) in
+      let e₄ : ltb input-limit (length b) ≡ false = le-ltb input-limit (length b) (A .second-short) in
+      let e₅ : decode a ≡ some d = ap decode (A .first-is) ∙ decode-words d (A .first-well) in
+      let e₆ : decode b ≡ some e = ap decode (A .second-is) ∙ decode-words e (A .second-well) in
+      rw (e₁, e₂, e₃, e₄, e₅, e₆, unified)
+
+  pub given-unified : (mode : ℕ) (a b : List ℕ) (room work : ℕ) (r : Answer) → Given J 𝓕 mode a b room work r → unified J 𝓕 mode a b room work ≡ r
+  unfolding unified
+  given-unified mode a b room work r (one h) = let e = lt-ltb 2 mode h in rw (e, unified)
+  given-unified mode a b room work r (two m h) = let e = le-ltb 2 mode m in let f = lt-ltb work working-size h in rw (e, f, unified)
+  given-unified mode a b room work r (three m w (inl h)) = let e = le-ltb 2 mode m in let f = le-ltb work working-size w in let g = lt-ltb input-limit (length a) h in rw (e, f, g, unified)
+  given-unified mode a b room work r (three m w (inr h)) = go (ltb input-limit (length a)) refl
+    where
+      go : (t : Bool) → ltb input-limit (length a) ≡ t → unified J 𝓕 mode a b room work ≡ refuse 3
+      go true g = let e = le-ltb 2 mode m in let f = le-ltb work working-size w in rw (e, f, g, unified)
+      go false g = let e = le-ltb 2 mode m in let f = le-ltb work working-size w in let k = lt-ltb input-limit (length b) h in rw (e, f, g, k, unified)
+  given-unified mode a b room work r (four m w la lb n) = go (decode a) refl (decoded a)
+    where
+      go : (o : Option (Desc Graph)) → decode a ≡ o → Decoded 𝓕 a o → unified J 𝓕 mode a b room work ≡ refuse 4
+      go none q v = let e = le-ltb 2 mode m in let f = le-ltb work working-size w in let g = le-ltb input-limit (length a) la in let h = le-ltb input-limit (length b) lb in rw (e, f, g, h, q, unified)
+      go (some d) q (is c p s) = absurd (n (d, p, s))
+  given-unified mode a b room work r (five m w la lb i n) = go (decode b) refl (decoded b)
+    where
+      go : (o : Option (Desc Graph)) → decode b ≡ o → Decoded 𝓕 b o → unified J 𝓕 mode a b room work ≡ refuse 5
+      go none q v = let e = le-ltb 2 mode m in let f = le-ltb work working-size w in let g = le-ltb input-limit (length a) la in let h = le-ltb input-limit (length b) lb in
+          let k : decode a ≡ some (i .0) = ap decode (i .2) ∙ decode-words (i .0) (i .1) in rw (e, f, g, h, k, q, unified)
+      go (some d) q (is c p s) = absurd (n (d, p, s))
+  given-unified mode a b room work r (six d e A c) = accepted-unified mode a b room work d e A ∙ in-mode-clash J 𝓕 mode d e room c
+  given-unified mode a b room work r (seven d e A c t) = accepted-unified mode a b room work d e A ∙ in-mode-many J 𝓕 mode d e room t
+  given-unified mode a b room work r (six-after d e A c t z n) = accepted-unified mode a b room work d e A ∙ in-mode-result J 𝓕 mode d e room (A .mode-fine) c t ∙ rw z (ap (deliver 𝓕 room (consistent J d e)) (full-is J 𝓕 d e n) ∙ deliver-none 𝓕 room (consistent J d e))
+  given-unified mode a b room work r (eight d e s A c t h l) = accepted-unified mode a b room work d e A ∙ in-mode-result J 𝓕 mode d e room (A .mode-fine) c t ∙ ap (deliver 𝓕 room (mode-readings J mode d e)) h ∙ deliver-eight 𝓕 room (mode-readings J mode d e) s l
+  given-unified mode a b room work r (done d e s A c t h l) = accepted-unified mode a b room work d e A ∙ in-mode-result J 𝓕 mode d e room (A .mode-fine) c t ∙ ap (deliver 𝓕 room (mode-readings J mode d e)) h ∙ deliver-done 𝓕 room (mode-readings J mode d e) s l
+
+  -- an answer is given by the table exactly when it is `unified`'s
+  pub table : (mode : ℕ) (a b : List ℕ) (room work : ℕ) (r : Answer) → (unified J 𝓕 mode a b room work ≡ r) ↔ Given J 𝓕 mode a b room work r
+  table mode a b room work r = (λ e. subst (Given J 𝓕 mode a b room work) e (unified-given mode a b room work), given-unified mode a b room work r)
+
+  -- for each number
+  pub number-iff : (mode : ℕ) (a b : List ℕ) (room work n : ℕ) → (unified J 𝓕 mode a b room work .number ≡ n) ↔ ((r : Answer) × (r .number ≡ n) × Given J 𝓕 mode a b room work r)
+  number-iff mode a b room work n = (λ e. (unified J 𝓕 mode a b room work, e, unified-given mode a b room work), λ (r, e, g). ap (λ (z : Answer). z .number) (given-unified mode a b room work r g) ∙ e)
+
+  -- the table gives one answer
+  pub one-answer : (mode : ℕ) (a b : List ℕ) (room work : ℕ) (r s : Answer) → Given J 𝓕 mode a b room work r → Given J 𝓕 mode a b room work s → r ≡ s
+  one-answer mode a b room work r s g h = sym (given-unified mode a b room work r g) ∙ given-unified mode a b room work s h
+
+  -- two outcomes allowed for one input are equal
+  pub one-outcome : (mode : ℕ) (a b : List ℕ) (before : Areas) (n l r n′ l′ r′ : ℕ) (after after′ : Areas) → Outcome J 𝓕 mode a b before n l r after → Outcome J 𝓕 mode a b before n′ l′ r′ after′ →
+      (n ≡ n′) × (l ≡ l′) × (r ≡ r′) × (after .result ≡ after′ .result) × (after .working ≡ after′ .working)
+  one-outcome mode a b before n l r n′ l′ r′ after after′ p q =
+      let s : p .answer ≡ q .answer = one-answer mode a b (length (before .result)) (length (before .working)) (p .answer) (q .answer) (p .given) (q .given) in
+      let e : n ≡ n′ = p .the-number ∙ ap (λ (z : Answer). z .number) s ∙ sym (q .the-number) in (
+        e,
+        p .the-extent ∙ ap (λ (z : Answer). z .extent) s ∙ sym (q .the-extent),
+        p .the-readings ∙ ap (λ (z : Answer). z .readings) s ∙ sym (q .the-readings),
+        p .the-result ∙ ap (λ (z : Answer). z .result ++ drop (length (z .result)) (before .result)) s ∙ sym (q .the-result),
+        p .the-working ∙ ap (λ (k : ℕ). worked k (before .working)) e ∙ sym (q .the-working),
+      )
+
+  -- and it is `unified`'s
+  pub outcome-answer : (mode : ℕ) (a b : List ℕ) (before : Areas) (n l r : ℕ) (after : Areas) (p : Outcome J 𝓕 mode a b before n l r after) → unified J 𝓕 mode a b (length (before .result)) (length (before .working)) ≡ p .answer
+  outcome-answer mode a b before n l r after p = given-unified mode a b (length (before .result)) (length (before .working)) (p .answer) (p .given)

@@ -1,0 +1,134 @@
+#!/usr/bin/env python3
+"""Counts the lines of definitions that a reader has to believe: docs/believed.py [-l]
+
+From what the contracts of `unify` and `fit` and the two demands name, every name is followed to its definition, and the
+lines of what is reached are counted, comments, blank lines and `use` lines left out; -l lists them. The program that joins
+stands for `Joined` and `Clash`, and the program that reads for `Image`, by theorems (MADE_ONE): the second form of each
+is followed instead. Exits with 1 where there are more lines than LIMIT.
+"""
+import pathlib
+import re
+import sys
+
+TOP = pathlib.Path(__file__).resolve().parent.parent
+LIMIT = 470
+ROOTS = [
+    ("theory", "Outcome", "Outcome"),
+    ("unify", "Number", "number-of"),
+    ("unify", "Number", "extent-of"),
+    ("unify", "Number", "readings-of"),
+    ("theory", "FitTest", "FitGiven"),
+    ("fit", "Number", "number-of"),
+    ("theory", "Demands", "Demand2"),
+    ("theory", "Demands", "Demand3"),
+]
+# the program, the definitions that it is shown to agree with, and the theorem's file
+MADE_ONE = {
+    ("theory", "Join", "join"): [("theory", "Net", "Joined"), ("theory", "Net", "Clash")],
+    ("theory", "Reading", "decode"): [("theory", "LayoutOne", "Image")],
+}
+WORD = re.compile(r"[^\s(){}.;,@]+")
+DECLARED = re.compile(r"^( *)(?:abbrev |unfoldable )?(?:pub )?(?:(record|data) )?([^\s(){}:]+)(?: [^:]*)? :(?: |$)")
+
+
+class File:
+    """A file of definitions: its lines, where each name is declared, and what its `use` lines bring in."""
+
+    def __init__(self, crate, stem):
+        self.crate, self.stem = crate, stem
+        text = (TOP / "crates" / crate / "specs" / f"{stem}.antt").read_text(encoding="utf-8")
+        self.lines = text.splitlines()
+        self.brought = {}
+        for crate_of, stem_of, items in re.findall(
+            r"^(?:unfoldable )?(?:pub )?use Rattle·(\w+?)(?:·specs)?\.specs\.(\w+)\.\{([^}]*)\}", text, re.M
+        ):
+            for item in items.split(","):
+                names = item.strip().split(" as ")
+                self.brought[names[-1]] = (crate_of, stem_of, names[0])
+        self.blocks = {}
+        self.inside = {}
+        self.parse()
+
+    def parse(self):
+        """Groups lines: a declaration and all that stands deeper, or that begins with its name."""
+        at, owner = 0, None
+        while at < len(self.lines):
+            line = self.lines[at]
+            found = DECLARED.match(line)
+            bare = line.strip()
+            if not bare or bare.startswith("--") or re.match(r"^(?:unfoldable )?(?:pub )?use ", line):
+                pass
+            elif re.match(r"^ *(?:abbrev |unfoldable )?mutual|^ *module |^ *open |^ *infix", line):
+                owner = None
+            elif found and not (owner and len(found.group(1)) > owner[1] and owner[2]):
+                owner = (found.group(3), len(found.group(1)), found.group(2))
+                self.blocks.setdefault(owner[0], []).append(bare)
+            elif owner:
+                self.blocks[owner[0]].append(bare)
+                inner = re.match(r"^ *(?:pub )?(\S+) :", line)
+                if owner[2] and inner:
+                    self.inside.setdefault(inner.group(1), owner[0])
+            at += 1
+
+    def find(self, name):
+        """Where a name stands; a field or a constructor stands with its type."""
+        name = self.inside.get(name, name)
+        if name in self.blocks:
+            return self.crate, self.stem, name
+        return self.brought.get(name)
+
+
+files = {}
+
+
+def file_of(crate, stem):
+    if (crate, stem) not in files:
+        path = TOP / "crates" / crate / "specs" / f"{stem}.antt"
+        files[crate, stem] = File(crate, stem) if path.exists() else None
+    return files[crate, stem]
+
+
+def parts(word):
+    """The names that a word may be an occurrence of: itself, or an operator whose part it is."""
+    return [word, f"_{word}_"]
+
+
+def reached():
+    seen, todo, counted = set(), list(ROOTS), {}
+    while todo:
+        at = todo.pop()
+        if at in seen:
+            continue
+        seen.add(at)
+        if at in MADE_ONE:
+            todo += MADE_ONE[at]
+            continue
+        file = file_of(*at[:2])
+        if file is None:
+            continue
+        there = file.find(at[2])
+        if there is None:
+            sys.exit(f"docs/believed.py: {at[2]} is not declared in {at[0]}:{at[1]}")
+        if there != at:
+            todo.append(there)
+            continue
+        block = file.blocks[at[2]]
+        counted[at] = len(block)
+        text = "\n".join(block)
+        for crate, stem, name in re.findall(r"Rattle·(\w+?)(?:·specs)?\.specs\.(\w+)\.([^\s(){}.;,@]+)", text):
+            todo.append((crate, stem, name))
+        for word in set(WORD.findall(text)):
+            for name in parts(word):
+                there = file.find(name)
+                if there:
+                    todo.append(there)
+    return counted
+
+
+counted = reached()
+total = sum(counted.values())
+if "-l" in sys.argv[1:]:
+    for (crate, stem, name), count in sorted(counted.items()):
+        print(f"{count:4} {crate}:{stem}.{name}")
+print(f"docs/believed.py: {total} lines in {len(counted)} definitions have to be believed; the limit is {LIMIT}")
+sys.exit(1 if total > LIMIT or not counted else 0)
