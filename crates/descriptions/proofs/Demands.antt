@@ -14,16 +14,14 @@ use Rattle.descriptions.specs.Descr.{Desc, choices, pairs, readings}
 use Rattle.descriptions.specs.Answer.{Answer, consistent}
 use Rattle.descriptions.specs.Unified.{unified}
 use Rattle.descriptions.specs.Rules.{Accepted, Given, mode-readings, mode-result}
-use Rattle.descriptions.specs.Demands.{Demand2, Demand3, Refused, Step, Succeeds, call, chosen, items, reached, start, ways}
+use Rattle.descriptions.specs.Demands.{Demand2, Demand3, Refused, Step, Succeeds, Unifier, call, chosen, items, reached, start, ways}
 use Rattle.descriptions.proofs.Layouts.{Reads, one-image}
 use Rattle.descriptions.proofs.Tests.{Tells, holds, tells-eq}
-use Rattle.descriptions.proofs.Mean.{AllFine, choices-fine}
-use Rattle.descriptions.proofs.Quick.{meanings, readings-count}
-use Rattle.descriptions.proofs.Full.{AllFull, full-pairs}
+use Rattle.descriptions.proofs.Mean.{Can}
 use Rattle.descriptions.proofs.Modes.{mode-satisfied}
 use Rattle.descriptions.proofs.Chain.{both, consistent-means}
 use Rattle.descriptions.proofs.Table.{full-is, unified-given}
-use Rattle.descriptions.proofs.Lists.{AllCan, Stands-for, next-ways, no-more, nothing-said, one-more, regroup, sofar, start-full, ways-run}
+use Rattle.descriptions.proofs.Lists.{AllCan, Stands-for, both-swap, next-ways, no-more, nothing-said, one-more, one-more-behind, regroup, sofar, stands-ways}
 use Rattle.descriptions.proofs.Kept.{Good, None, none-means, none-sat, on-six, on-zero, which}
 use Rattle.descriptions.specs.Joining.{Joining}
 use Rattle.descriptions.specs.Structures.{Structures}
@@ -31,25 +29,88 @@ use Rattle.descriptions.proofs.Laws.{Laws}
 use Rattle.descriptions.proofs.Senses.{Sense}
 use Rattle.descriptions.specs.Layout.{Layout}
 
-module _ {Graph : Type 0} (J : Joining Graph) (𝓕 : Layout Graph) where
+module _ {Graph : Type 0} (𝓕 : Layout Graph) where
   open Layout 𝓕 using (words, WellFormed)
+
+  -- the inputs of a call on d, in their order
+  abbrev front : Step 𝓕 → Desc Graph → Desc Graph
+  front s d = elim (s .in-hand-first) [ true ↦ d | false ↦ s .item ]
+
+  abbrev back : Step 𝓕 → Desc Graph → Desc Graph
+  back s d = elim (s .in-hand-first) [ true ↦ s .item | false ↦ d ]
+
+  module _ (s : Step 𝓕) (d : Desc Graph) where
+    front-well : WellFormed d depth-limit → WellFormed (front s d) depth-limit
+    front-well p = go (s .in-hand-first)
+      where
+        go : (t : Bool) → WellFormed (elim t [ true ↦ d | false ↦ s .item ]) depth-limit
+        go true = p
+        go false = s .fine
+
+    back-well : WellFormed d depth-limit → WellFormed (back s d) depth-limit
+    back-well p = go (s .in-hand-first)
+      where
+        go : (t : Bool) → WellFormed (elim t [ true ↦ s .item | false ↦ d ]) depth-limit
+        go true = s .fine
+        go false = p
+
+    call-is : (U : Unifier) → call 𝓕 U (words d) s ≡ U (s .mode) (words (front s d)) (words (back s d)) (s .room) (s .work)
+    call-is U = go (s .in-hand-first)
+      where
+        u : List ℕ → List ℕ → Answer
+        u a b = U (s .mode) a b (s .room) (s .work)
+
+        go : (t : Bool) → elim t [ true ↦ u (words d) (words (s .item)) | false ↦ u (words (s .item)) (words d) ]
+            ≡ u (words (elim t [ true ↦ d | false ↦ s .item ])) (words (elim t [ true ↦ s .item | false ↦ d ]))
+        go true = refl
+        go false = refl
+
+module _ {Graph : Type 0} {J : Joining Graph} {𝓛 : Laws J} {𝓕 : Layout Graph} (𝓡 : Reads 𝓛 𝓕) where
+  open Layout 𝓕 using (words, WellFormed)
+  open Reads 𝓡 using (well-can)
 
   -- the words in hand are a description that stands for the choices L
   abbrev State : List (List Graph) → List ℕ → Type 0
-  State L ws = (d : Desc Graph) × WellFormed d depth-limit × (ws ≡ words d) × Stands-for J L d
-
-module _ {Graph : Type 0} {J : Joining Graph} {𝓛 : Laws J} {𝓕 : Layout Graph} (𝓡 : Reads 𝓛 𝓕) where
-  open Layout 𝓕 using (WellFormed)
-  open Reads 𝓡 using (well-can)
+  State L ws = (d : Desc Graph) × WellFormed d depth-limit × (ws ≡ words d) × Stands-for 𝓛 L d
 
   -- demand 3
   items-can : (l : List (Step 𝓕)) → AllCan 𝓛 (items 𝓕 l)
   items-can [] = tt
   items-can (s ∷ l) = (well-can (s .item) (s .fine), items-can l)
 
-  -- the ways with one more description are the readings of both together
-  next-step : (l : List (Step 𝓕)) (s : Step 𝓕) (d : Desc Graph) → WellFormed d depth-limit → Stands-for J (sofar J (items 𝓕 l)) d → ways J (items 𝓕 l ++ s .item ∷ []) ≡ length (both J d (s .item))
-  next-step l s d p m = next-ways 𝓛 (items 𝓕 l) (items-can l) d (well-can d p) m (s .item) (well-can (s .item) (s .fine))
+  -- the ways with one more description are the readings of both together, in either order
+  next-step : (l : List (Step 𝓕)) (s : Step 𝓕) (d : Desc Graph) → WellFormed d depth-limit → Stands-for 𝓛 (sofar J (items 𝓕 l)) d →
+      ways J (items 𝓕 l ++ s .item ∷ []) ≡ length (both J (front 𝓕 s d) (back 𝓕 s d))
+  next-step l s d p m = go (s .in-hand-first)
+    where
+      cd : Can 𝓛 d
+      cd = well-can d p
+
+      cs : Can 𝓛 (s .item)
+      cs = well-can (s .item) (s .fine)
+
+      first : ways J (items 𝓕 l ++ s .item ∷ []) ≡ length (both J d (s .item))
+      first = next-ways 𝓛 (items 𝓕 l) (items-can l) d cd m (s .item) cs
+
+      go : (t : Bool) → ways J (items 𝓕 l ++ s .item ∷ []) ≡ length (both J (elim t [ true ↦ d | false ↦ s .item ]) (elim t [ true ↦ s .item | false ↦ d ]))
+      go true = first
+      go false = first ∙ both-swap 𝓛 d (s .item) cd cs
+
+  -- what a call makes stands for the choices of both
+  call-more : (L : List (List Graph)) (s : Step 𝓕) (d : Desc Graph) → WellFormed d depth-limit → Stands-for 𝓛 L d → (t : Desc Graph) →
+      mode-result J (s .mode) (front 𝓕 s d) (back 𝓕 s d) ≡ some t → Stands-for 𝓛 (pairs L (choices (s .item))) t
+  call-more L s d p m t = go (s .in-hand-first)
+    where
+      cd : Can 𝓛 d
+      cd = well-can d p
+
+      cs : Can 𝓛 (s .item)
+      cs = well-can (s .item) (s .fine)
+
+      go : (u : Bool) → mode-result J (s .mode) (elim u [ true ↦ d | false ↦ s .item ]) (elim u [ true ↦ s .item | false ↦ d ]) ≡ some t →
+          Stands-for 𝓛 (pairs L (choices (s .item))) t
+      go true e = one-more 𝓛 L d cd m (s .item) cs (s .mode) t e
+      go false e = one-more-behind 𝓛 L d cd m (s .item) cs (s .mode) t e
 
 module _ {Graph : Type 0} {J : Joining Graph} {𝓛 : Laws J} {𝓜 : Structures Graph} (𝓢 : Sense 𝓛 𝓜) {𝓕 : Layout Graph} (𝓡 : Reads 𝓛 𝓕) where
   open Layout 𝓕 using (words, WellFormed)
@@ -94,73 +155,106 @@ module _ {Graph : Type 0} {J : Joining Graph} {𝓛 : Laws J} {𝓜 : Structures
     clash = λ mode a b p q room work z S. none-sat 𝓢 S a b (well-can a p) (well-can b q) (six-result mode a b p q room work z);
   }
 
-  -- a call on the words in hand
-  one-call : (L : List (List Graph)) → AllFull 𝓛 L → (ws : List ℕ) → State J 𝓕 L ws → (s : Step 𝓕) → call 𝓕 (unified J 𝓕) ws s .number ≡ 0 → State J 𝓕 (pairs L (choices (s .item))) (call 𝓕 (unified J 𝓕) ws s .result)
-  one-call L f ws (d, p, e, m) s z =
-      let b = s .item in
-      let q = s .fine in
-      let z′ : call 𝓕 (unified J 𝓕) (words d) s .number ≡ 0 = subst (λ (w : List ℕ). call 𝓕 (unified J 𝓕) w s .number ≡ 0) e z in
-      let (t, g) = zero-result (s .mode) d b p q (s .room) (s .work) z′ in
-      let w : WellFormed t depth-limit = result-well (s .mode) d b t p q (g .by) (g .accepted .first-short) (g .accepted .second-short) in
-      (t, w, ap (λ (w : List ℕ). call 𝓕 (unified J 𝓕) w s .result) e ∙ g .wrote, one-more 𝓛 L f d (well-can d p) m (s .mode) b (well-can b q) t (g .by))
+  -- a call on the words in hand, by the inputs in their order
+  module _ (ws : List ℕ) (s : Step 𝓕) (d : Desc Graph) (p : WellFormed d depth-limit) (e : ws ≡ words d) where
+    abbrev before : Desc Graph
+    before = front 𝓕 s d
 
-  calls : (l : List (Step 𝓕)) (L : List (List Graph)) → AllFull 𝓛 L → (ws : List ℕ) → State J 𝓕 L ws → (out : List ℕ) → reached 𝓕 (unified J 𝓕) ws l ≡ some out → State J 𝓕 (pairs L (chosen (items 𝓕 l))) out
-  calls [] L f ws (d, p, e, m) out h =
+    abbrev behind : Desc Graph
+    behind = back 𝓕 s d
+
+    answered : call 𝓕 (unified J 𝓕) ws s ≡ unified J 𝓕 (s .mode) (words before) (words behind) (s .room) (s .work)
+    answered = ap (λ (w : List ℕ). call 𝓕 (unified J 𝓕) w s) e ∙ call-is 𝓕 s d (unified J 𝓕)
+
+    before-can : Can 𝓛 before
+    before-can = well-can before (front-well 𝓕 s d p)
+
+    behind-can : Can 𝓛 behind
+    behind-can = well-can behind (back-well 𝓕 s d p)
+
+    call-zero : call 𝓕 (unified J 𝓕) ws s .number ≡ 0 → (t : Desc Graph) × Good J 𝓕 (s .mode) (words before) (words behind) (s .work) (call 𝓕 (unified J 𝓕) ws s) before behind t
+    call-zero z =
+        let number : unified J 𝓕 (s .mode) (words before) (words behind) (s .room) (s .work) .number ≡ 0 = sym (ap (λ (r : Answer). r .number) answered) ∙ z in
+        let (t, g) = zero-result (s .mode) before behind (front-well 𝓕 s d p) (back-well 𝓕 s d p) (s .room) (s .work) number in
+        (t, subst (λ (r : Answer). Good J 𝓕 (s .mode) (words before) (words behind) (s .work) r before behind t) (sym answered) g)
+
+    call-six : call 𝓕 (unified J 𝓕) ws s .number ≡ 6 → None J before behind
+    call-six z =
+        six-result (s .mode) before behind (front-well 𝓕 s d p) (back-well 𝓕 s d p) (s .room) (s .work) (sym (ap (λ (r : Answer). r .number) answered) ∙ z)
+
+    call-which : (call 𝓕 (unified J 𝓕) ws s .number ≡ 0) ⊎ ((call 𝓕 (unified J 𝓕) ws s .number ≡ 6) ⊎ Refused (call 𝓕 (unified J 𝓕) ws s .number))
+    call-which = subst (λ (r : Answer). (r .number ≡ 0) ⊎ ((r .number ≡ 6) ⊎ Refused (r .number))) (sym answered)
+        (which J 𝓕 (s .mode) (words before) (words behind) (s .room) (s .work) (unified J 𝓕 (s .mode) (words before) (words behind) (s .room) (s .work))
+        (unified-given 𝓡 (s .mode) (words before) (words behind) (s .room) (s .work)))
+
+  one-call : (L : List (List Graph)) (ws : List ℕ) → State 𝓡 L ws → (s : Step 𝓕) → call 𝓕 (unified J 𝓕) ws s .number ≡ 0 →
+      State 𝓡 (pairs L (choices (s .item))) (call 𝓕 (unified J 𝓕) ws s .result)
+  one-call L ws (d, p, e, m) s z =
+      let (t, g) = call-zero ws s d p e z in
+      let first-well = front-well 𝓕 s d p in
+      let second-well = back-well 𝓕 s d p in
+      let well = result-well (s .mode) (front 𝓕 s d) (back 𝓕 s d) t first-well second-well (g .by) (g .accepted .first-short) (g .accepted .second-short) in
+      (t, well, g .wrote, call-more 𝓡 L s d p m t (g .by))
+
+  calls : (l : List (Step 𝓕)) (L : List (List Graph)) (ws : List ℕ) → State 𝓡 L ws → (out : List ℕ) → reached 𝓕 (unified J 𝓕) ws l ≡ some out →
+      State 𝓡 (pairs L (chosen (items 𝓕 l))) out
+  calls [] L ws (d, p, e, m) out h =
       let k : ws ≡ out = cc in
-      (d, p, sym k ∙ e, no-more J L d m)
-  calls (s ∷ l) L f ws st out h = go (eqb (call 𝓕 (unified J 𝓕) ws s .number) 0) (tells-eq (call 𝓕 (unified J 𝓕) ws s .number) 0) (λ L f ws st. calls l L f ws st out) h
+      (d, p, sym k ∙ e, no-more 𝓛 L d m)
+  calls (s ∷ l) L ws st out h = go (eqb (call 𝓕 (unified J 𝓕) ws s .number) 0) (tells-eq (call 𝓕 (unified J 𝓕) ws s .number) 0) (λ L ws st. calls l L ws st out) h
     where
       b : Desc Graph
       b = s .item
 
-      fb : AllFine 𝓛 (choices b)
-      fb = choices-fine 𝓛 b (well-can b (s .fine))
+      last : State 𝓡 (pairs (pairs L (choices b)) (chosen (items 𝓕 l))) out → State 𝓡 (pairs L (chosen (items 𝓕 (s ∷ l)))) out
+      last (d, p, e, m) = (d, p, e, regroup 𝓛 L b d (items 𝓕 l) m)
 
-      last : State J 𝓕 (pairs (pairs L (choices b)) (chosen (items 𝓕 l))) out → State J 𝓕 (pairs L (chosen (items 𝓕 (s ∷ l)))) out
-      last (d, p, e, m) = (d, p, e, regroup J L b d (items 𝓕 l) m)
-
-      go : (t : Bool) → Tells (call 𝓕 (unified J 𝓕) ws s .number ≡ 0) t → ((L : List (List Graph)) → AllFull 𝓛 L → (ws : List ℕ) → State J 𝓕 L ws → reached 𝓕 (unified J 𝓕) ws l ≡ some out → State J 𝓕 (pairs L (chosen (items 𝓕 l))) out) →
-          _≡_ {A = Option (List ℕ)} (elim t [ true ↦ reached 𝓕 (unified J 𝓕) (call 𝓕 (unified J 𝓕) ws s .result) l | false ↦ none ]) (some out) → State J 𝓕 (pairs L (chosen (items 𝓕 (s ∷ l)))) out
-      go true (holds z) ih h = last (ih (pairs L (choices b)) (full-pairs 𝓛 L (choices b) f fb) (call 𝓕 (unified J 𝓕) ws s .result) (one-call L f ws st s z) h)
+      go : (t : Bool) → Tells (call 𝓕 (unified J 𝓕) ws s .number ≡ 0) t →
+          ((L : List (List Graph)) (ws : List ℕ) → State 𝓡 L ws → reached 𝓕 (unified J 𝓕) ws l ≡ some out → State 𝓡 (pairs L (chosen (items 𝓕 l))) out) →
+          _≡_ {A = Option (List ℕ)} (elim t [ true ↦ reached 𝓕 (unified J 𝓕) (call 𝓕 (unified J 𝓕) ws s .result) l | false ↦ none ]) (some out) → State 𝓡 (pairs L (chosen (items 𝓕 (s ∷ l)))) out
+      go true (holds z) ih h = last (ih (pairs L (choices b)) (call 𝓕 (unified J 𝓕) ws s .result) (one-call L ws st s z) h)
       go false n ih h = let z : _≡_ {A = ℕ} 0 1 = cc in absurd (omega arith)
 
-  after-calls : (l : List (Step 𝓕)) (ws : List ℕ) → reached 𝓕 (unified J 𝓕) (start J 𝓕) l ≡ some ws → State J 𝓕 (sofar J (items 𝓕 l)) ws
-  unfolding meanings
-  after-calls l ws h = calls l (choices (nothing-said J)) (start-full 𝓛) (start J 𝓕) (nothing-said J, nothing-well, refl, refl) ws h
+  after-calls : (l : List (Step 𝓕)) (ws : List ℕ) → reached 𝓕 (unified J 𝓕) (start J 𝓕) l ≡ some ws → State 𝓡 (sofar J (items 𝓕 l)) ws
+  after-calls l ws h = calls l (choices (nothing-said J)) (start J 𝓕) (nothing-said J, nothing-well, refl, λ k g. refl) ws h
 
   pub demand3 : Demand3 J 𝓕 (unified J 𝓕)
   demand3 = record { number = count; clash = clash; told = told; counted = counted }
     where
-      count : (l : List (Step 𝓕)) (ws : List ℕ) → reached 𝓕 (unified J 𝓕) (start J 𝓕) l ≡ some ws → (d : Desc Graph) × WellFormed d depth-limit × (ws ≡ words d) × (readings J d ≡ ways J (items 𝓕 l))
-      count l ws h = let (d, p, e, m) = after-calls l ws h in (d, p, e, readings-count J d ∙ ap length m ∙ sym (ways-run 𝓛 (items 𝓕 l) (items-can 𝓡 l)))
+      count : (l : List (Step 𝓕)) (ws : List ℕ) → reached 𝓕 (unified J 𝓕) (start J 𝓕) l ≡ some ws →
+          (d : Desc Graph) × WellFormed d depth-limit × (ws ≡ words d) × (readings J d ≡ ways J (items 𝓕 l))
+      count l ws h = let (d, p, e, m) = after-calls l ws h in (d, p, e, stands-ways 𝓛 (items 𝓕 l) (items-can 𝓡 l) d m)
 
-      clash : (l : List (Step 𝓕)) (ws : List ℕ) (s : Step 𝓕) → reached 𝓕 (unified J 𝓕) (start J 𝓕) l ≡ some ws → call 𝓕 (unified J 𝓕) ws s .number ≡ 6 → ways J (items 𝓕 l ++ s .item ∷ []) ≡ 0
+      clash : (l : List (Step 𝓕)) (ws : List ℕ) (s : Step 𝓕) → reached 𝓕 (unified J 𝓕) (start J 𝓕) l ≡ some ws →
+          call 𝓕 (unified J 𝓕) ws s .number ≡ 6 → ways J (items 𝓕 l ++ s .item ∷ []) ≡ 0
       clash l ws s h z =
           let (d, p, e, m) = after-calls l ws h in
-          let n = six-result (s .mode) d (s .item) p (s .fine) (s .room) (s .work) (subst (λ (w : List ℕ). call 𝓕 (unified J 𝓕) w s .number ≡ 6) e z) in
-          next-step 𝓡 l s d p m ∙ ap length (none-means 𝓛 d (s .item) (well-can d p) (well-can (s .item) (s .fine)) n)
+          next-step 𝓡 l s d p m ∙ ap length (none-means 𝓛 (front 𝓕 s d) (back 𝓕 s d) (before-can ws s d p e) (behind-can ws s d p e) (call-six ws s d p e z))
 
-      -- mode 2 on success
-      reported : (l : List (Step 𝓕)) (s : Step 𝓕) (d : Desc Graph) → WellFormed d depth-limit → Stands-for J (sofar J (items 𝓕 l)) d → s .mode ≡ 2 → mode-readings J (s .mode) d (s .item) ≡ ways J (items 𝓕 l ++ s .item ∷ [])
-      reported l s d p m k = ap (λ (n : ℕ). mode-readings J n d (s .item)) k ∙ consistent-means 𝓛 d (s .item) (well-can d p) (well-can (s .item) (s .fine)) ∙ sym (next-step 𝓡 l s d p m)
+      -- the consistent choices of both inputs are the ways
+      consistent-ways : (l : List (Step 𝓕)) (ws : List ℕ) (s : Step 𝓕) (d : Desc Graph) (p : WellFormed d depth-limit) (e : ws ≡ words d) → Stands-for 𝓛 (sofar J (items 𝓕 l)) d →
+          consistent J (front 𝓕 s d) (back 𝓕 s d) ≡ ways J (items 𝓕 l ++ s .item ∷ [])
+      consistent-ways l ws s d p e m = consistent-means 𝓛 (front 𝓕 s d) (back 𝓕 s d) (before-can ws s d p e) (behind-can ws s d p e) ∙ sym (next-step 𝓡 l s d p m)
 
-      counted : (l : List (Step 𝓕)) (ws : List ℕ) (s : Step 𝓕) → reached 𝓕 (unified J 𝓕) (start J 𝓕) l ≡ some ws → s .mode ≡ 2 → call 𝓕 (unified J 𝓕) ws s .number ≡ 0 → call 𝓕 (unified J 𝓕) ws s .readings ≡ ways J (items 𝓕 l ++ s .item ∷ [])
+      counted : (l : List (Step 𝓕)) (ws : List ℕ) (s : Step 𝓕) → reached 𝓕 (unified J 𝓕) (start J 𝓕) l ≡ some ws → s .mode ≡ 2 →
+          call 𝓕 (unified J 𝓕) ws s .number ≡ 0 → call 𝓕 (unified J 𝓕) ws s .readings ≡ ways J (items 𝓕 l ++ s .item ∷ [])
       counted l ws s h k z =
           let (d, p, e, m) = after-calls l ws h in
-          let (t, g) = zero-result (s .mode) d (s .item) p (s .fine) (s .room) (s .work) (subst (λ (w : List ℕ). call 𝓕 (unified J 𝓕) w s .number ≡ 0) e z) in
-          ap (λ (w : List ℕ). call 𝓕 (unified J 𝓕) w s .readings) e ∙ g .count ∙ reported l s d p m k
+          let (t, g) = call-zero ws s d p e z in
+          g .count ∙ ap (λ (n : ℕ). mode-readings J n (front 𝓕 s d) (back 𝓕 s d)) k ∙ consistent-ways l ws s d p e m
 
-      told : (l : List (Step 𝓕)) (ws : List ℕ) (s : Step 𝓕) → reached 𝓕 (unified J 𝓕) (start J 𝓕) l ≡ some ws → s .mode ≡ 2 → ways J (items 𝓕 l ++ s .item ∷ []) ≡ 0 → (call 𝓕 (unified J 𝓕) ws s .number ≡ 6) ⊎ Refused (call 𝓕 (unified J 𝓕) ws s .number)
+      told : (l : List (Step 𝓕)) (ws : List ℕ) (s : Step 𝓕) → reached 𝓕 (unified J 𝓕) (start J 𝓕) l ≡ some ws → s .mode ≡ 2 →
+          ways J (items 𝓕 l ++ s .item ∷ []) ≡ 0 → (call 𝓕 (unified J 𝓕) ws s .number ≡ 6) ⊎ Refused (call 𝓕 (unified J 𝓕) ws s .number)
       told l ws s h k w =
           let (d, p, e, m) = after-calls l ws h in
           ⊎-elim
           (λ z.
-          let (t, g) = zero-result (s .mode) d (s .item) p (s .fine) (s .room) (s .work) (subst (λ (v : List ℕ). call 𝓕 (unified J 𝓕) v s .number ≡ 0) e z) in
-          let none-left : consistent J d (s .item) ≡ 0 = consistent-means 𝓛 d (s .item) (well-can d p) (well-can (s .item) (s .fine)) ∙ sym (next-step 𝓡 l s d p m) ∙ w in
-          let there : mode-result J 2 d (s .item) ≡ some t = subst (λ (n : ℕ). mode-result J n d (s .item) ≡ some t) k (g .by) in
-          absurd (no-full d (s .item) t none-left there))
+          let (t, g) = call-zero ws s d p e z in
+          let none-left : consistent J (front 𝓕 s d) (back 𝓕 s d) ≡ 0 = consistent-ways l ws s d p e m ∙ w in
+          let there : mode-result J 2 (front 𝓕 s d) (back 𝓕 s d) ≡ some t = subst (λ (n : ℕ). mode-result J n (front 𝓕 s d) (back 𝓕 s d) ≡ some t) k (g .by) in
+          absurd (no-full (front 𝓕 s d) (back 𝓕 s d) t none-left there))
           (λ x. x)
-          (which J 𝓕 (s .mode) ws (words (s .item)) (s .room) (s .work) (call 𝓕 (unified J 𝓕) ws s) (unified-given 𝓡 (s .mode) ws (words (s .item)) (s .room) (s .work)))
+          (call-which ws s d p e)
         where
           no-full : (d e t : Desc Graph) → consistent J d e ≡ 0 → mode-result J 2 d e ≡ some t → ⊥
           no-full d e t c h = let n : none ≡ some t = sym (full-is J 𝓕 d e c) ∙ h in let z : _≡_ {A = ℕ} 0 1 = cc in omega arith

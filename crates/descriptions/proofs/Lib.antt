@@ -1,3 +1,4 @@
+pub mod AgainstErrors
 pub mod Tests
 pub mod Laws
 pub mod Weights

@@ -16,7 +16,7 @@ module _ {Graph : Type 0} where
   pub within-left : (a b hs : List Graph) → Within a b → Within (a ++ hs) (b ++ hs)
   within-left a b hs w g m = ⊎-elim (λ i. Memᴰ·append-left hs (w g i)) (λ i. Memᴰ·append-right b i) (List·Memᴰ·append-cases a m)
 
-  swap-within : (a b : List Graph) → Within (a ++ b) (b ++ a)
+  pub swap-within : (a b : List Graph) → Within (a ++ b) (b ++ a)
   swap-within a b g m = ⊎-elim (λ i. Memᴰ·append-right b i) (λ i. Memᴰ·append-left a i) (List·Memᴰ·append-cases a m)
 
   -- run through the choices

@@ -1,23 +1,26 @@
 -- Every program that answers as the table of numbers says meets the second and the third demand.
 -- Assumes nothing.
-use mathlib.Core.Path.{_≡_, refl, ap, sym, _∙_, subst}
+use mathlib.Core.Path.{_≡_, refl, ap, ap₂, sym, _∙_, subst}
 use mathlib.Core.Logic.{_⊎_}
-use mathlib.Core.Bool.{Bool, true, false}
+use mathlib.Core.Bool.{Bool, true, false, _&&_}
 use mathlib.Core.Option.{Option, none, some}
 use mathlib.Core.List.{List, [], _∷_, _++_}
-use Prim.Native.Nat.{ℕ}
+use Prim.Native.Nat.{ℕ, zero, suc, _<_}
 use lib.ListN.{length, take, replicate, length-replicate}
 use native.Mathlib.Omega.{arith}
-use lib.Dec.{eqb, T, eqb→eq}
+use borrow.Author.Tests.{lt-ltb}
+use lib.Dec.{eqb, ltb, T, eqb→eq}
 use Rattle.descriptions.specs.Descr.{Desc}
 use Rattle.descriptions.specs.Satisfaction.{Sat}
 use Rattle.descriptions.specs.Answer.{Answer}
 use Rattle.descriptions.specs.Outcome.{Areas, Outcome}
+use Rattle.descriptions.specs.Programs.{Left, Program, all-small, are-words, in-words, answer-of, blank, Meets, sized}
+use Rattle.descriptions.specs.Limits.{word-limit, length-limit}
 use Rattle.descriptions.specs.Unified.{unified}
 use Rattle.descriptions.specs.Rules.{Given}
 use Rattle.descriptions.specs.Demands.{Demand2, Demand3, Refused, Step, Succeeds, Unifier, call, items, reached, start, ways}
 use Rattle.descriptions.proofs.Tests.{eqb-yes}
-use Rattle.descriptions.proofs.Table.{given-unified, one-answer}
+use Rattle.descriptions.proofs.Table.{given-unified, one-answer, unified-given}
 use Rattle.descriptions.proofs.Areas.{Writes, given-writes, nothing, result}
 use Rattle.descriptions.proofs.Demands.{demand2, demand3}
 use Rattle.descriptions.specs.Joining.{Joining}
@@ -27,43 +30,29 @@ use Rattle.descriptions.proofs.Laws.{Laws}
 use Rattle.descriptions.proofs.Senses.{Sense}
 use Rattle.descriptions.specs.Layout.{Layout}
 
--- ---- a program with the contract of `unify`
--- what comes back from a call, and the areas after it
-pub record Left : Type 0 where
-  pub number : ℕ
-  pub extent : ℕ
-  pub readings : ℕ
-  pub after : Areas
-
-abbrev pub Program : Type 0
-Program = ℕ → List ℕ → List ℕ → Areas → Left
-
--- the words that a call has written: none but after 0
-abbrev pub written : Left → List ℕ
-written r = elim (eqb (r .number) 0) [ true ↦ take (r .extent) (r .after .result) | false ↦ [] ]
-
-abbrev pub answer-of : Left → Answer
-answer-of r = record { number = r .number; extent = r .extent; readings = r .readings; result = written r }
-
--- areas of so many words
-abbrev pub blank : ℕ → ℕ → Areas
-blank room work = record { result = replicate room 0; working = replicate work 0 }
-
--- the program as a function of the sizes of its areas
-abbrev pub sized : Program → Unifier
-sized P mode a b room work = answer-of (P mode a b (blank room work))
-
 take-front : (xs ys : List ℕ) → take (length xs) (xs ++ ys) ≡ xs
 take-front [] ys = refl
 take-front (x ∷ xs) ys = ap (λ (l : List ℕ). x ∷ l) (take-front xs ys)
+
+small-zeros : (n : ℕ) → all-small (replicate n 0) ≡ true
+small-zeros zero = refl
+small-zeros (suc n) = small-zeros n
+
+zeros-words : (n : ℕ) → n < length-limit → are-words (replicate n 0) ≡ true
+zeros-words n h =
+    let e : ltb (length {A = ℕ} (replicate n 0)) length-limit ≡ true = ap (λ (k : ℕ). ltb k length-limit) (length-replicate {A = ℕ} n 0) ∙ lt-ltb n length-limit h in
+    ap₂ _&&_ e (small-zeros n)
+
+-- blank areas of any size that a machine has can come in
+pub blank-in-words : (mode : ℕ) (a b : List ℕ) (room work : ℕ) → mode < word-limit → are-words a ≡ true → are-words b ≡ true →
+    room < length-limit → work < length-limit → in-words mode a b (blank room work) ≡ true
+blank-in-words mode a b room work h p q r w =
+    ap₂ _&&_ (lt-ltb mode word-limit h) (ap₂ _&&_ p (ap₂ _&&_ q (ap₂ _&&_ (zeros-words room r) (zeros-words work w))))
 
 module _ {Graph : Type 0} (J : Joining Graph) (𝓕 : Layout Graph) where
   -- a program whose every answer the table gives
   abbrev pub ByTable : Unifier → Type 0
   ByTable U = (mode : ℕ) (a b : List ℕ) (room work : ℕ) → Given J 𝓕 mode a b room work (U mode a b room work)
-
-  abbrev pub Meets : Program → Type 0
-  Meets P = (mode : ℕ) (a b : List ℕ) (before : Areas) → Outcome J 𝓕 mode a b before (P mode a b before .number) (P mode a b before .extent) (P mode a b before .readings) (P mode a b before .after)
 
   -- what a call answers is what its contract says
   left-answer : (mode : ℕ) (a b : List ℕ) (before : Areas) (r : Left) → (o : Outcome J 𝓕 mode a b before (r .number) (r .extent) (r .readings) (r .after)) → o .answer ≡ answer-of r
@@ -95,7 +84,17 @@ module _ {Graph : Type 0} {J : Joining Graph} {𝓛 : Laws J} {𝓜 : Structures
     }
 
     called : (ws : List ℕ) (s : Step 𝓕) → call 𝓕 (unified J 𝓕) ws s ≡ call 𝓕 U ws s
-    called ws s = same (s .mode) ws _ (s .room) (s .work)
+    called ws s = go (s .in-hand-first)
+      where
+        b : List ℕ
+        b = 𝓕 .words (s .item)
+
+        chosen : Bool → Unifier → Answer
+        chosen t X = elim t [ true ↦ X (s .mode) ws b (s .room) (s .work) | false ↦ X (s .mode) b ws (s .room) (s .work) ]
+
+        go : (t : Bool) → chosen t (unified J 𝓕) ≡ chosen t U
+        go true = same (s .mode) ws b (s .room) (s .work)
+        go false = same (s .mode) b ws (s .room) (s .work)
 
     reached-same : (l : List (Step 𝓕)) (ws : List ℕ) → reached 𝓕 U ws l ≡ reached 𝓕 (unified J 𝓕) ws l
     reached-same [] ws = refl
@@ -119,26 +118,58 @@ module _ {Graph : Type 0} {J : Joining Graph} {𝓛 : Laws J} {𝓜 : Structures
     }
 
   module _ (P : Program) (m : Meets J 𝓕 P) where
-    pub program-table : ByTable J 𝓕 (sized P)
-    program-table mode a b room work =
-        let before = blank room work in
-        let o = m mode a b before in
-        let e : length (before .result) ≡ room = length-replicate {A = ℕ} room 0 in
-        let f : length (before .working) ≡ work = length-replicate {A = ℕ} work 0 in
-        let g : Given J 𝓕 mode a b (length (before .result)) (length (before .working)) (sized P mode a b room work) = subst (Given J 𝓕 mode a b (length (before .result)) (length (before .working))) (left-answer J 𝓕 mode a b before (P mode a b before) o) (o .given) in
-        subst (λ (n : ℕ). Given J 𝓕 mode a b n work (sized P mode a b room work)) e (subst (λ (n : ℕ). Given J 𝓕 mode a b (length (before .result)) n (sized P mode a b room work)) f g)
+    -- the answer to a call is what the table gives
+    program-given : (mode : ℕ) (a b : List ℕ) (before : Areas) → in-words mode a b before ≡ true →
+        Given J 𝓕 mode a b (length (before .result)) (length (before .working)) (answer-of (P mode a b before))
+    program-given mode a b before w =
+        let o = m mode a b before w in
+        subst (Given J 𝓕 mode a b (length (before .result)) (length (before .working))) (left-answer J 𝓕 mode a b before (P mode a b before) o) (o .given)
 
-    -- what the areas hold before a call changes nothing of its answer
-    pub program-sized : (mode : ℕ) (a b : List ℕ) (before : Areas) → answer-of (P mode a b before) ≡ sized P mode a b (length (before .result)) (length (before .working))
-    program-sized mode a b before =
-        let o = m mode a b before in
-        one-answer 𝓡 mode a b (length (before .result)) (length (before .working)) (answer-of (P mode a b before)) (sized P mode a b (length (before .result)) (length (before .working)))
-        (subst (λ (r : Answer). Given J 𝓕 mode a b (length (before .result)) (length (before .working)) r) (left-answer J 𝓕 mode a b before (P mode a b before) o) (o .given))
-        (program-table mode a b (length (before .result)) (length (before .working)))
+    pub program-table : ByTable J 𝓕 (sized J 𝓕 P)
+    program-table mode a b room work = go (in-words mode a b (blank room work)) refl
+      where
+        before : Areas
+        before = blank room work
+
+        r : Answer
+        r = answer-of (P mode a b before)
+
+        here : in-words mode a b before ≡ true → Given J 𝓕 mode a b room work r
+        here w =
+            let e : length (before .result) ≡ room = length-replicate {A = ℕ} room 0 in
+            let f : length (before .working) ≡ work = length-replicate {A = ℕ} work 0 in
+            subst (λ (n : ℕ). Given J 𝓕 mode a b n work r) e (subst (λ (n : ℕ). Given J 𝓕 mode a b (length (before .result)) n r) f (program-given mode a b before w))
+
+        go : (t : Bool) → in-words mode a b before ≡ t → Given J 𝓕 mode a b room work (elim t [ true ↦ r | false ↦ unified J 𝓕 mode a b room work ])
+        go true w = here w
+        go false w = unified-given 𝓡 mode a b room work
+
+    -- what a call answers is the table's answer, whatever the areas hold before it
+    pub program-sized : (mode : ℕ) (a b : List ℕ) (before : Areas) → in-words mode a b before ≡ true →
+        answer-of (P mode a b before) ≡ sized J 𝓕 P mode a b (length (before .result)) (length (before .working))
+    program-sized mode a b before w =
+        let room = length (before .result) in
+        let work = length (before .working) in
+        one-answer 𝓡 mode a b room work (answer-of (P mode a b before)) (sized J 𝓕 P mode a b room work) (program-given mode a b before w) (program-table mode a b room work)
 
     -- demands 2 and 3 hold of every program that has the contract
-    pub program-demand2 : Demand2 J 𝓜 𝓕 (sized P)
-    program-demand2 = table-demand2 (sized P) program-table
+    pub program-demand2 : Demand2 J 𝓜 𝓕 (sized J 𝓕 P)
+    program-demand2 = table-demand2 (sized J 𝓕 P) program-table
 
-    pub program-demand3 : Demand3 J 𝓕 (sized P)
-    program-demand3 = table-demand3 (sized P) program-table
+    pub program-demand3 : Demand3 J 𝓕 (sized J 𝓕 P)
+    program-demand3 = table-demand3 (sized J 𝓕 P) program-table
+
+    -- "one that reports 0 and writes nothing": after 0 an area that was left as it was held the result's words before
+    pub program-writes : (mode : ℕ) (a b : List ℕ) (before : Areas) → in-words mode a b before ≡ true →
+        P mode a b before .number ≡ 0 → P mode a b before .after .result ≡ before .result →
+        unified J 𝓕 mode a b (length (before .result)) (length (before .working)) .result ≡ take (P mode a b before .extent) (before .result)
+    program-writes mode a b before w z u =
+        let e = given-unified 𝓡 mode a b (length (before .result)) (length (before .working)) (answer-of (P mode a b before)) (program-given mode a b before w) in
+        ap (λ (r : Answer). r .result) e
+        ∙ ap (λ (t : Bool). elim t [ true ↦ take (P mode a b before .extent) (P mode a b before .after .result) | false ↦ [] ]) (eqb-yes (P mode a b before .number) 0 z)
+        ∙ ap (take (P mode a b before .extent)) u
+
+  -- a program whose readings differ from the table's somewhere is not by the table
+  pub other-readings : (U : Unifier) (mode : ℕ) (a b : List ℕ) (room work : ℕ) → (U mode a b room work .readings ≡ unified J 𝓕 mode a b room work .readings → ⊥) →
+      ByTable J 𝓕 U → ⊥
+  other-readings U mode a b room work n g = n (sym (ap (λ (r : Answer). r .readings) (same U g mode a b room work)))

@@ -2,7 +2,7 @@
 -- Assumes nothing: these are definitions.
 use mathlib.Core.Path.{_≡_}
 use mathlib.Core.Logic.{_⊎_, _↔_}
-use mathlib.Core.Bool.{true, false}
+use mathlib.Core.Bool.{Bool, true, false}
 use mathlib.Core.Option.{Option, none, some}
 use mathlib.Core.List.{List, [], _∷_, _++_}
 use Prim.Native.Nat.{ℕ, _≤_}
@@ -39,16 +39,17 @@ module _ {Graph : Type 0} where
 module _ {Graph : Type 0} (𝓕 : Layout Graph) where
   open Layout 𝓕 using (words, WellFormed)
 
-  -- Demand 3. A description on the list, with the mode and the areas of its call
+  -- Demand 3. A description on the list, with the mode and the areas of its call, and whether the words in hand are the first input of it or the second
   pub record Step : Type 0 where
     pub item : Desc Graph
     pub fine : WellFormed item depth-limit
+    pub in-hand-first : Bool
     pub mode : ℕ
     pub room : ℕ
     pub work : ℕ
 
   abbrev pub call : Unifier → List ℕ → Step → Answer
-  call U ws s = U (s .mode) ws (words (s .item)) (s .room) (s .work)
+  call U ws s = elim (s .in-hand-first) [ true ↦ U (s .mode) ws (words (s .item)) (s .room) (s .work) | false ↦ U (s .mode) (words (s .item)) ws (s .room) (s .work) ]
 
   -- the words in hand after these calls, "while every call succeeds"
   abbrev pub reached : Unifier → List ℕ → List Step → Option (List ℕ)

@@ -1,12 +1,16 @@
 -- The five empty programs of document 01, each refuted by the demands that the document names.
 -- Assumes nothing.
 use mathlib.Core.Path.{_≡_, refl, ap, sym, _∙_, subst}
-use mathlib.Core.Logic.{inl, inr}
+use mathlib.Core.Logic.{_⊎_, inl, inr}
+use mathlib.Core.Bool.{Bool, true, false}
 use mathlib.Core.Option.{Option, none, some}
 use mathlib.Core.List.{List, [], _∷_, _++_, List·Memᴰ·head}
 use Prim.Native.Nat.{ℕ, zero, suc, _<_}
 use native.Mathlib.Omega.{arith}
-use lib.ListN.{length}
+use lib.ListN.{length, take, replicate, length-replicate}
+use lib.Dec.{eqb}
+use Rattle.descriptions.proofs.Table.{given-unified}
+use Rattle.descriptions.proofs.Programs.{blank-in-words, program-writes}
 use Rattle.theory.specs.Net.{atom, arcs, Graph}
 use Rattle.theory.specs.Join.{join}
 use Rattle.theory.specs.Structure.{Structure, Satisfies}
@@ -17,12 +21,16 @@ use Rattle.theory.specs.Layout.{words, WellFormed}
 use Rattle.theory.specs.Reading.{decode}
 use Rattle.theory.specs.Answer.{Answer, refuse, consistent}
 use Rattle.theory.specs.Unified.{unified, in-mode, complete, deliver}
-use Rattle.theory.specs.Demands.{Unifier, Demand2, Step, start, reached, ways, items, Demand3}
+use Rattle.theory.specs.Demands.{Unifier, Demand2, Step, start, call, reached, ways, items, Demand3}
+use Rattle.theory.specs.Rules.{Given}
+use Rattle.theory.specs.Outcome.{Areas}
+use Rattle.theory.specs.Programs.{Program, in-words, blank, Meets}
 use Rattle.theory.specs.Known.{gives}
 use Rattle.theory.proofs.Decode.{one-image}
 use Rattle.theory.proofs.Nothing.{nil, nil-canonical, no-arc}
 use Rattle.theory.proofs.Fit.{structure}
-use Rattle.theory.proofs.Senses.{structure-itself}
+use Rattle.theory.proofs.Senses.{structure-itself, sense}
+use Rattle.theory.proofs.Reading.{reads}
 
 -- descriptions to try them on
 abbrev plain : Graph → Desc
@@ -68,7 +76,7 @@ wF =
     (g .0, g .1, (omega arith, (wArc 1 10 3 (omega arith) (omega arith), (wArc 3 11 3 (omega arith) (omega arith), tt)), (omega arith, (wArc 1 11 3 (omega arith) (omega arith), (wArc 2 10 3 (omega arith) (omega arith), tt)), tt)))
 
 abbrev step : (d : Desc) → WellFormed d 4 → ℕ → Step
-step d w m = record { item = d; fine = w; mode = m; room = 2048; work = 16384 }
+step d w m = record { item = d; fine = w; in-hand-first = true; mode = m; room = 2048; work = 16384 }
 
 -- the structure of one bare node
 abbrev bare : Structure
@@ -230,9 +238,63 @@ pub miscounted-3 : (f : ℕ → ℕ) → (f 1 ≡ 1 → ⊥) → Demand3 (miscou
 unfolding miscounted
 miscounted-3 f n D = n (sym (ap f one-N) ∙ D .counted [] start (step dN wN 2) refl refl zero-N ∙ ways-nothing)
 
--- the third demand speaks of something: three calls in three modes that succeed, with two readings, and a fourth that clashes
+-- readings made up in modes 0 and 1, of which the third demand says nothing: the table does not let them pass
+pub made-up-below : ℕ → Unifier
+made-up-below n zero a b room work = made-up n 0 a b room work
+made-up-below n (suc zero) a b room work = made-up n 1 a b room work
+made-up-below n (suc (suc m)) a b room work = unified (suc (suc m)) a b room work
+
+unread-N : (unified 0 start (words dN) 2048 16384 .readings ≡ 0) × (unified 1 start (words dN) 2048 16384 .readings ≡ 0)
+unfolding Rattle.descriptions.specs.Unified.unified Rattle.descriptions.specs.Unified.in-mode Rattle.descriptions.specs.Unified.deliver decode Rattle.descriptions.specs.Modes.joined Rattle.descriptions.specs.Modes.quick size Rattle.descriptions.specs.Modes.tidy Rattle.descriptions.specs.Modes.finish join
+unread-N = (refl, refl)
+
+-- in either of the two modes
+pub made-up-table : (n : ℕ) → (n ≡ 0 → ⊥) → (mode : ℕ) → mode < 2 → Given mode start (words dN) 2048 16384 (made-up-below n mode start (words dN) 2048 16384) → ⊥
+unfolding made-up-below made-up
+made-up-table n h zero m g = h (sym (ap (λ (r : Answer). r .readings) (given-unified reads 0 start (words dN) 2048 16384 _ g)) ∙ unread-N .0)
+made-up-table n h (suc zero) m g = h (sym (ap (λ (r : Answer). r .readings) (given-unified reads 1 start (words dN) 2048 16384 _ g)) ∙ unread-N .1)
+made-up-table n h (suc (suc m)) k g = absurd (omega (arith, k))
+
+-- "one that reports 0 and writes nothing", of the areas: an answer as the table gives it, and the result area left as it was
+pub leaves-result : Program
+leaves-result mode a b before =
+    let r = unified mode a b (length (before .result)) (length (before .working)) in
+    record { number = r .number; extent = r .extent; readings = r .readings; after = record { result = before .result; working = before .working } }
+
+-- any program that does so where other words stood before
+pub silent-areas : (P : Program) (mode : ℕ) (a b : List ℕ) (before : Areas) → in-words mode a b before ≡ true →
+    P mode a b before .number ≡ 0 → P mode a b before .after .result ≡ before .result →
+    (unified mode a b (length (before .result)) (length (before .working)) .result ≡ take (P mode a b before .extent) (before .result) → ⊥) → Meets P → ⊥
+silent-areas P mode a b before w z u n m = n (program-writes sense reads P m mode a b before w z u)
+
+written-N : (unified 0 start (words dN) 3 16384 .number ≡ 0) × (unified 0 start (words dN) 3 16384 .result ≡ 1 ∷ 0 ∷ 0 ∷ [])
+unfolding Rattle.descriptions.specs.Unified.unified Rattle.descriptions.specs.Unified.in-mode Rattle.descriptions.specs.Unified.deliver decode Rattle.descriptions.specs.Modes.joined join
+written-N = (refl, refl)
+
+pub leaves-refused : Meets leaves-result → ⊥
+unfolding leaves-result
+leaves-refused = silent-areas leaves-result 0 start (words dN) (blank 3 16384) (blank-in-words 0 start (words dN) 3 16384 (omega arith) refl refl (omega arith) (omega arith))
+    (ap (λ (n : ℕ). unified 0 start (words dN) 3 n .number) sixteen ∙ written-N .0) refl differs
+  where
+    sixteen : length {A = ℕ} (replicate 16384 0) ≡ 16384
+    sixteen = length-replicate {A = ℕ} 16384 0
+
+    zeros : (n : ℕ) → take {A = ℕ} n (0 ∷ 0 ∷ 0 ∷ []) ≡ 1 ∷ 0 ∷ 0 ∷ [] → ⊥
+    zeros zero e = let z : _≡_ {A = ℕ} 0 1 = cc in omega arith
+    zeros (suc n) e = let z : _≡_ {A = ℕ} 0 1 = cc in omega arith
+
+    r : Answer
+    r = unified 0 start (words dN) 3 (length {A = ℕ} (replicate 16384 0))
+
+    differs : r .result ≡ take (r .extent) (0 ∷ 0 ∷ 0 ∷ []) → ⊥
+    differs e = zeros (r .extent) (sym e ∙ ap (λ (n : ℕ). unified 0 start (words dN) 3 n .result) sixteen ∙ written-N .1)
+
+-- the third demand speaks of something: three calls in three modes that succeed, the words in hand once the second input, with two readings, and a fourth that clashes
+abbrev behind : (d : Desc) → WellFormed d 4 → ℕ → Step
+behind d w m = record { item = d; fine = w; in-hand-first = false; mode = m; room = 2048; work = 16384 }
+
 trail : List Step
-trail = step dP wP 0 ∷ step dP wP 1 ∷ step dP wP 2 ∷ []
+trail = step dP wP 0 ∷ behind dP wP 1 ∷ step dP wP 2 ∷ []
 
 trail-reached : reached unified start trail ≡ some (1 ∷ 0 ∷ 3 ∷ 2 ∷ (words dA ++ words dB ++ 2 ∷ (words dA ++ words dB ++ 2 ∷ (words dA ++ words dB))))
 unfolding trail Rattle.descriptions.specs.Unified.unified Rattle.descriptions.specs.Unified.in-mode Rattle.descriptions.specs.Unified.complete Rattle.descriptions.specs.Answer.consistent Rattle.descriptions.specs.Unified.deliver decode Rattle.descriptions.specs.Modes.joined Rattle.descriptions.specs.Modes.quick Rattle.descriptions.specs.Modes.full size Rattle.descriptions.specs.Modes.tidy Rattle.descriptions.specs.Modes.finish Rattle.descriptions.specs.Modes.some-agree Rattle.descriptions.specs.Modes.prune Rattle.descriptions.specs.Modes.fold folded-in Rattle.descriptions.specs.Descr.agree Rattle.descriptions.specs.Descr.agreeing Rattle.descriptions.specs.Descr.readings number join
@@ -257,18 +319,33 @@ refuse-meets-2 = record {
   clash = λ mode a b p q room work z. let k : _≡_ {A = ℕ} 1 6 = z in absurd (omega arith);
 }
 
-pub refuse-meets-3 : Demand3 always-refuse
+refused : (ws : List ℕ) (s : Step) → call always-refuse ws s .number ≡ 1
 unfolding always-refuse
+refused ws s = go (s .in-hand-first)
+  where
+    given : Bool → Answer
+    given t = elim t [ true ↦ refuse 1 | false ↦ refuse 1 ]
+
+    go : (t : Bool) → given t .number ≡ 1
+    go true = refl
+    go false = refl
+
+pub refuse-meets-3 : Demand3 always-refuse
 refuse-meets-3 = record {
   number = counts;
-  clash = λ l ws s h z. let k : _≡_ {A = ℕ} 1 6 = z in absurd (omega arith);
-  told = λ l ws s h m w. inr (inl (omega arith, omega arith));
-  counted = λ l ws s h m z. let k : _≡_ {A = ℕ} 1 0 = z in absurd (omega arith);
+  clash = λ l ws s h z. let k = refused ws s in absurd (omega (arith, k, z));
+  told = λ l ws s h m w. let k = refused ws s in inr (inl (omega (arith, k), omega (arith, k)));
+  counted = λ l ws s h m z. let k = refused ws s in absurd (omega (arith, k, z));
 }
   where
     counts : (l : List Step) (ws : List ℕ) → reached always-refuse start l ≡ some ws → (d : Desc) × WellFormed d 4 × (ws ≡ words d) × (readings d ≡ ways (items l))
     counts [] ws h = let e : start ≡ ws = cc in (dN, wN, sym e, readings-nothing ∙ sym ways-none)
-    counts (s ∷ l) ws h = let z : _≡_ {A = ℕ} 0 1 = cc in absurd (omega arith)
+    counts (s ∷ l) ws h = go (call always-refuse start s .number) (refused start s) h
+      where
+        go : (n : ℕ) → n ≡ 1 → elim (eqb n 0) [ true ↦ reached always-refuse (call always-refuse start s .result) l | false ↦ none ] ≡ some ws →
+            (d : Desc) × WellFormed d 4 × (ws ≡ words d) × (readings d ≡ ways (items (s ∷ l)))
+        go zero k e = absurd (omega (arith, k))
+        go (suc n) k e = let z : _≡_ {A = ℕ} 0 1 = cc in absurd (omega arith)
 
 -- the table does not let it pass
 pub refuse-table : unified 0 start start 2048 16384 ≡ always-refuse 0 start start 2048 16384 → ⊥

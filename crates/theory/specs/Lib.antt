@@ -15,5 +15,6 @@ pub mod Known
 pub mod Rules
 pub mod Outcome
 pub mod Demands
+pub mod Programs
 pub mod FitTest
 pub mod Fitted
