@@ -61,7 +61,7 @@ module _ (ws : List ℕ) where
         go none m n = refl
         go (some d) (is b w s) n = absurd (n (j .complete (b, w, s)))
 
-    -- "So a graph has one image only": accepted words are the image of exactly one description
+    -- accepted words are the image of exactly one description
     pub accepted-one : r ≡ Accepted → (d : Desc) × WellFormed d depth-limit × (ws ≡ words d) × ((e : Desc) → WellFormed e depth-limit → ws ≡ words e → e ≡ d)
     accepted-one a = let i = j .sound a in (i .0, i .1, i .2, λ e w s. one-image e (i .0) w (i .1) (sym s ∙ i .2))
 

@@ -1,3 +1,6 @@
+-- `Net`, `Structure` and `Layout` are graphs, structures and words; `Isomorphic` says when two graphs are one but for the numbers of their nodes.
+-- `JoiningOne`, `LayoutOne` and `Structure` say what `descriptions` takes for layout one; files with the names of its files are its instance.
+-- `Join`, `Reading` and `Fitted` are programs, so that cases compute; `FitTest` is the table of the fit test, `Known` has the known inputs and cases.
 pub mod Limits
 pub mod Net
 pub mod Structure
@@ -7,6 +10,7 @@ pub mod Descr
 pub mod Modes
 pub mod Satisfaction
 pub mod Layout
+pub mod Isomorphic
 pub mod Reading
 pub mod LayoutOne
 pub mod Answer
