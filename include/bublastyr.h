@@ -47,7 +47,7 @@ uint32_t bublastyr_unify(uint32_t mode, const uint32_t *first, size_t first_len,
                          size_t working_len, uint32_t told[2]);
 
 // Tells whether a structure, a description with no disjunctions, satisfies a description. Answers 3, 4, 5, 9,
-// 0 or 6, checked in that order. Writes nothing.
+// 0 or 6, checked in that order. Writes nothing. Here too a pointer may be null where its length is 0.
 uint32_t bublastyr_fit(const uint32_t *structure, size_t structure_len, const uint32_t *description,
                        size_t description_len);
 

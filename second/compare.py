@@ -1,5 +1,7 @@
 """Compares `meet` and the second program byte for byte on seeded random texts, good and bad ones.
 
+The second program exits with 0 whatever it prints; `meet` has to exit as README says of what is printed.
+
 Usage: second/compare.py SEED COUNT, from anywhere; target/second/second must be built. The same
 seed gives the same texts.
 """
@@ -65,6 +67,11 @@ def answer(command, text):
     return done.returncode, done.stdout
 
 
+def status(printed):
+    """How `meet` exits after what it prints: 0 after number 0, 1 after a clash, 2 after anything else."""
+    return {b"answer 0": 0, b"answer 6": 1}.get(printed.partition(b" words ")[0], 2)
+
+
 def main():
     seed, count = int(sys.argv[1]), int(sys.argv[2])
     chance = random.Random(seed)
@@ -75,7 +82,7 @@ def main():
             text = spoilt(chance, text)
         ours, theirs = answer([MEET], text), answer([SECOND], text)
         bad += ours[1] == b"bad input\n"
-        if ours != theirs:
+        if theirs[0] != 0 or ours != (status(theirs[1]), theirs[1]):
             (TOP / "target" / "differs.txt").write_bytes(text)
             sys.exit(f"compare: seed {seed}, text {index} (target/differs.txt): meet {ours}, second {theirs}")
     print(f"compare: {count} texts of seed {seed} answered alike, {bad} of them bad input")
