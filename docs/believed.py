@@ -2,9 +2,9 @@
 """Counts the lines of definitions that a reader has to believe: docs/believed.py [-l]
 
 From what the contracts of `unify` and `fit` and the two demands name, every name is followed to its definition, and the
-lines of what is reached are counted, comments, blank lines and `use` lines left out; -l lists them. The program that joins
-stands for `Joined` and `Clash`, and the program that reads for `Image`, by theorems (MADE_ONE): the second form of each
-is followed instead. Exits with 1 where there are more lines than LIMIT.
+lines of what is reached are counted, comments, blank lines and `use` lines left out; -l lists them. The programs that
+join, read and answer stand for `Joined` and `Clash`, `Image` and `Given` by theorems (MADE_ONE): these are followed
+instead. Exits with 1 where there are more lines than LIMIT.
 """
 import pathlib
 import re
@@ -22,10 +22,13 @@ ROOTS = [
     ("theory", "Demands", "Demand2"),
     ("theory", "Demands", "Demand3"),
 ]
+# what a program of words is, of which the demands are proved
+PROGRAMS = [("theory", "Programs", "Meets"), ("theory", "Programs", "sized")]
 # the program, the definitions that it is shown to agree with, and the theorem's file
 MADE_ONE = {
     ("theory", "Join", "join"): [("theory", "Net", "Joined"), ("theory", "Net", "Clash")],
     ("theory", "Reading", "decode"): [("theory", "LayoutOne", "Image")],
+    ("descriptions", "Unified", "unified"): [("descriptions", "Rules", "Given")],
 }
 WORD = re.compile(r"[^\s(){}.;,@]+")
 DECLARED = re.compile(r"^( *)(?:abbrev |unfoldable )?(?:pub )?(?:(record|data) )?([^\s(){}:]+)(?: [^:]*)? :(?: |$)")
@@ -93,8 +96,8 @@ def parts(word):
     return [word, f"_{word}_"]
 
 
-def reached():
-    seen, todo, counted = set(), list(ROOTS), {}
+def reached(roots):
+    seen, todo, counted = set(), list(roots), {}
     while todo:
         at = todo.pop()
         if at in seen:
@@ -125,10 +128,13 @@ def reached():
     return counted
 
 
-counted = reached()
+counted = reached(ROOTS)
 total = sum(counted.values())
+programs = {at: count for at, count in reached(PROGRAMS).items() if at not in counted}
+more = sum(programs.values())
 if "-l" in sys.argv[1:]:
-    for (crate, stem, name), count in sorted(counted.items()):
+    for (crate, stem, name), count in sorted(counted.items()) + sorted(programs.items()):
         print(f"{count:4} {crate}:{stem}.{name}")
 print(f"docs/believed.py: {total} lines in {len(counted)} definitions have to be believed; the limit is {LIMIT}")
+print(f"docs/believed.py: {more} lines in {len(programs)} definitions say besides what a program of words is")
 sys.exit(1 if total > LIMIT or not counted else 0)
