@@ -31,8 +31,8 @@ use Rattle.classes.specs.Holds.{Undoable}
 use Rattle.classes.proofs.Laws.{undoable-on, undoable-frame}
 use Rattle.classes.specs.declared.push.Pushed.{Pushed}
 use Rattle.classes.specs.declared.push.Pushed.the-variants.{In, Clashed}
-use Rattle.quick.proofs.Sifting.{moved-words}
-use Rattle.quick.proofs.Pairs.{half-low}
+use Rattle.entering.proofs.Moves.{moved-words}
+use Rattle.entering.proofs.Pairs.{half-low}
 use Rattle.search.specs.Searched.{Finds, Searching, Searches}
 use Rattle.full.specs.declared.full.Fully.the-variants.{Over, Nothing, Left}
 use Rattle.full.specs.Restarted.{Restarting, Restarts}

@@ -19,8 +19,8 @@ use Rattle.modes_by_marks.proofs.Counting.{count-left}
 use Rattle.engine.proofs.Finding.{search-count}
 use Rattle.engine.proofs.Joined.{keep-can}
 use Rattle.engine.proofs.Whole.{full-can}
-use Rattle.quick.specs.Stage.{Pair}
-use Rattle.quick.proofs.Pairs.{first-can, second-can, first-proper, second-proper, first-distinct, second-distinct, both-apart, whole-comes}
+use Rattle.entering.specs.Stage.{Pair}
+use Rattle.entering.proofs.Pairs.{first-can, second-can, first-proper, second-proper, first-distinct, second-distinct, both-apart, whole-comes}
 
 module _ (n : ℕ) (t : List ℕ) (p : Pair n t) where
   -- what the full step leaves can be folded

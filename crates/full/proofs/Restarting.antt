@@ -19,12 +19,12 @@ use Rattle.classes.specs.Holds.{Holds, Remembers, Backs, Undoable}
 use Rattle.classes.proofs.Laws.{undoable-start, undoable-on, undoable-asks, undoable-back}
 use Rattle.classes.specs.declared.push.Pushed.{Pushed}
 use Rattle.classes.specs.declared.push.Pushed.the-variants.{In, Clashed}
-use Rattle.quick.specs.Taken.{taken, Inside}
-use Rattle.quick.specs.Entered.{Entering, entered, Enters}
-use Rattle.quick.specs.Passed.{Inputs}
-use Rattle.quick.proofs.Certain.{taken-between, taken-inside}
-use Rattle.quick.proofs.Entering.{inside-append, clash-more}
-use Rattle.quick.proofs.Pairs.{half-low}
+use Rattle.entering.specs.Taken.{taken, Inside}
+use Rattle.entering.specs.Entered.{Entering, entered, Enters}
+use Rattle.entering.specs.Inputs.{Inputs}
+use Rattle.entering.proofs.Certain.{taken-between, taken-inside}
+use Rattle.entering.proofs.Entering.{inside-append, clash-more}
+use Rattle.entering.proofs.Pairs.{half-low}
 use Rattle.full.specs.Restarted.{Restarting, certain-both, Restarts}
 
 -- what is certain in both is among the graphs that lie in the words

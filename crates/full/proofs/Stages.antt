@@ -32,14 +32,14 @@ use Rattle.loading.proofs.Walking.{at-names}
 use Rattle.marks.specs.Marked.{marking}
 use Rattle.classes.specs.Holds.{Holds, Undoable}
 use Rattle.classes.proofs.Comings.{graphs-append}
-use Rattle.quick.specs.Taken.{taken}
-use Rattle.quick.specs.Clear.{Clear}
-use Rattle.quick.specs.Stage.{Pair, Stage}
-use Rattle.quick.proofs.Certain.{taken-flat, taken-between}
-use Rattle.quick.proofs.Clearing.{clear-taken}
-use Rattle.quick.proofs.Settling.{clash-false}
+use Rattle.entering.specs.Taken.{taken}
+use Rattle.entering.specs.Clear.{Clear}
+use Rattle.entering.specs.Stage.{Pair, Stage}
+use Rattle.entering.proofs.Certain.{taken-flat, taken-between}
+use Rattle.entering.proofs.Clearing.{clear-taken}
+use Rattle.entering.proofs.Settling.{clash-false}
 use Rattle.full.specs.Restarted.{certain-both}
-use Rattle.quick.proofs.Pairs.{first-can, second-can, half-low}
+use Rattle.entering.proofs.Pairs.{first-can, second-can, half-low}
 use Rattle.full.proofs.Restarting.{certain-inside}
 
 -- ---- what is certain in both says what is certain in the joined description

@@ -21,7 +21,7 @@ use Rattle.marks.specs.Marked.{marking}
 use Rattle.full.specs.declared.full.Fully.{Fully}
 use Rattle.full.specs.declared.full.Fully.the-variants.{Over, Nothing, Left}
 use Rattle.full.specs.Fulled.{Fulling, few-enough, Fulls}
-use Rattle.quick.proofs.Pairs.{strip-first, strip-second, first-can, second-can, first-proper, second-proper, first-distinct, second-distinct, both-apart}
+use Rattle.entering.proofs.Pairs.{strip-first, strip-second, first-can, second-can, first-proper, second-proper, first-distinct, second-distinct, both-apart}
 
 module _ (n k : ℕ) (w : List ℕ) (r : Fully) (w' : List ℕ) (u : Fulls n k w r w') (c : Fulling n k w) where
   -- of the strips, of the two inputs

@@ -17,7 +17,7 @@ use Rattle.engine.specs.Counting.{count-at}
 use Rattle.engine.specs.Search.{full-left, full-readings-by}
 use Rattle.engine.proofs.Sane.{Sane}
 use Rattle.marks.specs.Marked.{marking, lights}
-use Rattle.quick.specs.Stage.{Pair, Stage}
+use Rattle.entering.specs.Stage.{Pair, Stage}
 use Rattle.full.specs.declared.full.Fully.{Fully}
 use Rattle.full.specs.declared.full.Fully.the-variants.{Over, Nothing, Left}
 

@@ -13,8 +13,8 @@ use Rattle.engine.specs.Marks.{Marking}
 use Rattle.classes.specs.Holds.{Holds, Undoable}
 use Rattle.classes.specs.declared.push.Pushed.{Pushed}
 use Rattle.classes.specs.declared.push.Pushed.the-variants.{In, Clashed}
-use Rattle.quick.specs.Taken.{taken}
-use Rattle.quick.specs.Passed.{Inputs}
+use Rattle.entering.specs.Taken.{taken}
+use Rattle.entering.specs.Inputs.{Inputs}
 
 -- both inputs stand loaded, and what is pushed can be taken back
 pub record Restarting (n k : ℕ) (w : List ℕ) : Type 0 where

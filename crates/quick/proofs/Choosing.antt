@@ -1,18 +1,14 @@
 -- One disjunction is narrowed: engine's `any-at`, return by return.
 -- Assumes nothing.
-use Prim.Native.Nat.{ℕ, zero, suc, _+_, _≤_, _<_}
+use Prim.Native.Nat.{ℕ, zero, suc, _<_}
 use native.Mathlib.Omega.{arith}
 use mathlib.Core.Path.{_≡_, refl, sym, ap, subst, _∙_}
-use mathlib.Core.Logic.{_⊎_, inl, inr, ⊎-elim}
-use mathlib.Core.List.{List, _++_, List·Memᴰ, List·Memᴰ·append-cases, Memᴰ·append-left}
-use lib.ListN.{length, getD}
-use Rattle.theory.specs.Net.{Graph}
-use Rattle.area.specs.Map.{WORDS, MARKS, RESULT}
+use mathlib.Core.Logic.{inl, inr, ⊎-elim}
+use mathlib.Core.List.{List, List·Memᴰ·append-cases, Memᴰ·append-left}
 use Rattle.area.specs.Region.{words}
-use Rattle.engine.specs.Placed.{Options}
 use Rattle.engine.specs.Marks.{Marking, kept-of}
-use Rattle.engine.specs.Quickly.{fails, stands, any-at, sift-at, settle-at}
-use Rattle.loading.specs.Entry.{Entry, graphs}
+use Rattle.engine.specs.Quickly.{fails, stands, any-at, settle-at}
+use Rattle.loading.specs.Entry.{graphs}
 use Rattle.loading.specs.At.{AtAny}
 use Rattle.marks.specs.Marked.{marking}
 use Rattle.marks.specs.Tallied.{Alternatives, Tallied}
@@ -23,15 +19,16 @@ use Rattle.classes.specs.declared.push.Pushed.the-variants.{In, Clashed}
 use Rattle.classes.proofs.Laws.{since-refl}
 use Rattle.quick.specs.declared.step.Step.{Step}
 use Rattle.quick.specs.declared.step.Step.the-variants.{Stands, Fails}
-use Rattle.quick.specs.Taken.{taken-any, Inside, Free}
-use Rattle.quick.specs.Settled.{Alternating, settled, Settles}
-use Rattle.quick.specs.Clear.{Outside, ByCount, ClearLone, ClearAny}
-use Rattle.quick.specs.Stepped.{total, Fewer, Off, Moved, Stood, Narrowing, NarrowStands, NarrowFails, Narrows, Choosing, ChooseStands, ChooseFails, Chooses, Sifted, Sifts}
-use Rattle.quick.proofs.Certain.{taken-any-between, Lone, lone-at}
-use Rattle.quick.proofs.Clearing.{clear-any}
-use Rattle.quick.proofs.Mirror.{any-distinct, any-none, any-several}
-use Rattle.quick.proofs.Settling.{settle-several, settled-inside}
-use Rattle.quick.proofs.Sifting.{moved-trans, moved-words}
+use Rattle.entering.specs.Taken.{taken-any, Free}
+use Rattle.entering.specs.Settled.{Alternating, settled, Settles}
+use Rattle.entering.specs.Clear.{ByCount, ClearLone, ClearAny}
+use Rattle.quick.specs.Stepped.{total, Fewer, Off, Narrowing, Narrows, Choosing, ChooseStands, Chooses, Sifts}
+use Rattle.entering.specs.Moved.{Moved}
+use Rattle.entering.proofs.Certain.{taken-any-between, Lone, lone-at}
+use Rattle.entering.proofs.Clearing.{clear-any}
+use Rattle.entering.proofs.Mirror.{any-distinct, any-none, any-several}
+use Rattle.entering.proofs.Settling.{settle-several, settled-inside}
+use Rattle.entering.proofs.Moves.{moved-trans, moved-words}
 
 module _ (n k : ℕ) (w : List ℕ) (p count left : ℕ) where
   abbrev pub chosen : Choosing n k w p count left → Alternatives w p count

@@ -1,13 +1,12 @@
 -- The disjunctions of a description are narrowed in order: what is still to be narrowed goes on to the whole.
 -- Assumes nothing.
-use Prim.Native.Nat.{ℕ, zero, suc, _+_, _-_, _≤_, _<_}
+use Prim.Native.Nat.{ℕ, _+_, _-_, _≤_, _<_}
 use native.Mathlib.Omega.{arith}
 use mathlib.Core.Path.{_≡_, refl, sym, ap, subst, _∙_}
 use mathlib.Core.Logic.{_⊎_, inl, inr, ⊎-elim}
 use mathlib.Core.List.{List, List·Memᴰ}
 use lib.ListN.{length, getD}
 use Rattle.theory.specs.Net.{Graph}
-use Rattle.area.specs.Map.{WORDS, MARKS, RESULT}
 use Rattle.area.specs.Region.{words}
 use Rattle.area.proofs.Region.{words-many}
 use Rattle.engine.specs.Placed.{Placed, place, Places, stop, _also_, Options}
@@ -16,7 +15,7 @@ use Rattle.engine.specs.Quickly as quickly
 use Rattle.engine.specs.Quickly.{fails, stands, narrow-at, inside-at, any-at}
 use Rattle.loading.specs.Entry.{Entry, graphs}
 use Rattle.loading.specs.Loaded.{extent, number-step}
-use Rattle.loading.specs.Numbered.{places, options}
+use Rattle.loading.specs.Numbered.{places}
 use Rattle.loading.specs.At.{At, AtAll}
 use Rattle.loading.proofs.Walking.{at-bounds, all-bounds, any-bounds}
 use Rattle.marks.specs.Positions.{tail-at, disjunctions-at, alternatives-at}
@@ -24,21 +23,22 @@ use Rattle.marks.specs.Marked.{marking}
 use Rattle.marks.specs.Tallied.{Alternatives, Tallied}
 use Rattle.marks.proofs.Reading.{tail-is, disjunctions-is, alternatives-is, read-at}
 use Rattle.marks.proofs.Marks.{marking-frame}
-use Rattle.counting.specs.Nesting.{Nests, NestsAll, NestsAny}
+use Rattle.counting.specs.Nesting.{Nests, NestsAll}
 use Rattle.classes.specs.State.{Runs}
-use Rattle.classes.specs.Holds.{Holds, Since, Backs}
+use Rattle.classes.specs.Holds.{Since, Backs}
 use Rattle.classes.proofs.Laws.{since-refl, since-trans}
 use Rattle.sieving.specs.Sieved.{Sieved}
 use Rattle.sieving.proofs.Keeping.{roots-run, sieved-since}
 use Rattle.quick.specs.declared.step.Step.{Step}
 use Rattle.quick.specs.declared.step.Step.the-variants.{Stands, Fails}
-use Rattle.quick.specs.Taken.{Among, AmongAll, AmongAny, Inside}
-use Rattle.quick.specs.Clear.{Outside, Clear, ClearAll, ClearAny}
-use Rattle.quick.specs.Stepped.{total, Fewer, Off, Moved, Stood, Narrowing, NarrowStands, NarrowFails, Narrows, Choosing, ChooseStands, ChooseFails, Chooses}
-use Rattle.quick.proofs.Mirror.{Alike}
-use Rattle.quick.proofs.Clearing.{all-alike, any-alike}
+use Rattle.entering.specs.Taken.{Among, AmongAll}
+use Rattle.entering.specs.Clear.{Outside, Clear, ClearAll}
+use Rattle.quick.specs.Stepped.{total, Fewer, Off, Stood, Narrowing, NarrowStands, NarrowFails, Narrows, Choosing, ChooseStands, Chooses}
+use Rattle.entering.specs.Moved.{Moved}
+use Rattle.entering.proofs.Mirror.{Alike}
+use Rattle.entering.proofs.Clearing.{all-alike, any-alike}
 use Rattle.quick.proofs.Choosing.{chosen}
-use Rattle.quick.proofs.Sifting.{moved-trans, moved-words}
+use Rattle.entering.proofs.Moves.{moved-trans, moved-words}
 
 narrow-more : (S : List Graph) (m : Marking) (a : Options) (ds : Places) (s : quickly.Step) → any-at S m a ≡ s → narrow-at S m (a also ds) ≡ elim s [ fails n ↦ fails n | stands T n ↦ narrow-at T n ds ]
 unfolding Rattle.modes_by_marks.specs.Quickly.narrow-at

@@ -1,15 +1,13 @@
 -- A pass over the disjunctions of both inputs: the first, then the second.
 -- Assumes nothing.
-use Prim.Native.Nat.{ℕ, _+_, _≤_, _<_}
+use Prim.Native.Nat.{ℕ, _+_}
 use native.Mathlib.Omega.{arith}
-use mathlib.Core.Path.{_≡_, refl, sym, ap, subst, _∙_}
+use mathlib.Core.Path.{_≡_, refl, ap, subst, _∙_}
 use mathlib.Core.Logic.{inl, inr, ⊎-elim}
 use mathlib.Core.List.{List}
-use lib.ListN.{length}
 use Rattle.theory.specs.Limits.{depth-limit}
 use Rattle.theory.specs.Net.{Graph}
-use Rattle.area.specs.Map.{WORDS, RESULT, SECOND}
-use Rattle.area.specs.Region.{words}
+use Rattle.area.specs.Map.{SECOND}
 use Rattle.engine.specs.Placed.{Placed, place, Places, stop, _also_}
 use Rattle.engine.specs.Marks.{Marking}
 use Rattle.engine.specs.Beside.{_next_}
@@ -19,14 +17,16 @@ use Rattle.loading.specs.Entry.{graphs}
 use Rattle.loading.proofs.Walking.{at-bounds}
 use Rattle.marks.specs.Marked.{marking}
 use Rattle.counting.specs.Counted.{beside}
-use Rattle.classes.specs.Holds.{Holds, Since, Backs, Remembers}
+use Rattle.classes.specs.Holds.{Since, Backs, Remembers}
 use Rattle.classes.proofs.Laws.{since-trans}
 use Rattle.quick.specs.declared.step.Step.{Step}
 use Rattle.quick.specs.declared.step.Step.the-variants.{Stands, Fails}
-use Rattle.quick.specs.Stepped.{Fewer, Moved, Narrowing, NarrowStands, NarrowFails, Narrows}
-use Rattle.quick.specs.Passed.{Inputs, Ready, Passing, PassStands, Passes}
-use Rattle.quick.proofs.Clearing.{clear-alike}
-use Rattle.quick.proofs.Sifting.{moved-trans, moved-words, fewer-trans}
+use Rattle.quick.specs.Stepped.{Fewer, Narrowing, NarrowStands, Narrows}
+use Rattle.entering.specs.Moved.{Moved}
+use Rattle.quick.specs.Passed.{Passing, PassStands, Passes}
+use Rattle.entering.proofs.Clearing.{clear-alike}
+use Rattle.quick.proofs.Sifting.{fewer-trans}
+use Rattle.entering.proofs.Moves.{moved-trans, moved-words}
 
 -- ---- engine's `narrow-at`, one list of disjunctions after another
 after : quickly.Step → (List Graph → Marking → quickly.Step) → quickly.Step

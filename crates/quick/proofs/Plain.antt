@@ -1,28 +1,18 @@
 -- An alternative without disjunctions is tried: it is entered by one push, or what its graph would do is told without one, and there is nothing to narrow.
 -- Assumes nothing.
-use Prim.Native.Nat.{ℕ, _+_, _/_, _%_, _<_}
+use Prim.Native.Nat.{ℕ, _+_, _/_, _%_}
 use native.Mathlib.Omega.{arith}
 use mathlib.Core.Path.{_≡_, refl, sym, ap, subst, _∙_}
 use mathlib.Core.Bool.{Bool, true, false}
 use mathlib.Core.List.{List, [], _∷_, _++_}
 use lib.ListN.{getD}
-use Rattle.theory.specs.Net.{Graph, Agree}
-use Rattle.theory.specs.Descr.{agree}
-use Rattle.theory.proofs.Mean.{Fine}
 use Rattle.area.specs.Region.{words}
 use Rattle.area.proofs.Region.{words-same}
-use Rattle.engine.specs.Placed.{Placed, place, stop, _also_, strip}
-use Rattle.engine.specs.Marks.{keep}
-use Rattle.engine.specs.Certain.{flat}
 use Rattle.engine.specs.Quickly.{fails, stands, try-at}
 use Rattle.loading.specs.Entry.{graphs}
-use Rattle.loading.specs.Loaded.{extent, extent-step, end-step, number-step}
-use Rattle.loading.specs.Numbered.{places}
-use Rattle.loading.specs.At.{At}
-use Rattle.loading.proofs.Entries.{entry}
+use Rattle.loading.specs.Loaded.{extent-step, end-step}
 use Rattle.marks.specs.Positions.{tail-at, disjunctions-at}
 use Rattle.marks.specs.Marked.{marking}
-use Rattle.marks.proofs.Reading.{tail-is, disjunctions-is}
 use Rattle.classes.specs.Holds.{Pushes, Backs}
 use Rattle.classes.specs.declared.push.Pushed.{Pushed}
 use Rattle.classes.specs.declared.push.Pushed.the-variants.{In, Clashed}
@@ -30,14 +20,13 @@ use Rattle.classes.proofs.Laws.{since-refl}
 use Rattle.trying.specs.Guessed.{Guesses}
 use Rattle.trying.specs.declared.told.Guess.the-variants.{Agrees, Clashes}
 use Rattle.quick.specs.declared.step.Step.the-variants.{Stands, Fails}
-use Rattle.quick.specs.Taken.{Among}
-use Rattle.quick.specs.Entered.{Entering, Enters}
+use Rattle.entering.specs.Entered.{Entering, Enters}
 use Rattle.quick.specs.Stepped.{Fewer, Narrows, Tries}
-use Rattle.quick.proofs.Entering.{own-comes, Reached, walk-start, walk-done, reach-own, enters-own, enters-all}
-use Rattle.quick.proofs.Settling.{agrees-true}
-use Rattle.quick.proofs.Trying.{fine, tries-clash, asks-narrow, tries-stands}
+use Rattle.entering.proofs.Entering.{Reached, walk-start, walk-done, reach-own, enters-own, enters-all}
+use Rattle.quick.proofs.Trying.{tries-clash, asks-narrow, tries-stands}
 use Rattle.quick.proofs.Sifting.{fewer-none}
 use Rattle.quick.proofs.Narrowing.{moved-start, narrow-begin, narrow-done, narrows-stands}
+use Rattle.entering.proofs.Bare.{told-enters, bare-one, bare-good}
 
 -- what is read of the same words
 none-same : (v w : List ℕ) (g : ℕ) → words v ≡ words w → disjunctions-at v (tail-at v g) ≡ disjunctions-at w (tail-at w g)
@@ -70,39 +59,12 @@ module _ (n k : ℕ) (w : List ℕ) (g left : ℕ) (o : Pushed) (w₁ : List ℕ
 
 -- ---- what its graph would do is told
 module _ (n k : ℕ) (w : List ℕ) (g left : ℕ) (c : Entering n k w g left) where
-  -- it clashes
-  pub told-enters : Guesses n k w g Clashes → Enters n k w g left Clashed w
-  told-enters s = enters-own n k w g left Clashed w (record {
-    len = refl;
-    rest = λ j h. refl;
-    inside = λ j y. let x : _≡_ {A = ℕ} 0 1 = cc in absurd (omega arith);
-    clashed = λ y. ((since-refl n (c .es) k w (c .holds), refl), λ es e i h d. (s .clashes refl es e i h d, h));
-  }) refl
-
   pub told-clash : Guesses n k w g Clashes → Tries n k w g left Fails w
   told-clash s = tries-clash n k w g left Clashed w (told-enters s) c refl
 
   module _ (none : disjunctions-at w (tail-at w g) ≡ 0) where
-    -- the description is its graph
-    pub bare-one : (K : Graph) × ((c .d ≡ place K stop) × (Guesses n k w g Agrees → Agree (graphs (c .es) ++ K ∷ [])))
-    bare-one = go (c .d) (c .at) (subst (λ (t : List ℕ). At t g (c .from) (c .d) (c .end) (c .to)) (sym (c .loaded)) (c .at)) (c .among) refl
-      where
-        low : c .to < number-step
-        low = omega (arith, c .low, c .ground .few)
-
-        go : (d : Placed) (at : At (c .t) g (c .from) d (c .end) (c .to)) → At (words w) g (c .from) d (c .end) (c .to) → Among (c .U) (c .t) g (c .from) d (c .end) (c .to) at → c .d ≡ d → (K : Graph) × ((c .d ≡ place K stop) × (Guesses n k w g Agrees → Agree (graphs (c .es) ++ K ∷ [])))
-        go (place K stop) at here u e = (K, (e, λ s. s .agrees refl (c .es) (entry g (c .from) K) refl (c .holds) (own-comes n k w g left c K stop at u)))
-        go (place K (a also ds)) at here u e =
-            let t = tail-is w (c .holds .long) K (a also ds) g (c .from) (c .end) (c .to) here low in
-            let m : disjunctions-at w (g + extent K) ≡ places (a also ds) = disjunctions-is w (c .holds .long) K (a also ds) g (c .from) (c .end) (c .to) here low in
-            let z : disjunctions-at w (g + extent K) ≡ 0 = ap (disjunctions-at w) (sym t) ∙ none in
-            absurd (omega arith)
-
     -- it agrees
     module _ (s : Guesses n k w g Agrees) where
-      pub bare-good : agree (graphs (c .es) ++ bare-one .0 ∷ []) ≡ true
-      bare-good = agrees-true (graphs (c .es) ++ bare-one .0 ∷ []) (subst (λ (d : Placed). Fine (graphs (c .es) ++ flat (strip (keep (marking w) d)))) (bare-one .1 .0) (fine n k w g left c)) (bare-one .1 .1 s)
-
       bare-stays : try-at (graphs (c .es)) (marking w) (c .d) ≡ stands (graphs (c .es) ++ bare-one .0 ∷ []) (marking w)
       unfolding Rattle.modes_by_marks.specs.Quickly.try-at
       bare-stays = ap (try-at (graphs (c .es)) (marking w)) (bare-one .1 .0) ∙ ap (λ (b : Bool). elim b [ false ↦ fails (marking w) | true ↦ stands (graphs (c .es) ++ bare-one .0 ∷ []) (marking w) ]) bare-good

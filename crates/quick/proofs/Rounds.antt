@@ -4,15 +4,12 @@ use Prim.Native.Nat.{ℕ, zero, suc, _+_, _≤_, _<_}
 use native.Mathlib.Omega.{arith}
 use mathlib.Core.Path.{_≡_, refl, sym, ap, subst, _∙_}
 use mathlib.Core.Bool.{Bool, true, false}
-use mathlib.Core.Option.{Option, none, some}
-use mathlib.Core.List.{List, [], _∷_}
+use mathlib.Core.Option.{none}
+use mathlib.Core.List.{List, _∷_}
 use lib.Dec.{ltb}
 use borrow.Author.Tests.{lt-ltb}
-use Rattle.theory.specs.Net.{Graph, Agree}
-use Rattle.theory.specs.Join.{join}
-use Rattle.theory.proofs.Instance.{join-none}
-use Rattle.theory.proofs.Mean.{Ctx, Fine, Can}
-use Rattle.theory.proofs.Live.{Agrees}
+use Rattle.theory.specs.Net.{Graph}
+use Rattle.theory.proofs.Mean.{Can}
 use Rattle.engine.specs.Placed.{Placed, place, Places, strip}
 use Rattle.engine.specs.Marks.{Marking, all-kept, keep}
 use Rattle.engine.specs.Certain.{flat, certain}
@@ -29,21 +26,15 @@ use Rattle.classes.specs.Holds.{Since, Backs, Remembers, Undoable}
 use Rattle.classes.proofs.Laws.{holds-agree, since-refl, since-trans, undoable-on}
 use Rattle.quick.specs.declared.step.Step.{Step}
 use Rattle.quick.specs.declared.step.Step.the-variants.{Stands, Fails}
-use Rattle.quick.specs.Stepped.{total, Moved}
-use Rattle.quick.specs.Passed.{Ready, Passing, Passes}
-use Rattle.quick.specs.Stage.{Pair, Stage}
+use Rattle.quick.specs.Stepped.{total}
+use Rattle.entering.specs.Moved.{Moved}
+use Rattle.quick.specs.Passed.{Passing, Passes}
+use Rattle.entering.specs.Inputs.{Ready}
+use Rattle.entering.specs.Stage.{Pair, Stage}
 use Rattle.quick.specs.Quickened.{Quickening, Quickens}
-use Rattle.quick.proofs.Sifting.{moved-trans}
-use Rattle.quick.proofs.Pairs.{whole-comes, whole-distinct}
-
--- graphs that do not clash have a joined graph
-pub agree-joins : (gs : Ctx) → Fine gs → Agree gs → Agrees gs
-agree-joins [] f a = absurd (omega arith)
-agree-joins (g ∷ gs) f a = go (join (g ∷ gs)) refl
-  where
-    go : (o : Option Graph) → join (g ∷ gs) ≡ o → Agrees (g ∷ gs)
-    go (some G) q = (G, q)
-    go none q = absurd (a (join-none g gs (f .1) q))
+use Rattle.entering.proofs.Moves.{moved-trans}
+use Rattle.entering.proofs.Pairs.{whole-comes, whole-distinct}
+use Rattle.entering.proofs.Settling.{agree-joins}
 
 -- ---- on the joined description
 module _ (n : ℕ) (t : List ℕ) (p : Pair n t) where

@@ -3,41 +3,39 @@
 use Prim.Native.Nat.{ℕ, zero, suc, _+_, _-_, _≤_, _<_}
 use native.Mathlib.Omega.{arith}
 use mathlib.Core.Path.{_≡_, refl, sym, ap, subst, _∙_}
-use mathlib.Core.Logic.{_⊎_, inl, inr, ⊎-elim}
+use mathlib.Core.Logic.{inl, inr, ⊎-elim}
 use mathlib.Core.Bool.{Bool, true, false}
 use mathlib.Core.List.{List}
-use lib.ListN.{length, getD}
+use lib.ListN.{length}
 use lib.Dec.{eqb}
 use borrow.Author.Tests.{eqb-true, eqb-false}
-use Rattle.theory.specs.Net.{Graph}
-use Rattle.area.specs.Map.{WORDS, MARKS, RESULT}
 use Rattle.area.specs.Region.{words}
-use Rattle.area.proofs.Region.{words-same}
 use Rattle.engine.specs.Placed.{Placed, Options, no-more, option}
 use Rattle.engine.specs.Marks.{Marking, drop}
 use Rattle.engine.specs.Quickly as quickly
-use Rattle.engine.specs.Quickly.{fails, stands, tried, try-at, sift-at}
+use Rattle.engine.specs.Quickly.{tried, sift-at}
 use Rattle.modes_by_marks.proofs.Marks.{drop-self, drop-other}
-use Rattle.loading.specs.Entry.{Entry, graphs}
+use Rattle.loading.specs.Entry.{graphs}
 use Rattle.loading.specs.Loaded.{number-step}
 use Rattle.loading.specs.Numbered.{options}
-use Rattle.loading.specs.At.{At, AtAny}
+use Rattle.loading.specs.At.{AtAny}
 use Rattle.loading.proofs.Walking.{at-bounds, any-bounds}
 use Rattle.marks.specs.Positions.{number-at, tail-at, after-at}
 use Rattle.marks.specs.Marked.{marking, Dropped}
 use Rattle.marks.proofs.Reading.{Read, read-option}
 use Rattle.counting.specs.Nesting.{NestsAny}
-use Rattle.classes.specs.Holds.{Holds, Since}
-use Rattle.classes.proofs.Laws.{since-refl, since-trans, holds-frame, since-frame}
+use Rattle.classes.specs.Holds.{Holds}
+use Rattle.classes.proofs.Laws.{since-refl, holds-frame, since-frame}
 use Rattle.quick.specs.declared.step.Step.{Step}
 use Rattle.quick.specs.declared.step.Step.the-variants.{Stands, Fails}
-use Rattle.quick.specs.Taken.{AmongAny, Inside, Free}
-use Rattle.quick.specs.Entered.{Entering}
-use Rattle.quick.specs.Settled.{Alternating}
-use Rattle.quick.specs.Clear.{Outside}
-use Rattle.quick.specs.Stepped.{kept-below, total, Fewer, Off, Moved, Tried, Tries, Sifted, Sifts}
-use Rattle.quick.proofs.Certain.{free-narrow}
-use Rattle.quick.proofs.Mirror.{sift-dropped, sift-kept}
+use Rattle.entering.specs.Taken.{AmongAny}
+use Rattle.entering.specs.Entered.{Entering}
+use Rattle.entering.specs.Settled.{Alternating}
+use Rattle.quick.specs.Stepped.{kept-below, total, Fewer, Off, Tries, Sifted}
+use Rattle.entering.specs.Moved.{Moved}
+use Rattle.entering.proofs.Certain.{free-narrow}
+use Rattle.entering.proofs.Mirror.{sift-dropped, sift-kept}
+use Rattle.entering.proofs.Moves.{moved-trans, moved-words}
 
 -- ---- how many are kept
 below-same : (k : Marking) (x c : ℕ) → c ≤ x → kept-below (drop x k) c ≡ kept-below k c
@@ -89,12 +87,6 @@ fewer-trans i j k l m p q = record {
   same = λ z. q .same (omega arith) ∙ p .same (omega arith);
   fewer = let a = p .fewer in let b = q .fewer in omega arith;
 }
-
-pub moved-trans : (a : ℕ) (u : List ℕ) (b : ℕ) (v : List ℕ) (c : ℕ) (w : List ℕ) → Moved a u b v → Moved b v c w → Moved a u c w
-moved-trans a u b v c w p q = record { len = q .len ∙ p .len; rest = λ j h. q .rest j h ∙ p .rest j h; since = since-trans a u b v c w (p .since) (q .since) }
-
-pub moved-words : (k : ℕ) (w : List ℕ) (k' : ℕ) (w' : List ℕ) → 16384 ≤ length w → Moved k w k' w' → words w' ≡ words w
-moved-words k w k' w' room m = words-same w w' room (m .len) (λ j a b. m .since .same j a b)
 
 pub moved-dropped : (k : ℕ) (w : List ℕ) (k' : ℕ) (w' : List ℕ) (x : ℕ) (w₃ : List ℕ) → x < 1024 → 16384 ≤ length w' → Moved k w k' w' → Dropped w' x w₃ → Moved k w k' w₃
 moved-dropped k w k' w' x w₃ low room m d = record {

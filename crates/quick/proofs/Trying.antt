@@ -1,46 +1,33 @@
 -- An alternative is tried: it is entered, narrowed, and taken back; engine's `try-at`, return by return.
 -- Assumes nothing.
-use Prim.Native.Nat.{ℕ, zero, suc, _+_, _≤_, _<_}
+use Prim.Native.Nat.{ℕ, _+_}
 use native.Mathlib.Omega.{arith}
-use mathlib.Core.Path.{_≡_, refl, sym, ap, subst, _∙_}
-use mathlib.Core.Logic.{_⊎_, inl, inr, ⊎-elim}
+use mathlib.Core.Path.{_≡_, sym, ap, subst, _∙_}
 use mathlib.Core.Bool.{Bool, true, false}
-use mathlib.Core.List.{List, [], _∷_, _++_, List·Memᴰ, List·Memᴰ·append-cases}
-use lib.ListN.{length, getD, length-append}
+use mathlib.Core.List.{List, _∷_, _++_}
 use Rattle.theory.specs.Net.{Graph, Clash, Agree}
 use Rattle.theory.specs.Descr.{agree}
-use Rattle.theory.proofs.Instance.{AllCanonical}
-use Rattle.theory.proofs.Mean.{Ctx, Fine}
-use Rattle.area.specs.Map.{WORDS, MARKS, RESULT}
 use Rattle.area.specs.Region.{words}
 use Rattle.area.proofs.Region.{words-same}
-use Rattle.engine.specs.Placed.{Placed, place, Places, strip}
+use Rattle.engine.specs.Placed.{Placed, place, strip}
 use Rattle.engine.specs.Marks.{Marking, keep}
 use Rattle.engine.specs.Certain.{flat, certain}
-use Rattle.engine.specs.Quickly as quickly
 use Rattle.engine.specs.Quickly.{fails, stands, try-at, narrow-at, inside-at}
-use Rattle.loading.specs.Entry.{Entry, graphs}
-use Rattle.loading.specs.At.{At}
-use Rattle.marks.specs.Positions.{tail-at}
+use Rattle.loading.specs.Entry.{graphs}
 use Rattle.marks.specs.Marked.{marking}
-use Rattle.marks.proofs.Reading.{read-at}
 use Rattle.marks.proofs.Marks.{marking-frame}
-use Rattle.classes.specs.Holds.{Holds, Since, Remembers, Backs}
+use Rattle.classes.specs.Holds.{Since, Remembers, Backs}
 use Rattle.classes.specs.declared.push.Pushed.{Pushed}
 use Rattle.classes.specs.declared.push.Pushed.the-variants.{In, Clashed}
-use Rattle.classes.proofs.Comings.{graphs-append}
 use Rattle.classes.proofs.Laws.{holds-agree, since-trans}
 use Rattle.quick.specs.declared.step.Step.{Step}
 use Rattle.quick.specs.declared.step.Step.the-variants.{Stands, Fails}
-use Rattle.quick.specs.Taken.{taken, Inside}
-use Rattle.quick.specs.Ground.{Ground}
-use Rattle.quick.specs.Entered.{Entering, entered, Enters}
-use Rattle.quick.specs.Clear.{Outside, Clear}
-use Rattle.quick.specs.Stepped.{total, Fewer, Off, Moved, Stood, Narrowing, NarrowStands, NarrowFails, Narrows, Tried, Tries}
-use Rattle.quick.proofs.Certain.{taken-flat, taken-inside}
-use Rattle.quick.proofs.Entering.{inside-append, canonical-all}
-use Rattle.quick.proofs.Settling.{agrees-true, clash-false, some-taken}
-use Rattle.quick.proofs.Clearing.{clear-taken}
+use Rattle.entering.specs.Entered.{Entering, entered, Enters}
+use Rattle.entering.specs.Clear.{Clear}
+use Rattle.quick.specs.Stepped.{total, Fewer, Off, Narrowing, Narrows, Tries}
+use Rattle.entering.specs.Moved.{Moved}
+use Rattle.entering.proofs.Settling.{agrees-true, clash-false}
+use Rattle.entering.proofs.Within.{entered-graphs, entered-inside, fine, entered-clear}
 
 -- ---- engine's `try-at`, by whether what is pushed agrees
 try-by : (S : List Graph) (m : Marking) (d : Placed) (b : Bool) → agree (S ++ flat (strip (keep m d))) ≡ b → try-at S m d ≡ elim b [ false ↦ fails m | true ↦ inside-at (S ++ flat (strip (keep m d))) m d ]
@@ -48,30 +35,6 @@ unfolding Rattle.modes_by_marks.specs.Quickly.try-at
 try-by S m (place g ds) b e = ap (λ (b : Bool). elim b [ false ↦ fails m | true ↦ narrow-at (S ++ g ∷ certain m ds) m ds ]) e
 
 module _ (n k : ℕ) (w : List ℕ) (g left : ℕ) where
-  module _ (c : Entering n k w g left) where
-    abbrev list : List Entry
-    list = taken (c .t) (marking w) g (c .from) (c .d) (c .end) (c .to) (c .at)
-
-    pub tried-starts : (g < 2048) × (tail-at w g < 2048)
-    tried-starts =
-        let s = read-at w (c .holds .long) (c .d) g (c .from) (c .end) (c .to) (subst (λ (t : List ℕ). At t g (c .from) (c .d) (c .end) (c .to)) (sym (c .loaded)) (c .at)) (omega (arith, c .low, c .ground .few)) in
-        (s .here, s .inside)
-
-    pub entered-graphs : graphs (entered c) ≡ graphs (c .es) ++ flat (strip (keep (marking w) (c .d)))
-    entered-graphs = graphs-append (c .es) list ∙ ap (λ (l : List Graph). graphs (c .es) ++ l) (taken-flat (c .t) (marking w) g (c .from) (c .d) (c .end) (c .to) (c .at))
-
-    pub entered-inside : Inside (c .U) (entered c)
-    entered-inside = inside-append (c .U) (c .es) list (c .inside) (taken-inside (c .t) (marking w) (c .U) g (c .from) (c .d) (c .end) (c .to) (c .at) (c .among))
-
-    pub fine : Fine (graphs (c .es) ++ flat (strip (keep (marking w) (c .d))))
-    fine =
-        let some = some-taken (c .t) (marking w) g (c .from) (c .d) (c .end) (c .to) (c .at) in
-        subst Fine entered-graphs ((rw (graphs-append (c .es) list) (simp length-append (omega arith))), canonical-all n (c .t) (c .U) (entered c) (c .ground) entered-inside)
-
-    -- the stack is clear in it
-    pub entered-clear : Clear (entered c) (c .t) (marking w) g (c .from) (c .d) (c .end) (c .to) (c .at)
-    entered-clear = clear-taken (c .t) (marking w) (entered c) g (c .from) (c .d) (c .end) (c .to) (c .at) (λ o i. ⊎-elim (λ j. inl (c .free o j)) (λ j. inr j) (List·Memᴰ·append-cases (c .es) i))
-
   module _ (o : Pushed) (w₁ : List ℕ) (u : Enters n k w g left o w₁) (c₀ : Entering n k w g left) where
     marks₁ : marking w₁ ≡ marking w
     marks₁ = marking-frame w w₁ (c₀ .holds .long) (u .len) (λ j a b. u .rest j (omega arith))

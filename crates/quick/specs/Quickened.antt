@@ -9,8 +9,8 @@ use Rattle.engine.specs.Quickly.{quick-at, Leaves}
 use Rattle.marks.specs.Marked.{marking}
 use Rattle.quick.specs.declared.step.Step.{Step}
 use Rattle.quick.specs.declared.step.Step.the-variants.{Stands, Fails}
-use Rattle.quick.specs.Stepped.{Moved}
-use Rattle.quick.specs.Stage.{Pair, Stage}
+use Rattle.entering.specs.Moved.{Moved}
+use Rattle.entering.specs.Stage.{Pair, Stage}
 
 -- two inputs stand loaded, what is certain in them is pushed, and nothing is dropped
 pub record Quickening (n k : ℕ) (w : List ℕ) : Type 0 where

@@ -5,9 +5,8 @@ use mathlib.Core.Path.{_≡_}
 use mathlib.Core.Logic.{_⊎_}
 use mathlib.Core.Bool.{true, false}
 use mathlib.Core.List.{List, List·Memᴰ}
-use lib.ListN.{length, getD}
+use lib.ListN.{length}
 use Rattle.theory.specs.Net.{Graph}
-use Rattle.area.specs.Map.{RESULT}
 use Rattle.area.specs.Region.{words}
 use Rattle.engine.specs.Placed.{Placed, Options}
 use Rattle.engine.specs.Marks.{Marking}
@@ -19,14 +18,15 @@ use Rattle.loading.specs.At.{At, AtAny}
 use Rattle.marks.specs.Positions.{tail-at, disjunctions-at}
 use Rattle.marks.specs.Marked.{marking}
 use Rattle.counting.specs.Nesting.{Nests, NestsAny}
-use Rattle.classes.specs.Holds.{Holds, Since}
+use Rattle.classes.specs.Holds.{Holds}
 use Rattle.quick.specs.declared.step.Step.{Step}
 use Rattle.quick.specs.declared.step.Step.the-variants.{Stands, Fails}
-use Rattle.quick.specs.Taken.{Among, AmongAny, Inside}
-use Rattle.quick.specs.Ground.{Ground}
-use Rattle.quick.specs.Entered.{Entering}
-use Rattle.quick.specs.Settled.{Alternating}
-use Rattle.quick.specs.Clear.{Outside, Clear, ClearAny}
+use Rattle.entering.specs.Taken.{Among, AmongAny, Inside}
+use Rattle.entering.specs.Ground.{Ground}
+use Rattle.entering.specs.Entered.{Entering}
+use Rattle.entering.specs.Settled.{Alternating}
+use Rattle.entering.specs.Clear.{Outside, Clear, ClearAny}
+use Rattle.entering.specs.Moved.{Moved}
 
 -- ---- marks
 -- how many of the numbers below c are kept
@@ -48,12 +48,6 @@ abbrev pub Off : ℕ → ℕ → Marking → Marking → Type 0
 Off n m k k' = (y : ℕ) → Outside n m y → k' y ≡ k y
 
 -- ---- the area
--- only what is pushed, what is remembered and marks changed, and the start is remembered
-pub record Moved (k : ℕ) (w : List ℕ) (k' : ℕ) (w' : List ℕ) : Type 0 where
-  pub len : length w' ≡ length w
-  pub rest : (j : ℕ) → RESULT ≤ j → getD w' j 0 ≡ getD w j 0
-  pub since : Since k w k' w'
-
 -- the graphs es' are pushed: those of es, and some with numbers from `from` up to `to`
 pub record Stood (n : ℕ) (U es : List Entry) (from to k' : ℕ) (w' : List ℕ) (es' : List Entry) : Type 0 where
   pub holds : Holds n es' k' w'

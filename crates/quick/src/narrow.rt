@@ -1,10 +1,10 @@
 // Disjunctions are narrowed: alternatives that fail are dropped, and what becomes certain is pushed.
 use crate::bare::try_bare;
-use crate::enter::enter;
-use crate::settle::settle;
 use crate::step::Step;
 use classes::push::Pushed;
 use classes::push::back;
+use entering::enter::enter;
+use entering::settle::settle;
 use marks::marking::drop;
 use marks::marking::kept;
 use marks::positions::after_at;
@@ -18,8 +18,8 @@ use sieving::gather::renew;
 ghost use Prim.Native.Nat.{ℕ};
 ghost use Rattle.marks.specs.Tallied.{Alternatives, Tallied};
 ghost use Rattle.sieving.specs.Sieved.{Sieved};
-ghost use Rattle.quick.specs.Entered.{Entering};
-ghost use Rattle.quick.specs.Settled.{Alternating};
+ghost use Rattle.entering.specs.Entered.{Entering};
+ghost use Rattle.entering.specs.Settled.{Alternating};
 ghost use Rattle.quick.specs.Stepped.{Narrowing, Narrows, Choosing, Chooses, Tries, Sifts};
 
 // Tries the alternative at g: it is entered and narrowed, and all that was pushed for it taken back. Mostly it has no disjunctions, and there is nothing to narrow.

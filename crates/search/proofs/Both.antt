@@ -32,10 +32,10 @@ use Rattle.loading.proofs.Walking.{at-bounds}
 use Rattle.marks.specs.Positions.{tail-at, disjunctions-at}
 use Rattle.marks.specs.Marked.{marking}
 use Rattle.classes.proofs.Laws.{holds-agree}
-use Rattle.quick.specs.Stage.{Pair}
-use Rattle.quick.proofs.Grounds.{numbered-end}
-use Rattle.quick.proofs.Settling.{agrees-true}
-use Rattle.quick.proofs.Pairs.{whole-comes, half-low}
+use Rattle.entering.specs.Stage.{Pair}
+use Rattle.entering.proofs.Grounds.{numbered-end}
+use Rattle.entering.proofs.Settling.{agrees-true}
+use Rattle.entering.proofs.Pairs.{whole-comes, half-low}
 use Rattle.search.specs.declared.agenda.Agenda.{Agenda}
 use Rattle.search.specs.Frames.{Slot, Lists, onto, Frames, plan}
 use Rattle.search.specs.Searched.{Standing, Resuming, resumed, Resumes, Searching, Searches}

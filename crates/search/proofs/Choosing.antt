@@ -24,10 +24,10 @@ use Rattle.marks.specs.Marked.{marking}
 use Rattle.marks.proofs.Reading.{Read, read-option}
 use Rattle.counting.specs.Nesting.{NestsAny}
 use Rattle.classes.proofs.Laws.{since-refl}
-use Rattle.quick.specs.Taken.{AmongAny}
-use Rattle.quick.specs.Stepped.{Moved}
-use Rattle.quick.proofs.Certain.{free-narrow}
-use Rattle.quick.proofs.Sifting.{moved-trans, moved-words}
+use Rattle.entering.specs.Taken.{AmongAny}
+use Rattle.entering.specs.Moved.{Moved}
+use Rattle.entering.proofs.Certain.{free-narrow}
+use Rattle.entering.proofs.Moves.{moved-trans, moved-words}
 use Rattle.search.specs.declared.agenda.Agenda.{Agenda}
 use Rattle.search.specs.Frames.{Frames, plan}
 use Rattle.search.specs.Searched.{Finds, Taking, taken-with, Takes, Choosing, chosen}

@@ -18,7 +18,7 @@ use Rattle.marks.specs.Marked.{marking, lights, Lighted}
 use Rattle.marks.specs.Positions.{number-at}
 use Rattle.classes.specs.Holds.{Holds}
 use Rattle.classes.proofs.Laws.{holds-frame, since-frame}
-use Rattle.quick.specs.Stepped.{Moved}
+use Rattle.entering.specs.Moved.{Moved}
 use Rattle.search.specs.Searched.{Noting, Notes, Finds}
 
 -- ---- an alternative is noted

@@ -15,9 +15,9 @@ use Rattle.loading.specs.Entry.{graphs}
 use Rattle.marks.specs.Positions.{tail-at, disjunctions-at}
 use Rattle.classes.specs.Holds.{Pushing}
 use Rattle.classes.proofs.Laws.{since-refl}
-use Rattle.quick.specs.Stepped.{Moved}
-use Rattle.quick.proofs.Entering.{asks-own}
-use Rattle.quick.proofs.Plain.{told-enters, bare-one, bare-good}
+use Rattle.entering.specs.Moved.{Moved}
+use Rattle.entering.proofs.Entering.{asks-own}
+use Rattle.entering.proofs.Bare.{told-enters, bare-one, bare-good}
 use Rattle.trying.specs.Guessed.{Guesses}
 use Rattle.trying.specs.declared.told.Guess.{Guess}
 use Rattle.trying.specs.declared.told.Guess.the-variants.{Agrees, Clashes, Unsure}

@@ -20,9 +20,9 @@ use Rattle.loading.proofs.Walking.{all-bounds}
 use Rattle.marks.specs.Positions.{tail-at, disjunctions-at}
 use Rattle.marks.proofs.Reading.{tail-is, disjunctions-is, read-at}
 use Rattle.counting.specs.Nesting.{Nests, NestsAll, NestsAny}
-use Rattle.quick.specs.Taken.{Among}
-use Rattle.quick.specs.Clear.{Clear, ClearAll}
-use Rattle.quick.proofs.Clearing.{all-alike}
+use Rattle.entering.specs.Taken.{Among}
+use Rattle.entering.specs.Clear.{Clear, ClearAll}
+use Rattle.entering.proofs.Clearing.{all-alike}
 use Rattle.search.specs.declared.agenda.Agenda.{Agenda}
 use Rattle.search.specs.Frames.{Slot, Lists, onto, Frame, Frames, plan}
 use Rattle.search.proofs.Slots.{lists-size}

@@ -27,11 +27,11 @@ use Rattle.marks.proofs.Reading.{Read, read-at, alternatives-is}
 use Rattle.marks.proofs.First.{first-kept}
 use Rattle.counting.specs.Nesting.{NestsAll}
 use Rattle.classes.proofs.Laws.{since-refl}
-use Rattle.quick.specs.Taken.{AmongAll, Free}
-use Rattle.quick.specs.Clear.{ByCount, Clear, ClearAll, ClearLone}
-use Rattle.quick.specs.Stepped.{Moved}
-use Rattle.quick.proofs.Certain.{Lone, lone-at}
-use Rattle.quick.proofs.Sifting.{moved-words}
+use Rattle.entering.specs.Taken.{AmongAll, Free}
+use Rattle.entering.specs.Clear.{ByCount, Clear, ClearAll, ClearLone}
+use Rattle.entering.specs.Moved.{Moved}
+use Rattle.entering.proofs.Certain.{Lone, lone-at}
+use Rattle.entering.proofs.Moves.{moved-words}
 use Rattle.search.specs.declared.agenda.Agenda.{Agenda}
 use Rattle.search.specs.Frames.{Slot, slots, Lists, onto, Frames, plan}
 use Rattle.search.specs.Searched.{Noting, Notes, Resuming, resumed, Resumes, Choosing, chosen, Chooses}

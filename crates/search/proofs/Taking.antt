@@ -29,13 +29,13 @@ use Rattle.classes.specs.Holds.{Since, Remembers, Backs}
 use Rattle.classes.specs.declared.push.Pushed.{Pushed}
 use Rattle.classes.specs.declared.push.Pushed.the-variants.{In, Clashed}
 use Rattle.classes.proofs.Laws.{holds-agree, since-trans}
-use Rattle.quick.specs.Entered.{Entering, entered, Enters}
-use Rattle.quick.specs.Clear.{Clear}
-use Rattle.quick.specs.Stepped.{Moved}
-use Rattle.quick.proofs.Certain.{taken-between}
-use Rattle.quick.proofs.Settling.{agrees-true, clash-false}
-use Rattle.quick.proofs.Trying.{entered-graphs, entered-inside, entered-clear, fine}
-use Rattle.quick.proofs.Sifting.{moved-words}
+use Rattle.entering.specs.Entered.{Entering, entered, Enters}
+use Rattle.entering.specs.Clear.{Clear}
+use Rattle.entering.specs.Moved.{Moved}
+use Rattle.entering.proofs.Certain.{taken-between}
+use Rattle.entering.proofs.Settling.{agrees-true, clash-false}
+use Rattle.entering.proofs.Within.{entered-graphs, entered-inside, entered-clear, fine}
+use Rattle.entering.proofs.Moves.{moved-words}
 use Rattle.search.specs.declared.agenda.Agenda.{Agenda}
 use Rattle.search.specs.Frames.{Slot, slots, Lists, onto, Frames, plan}
 use Rattle.search.specs.Searched.{Noting, Notes, Standing, Finds, Resuming, resumed, Resumes, Taking, taken-with, Takes}

@@ -10,8 +10,8 @@ use Rattle.loading.specs.Entry.{Entry}
 use Rattle.loading.specs.Numbered.{places}
 use Rattle.loading.specs.At.{AtAll}
 use Rattle.counting.specs.Nesting.{NestsAll}
-use Rattle.quick.specs.Taken.{AmongAll}
-use Rattle.quick.specs.Clear.{ClearAll}
+use Rattle.entering.specs.Taken.{AmongAll}
+use Rattle.entering.specs.Clear.{ClearAll}
 use Rattle.search.specs.declared.agenda.Agenda.{Agenda}
 
 -- a frame: where its next disjunction stands, and how many are left in it

@@ -22,10 +22,10 @@ use Rattle.marks.specs.Marked.{marking, lights}
 use Rattle.marks.specs.Positions.{number-at}
 use Rattle.counting.specs.Nesting.{Nests, NestsAny}
 use Rattle.classes.specs.Holds.{Holds}
-use Rattle.quick.specs.Taken.{Among, AmongAny, Inside, Free}
-use Rattle.quick.specs.Ground.{Ground}
-use Rattle.quick.specs.Stepped.{Moved}
-use Rattle.quick.specs.Stage.{Pair, Stage}
+use Rattle.entering.specs.Taken.{Among, AmongAny, Inside, Free}
+use Rattle.entering.specs.Ground.{Ground}
+use Rattle.entering.specs.Moved.{Moved}
+use Rattle.entering.specs.Stage.{Pair, Stage}
 use Rattle.search.specs.declared.agenda.Agenda.{Agenda}
 use Rattle.search.specs.Frames.{Slot, Lists, Frames, plan}
 

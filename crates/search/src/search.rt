@@ -9,6 +9,7 @@ use area::map::SECOND;
 use classes::push::Pushed;
 use classes::push::back;
 use counting::choices::capped;
+use entering::enter::enter;
 use layout::limits::DEPTH_LIMIT;
 use marks::marking::kept;
 use marks::marking::light;
@@ -16,7 +17,6 @@ use marks::positions::after_at;
 use marks::positions::alternatives_at;
 use marks::positions::number_at;
 use marks::tally::count_kept;
-use quick::enter::enter;
 use trying::told::Guess;
 ghost use Rattle.search.specs.Searched.{Noting, Notes, Resuming, Resumes, Taking, Takes, Choosing, Chooses, Searching, Searches};
 

@@ -18,8 +18,8 @@ use Rattle.engine.specs.Quickly.{Leaves}
 use Rattle.engine.specs.Shown.{shown}
 use Rattle.engine.proofs.Sane.{Sane}
 use Rattle.marks.specs.Marked.{marking}
-use Rattle.quick.specs.Stage.{Pair, Stage}
-use Rattle.quick.proofs.Quickly.{every-can, every-sane, joined-shown, left-can, left-sane, quick-shown}
+use Rattle.entering.specs.Stage.{Pair, Stage}
+use Rattle.entering.proofs.Conclusions.{every-can, every-sane, joined-shown, left-can, left-sane, quick-shown}
 use Rattle.showing.specs.Showing.{outcome, Showing}
 
 module _ (n : ℕ) (t : List ℕ) (p : Pair n t) where

@@ -28,8 +28,8 @@ use Rattle.marks.specs.Marked.{marking}
 use Rattle.classes.specs.Holds.{Backs, Remembers}
 use Rattle.classes.specs.declared.push.Pushed.{Pushed}
 use Rattle.classes.specs.declared.push.Pushed.the-variants.{In, Clashed}
-use Rattle.quick.specs.Entered.{Entering, entered, Enters}
-use Rattle.quick.proofs.Certain.{taken-flat}
+use Rattle.entering.specs.Entered.{Entering, entered, Enters}
+use Rattle.entering.proofs.Certain.{taken-flat}
 use Rattle.writing.specs.Writing.{Writing, Writes}
 use Rattle.showing.specs.Putting.{Written, Describing, lead, left-all}
 use Rattle.showing.proofs.Leaving.{description-words}

@@ -24,7 +24,7 @@ use Rattle.marks.specs.Positions.{number-at, tail-at, after-at}
 use Rattle.marks.specs.Marked.{marking}
 use Rattle.marks.proofs.Reading.{Read, read-option}
 use Rattle.counting.specs.Nesting.{NestsAny}
-use Rattle.quick.specs.Taken.{AmongAny}
+use Rattle.entering.specs.Taken.{AmongAny}
 use Rattle.showing.specs.Putting.{Written, Base, Describing, Describes, Offering}
 use Rattle.showing.proofs.Written.{written-none, written-order, written-append, based}
 use Rattle.showing.proofs.Leaving.{any-words, no-words}

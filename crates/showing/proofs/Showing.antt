@@ -46,7 +46,7 @@ use Rattle.showing.proofs.Written.{written-order, written-append, writt
 use Rattle.showing.proofs.Leaving.{then-words, then-count, shown-next, few-disjunctions, nothing-left, description-words, can-parts, sane-parts}
 use Rattle.showing.proofs.Leading.{lead-joins, weight-words}
 use Rattle.showing.proofs.Describing.{inner-can, inner-sane}
-use Rattle.quick.proofs.Pairs.{half-low}
+use Rattle.entering.proofs.Pairs.{half-low}
 
 -- the disjunctions of the joined description are those of both
 both-later : (a b j : Placed) (m : Marking) → joined-placed a b ≡ some j → left-all m j ≡ left-all m a then left-all m b

@@ -21,7 +21,7 @@ use Rattle.loading.specs.Numbered.{options}
 use Rattle.loading.specs.At.{AtAny}
 use Rattle.loading.proofs.Walking.{any-bounds, any-counts}
 use Rattle.marks.specs.Tallied.{from-kept, Alternatives, Tallied}
-use Rattle.quick.proofs.Certain.{Lone, lone-at}
+use Rattle.entering.proofs.Certain.{Lone, lone-at}
 use Rattle.showing.specs.Putting.{Written, left-all, Disjoining, Disjoins, folded, Varying, Offering, Offers}
 use Rattle.showing.proofs.Written.{written-append, written-word, based}
 use Rattle.showing.proofs.Leaving.{shown-alone, shown-several, shown-count}

@@ -2,7 +2,7 @@
 -- Assumes nothing: these are definitions.
 use Prim.Native.Nat.{ℕ, _+_, _≤_, _<_}
 use mathlib.Core.Path.{_≡_}
-use mathlib.Core.List.{List, [], _∷_}
+use mathlib.Core.List.{List, []}
 use lib.ListN.{length, getD}
 use Rattle.theory.specs.Net.{Graph}
 use Rattle.theory.specs.Modes.{glue}
@@ -24,8 +24,8 @@ use Rattle.loading.specs.At.{At, AtAny}
 use Rattle.marks.specs.Marked.{marking}
 use Rattle.counting.specs.Nesting.{Nests, NestsAny}
 use Rattle.classes.specs.Holds.{Holds}
-use Rattle.quick.specs.Taken.{Among, AmongAny}
-use Rattle.quick.specs.Ground.{Ground}
+use Rattle.entering.specs.Taken.{Among, AmongAny}
+use Rattle.entering.specs.Ground.{Ground}
 
 -- w' is w with the words xs in the result from o up to r, and nothing is pushed; before the loaded words anything may have changed
 pub record Written (n : ℕ) (w : List ℕ) (o : ℕ) (xs : List ℕ) (r : ℕ) (w' : List ℕ) : Type 0 where

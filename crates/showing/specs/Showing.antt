@@ -15,7 +15,7 @@ use Rattle.engine.specs.Shown.{shown}
 use Rattle.engine.proofs.Sane.{Sane}
 use Rattle.marks.specs.Positions.{tail-at, disjunctions-at}
 use Rattle.marks.specs.Marked.{marking}
-use Rattle.quick.specs.Stage.{Pair, Stage}
+use Rattle.entering.specs.Stage.{Pair, Stage}
 
 -- how many disjunctions the inputs have that stand loaded
 abbrev pub disjunctions-in : List ℕ → ℕ

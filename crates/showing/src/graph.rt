@@ -3,7 +3,7 @@ use crate::copy::copy_graph;
 use crate::lone::lone;
 use classes::push::Pushed;
 use classes::push::back;
-use quick::enter::enter;
+use entering::enter::enter;
 use writing::graph::write_graph;
 ghost use Rattle.showing.specs.Putting.{Describing, Leads};
 

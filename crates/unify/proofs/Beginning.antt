@@ -21,7 +21,7 @@ use Rattle.marks.specs.Marked.{Cleared}
 use Rattle.opening.specs.Opening.{Read, Stand, Told, Opening, Opens}
 use Rattle.opening.specs.declared.Opened.{Opened}
 use Rattle.opening.specs.declared.Opened.the-variants.{Joined, Clashed}
-use Rattle.quick.proofs.Stages.{first-stage}
+use Rattle.entering.proofs.Stages.{first-stage}
 use Rattle.unify.specs.Making.{Begun, Begins}
 
 clash-none : (d e : Desc) → WellFormed d depth-limit → WellFormed e depth-limit → (w : List ℕ) → Told w d e Clashed → joined d e ≡ none

@@ -6,8 +6,8 @@ use Prim.Native.Nat.{ℕ}
 use native.Mathlib.Omega.{arith}
 use Rattle.engine.specs.Quickly.{Leaves}
 use Rattle.marks.specs.Marked.{marking, Doused}
-use Rattle.quick.specs.Stage.{Pair, Stage}
-use Rattle.quick.proofs.Stages.{stage-again}
+use Rattle.entering.specs.Stage.{Pair, Stage}
+use Rattle.entering.proofs.Stages.{stage-again}
 use Rattle.full.specs.Fulled.{Fulling, Fulls}
 use Rattle.full.specs.declared.full.Fully.{Fully}
 use Rattle.full.specs.declared.full.Fully.the-variants.{Over, Nothing, Left}

@@ -13,8 +13,8 @@ use Rattle.marks.specs.Marked.{marking}
 use Rattle.opening.specs.Opening.{Read, Opening}
 use Rattle.opening.specs.declared.Opened.{Opened}
 use Rattle.opening.specs.declared.Opened.the-variants.{Joined, Clashed}
-use Rattle.quick.specs.Stage.{Pair, Stage}
-use Rattle.quick.specs.Stepped.{Moved}
+use Rattle.entering.specs.Stage.{Pair, Stage}
+use Rattle.entering.specs.Moved.{Moved}
 use Rattle.quick.specs.Quickened.{Quickening, Quickens}
 use Rattle.quick.specs.declared.step.Step.{Step}
 use Rattle.quick.specs.declared.step.Step.the-variants.{Stands, Fails}

@@ -24,8 +24,8 @@ use Rattle.engine.specs.Marks.{Marking, all-kept, keep}
 use Rattle.engine.specs.Quickly.{quick-at, Leaves}
 use Rattle.engine.specs.Shown.{shown}
 use Rattle.area.specs.Map.{RESULT}
-use Rattle.quick.specs.Stage.{Pair}
-use Rattle.quick.proofs.Quickly.{joined-shown, quick-none, quick-shown}
+use Rattle.entering.specs.Stage.{Pair}
+use Rattle.entering.proofs.Conclusions.{joined-shown, quick-none, quick-shown}
 use Rattle.unify.specs.declared.making.Made.{Made}
 use Rattle.unify.specs.declared.making.Made.the-variants.{Ready, Clash, TooMany}
 use Rattle.unify.specs.Making.{Meant}

@@ -21,7 +21,7 @@ use Rattle.marks.specs.Marked.{marking}
 use Rattle.opening.specs.Opening.{Read}
 use Rattle.opening.specs.declared.Opened.{Opened}
 use Rattle.opening.specs.declared.Opened.the-variants.{Joined, Clashed}
-use Rattle.quick.specs.Stage.{Pair, Stage}
+use Rattle.entering.specs.Stage.{Pair, Stage}
 use Rattle.unify.specs.declared.making.Made.{Made}
 use Rattle.unify.specs.declared.making.Made.the-variants.{Ready, Clash, TooMany}
 

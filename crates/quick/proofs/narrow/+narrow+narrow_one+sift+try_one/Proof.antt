@@ -11,10 +11,12 @@ use Rattle.marks.specs.Marked.{marking}
 use Rattle.classes.proofs.Laws.{since-trans}
 use Rattle.sieving.specs.Sieved.{Sieved}
 use Rattle.sieving.proofs.Keeping.{blank, sieved-since}
-use Rattle.quick.specs.Settled.{Alternating}
-use Rattle.quick.specs.Stepped.{Fewer, Moved, Narrowing}
-use Rattle.quick.proofs.Entering.{asks-own}
-use Rattle.quick.proofs.Trying.{tried-starts, tries-clash, asks-narrow, asks-back, tries-fails, tries-stands}
+use Rattle.entering.specs.Settled.{Alternating}
+use Rattle.quick.specs.Stepped.{Fewer, Narrowing}
+use Rattle.entering.specs.Moved.{Moved}
+use Rattle.entering.proofs.Entering.{asks-own}
+use Rattle.quick.proofs.Trying.{tries-clash, asks-narrow, asks-back, tries-fails, tries-stands}
+use Rattle.entering.proofs.Within.{tried-starts}
 use Rattle.quick.proofs.Sifting.{fewer-none, fewer-trans, fewer-small, Sifting, Turn, skipped, stood, failed, moved-none, sift-start, sift-here, sift-asks, turn-moved, turn-inside, turn-fewer, turn-on, sift-done}
 use Rattle.quick.proofs.Choosing.{chosen, chooses-none, asks-alone, chooses-one, asks-sift, asks-settle, chooses-still, chooses-fails, chooses-stands}
 use Rattle.quick.proofs.Narrowing.{Going, narrow-starts, narrow-runs, moved-start, narrow-begin, narrow-done, narrow-here, narrow-deep, asks-one, moved-on, runs-after, sieved-after, narrow-on, moved-back, fewer-back, narrow-fails, narrows-stands, narrows-fails, narrows-len}
@@ -42,8 +44,8 @@ use Rattle.marks.proofs.positions.number_at.Reads as number-at-reads
 use Rattle.marks.proofs.positions.tail_at.Reads as tail-at-reads
 use Rattle.marks.proofs.tally.count_kept.Reads as count-kept-reads
 use Rattle.quick.proofs.bare.try_bare.Reads as try-bare-reads
-use Rattle.quick.proofs.enter.enter.Reads as enter-reads
-use Rattle.quick.proofs.settle.settle.Reads as settle-reads
+use Rattle.entering.proofs.enter.enter.Reads as enter-reads
+use Rattle.entering.proofs.settle.settle.Reads as settle-reads
 use Rattle.sieving.proofs.gather.gather.Reads as gather-reads
 use Rattle.sieving.proofs.gather.renew.Reads as renew-reads
 use Rattle.quick.proofs.narrow.+narrow+narrow_one+sift+try_one.{statement}

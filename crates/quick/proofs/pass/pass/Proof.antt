@@ -7,8 +7,6 @@ use Rattle.quick.proofs.Passing.{first, pass-fails, second, asks-undo, 
 use borrow.Author.Needs.{needs}
 use Rattle.quick.proofs.pass.pass.Statement.{statement}
 use Rattle.quick.proofs.pass.pass.Tie as tie
-use Rattle.quick.proofs.pass.pass.Reads as reads
-use Rattle.quick.proofs.pass.pass.Lts as lts
 use Rattle.classes.proofs.push.back.Reads as back-reads
 use Rattle.quick.proofs.narrow.narrow.Reads as narrow-reads
 

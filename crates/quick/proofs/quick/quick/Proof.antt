@@ -5,8 +5,6 @@ use Rattle.quick.proofs.Rounds.{rounds-left, Rounds, rounds-start, roun
 use borrow.Author.Needs.{needs}
 use Rattle.quick.proofs.quick.quick.Statement.{statement}
 use Rattle.quick.proofs.quick.quick.Tie as tie
-use Rattle.quick.proofs.quick.quick.Reads as reads
-use Rattle.quick.proofs.quick.quick.Lts as lts
 use Rattle.classes.proofs.push.back.Reads as back-reads
 use Rattle.quick.proofs.pass.pass.Reads as pass-reads
 

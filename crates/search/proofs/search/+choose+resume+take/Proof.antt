@@ -4,7 +4,7 @@ use native.Mathlib.Omega.{arith}
 use borrow.Author.Needs.{needs}
 use mathlib.Core.Path.{refl, _∙_}
 use mathlib.Core.Logic.{⊎-elim}
-use Rattle.quick.specs.Stepped.{Moved}
+use Rattle.entering.specs.Moved.{Moved}
 use Rattle.search.specs.Frames.{slots}
 use Rattle.search.specs.Searched.{Choosing}
 use Rattle.search.proofs.Finding.{finds-small}
@@ -32,7 +32,7 @@ use Rattle.marks.proofs.positions.after_at.Reads as after-at-reads
 use Rattle.marks.proofs.positions.alternatives_at.Reads as alternatives-at-reads
 use Rattle.marks.proofs.positions.number_at.Reads as number-at-reads
 use Rattle.marks.proofs.tally.count_kept.Reads as count-kept-reads
-use Rattle.quick.proofs.enter.enter.Reads as enter-reads
+use Rattle.entering.proofs.enter.enter.Reads as enter-reads
 use Rattle.search.proofs.agenda.after.Reads as after-reads
 use Rattle.search.proofs.agenda.before.Reads as before-reads
 use Rattle.search.proofs.agenda.descend.Reads as descend-reads

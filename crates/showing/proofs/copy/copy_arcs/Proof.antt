@@ -8,8 +8,6 @@ use Rattle.showing.specs.Copying.{its-arcs, Copying}
 use Rattle.showing.proofs.Nodes.{Arcs, arcs-start, arcs-done, arcs-same, arcs-here, arcs-above, arcs-on}
 use Rattle.showing.proofs.copy.copy_arcs.Statement.{statement}
 use Rattle.showing.proofs.copy.copy_arcs.Tie as tie
-use Rattle.showing.proofs.copy.copy_arcs.Reads as reads
-use Rattle.showing.proofs.copy.copy_arcs.Lts as lts
 use Rattle.marks.proofs.positions.word_at.Reads as word-at-reads
 
 abbrev Inv-loop : tie.InvT-loop

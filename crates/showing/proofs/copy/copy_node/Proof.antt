@@ -5,8 +5,6 @@ use Rattle.showing.proofs.Nodes.{node-here, node-atom, node-asks, node-
 use borrow.Author.Needs.{needs}
 use Rattle.showing.proofs.copy.copy_node.Statement.{statement}
 use Rattle.showing.proofs.copy.copy_node.Tie as tie
-use Rattle.showing.proofs.copy.copy_node.Reads as reads
-use Rattle.showing.proofs.copy.copy_node.Lts as lts
 use Rattle.marks.proofs.positions.word_at.Reads as word-at-reads
 use Rattle.showing.proofs.copy.copy_arcs.Reads as copy-arcs-reads
 

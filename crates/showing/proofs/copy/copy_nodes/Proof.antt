@@ -5,8 +5,6 @@ use Rattle.showing.specs.Copying.{its-nodes, Copying}
 use Rattle.showing.proofs.Copying.{Nodes, nodes-start, nodes-done, nodes-same, nodes-asks, nodes-near, nodes-on}
 use Rattle.showing.proofs.copy.copy_nodes.Statement.{statement}
 use Rattle.showing.proofs.copy.copy_nodes.Tie as tie
-use Rattle.showing.proofs.copy.copy_nodes.Reads as reads
-use Rattle.showing.proofs.copy.copy_nodes.Lts as lts
 use Rattle.showing.proofs.copy.copy_node.Reads as copy-node-reads
 
 abbrev Inv-loop : tie.InvT-loop

@@ -4,10 +4,8 @@ use borrow.Author.Needs.{needs}
 use Rattle.showing.proofs.Leading.{asks-enter, not-clashed, asks-write, asks-back, led}
 use Rattle.showing.proofs.graph.join_graph.Statement.{statement}
 use Rattle.showing.proofs.graph.join_graph.Tie as tie
-use Rattle.showing.proofs.graph.join_graph.Reads as reads
-use Rattle.showing.proofs.graph.join_graph.Lts as lts
 use Rattle.classes.proofs.push.back.Reads as back-reads
-use Rattle.quick.proofs.enter.enter.Reads as enter-reads
+use Rattle.entering.proofs.enter.enter.Reads as enter-reads
 use Rattle.writing.proofs.graph.write_graph.Reads as write-graph-reads
 
 enter-requires : tie.Need-enter-requires

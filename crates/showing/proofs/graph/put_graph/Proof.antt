@@ -4,8 +4,6 @@ use Rattle.showing.proofs.Owning.{asks-look, asks-copy, owned}
 use borrow.Author.Needs.{needs}
 use Rattle.showing.proofs.graph.put_graph.Statement.{statement}
 use Rattle.showing.proofs.graph.put_graph.Tie as tie
-use Rattle.showing.proofs.graph.put_graph.Reads as reads
-use Rattle.showing.proofs.graph.put_graph.Lts as lts
 use Rattle.showing.proofs.copy.copy_graph.Reads as copy-graph-reads
 use Rattle.showing.proofs.graph.join_graph.Reads as join-graph-reads
 use Rattle.showing.proofs.lone.lone.Reads as lone-reads

@@ -7,8 +7,6 @@ use Rattle.showing.specs.Alone.{Looking}
 use Rattle.showing.proofs.Looking.{Going, look-reads, look-start, look-done, look-here, look-counts, look-on}
 use Rattle.showing.proofs.lone.lone.Statement.{statement}
 use Rattle.showing.proofs.lone.lone.Tie as tie
-use Rattle.showing.proofs.lone.lone.Reads as reads
-use Rattle.showing.proofs.lone.lone.Lts as lts
 use Rattle.marks.proofs.positions.alternatives_at.Reads as alternatives-at-reads
 use Rattle.marks.proofs.positions.disjunctions_at.Reads as disjunctions-at-reads
 use Rattle.marks.proofs.positions.tail_at.Reads as tail-at-reads

@@ -15,8 +15,8 @@ use Rattle.counting.specs.Nesting.{Nests}
 use Rattle.classes.specs.Holds.{Holds, Since}
 use Rattle.classes.specs.declared.push.Pushed.{Pushed}
 use Rattle.classes.specs.declared.push.Pushed.the-variants.{In, Clashed}
-use Rattle.quick.specs.Taken.{taken, Among, Inside, Free}
-use Rattle.quick.specs.Ground.{Ground}
+use Rattle.entering.specs.Taken.{taken, Among, Inside, Free}
+use Rattle.entering.specs.Ground.{Ground}
 
 -- some graphs es are pushed, and a description stands loaded at g of which none is; its alternatives nest at most `left` deep
 pub record Entering (n k : ℕ) (w : List ℕ) (g left : ℕ) : Type 0 where

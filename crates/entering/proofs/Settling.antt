@@ -1,15 +1,14 @@
 -- Settling a disjunction: engine's `settle-at`, return by return.
 -- Assumes nothing.
-use Prim.Native.Nat.{ℕ, zero, suc, _+_, _≤_, _<_}
+use Prim.Native.Nat.{ℕ, zero, suc, _<_}
 use native.Mathlib.Omega.{arith}
 use mathlib.Core.Path.{_≡_, refl, sym, ap, subst, _∙_}
-use mathlib.Core.Logic.{_≢_}
 use mathlib.Core.Bool.{Bool, true, false}
 use mathlib.Core.List.{List, [], _∷_, _++_, append-nil}
 use lib.ListN.{length, length-append}
 use Rattle.theory.specs.Net.{Graph, Clash, Agree}
 use Rattle.theory.specs.Descr.{agree}
-use Rattle.theory.proofs.Instance.{AllCanonical}
+use Rattle.theory.proofs.Instance.{AllCanonical, join-none}
 use Rattle.theory.proofs.Mean.{Ctx, Fine}
 use Rattle.theory.proofs.Model.{agree-iff}
 use Rattle.engine.specs.Placed.{Placed, place, Options}
@@ -25,13 +24,15 @@ use Rattle.classes.specs.declared.push.Pushed.{Pushed}
 use Rattle.classes.specs.declared.push.Pushed.the-variants.{In, Clashed}
 use Rattle.classes.proofs.Comings.{graphs-append}
 use Rattle.classes.proofs.Laws.{holds-agree, since-refl}
-use Rattle.quick.specs.Taken.{taken, taken-any, Inside}
-use Rattle.quick.specs.Ground.{Ground}
-use Rattle.quick.specs.Entered.{Entering, entered, Enters}
-use Rattle.quick.specs.Settled.{Alternating, settled, Settles}
-use Rattle.quick.proofs.Certain.{taken-lone, taken-none, taken-any-inside}
-use Rattle.quick.proofs.Alone.{counted, inner, inner-entered, inner-es}
-use Rattle.quick.proofs.Entering.{inside-append, canonical-all}
+use Rattle.entering.specs.Taken.{taken, taken-any, Inside}
+use Rattle.entering.specs.Entered.{Entering, entered, Enters}
+use Rattle.entering.specs.Settled.{Alternating, settled, Settles}
+use Rattle.entering.proofs.Certain.{taken-lone, taken-none, taken-any-inside}
+use Rattle.entering.proofs.Alone.{counted, inner, inner-entered, inner-es}
+use Rattle.entering.proofs.Entering.{inside-append, canonical-all}
+use mathlib.Core.Option.{Option, none, some}
+use Rattle.theory.specs.Join.{join}
+use Rattle.theory.proofs.Live.{Agrees}
 
 -- ---- engine's settling, by the number that is kept
 settling : List Graph → Marking → Options → ℕ → Bool → Step
@@ -60,6 +61,15 @@ clash-false gs f k = go (agree gs) refl
     go : (b : Bool) → agree gs ≡ b → b ≡ false
     go true e = absurd (agree-iff gs f .0 e k)
     go false e = refl
+
+-- graphs that do not clash have a joined graph
+pub agree-joins : (gs : Ctx) → Fine gs → Agree gs → Agrees gs
+agree-joins [] f a = absurd (omega arith)
+agree-joins (g ∷ gs) f a = go (join (g ∷ gs)) refl
+  where
+    go : (o : Option Graph) → join (g ∷ gs) ≡ o → Agrees (g ∷ gs)
+    go (some G) q = (G, q)
+    go none q = absurd (a (join-none g gs (f .1) q))
 
 pub some-taken : (t : List ℕ) (k : Marking) (p n : ℕ) (d : Placed) (q m : ℕ) (at : At t p n d q m) → 0 < length (graphs (taken t k p n d q m at))
 some-taken t k p n (place g ds) q m at = omega arith

@@ -43,14 +43,14 @@ use Rattle.classes.proofs.Laws.{holds-agree, holds-frame, undoable-frame}
 use Rattle.opening.specs.Opening.{Stand, definite}
 use Rattle.opening.proofs.Universe.{universe, in-one, in-two}
 use Rattle.opening.proofs.Opens.{number-definite}
-use Rattle.quick.specs.Taken.{taken}
-use Rattle.quick.specs.Clear.{Outside, Clear}
-use Rattle.quick.specs.Passed.{Inputs, Ready}
-use Rattle.quick.specs.Stage.{Pair, Stage}
-use Rattle.quick.proofs.Clearing.{clear-taken}
-use Rattle.quick.proofs.Grounds.{ground, numbered-among}
-use Rattle.quick.proofs.Pairs.{whole-comes}
-use Rattle.quick.proofs.Rounds.{agree-joins}
+use Rattle.entering.specs.Taken.{taken}
+use Rattle.entering.specs.Clear.{Outside, Clear}
+use Rattle.entering.specs.Inputs.{Inputs, Ready}
+use Rattle.entering.specs.Stage.{Pair, Stage}
+use Rattle.entering.proofs.Clearing.{clear-taken}
+use Rattle.entering.proofs.Grounds.{ground, numbered-among}
+use Rattle.entering.proofs.Pairs.{whole-comes}
+use Rattle.entering.proofs.Settling.{agree-joins}
 
 -- ---- definite graphs
 definite-taken : (t : List ℕ) (k : Marking) (d : Desc) (p n q m : ℕ) (at : At t p n (numbered n d) q m) → List·Memᴰ (definite p n d) (taken t k p n (numbered n d) q m at)

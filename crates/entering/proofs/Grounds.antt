@@ -1,12 +1,11 @@
 -- The graphs of both inputs are a ground, and those of each input are among them.
 -- Assumes nothing.
-use Prim.Native.Nat.{ℕ, suc, _+_, _*_, _≤_, _<_}
+use Prim.Native.Nat.{ℕ, suc, _+_, _≤_}
 use native.Mathlib.Omega.{arith}
-use mathlib.Core.Path.{_≡_, refl, sym, ap, subst, _∙_}
-use mathlib.Core.List.{List, [], _∷_, _++_, List·Memᴰ, List·Memᴰ·head, List·Memᴰ·tail, Memᴰ·append-left, Memᴰ·append-right}
+use mathlib.Core.Path.{_≡_, sym, ap, subst}
+use mathlib.Core.List.{List, _∷_, List·Memᴰ, List·Memᴰ·head, List·Memᴰ·tail, Memᴰ·append-left, Memᴰ·append-right}
 use lib.ListN.{length, length-append}
 use Rattle.theory.specs.Limits.{input-limit, depth-limit}
-use Rattle.theory.specs.Net.{Graph}
 use Rattle.theory.specs.Descr.{Desc, desc, Disjs, end, _and_, Alts, fail, _or_, disjs}
 use Rattle.theory.specs.Layout.{nodes-words, disjs-words, alts-words, WellFormed}
 use Rattle.theory.specs.Layout as layout
@@ -17,11 +16,10 @@ use Rattle.loading.specs.Loaded.{extent, nodes-in, nodes-all, nodes-any}
 use Rattle.loading.specs.Numbered.{numbered, numbered-all, numbered-any}
 use Rattle.loading.specs.At.{At, AtAll, AtAny}
 use Rattle.loading.proofs.Entries.{entry, entries, entries-all, entries-any}
-use Rattle.classes.specs.Holds.{Holds}
 use Rattle.opening.specs.Opening.{Stand}
 use Rattle.opening.proofs.Universe.{universe, good, comes, nodes-room}
-use Rattle.quick.specs.Taken.{Among, AmongAll, AmongAny}
-use Rattle.quick.specs.Ground.{Ground}
+use Rattle.entering.specs.Taken.{Among, AmongAll, AmongAny}
+use Rattle.entering.specs.Ground.{Ground}
 
 pub ground : (w : List ℕ) (d e : Desc) (n : ℕ) → SIZE ≤ length w → WellFormed d depth-limit → WellFormed e depth-limit → length (layout.words d) ≤ input-limit → length (layout.words e) ≤ input-limit → Stand (words w) d e n → Ground n (words w) (universe d e)
 unfolding words

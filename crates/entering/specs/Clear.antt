@@ -10,7 +10,7 @@ use Rattle.engine.specs.Marks.{Marking, kept-of}
 use Rattle.loading.specs.Entry.{Entry}
 use Rattle.loading.specs.Loaded.{extent}
 use Rattle.loading.specs.At.{At, AtAll, AtAny}
-use Rattle.quick.specs.Taken.{Free}
+use Rattle.entering.specs.Taken.{Free}
 
 -- the number y is not from n up to m
 abbrev pub Outside : ℕ → ℕ → ℕ → Type 0

@@ -2,7 +2,7 @@
 use crate::enter::enter;
 use classes::push::Pushed;
 use marks::tally::count_kept;
-ghost use Rattle.quick.specs.Settled.{Alternating, Settles};
+ghost use Rattle.entering.specs.Settled.{Alternating, Settles};
 
 // Of the `count` alternatives from p on: with none left it fails, one that stands alone is entered, and several stay.
 pub fn settle(w: &mut [u32], k: usize, n: usize, p: usize, count: usize, left: u32) -> Pushed

@@ -9,7 +9,7 @@ use Rattle.loading.specs.Entry.{Entry}
 use Rattle.loading.specs.Loaded.{number-step}
 use Rattle.classes.specs.Entry.{Comes}
 use Rattle.classes.specs.Holds.{Holds}
-use Rattle.quick.specs.Taken.{Inside}
+use Rattle.entering.specs.Taken.{Inside}
 
 -- the graphs U lie in the words t, their nodes numbered below n
 pub record Ground (n : ℕ) (t : List ℕ) (U : List Entry) : Type 0 where

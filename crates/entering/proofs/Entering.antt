@@ -1,15 +1,15 @@
 -- Entering a description: what is still to be pushed, disjunction by disjunction.
 -- Assumes nothing.
-use Prim.Native.Nat.{ℕ, zero, suc, _+_, _-_, _≤_, _<_}
+use Prim.Native.Nat.{ℕ, _+_, _-_, _≤_, _<_}
 use native.Mathlib.Omega.{arith}
 use mathlib.Core.Path.{_≡_, refl, sym, ap, subst, _∙_}
-use mathlib.Core.Logic.{_⊎_, inl, inr, ⊎-elim}
-use mathlib.Core.List.{List, [], _∷_, _++_, append-nil, append-assoc, List·Memᴰ, List·Memᴰ·head, List·Memᴰ·tail, List·Memᴰ·cases-cons, List·Memᴰ·not-nil, List·Memᴰ·append-cases, Memᴰ·append-left, Memᴰ·append-right}
+use mathlib.Core.Logic.{inl, ⊎-elim}
+use mathlib.Core.List.{List, [], _∷_, _++_, append-nil, append-assoc, List·Memᴰ, List·Memᴰ·head, List·Memᴰ·tail, List·Memᴰ·cases-cons, List·Memᴰ·not-nil, List·Memᴰ·append-cases, Memᴰ·append-left}
 use lib.ListN.{length, getD}
 use Rattle.theory.specs.Net.{Graph, Clash}
 use Rattle.theory.proofs.Instance.{AllCanonical}
-use Rattle.theory.proofs.Sets.{Within, clash-within}
-use Rattle.area.specs.Map.{WORDS, MARKS, RESULT, SIZE}
+use Rattle.theory.proofs.Sets.{clash-within}
+use Rattle.area.specs.Map.{WORDS}
 use Rattle.area.specs.Region.{words}
 use Rattle.area.proofs.Region.{words-same, words-many}
 use Rattle.engine.specs.Placed.{Placed, place, Places, stop, _also_, Options}
@@ -22,7 +22,7 @@ use Rattle.loading.proofs.Entries.{entry}
 use Rattle.loading.proofs.Walking.{at-bounds, all-bounds, any-bounds}
 use Rattle.marks.specs.Positions.{tail-at, disjunctions-at, alternatives-at}
 use Rattle.marks.specs.Marked.{marking}
-use Rattle.marks.specs.Tallied.{from-kept, Alternatives, Tallied}
+use Rattle.marks.specs.Tallied.{Alternatives, Tallied}
 use Rattle.marks.proofs.Reading.{tail-is, disjunctions-is, alternatives-is, read-at}
 use Rattle.marks.proofs.Marks.{marking-frame}
 use Rattle.counting.specs.Nesting.{Nests, NestsAll, NestsAny}
@@ -32,12 +32,12 @@ use Rattle.classes.specs.declared.push.Pushed.{Pushed}
 use Rattle.classes.specs.declared.push.Pushed.the-variants.{In, Clashed}
 use Rattle.classes.proofs.Laws.{since-trans}
 use Rattle.classes.proofs.Comings.{graphs-append}
-use Rattle.quick.specs.Taken.{taken, taken-all, taken-any, Among, AmongAll, AmongAny, Inside, Free}
-use Rattle.quick.specs.Ground.{Ground}
-use Rattle.quick.specs.Entered.{Entering, entered, Enters}
-use Rattle.quick.specs.Settled.{Alternating, settled}
-use Rattle.quick.proofs.Certain.{taken-inside, taken-any-inside, free-narrow, taken-any-between, taken-none}
-use Rattle.quick.proofs.Alone.{counted, inner, inner-entered}
+use Rattle.entering.specs.Taken.{taken, taken-all, taken-any, Among, AmongAll, AmongAny, Inside, Free}
+use Rattle.entering.specs.Ground.{Ground}
+use Rattle.entering.specs.Entered.{Entering, entered, Enters}
+use Rattle.entering.specs.Settled.{Alternating, settled}
+use Rattle.entering.proofs.Certain.{taken-inside, taken-any-inside, free-narrow, taken-any-between, taken-none}
+use Rattle.entering.proofs.Alone.{counted, inner, inner-entered}
 
 -- ---- lists of entries
 pub inside-append : (U xs ys : List Entry) → Inside U xs → Inside U ys → Inside U (xs ++ ys)

@@ -17,8 +17,8 @@ use Rattle.engine.proofs.Proper.{proper-sane, proper-fold}
 use Rattle.modes_by_marks.proofs.Proper.{Proper}
 use Rattle.engine.proofs.Shown.{shown-ok}
 use Rattle.engine.proofs.Whole as whole
-use Rattle.quick.specs.Stage.{Pair}
-use Rattle.quick.proofs.Pairs.{strip-first, strip-second, first-can, second-can, first-proper, second-proper, first-distinct, second-distinct, both-apart, joined-is, whole-comes}
+use Rattle.entering.specs.Stage.{Pair}
+use Rattle.entering.proofs.Pairs.{strip-first, strip-second, first-can, second-can, first-proper, second-proper, first-distinct, second-distinct, both-apart, joined-is, whole-comes}
 
 -- a description with two or more alternatives everywhere is written as it is
 pub proper-shown : (d : Desc) → Can d → Proper d → shown d ≡ d

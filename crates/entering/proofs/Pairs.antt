@@ -4,7 +4,7 @@ use Prim.Native.Nat.{ℕ, _+_, _<_}
 use native.Mathlib.Omega.{arith}
 use mathlib.Core.Path.{_≡_, sym, ap, subst, _∙_}
 use mathlib.Core.Option.{some}
-use mathlib.Core.List.{List, []}
+use mathlib.Core.List.{List}
 use Rattle.theory.specs.Limits.{depth-limit}
 use Rattle.theory.specs.Modes.{joined}
 use Rattle.theory.proofs.Mean.{Can}
@@ -19,9 +19,9 @@ use Rattle.modes_by_marks.proofs.Beside.{strip-some, SomeDistinct}
 use Rattle.loading.specs.Loaded.{nodes-in}
 use Rattle.loading.proofs.Names.{numbered-strip, between-apart, between-wide}
 use Rattle.loading.proofs.Walking.{at-names, at-bounds}
-use Rattle.quick.specs.Stage.{Pair}
-use Rattle.quick.specs.Passed.{Inputs}
-use Rattle.quick.proofs.Mirror.{at-distinct}
+use Rattle.entering.specs.Stage.{Pair}
+use Rattle.entering.specs.Inputs.{Inputs}
+use Rattle.entering.proofs.Mirror.{at-distinct}
 
 -- the numbers of the first input end before those of the second
 pub half-low : (n : ℕ) (t : List ℕ) (i : Inputs n t) → i .half < n

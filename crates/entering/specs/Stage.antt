@@ -18,7 +18,7 @@ use Rattle.loading.specs.Loaded.{nodes-in}
 use Rattle.loading.specs.Numbered.{numbered}
 use Rattle.marks.specs.Marked.{marking}
 use Rattle.classes.specs.Holds.{Undoable}
-use Rattle.quick.specs.Passed.{Inputs, Ready}
+use Rattle.entering.specs.Inputs.{Inputs, Ready}
 
 -- two inputs that stand loaded in t and whose definite graphs join
 pub record Pair (n : ℕ) (t : List ℕ) : Type 0 where

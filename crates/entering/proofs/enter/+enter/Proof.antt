@@ -2,26 +2,25 @@
 -- Assumes nothing.
 use Prim.Native.Nat.{ℕ, _+_, _<_}
 use native.Mathlib.Omega.{arith}
-use mathlib.Core.Path.{_≡_, sym, subst, _∙_}
+use mathlib.Core.Path.{_≡_, _∙_}
 use mathlib.Core.Logic.{⊎-elim}
 use borrow.Author.Needs.{needs}
 use borrow.Fn.Kinds.{In}
 use borrow.Fn.PlainCycle.{Measures, is, falls, and}
-use Rattle.classes.specs.Holds.{Holds, Since}
 use Rattle.classes.proofs.Laws.{since-trans}
-use Rattle.quick.specs.Entered.{Entering}
-use Rattle.quick.proofs.Entering.{Reached, Walking, Onward, Turn, one, none, asks-own, starts, walk-start, walk-done, walk-here, walk-asks, walk-deep, walk-inner, walk-clash, walk-on, reach-own, enters-own, enters-all}
-use Rattle.quick.proofs.enter.enter.Reads as enter
-use Rattle.quick.proofs.enter.enter.Kinds as enter-kinds
-use Rattle.quick.proofs.enter.+enter.Lts-enter as enter-lts
+use Rattle.entering.specs.Entered.{Entering}
+use Rattle.entering.proofs.Entering.{Reached, Walking, Onward, one, none, asks-own, starts, walk-start, walk-done, walk-here, walk-asks, walk-deep, walk-inner, walk-clash, walk-on, reach-own, enters-own, enters-all}
+use Rattle.entering.proofs.enter.enter.Reads as enter
+use Rattle.entering.proofs.enter.enter.Kinds as enter-kinds
+use Rattle.entering.proofs.enter.+enter.Lts-enter as enter-lts
 use Rattle.classes.proofs.push.back.Reads as back-reads
 use Rattle.classes.proofs.push.push.Reads as push-reads
 use Rattle.marks.proofs.positions.alternatives_at.Reads as alternatives-at-reads
 use Rattle.marks.proofs.positions.disjunctions_at.Reads as disjunctions-at-reads
 use Rattle.marks.proofs.positions.tail_at.Reads as tail-at-reads
 use Rattle.marks.proofs.tally.count_kept.Reads as count-kept-reads
-use Rattle.quick.proofs.enter.+enter.{statement}
-use Rattle.quick.proofs.enter.+enter.Tie.{close}
+use Rattle.entering.proofs.enter.+enter.{statement}
+use Rattle.entering.proofs.enter.+enter.Tie.{close}
 
 abbrev μ-enter : Measures 1 enter-kinds.ps ℕ
 μ-enter κs a = a .1 .1 .1 .1 .0

@@ -2,23 +2,23 @@
 -- Assumes nothing.
 use Prim.Native.Nat.{ℕ, zero, suc, _+_, _≤_, _<_}
 use native.Mathlib.Omega.{arith}
-use mathlib.Core.Path.{_≡_, refl, sym, ap, ap₂, subst, _∙_}
+use mathlib.Core.Path.{_≡_, refl, sym, ap, ap₂, _∙_}
 use mathlib.Core.Bool.{Bool, true, false}
 use mathlib.Core.List.{List, _∷_, [], _++_, List·Memᴰ·head}
 use lib.ListN.{length}
 use Rattle.theory.specs.Net.{Graph}
-use Rattle.theory.specs.Descr.{Alts, alts, agree}
+use Rattle.theory.specs.Descr.{agree}
 use Rattle.engine.specs.Placed.{Placed, place, Places, stop, _also_, Options, no-more, option, strip-any}
-use Rattle.engine.specs.Marks.{Marking, kept-of, keep-any}
+use Rattle.engine.specs.Marks.{Marking, kept-of}
 use Rattle.engine.specs.Certain.{sure-any, certain-any}
 use Rattle.engine.specs.Quickly.{Step, fails, stands, tried, settle-at, try-at, any-at, inside-at, sift-at}
 use Rattle.modes_by_marks.proofs.Names.{Distinct, DistinctAll, DistinctAny}
-use Rattle.modes_by_marks.proofs.Marks.{kept-alts, keep-false}
+use Rattle.modes_by_marks.proofs.Marks.{keep-false}
 use Rattle.engine.proofs.QuickStep.{sift-at-ok}
 use Rattle.loading.specs.Loaded.{extent}
 use Rattle.loading.specs.At.{At, AtAll, AtAny}
 use Rattle.loading.proofs.Names.{Between, between-one, between-apart, between-wide}
-use Rattle.loading.proofs.Walking.{at-bounds, all-bounds, any-bounds, at-names, all-names, any-names}
+use Rattle.loading.proofs.Walking.{at-bounds, any-bounds, at-names, all-names, any-names}
 use Rattle.marks.proofs.First.{kept-true, kept-false}
 
 -- ---- distinct names

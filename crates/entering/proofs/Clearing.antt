@@ -2,10 +2,10 @@
 -- Assumes nothing.
 use Prim.Native.Nat.{ℕ, zero, suc, _+_, _≤_, _<_}
 use native.Mathlib.Omega.{arith}
-use mathlib.Core.Path.{_≡_, refl, sym, ap, ap₂, subst, _∙_}
+use mathlib.Core.Path.{_≡_, refl, sym, ap, subst}
 use mathlib.Core.Logic.{_⊎_, inl, inr, ⊎-elim}
 use mathlib.Core.Bool.{Bool, true, false}
-use mathlib.Core.List.{List, [], _∷_, _++_, List·Memᴰ, List·Memᴰ·not-nil, List·Memᴰ·cases-cons, List·Memᴰ·append-cases}
+use mathlib.Core.List.{List, [], _++_, List·Memᴰ, List·Memᴰ·not-nil, List·Memᴰ·cases-cons, List·Memᴰ·append-cases}
 use lib.ListN.{length}
 use Rattle.engine.specs.Placed.{Placed, place, Places, stop, _also_, Options, no-more, option}
 use Rattle.engine.specs.Marks.{Marking, kept-of}
@@ -13,10 +13,10 @@ use Rattle.loading.specs.Entry.{Entry}
 use Rattle.loading.specs.Loaded.{extent}
 use Rattle.loading.specs.At.{At, AtAll, AtAny}
 use Rattle.loading.proofs.Walking.{at-bounds, all-bounds, any-bounds}
-use Rattle.quick.specs.Taken.{taken, taken-all, taken-any, Free}
-use Rattle.quick.specs.Clear.{Outside, ByCount, ByMark, Clear, ClearAll, ClearLone, ClearAny}
-use Rattle.quick.proofs.Mirror.{Alike, kept-alike}
-use Rattle.quick.proofs.Certain.{taken-all-between, taken-any-between, taken-none}
+use Rattle.entering.specs.Taken.{taken, taken-all, taken-any, Free}
+use Rattle.entering.specs.Clear.{Outside, ByCount, ByMark, Clear, ClearAll, ClearLone, ClearAny}
+use Rattle.entering.proofs.Mirror.{Alike, kept-alike}
+use Rattle.entering.proofs.Certain.{taken-all-between, taken-any-between, taken-none}
 
 -- of the numbers from n up to m, E holds only what xs has
 abbrev pub Holding : ℕ → ℕ → List Entry → List Entry → Type 0

@@ -16,16 +16,15 @@ use Rattle.modes_by_marks.proofs.Marks.{kept-alts, keep-true, keep-false}
 use Rattle.loading.specs.Entry.{Entry, graphs}
 use Rattle.loading.specs.Loaded.{extent}
 use Rattle.loading.specs.At.{At, AtAll, AtAny}
-use Rattle.loading.proofs.Entries.{entry}
 use Rattle.loading.proofs.Walking.{at-bounds, all-bounds, any-bounds}
 use Rattle.marks.specs.Tallied.{from-kept}
 use Rattle.marks.proofs.First.{kept-true, kept-false, from-true, from-false}
 use Rattle.counting.specs.Nesting.{Nests, NestsAny}
 use Rattle.classes.proofs.Comings.{graphs-append}
 use Rattle.engine.specs.Quickly.{any-at, inside-at}
-use Rattle.quick.specs.Clear.{ByMark, Clear, ClearLone}
-use Rattle.quick.proofs.Mirror.{any-dropped, any-alone, kept-alike}
-use Rattle.quick.specs.Taken.{taken, taken-all, taken-any, Among, AmongAll, AmongAny, Inside, Free}
+use Rattle.entering.specs.Clear.{ByMark, Clear, ClearLone}
+use Rattle.entering.proofs.Mirror.{any-dropped, any-alone, kept-alike}
+use Rattle.entering.specs.Taken.{taken, taken-all, taken-any, Among, AmongAll, AmongAny, Inside, Free}
 
 -- fewer numbers are free too
 pub free-narrow : (n m n′ m′ : ℕ) (es : List Entry) → n ≤ n′ → m′ ≤ m → Free n m es → Free n′ m′ es

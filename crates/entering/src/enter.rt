@@ -6,7 +6,7 @@ use marks::positions::alternatives_at;
 use marks::positions::disjunctions_at;
 use marks::positions::tail_at;
 use marks::tally::count_kept;
-ghost use Rattle.quick.specs.Entered.{Entering, Enters};
+ghost use Rattle.entering.specs.Entered.{Entering, Enters};
 
 // Pushes the graph at g and, of each disjunction after it with one alternative left, that alternative in the same way. A clash takes all of it back.
 pub fn enter(w: &mut [u32], k: usize, n: usize, g: usize, left: u32) -> Pushed

@@ -16,8 +16,8 @@ use Rattle.counting.specs.Nesting.{NestsAny}
 use Rattle.classes.specs.Holds.{Holds, Since}
 use Rattle.classes.specs.declared.push.Pushed.{Pushed}
 use Rattle.classes.specs.declared.push.Pushed.the-variants.{In, Clashed}
-use Rattle.quick.specs.Taken.{taken-any, AmongAny, Inside, Free}
-use Rattle.quick.specs.Ground.{Ground}
+use Rattle.entering.specs.Taken.{taken-any, AmongAny, Inside, Free}
+use Rattle.entering.specs.Ground.{Ground}
 
 -- some graphs es are pushed, and `count` alternatives stand loaded at p of which none is; in them alternatives nest at most `left` deep
 pub record Alternating (n k : ℕ) (w : List ℕ) (p count left : ℕ) : Type 0 where

@@ -2,14 +2,12 @@
 -- Assumes nothing.
 use native.Mathlib.Omega.{arith}
 use borrow.Author.Needs.{needs}
-use Rattle.quick.proofs.Alone.{counted}
-use Rattle.quick.proofs.Settling.{settles-none, settles-several, asks-inner, settles-one}
-use Rattle.quick.proofs.settle.settle.Statement.{statement}
-use Rattle.quick.proofs.settle.settle.Tie as tie
-use Rattle.quick.proofs.settle.settle.Reads as reads
-use Rattle.quick.proofs.settle.settle.Lts as lts
+use Rattle.entering.proofs.Alone.{counted}
+use Rattle.entering.proofs.Settling.{settles-none, settles-several, asks-inner, settles-one}
+use Rattle.entering.proofs.settle.settle.Statement.{statement}
+use Rattle.entering.proofs.settle.settle.Tie as tie
 use Rattle.marks.proofs.tally.count_kept.Reads as count-kept-reads
-use Rattle.quick.proofs.enter.enter.Reads as enter-reads
+use Rattle.entering.proofs.enter.enter.Reads as enter-reads
 
 count-kept-requires : tie.Need-count-kept-requires
 count-kept-requires c κs = counted _ _ _ _ _ _ (c .before .before .pre)

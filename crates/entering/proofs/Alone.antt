@@ -1,19 +1,17 @@
 -- Alternatives of which exactly one is kept: it may be entered, and what is then pushed is what is taken of all.
 -- Assumes nothing.
-use Prim.Native.Nat.{ℕ, _≤_, _<_}
+use Prim.Native.Nat.{ℕ}
 use native.Mathlib.Omega.{arith}
 use mathlib.Core.Path.{_≡_, refl, sym, ap, subst, _∙_}
 use mathlib.Core.List.{List, _++_}
 use Rattle.area.specs.Region.{words}
-use Rattle.engine.specs.Marks.{kept-of}
 use Rattle.loading.specs.Entry.{Entry}
 use Rattle.loading.specs.At.{AtAny}
 use Rattle.marks.specs.Marked.{marking}
 use Rattle.marks.specs.Tallied.{Alternatives, Tallied}
-use Rattle.quick.specs.Taken.{Free}
-use Rattle.quick.specs.Entered.{Entering, entered}
-use Rattle.quick.specs.Settled.{Alternating, settled}
-use Rattle.quick.proofs.Certain.{free-narrow, Lone, lone-at}
+use Rattle.entering.specs.Entered.{Entering, entered}
+use Rattle.entering.specs.Settled.{Alternating, settled}
+use Rattle.entering.proofs.Certain.{free-narrow, Lone, lone-at}
 
 module _ (n k : ℕ) (w : List ℕ) (p count left : ℕ) (c : Alternating n k w p count left) where
   abbrev pub counted : Alternatives w p count
