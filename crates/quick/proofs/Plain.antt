@@ -60,14 +60,14 @@ module _ (n k : ℕ) (w : List ℕ) (g left : ℕ) (o : Pushed) (w₁ : List ℕ
 -- ---- what its graph would do is told
 module _ (n k : ℕ) (w : List ℕ) (g left : ℕ) (c : Entering n k w g left) where
   pub told-clash : Guesses n k w g Clashes → Tries n k w g left Fails w
-  told-clash s = tries-clash n k w g left Clashed w (told-enters s) c refl
+  told-clash s = tries-clash n k w g left Clashed w (told-enters n k w g left c s) c refl
 
   module _ (none : disjunctions-at w (tail-at w g) ≡ 0) where
     -- it agrees
     module _ (s : Guesses n k w g Agrees) where
-      bare-stays : try-at (graphs (c .es)) (marking w) (c .d) ≡ stands (graphs (c .es) ++ bare-one .0 ∷ []) (marking w)
+      bare-stays : try-at (graphs (c .es)) (marking w) (c .d) ≡ stands (graphs (c .es) ++ bare-one n k w g left c none .0 ∷ []) (marking w)
       unfolding Rattle.modes_by_marks.specs.Quickly.try-at
-      bare-stays = ap (try-at (graphs (c .es)) (marking w)) (bare-one .1 .0) ∙ ap (λ (b : Bool). elim b [ false ↦ fails (marking w) | true ↦ stands (graphs (c .es) ++ bare-one .0 ∷ []) (marking w) ]) bare-good
+      bare-stays = ap (try-at (graphs (c .es)) (marking w)) (bare-one n k w g left c none .1 .0) ∙ ap (λ (b : Bool). elim b [ false ↦ fails (marking w) | true ↦ stands (graphs (c .es) ++ bare-one n k w g left c none .0 ∷ []) (marking w) ]) (bare-good n k w g left c none s)
 
 pub told-stands : (n k : ℕ) (w : List ℕ) (g left : ℕ) → Entering n k w g left → disjunctions-at w (tail-at w g) ≡ 0 → Guesses n k w g Agrees → Tries n k w g left (Stands k 0) w
 told-stands n k w g left c none s = record {

@@ -53,7 +53,7 @@ module _ (n k : ℕ) (w : List ℕ) (g left : ℕ) where
             record {
               holds' = told .1;
               off = λ y h. ap (λ (m : Marking). m y) marks₁;
-              is = try-by (graphs (c .es)) (marking w) (c .d) false (clash-false _ (fine c) (subst Clash (entered-graphs c) (told .0))) ∙ ap fails (sym marks₁);
+              is = try-by (graphs (c .es)) (marking w) (c .d) false (clash-false _ (fine n k w g left c) (subst Clash (entered-graphs n k w g left c) (told .0))) ∙ ap fails (sym marks₁);
             },
       );
     }
@@ -75,8 +75,8 @@ module _ (n k : ℕ) (w : List ℕ) (g left : ℕ) where
         among = c .among;
         es = entered c;
         holds = u .pushed e z .1 c;
-        inside = entered-inside c;
-        clear = subst (λ (m : Marking). Clear (entered c) (c .t) m g (c .from) (c .d) (c .end) (c .to) (c .at)) (sym marks₁) (entered-clear c);
+        inside = entered-inside n k w g left c;
+        clear = subst (λ (m : Marking). Clear (entered c) (c .t) m g (c .from) (c .d) (c .end) (c .to) (c .at)) (sym marks₁) (entered-clear n k w g left c);
       }
 
       pub asks-narrow : Narrowing n e w₁ g left
@@ -85,8 +85,8 @@ module _ (n k : ℕ) (w : List ℕ) (g left : ℕ) where
       -- it is narrowed where it stands
       going : (c : Entering n k w g left) → try-at (graphs (c .es)) (marking w) (c .d) ≡ inside-at (graphs (entered c)) (marking w₁) (c .d)
       going c =
-          let good = agrees-true _ (fine c) (subst Agree (entered-graphs c) (holds-agree n (entered c) e w₁ (u .pushed e z .1 c))) in
-          try-by (graphs (c .es)) (marking w) (c .d) true good ∙ ap (λ (S : List Graph). inside-at S (marking w) (c .d)) (sym (entered-graphs c)) ∙ ap (λ (m : Marking). inside-at (graphs (entered c)) m (c .d)) (sym marks₁)
+          let good = agrees-true _ (fine n k w g left c) (subst Agree (entered-graphs n k w g left c) (holds-agree n (entered c) e w₁ (u .pushed e z .1 c))) in
+          try-by (graphs (c .es)) (marking w) (c .d) true good ∙ ap (λ (S : List Graph). inside-at S (marking w) (c .d)) (sym (entered-graphs n k w g left c)) ∙ ap (λ (m : Marking). inside-at (graphs (entered c)) m (c .d)) (sym marks₁)
 
       module _ (r : Step) (w₂ : List ℕ) (v : Narrows n e w₁ g left r w₂) where
         -- back from j entries to those of the start
