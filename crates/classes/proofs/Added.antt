@@ -12,8 +12,8 @@ use Rattle.theory.specs.Limits.{code-limit}
 use Rattle.theory.specs.Net.{Node, atom, arcs, Graph, nodeAt, arcsOf}
 use Rattle.theory.specs.Layout.{arc-words, node-words, nodes-words, GraphFits}
 use Rattle.theory.proofs.Weight.{weight, arc-length}
-use Rattle.classes.specs.Labels.{pick}
-use Rattle.classes.specs.State.{Pile}
+use Rattle.forest.specs.Labels.{pick}
+use Rattle.forest.specs.State.{Pile}
 use Rattle.classes.specs.Nodes.{strung, span, spans, NodeAt, NodesAt}
 use Rattle.loading.specs.Loaded.{moved-arcs, located}
 use Rattle.loading.proofs.Sizes.{moved-length}

@@ -8,13 +8,13 @@ use Rattle.theory.specs.Limits.{code-limit}
 use Rattle.theory.specs.Net.{beside}
 use Rattle.area.specs.Region.{words}
 use Rattle.loading.specs.Entry.{Entry, graphs}
-use Rattle.classes.specs.State.{targets, Runs, Looked}
+use Rattle.forest.specs.State.{targets, Runs, Looked}
 use Rattle.classes.specs.Holds.{Holds, class, Labelled, Classed}
 use Rattle.classes.proofs.Content.{Content}
 use Rattle.classes.specs.Ask.{AtomOf, TargetOf}
 use Rattle.classes.specs.declared.ask.Borne.the-variants.{Atom, Nothing}
 use Rattle.classes.specs.declared.ask.Led.the-variants.{To, Nowhere}
-use Rattle.classes.proofs.Links.{first-mem, first-feature, first-det, none-first}
+use Rattle.forest.proofs.Links.{first-mem, first-feature, first-det, none-first}
 use Rattle.classes.proofs.Writer.{spot-low, class-low, class-top, content}
 
 module _ (n : ℕ) (w : List ℕ) (x : ℕ) (hx : x < n) (c : ℕ) (cl : Classed n w x c) where

@@ -9,8 +9,8 @@ use native.Mathlib.Omega.{arith}
 use lib.ListN.{length, getD}
 use Rattle.theory.specs.Limits.{code-limit}
 use Rattle.theory.specs.Net.{Node, atom, arcs, nodeAt, arcsOf, beside, Same, seed, self, back, on, along, roots, atoms, atom-arc, Clash}
-use Rattle.classes.specs.State.{Pile, Clashes}
-use Rattle.classes.specs.State as pile
+use Rattle.forest.specs.State.{Pile, Clashes}
+use Rattle.forest.specs.State as pile
 use Rattle.loading.specs.Entry.{Entry, graphs}
 use Rattle.classes.specs.Entry.{Spots, number-of}
 use Rattle.classes.specs.Holds.{code, NodeIn, Tied, Apart}

@@ -11,13 +11,13 @@ use Rattle.theory.proofs.Weight.{weight, weights, weights-append}
 use Rattle.theory.proofs.Instance.{numbered-target}
 use Rattle.theory.proofs.Meaning.{canonical-some}
 use Rattle.area.specs.Region.{words}
-use Rattle.classes.specs.State.{targets, Pile, Done, Same, Clashes, State, Full, withPair}
+use Rattle.forest.specs.State.{targets, Pile, Done, Same, Clashes, State, Full, withPair}
 use Rattle.classes.specs.Nodes.{spans, NodesAt, Ahead, listed}
 use Rattle.loading.specs.Entry.{Entry, graphs}
 use Rattle.classes.specs.Entry.{Aside, Comes}
 use Rattle.classes.specs.Holds.{code, ArcOf, Tied, Apart, Sits, Holds}
 use Rattle.area.proofs.Region.{word-at, words-same}
-use Rattle.classes.proofs.Words.{target-at, targets-same}
+use Rattle.forest.proofs.Words.{target-at, targets-same}
 use Rattle.classes.proofs.Added.{weight-spans, NodesLie, nodes-lie, numbers-old, numbers-new, numbers-cases, codes-new, codes-old, positions-old, positions-cases, positions-new, sources-old, sources-new, NewArc, added, nodes-at}
 use Rattle.classes.proofs.Grown.{Extends, state-extends, listed-pairs, listed-arcs, listed-atom, listed-atoms, listed-count}
 use Rattle.classes.proofs.Bridge.{spotted, clash-up}

@@ -6,7 +6,7 @@ use lib.ListN.{length, getD}
 use Rattle.theory.specs.Limits.{code-limit}
 use Rattle.theory.specs.Net.{beside}
 use Rattle.area.specs.Region.{words}
-use Rattle.classes.specs.State.{targets, Chain, First}
+use Rattle.forest.specs.State.{targets, Chain, First}
 use Rattle.loading.specs.Entry.{Entry, graphs}
 use Rattle.classes.specs.Entry.{Spots, number-of}
 

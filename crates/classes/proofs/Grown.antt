@@ -6,7 +6,7 @@ use Prim.Native.Nat.{ℕ, zero, suc, _+_, _*_, _≤_, _<_}
 use native.Mathlib.Omega.{arith}
 use lib.ListN.{length, getD}
 use Rattle.theory.specs.Net.{atom, arcs, Graph, nodeAt}
-use Rattle.classes.specs.State.{Pile, Done, Same, First, State}
+use Rattle.forest.specs.State.{Pile, Done, Same, First, State}
 use Rattle.classes.specs.Nodes.{spans, noded, listed}
 use Rattle.classes.specs.Holds.{code}
 use Rattle.classes.proofs.Runs.{strung-length, strung-cases, strung-old, strung-new}

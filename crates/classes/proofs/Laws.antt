@@ -11,13 +11,13 @@ use Rattle.area.specs.Region.{region, words}
 use Rattle.area.specs.Log.{Logged, Later, Undone}
 use Rattle.area.proofs.Region.{region-ext, words-same}
 use Rattle.area.proofs.Undo.{word, logged-same, past-agree, undone-is, undone-logged, undone-keeps, undone-rest}
-use Rattle.classes.specs.State.{targets, Pile, Done, Chain, Near, Bears, State}
+use Rattle.forest.specs.State.{targets, Pile, Done, Chain, Near, Bears, State}
 use Rattle.loading.specs.Entry.{Entry, graphs}
 use Rattle.classes.specs.Entry.{Lies, Comes}
 use Rattle.classes.specs.Holds.{Sits, Holds, Since, Remembers, Backs, Undoable}
-use Rattle.classes.proofs.Words.{targets-same}
-use Rattle.classes.proofs.Links.{chain-same}
-use Rattle.classes.proofs.Fuse.{low}
+use Rattle.forest.proofs.Words.{targets-same}
+use Rattle.forest.proofs.Links.{chain-same}
+use Rattle.forest.proofs.Fuse.{low}
 use Rattle.classes.proofs.Visits.{near-none}
 use Rattle.classes.proofs.Result.{agree}
 use Rattle.classes.proofs.Bridge.{clash-down}

@@ -10,7 +10,7 @@ use Rattle.area.specs.Log.{body, Later, Undone}
 use Rattle.area.proofs.Undo.{later-trans, word, undone-is, undone-later}
 use Rattle.classes.specs.declared.push.Pushed.the-variants.{In, Clashed}
 use Rattle.area.specs.Region.{words}
-use Rattle.classes.specs.State.{targets, State, Asked, United, withPair}
+use Rattle.forest.specs.State.{targets, State, Asked, United, withPair}
 use Rattle.classes.specs.Nodes.{Listing, Listed}
 use Rattle.loading.specs.Entry.{Entry}
 use Rattle.classes.specs.Entry.{Comes}

@@ -5,10 +5,10 @@ use Prim.Native.Nat.{ℕ, _≤_, _<_}
 use native.Mathlib.Omega.{arith}
 use lib.ListN.{length, getD}
 use Rattle.area.specs.Map.{SIZE}
-use Rattle.classes.specs.Labels.{Eq}
-use Rattle.classes.specs.State.{Pile, Done, Same, Clashes, First, State, Full}
-use Rattle.classes.proofs.Fuse.{low, top}
-use Rattle.classes.proofs.Links.{first-det, first-mem}
+use Rattle.forest.specs.Labels.{Eq}
+use Rattle.forest.specs.State.{Pile, Done, Same, Clashes, First, State, Full}
+use Rattle.forest.proofs.Fuse.{low, top}
+use Rattle.forest.proofs.Links.{first-det, first-mem}
 use Rattle.classes.proofs.Visits.{near-none}
 
 module _ (G : Pile) (H : Done) (F T : List ℕ) (n k s : ℕ) (w : List ℕ) (hn : n ≤ 1024) (hw : SIZE ≤ length w) (u : State G H F T n k s [] w) (f : Full G H) where

@@ -11,8 +11,8 @@ use lib.ListN.{length, getD}
 use Rattle.theory.specs.Net.{Node, atom, arcs, Graph}
 use Rattle.area.specs.Log.{Logged, Later}
 use Rattle.area.proofs.Undo.{later-refl, later-trans}
-use Rattle.classes.specs.State.{Pile, Done, Clashes, State, Fresh, Coming, Bearing, Marking, Marked}
-use Rattle.classes.specs.Order.{Ordered, Taken}
+use Rattle.forest.specs.State.{Pile, Done, Clashes, State, Fresh, Coming, Bearing, Marking, Marked}
+use Rattle.forest.specs.Order.{Ordered, Taken}
 use Rattle.classes.specs.Nodes.{strung, grown, Batch, Batched, Run, span, AtomAt, ArcsAt, NodeAt, Ahead, noded, Noding, Noded, spans, NodesAt, listed, Listing, Listed}
 
 -- ---- the list that grows

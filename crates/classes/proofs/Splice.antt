@@ -6,10 +6,10 @@ use Prim.Native.Nat.{ℕ, suc, _+_, _≤_, _<_}
 use native.Mathlib.Omega.{arith}
 use lib.ListN.{length, getD}
 use Rattle.area.specs.Map.{NEXT}
-use Rattle.classes.specs.State.{Chain, First}
-use Rattle.classes.specs.Order.{Rising, Between}
-use Rattle.classes.proofs.Links.{chain-same}
-use Rattle.classes.proofs.Places.{chain-once, between-where}
+use Rattle.forest.specs.State.{Chain, First}
+use Rattle.forest.specs.Order.{Rising, Between}
+use Rattle.forest.proofs.Links.{chain-same}
+use Rattle.forest.proofs.Places.{chain-once, between-where}
 
 -- L has the arcs of xs and the arc t, the first of its feature; of each other feature the first arc is as it was
 pub record Grows (F : List ℕ) (t : ℕ) (xs L : List ℕ) : Type 0 where

@@ -12,9 +12,9 @@ use lib.Dec.{eqb}
 use Rattle.area.specs.Map.{PARENT, NEXT, LOG, SIZE}
 use Rattle.area.specs.Region.{region, words}
 use Rattle.area.proofs.Region.{length-region, getD-region}
-use Rattle.classes.specs.Labels.{pick}
-use Rattle.classes.specs.Forest.{tops}
-use Rattle.classes.specs.State.{targets, Pile, Done, Same, Chain, State, total}
+use Rattle.forest.specs.Labels.{pick}
+use Rattle.forest.specs.Forest.{tops}
+use Rattle.forest.specs.State.{targets, Pile, Done, Same, Chain, State, total}
 use Rattle.classes.specs.Holds.{Holds, Starts}
 
 tops-le : (i : ℕ) (P : List ℕ) → tops i P ≤ length P

@@ -11,18 +11,18 @@ use lib.ListN.{length, set, getD, length-set}
 use lib.Seq.{getD-set-same, getD-set-other}
 use Rattle.area.specs.Map.{PARENT, NEXT, LOG, SIZE}
 use Rattle.area.specs.Region.{region}
-use Rattle.classes.specs.Labels.{Eq}
+use Rattle.forest.specs.Labels.{Eq}
 use Rattle.area.specs.Log.{Logged, Put}
-use Rattle.classes.specs.Forest.{Root, tops}
-use Rattle.classes.specs.State.{Pile, Done, Same, Clashes, Chain, First, None, Near, Bears, State, Runs, Calm, Looked, withPair, withArc, withNode, Fresh, Visited, United, Bearing, Marked}
-use Rattle.classes.specs.Order.{Rising, Risen, Between, Hint, Ordered, Located, Steady}
+use Rattle.forest.specs.Forest.{Root, tops}
+use Rattle.forest.specs.State.{Pile, Done, Same, Clashes, Chain, First, None, Near, Bears, State, Runs, Calm, Looked, withPair, withArc, withNode, Fresh, Visited, United, Bearing, Marked}
+use Rattle.forest.specs.Order.{Rising, Risen, Between, Hint, Ordered, Located, Steady}
 use Rattle.area.proofs.Region.{length-region, region-ext}
 use Rattle.area.proofs.Undo.{later-refl, later-trans, put-at, put-off}
-use Rattle.classes.proofs.Links.{chain-same, chain-zero, first-mem, first-feature, none-first, total-set}
-use Rattle.classes.proofs.Places.{chain-det, chain-low, between-where}
+use Rattle.forest.proofs.Links.{chain-same, chain-zero, first-mem, first-feature, none-first, total-set}
+use Rattle.forest.proofs.Places.{chain-det, chain-low, between-where}
 use Rattle.classes.proofs.Splice.{Grows, lodge, lodge-grows, lodge-rising, lodge-chain}
-use Rattle.classes.proofs.Fuse.{low, top, short}
-use Rattle.classes.proofs.Turns.{hold-pair}
+use Rattle.forest.proofs.Fuse.{low, top, short}
+use Rattle.forest.proofs.Turns.{hold-pair}
 
 -- where no frame is left, near is in one class
 pub near-none : (F T M w : List ℕ) → {i j : ℕ} → Near F T M w [] i j → Eq M i j

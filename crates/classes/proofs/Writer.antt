@@ -11,15 +11,15 @@ use Rattle.theory.specs.Limits.{code-limit}
 use Rattle.theory.specs.Net.{beside, Same, roots}
 use Rattle.theory.proofs.Meaning.{some-root}
 use Rattle.area.specs.Region.{region, words}
-use Rattle.classes.specs.Forest.{tops}
-use Rattle.classes.specs.State.{targets, First}
+use Rattle.forest.specs.Forest.{tops}
+use Rattle.forest.specs.State.{targets, First}
 use Rattle.loading.specs.Entry.{Entry, graphs}
 use Rattle.classes.specs.Entry.{Spots, number-of}
 use Rattle.classes.specs.Holds.{Holds, class}
 use Rattle.classes.proofs.Content.{Content}
 use Rattle.area.proofs.Region.{length-region}
-use Rattle.classes.proofs.Fuse.{label-low, top, short}
-use Rattle.classes.proofs.Links.{first-mem}
+use Rattle.forest.proofs.Fuse.{label-low, top, short}
+use Rattle.forest.proofs.Links.{first-mem}
 use Rattle.classes.proofs.Visits.{near-none}
 use Rattle.classes.proofs.Result.{complete}
 use Rattle.classes.proofs.Bridge.{spot-node, root-down, atom-down, arc-down, same-down, same-up, atom-up, ends}

@@ -1,8 +1,4 @@
--- `State` says what stands for the graphs that are pushed, `Holds` what the contracts of push, undo and questions say of it; the others are parts of these.
-pub mod Labels
-pub mod Forest
-pub mod State
-pub mod Order
+-- `Holds` says what the area stands for, and what the contracts of push, undo and questions say of it; the others are parts of these.
 pub mod Nodes
 pub mod Entry
 pub mod Holds

@@ -7,7 +7,7 @@ use lib.ListN.{length, getD}
 use Rattle.theory.specs.Limits.{code-limit}
 use Rattle.theory.specs.Net.{Node, atom, arcs, Graph}
 use Rattle.area.specs.Log.{Later}
-use Rattle.classes.specs.State.{Pile, Done, Clashes, State, withNode}
+use Rattle.forest.specs.State.{Pile, Done, Clashes, State, withNode}
 
 -- ---- the arcs of a node
 -- the d arcs from t on, each two words after the one before, the last one first

@@ -1,22 +1,22 @@
 // The arcs and atoms of a graph meet the classes of its nodes.
-use crate::chain::loaded;
-use crate::chain::locate;
-use crate::chain::rises;
-use crate::chain::target;
-use crate::forest::find;
-use crate::merge::Made;
-use crate::settle::unite;
 use area::log::put;
 use area::log::wide;
 use area::map::NEXT;
+use forest::chain::loaded;
+use forest::chain::locate;
+use forest::chain::rises;
+use forest::chain::target;
+use forest::forest::find;
+use forest::merge::Made;
+use forest::settle::unite;
 ghost use mathlib.Core.Path.{_≡_};
 ghost use mathlib.Core.Bool.{true, false};
 ghost use Prim.Native.Nat.{_+_, _*_, _-_, _≤_, _<_};
 ghost use lib.ListN.{length};
 ghost use Rattle.area.specs.Map.{SIZE};
 ghost use Rattle.area.specs.Region.{words};
-ghost use Rattle.classes.specs.State.{targets, Coming, Marking, Marked};
-ghost use Rattle.classes.specs.Order.{Ordered, Steady, Turning, Taken};
+ghost use Rattle.forest.specs.State.{targets, Coming, Marking, Marked};
+ghost use Rattle.forest.specs.Order.{Ordered, Steady, Turning, Taken};
 ghost use Rattle.classes.specs.Nodes.{Batched, Run, Noding, Noded, Listing, Listed};
 
 // The log's entries after an arc, the link to go on from with the next one, and whether there is a clash.

@@ -24,7 +24,7 @@ use Rattle.marks.specs.Tallied.{Alternatives, Tallied}
 use Rattle.marks.proofs.Reading.{tail-is, disjunctions-is, alternatives-is, read-at}
 use Rattle.marks.proofs.Marks.{marking-frame}
 use Rattle.counting.specs.Nesting.{Nests, NestsAll}
-use Rattle.classes.specs.State.{Runs}
+use Rattle.forest.specs.State.{Runs}
 use Rattle.classes.specs.Holds.{Since, Backs}
 use Rattle.classes.proofs.Laws.{since-refl, since-trans}
 use Rattle.sieving.specs.Sieved.{Sieved}

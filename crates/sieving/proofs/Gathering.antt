@@ -9,8 +9,8 @@ use lib.ListN.{length, getD, set, length-set}
 use lib.Seq.{getD-set-same, getD-set-other}
 use Rattle.area.specs.Map.{NEXT}
 use Rattle.area.specs.Region.{words}
-use Rattle.classes.specs.State.{Chain, Runs}
-use Rattle.classes.proofs.Walks.{some, runs-next, Seek, seek-start, seek-turn, seek-rest}
+use Rattle.forest.specs.State.{Chain, Runs}
+use Rattle.forest.proofs.Walks.{some, runs-next, Seek, seek-start, seek-turn, seek-rest}
 use Rattle.sieving.specs.Sieved.{Blank, Sieved}
 
 -- ---- the arc y is noted at i, where nothing is

@@ -11,7 +11,7 @@ use Rattle.area.specs.Log.{body, back, past}
 use Rattle.area.proofs.Region.{words-same}
 use Rattle.area.proofs.Undo.{word}
 use Rattle.loading.specs.Entry.{Entry}
-use Rattle.classes.specs.State.{Chain, Runs, Looked}
+use Rattle.forest.specs.State.{Chain, Runs, Looked}
 use Rattle.classes.specs.Holds.{Holds, class, Since}
 use Rattle.classes.proofs.Writer.{class-low, content}
 use Rattle.sieving.specs.Sieved.{Blank, Sieved}

@@ -4,7 +4,7 @@ use mathlib.Core.List.{List}
 use Prim.Native.Nat.{ℕ, _%_, _<_}
 use lib.ListN.{length, getD}
 use Rattle.area.specs.Region.{words}
-use Rattle.classes.specs.State.{Runs, Looked}
+use Rattle.forest.specs.State.{Runs, Looked}
 
 -- nothing is noted
 abbrev pub Blank : List ℕ → Type 0

@@ -1,12 +1,12 @@
 // The sieve has a word for each feature modulo 256: the first arc of such a feature on the chain of the class of all roots, counted from 1, or 0 where there is none.
 use area::log::wide;
-use classes::chain::loaded;
-use classes::chain::next;
+use forest::chain::loaded;
+use forest::chain::next;
 ghost use mathlib.Core.Path.{_≡_};
 ghost use Prim.Native.Nat.{_≤_};
 ghost use lib.ListN.{length, getD};
 ghost use Rattle.area.specs.Map.{SIZE};
-ghost use Rattle.classes.specs.State.{Runs};
+ghost use Rattle.forest.specs.State.{Runs};
 ghost use Rattle.sieving.specs.Sieved.{Blank, Sieved};
 
 // Notes in t, where nothing is noted yet, the arcs on the chain of the class of all roots, which is that of the number 0.

@@ -1,12 +1,12 @@
 // A feature is looked for through the sieve.
 use area::log::wide;
-use classes::chain::look;
+use forest::chain::look;
 ghost use mathlib.Core.Path.{_≡_};
 ghost use Prim.Native.Nat.{_≤_};
 ghost use lib.ListN.{length, getD};
 ghost use Rattle.area.specs.Map.{SIZE};
 ghost use Rattle.area.specs.Region.{words};
-ghost use Rattle.classes.specs.State.{Runs, Looked};
+ghost use Rattle.forest.specs.State.{Runs, Looked};
 ghost use Rattle.sieving.specs.Sieved.{Sieved};
 
 // The first arc with the feature f on the chain of the class of all roots, which begins with the code x, counted from 1, or 0. A sieve may be short: then all is looked through.

@@ -13,12 +13,12 @@ use Rattle.theory.proofs.Meaning.{beside-all, clash-unsatisfied}
 use Rattle.theory.proofs.Fit.{numbered-rising, rising-one}
 use Rattle.area.specs.Region.{words}
 use Rattle.loading.specs.Entry.{Entry, graphs}
-use Rattle.classes.specs.State.{targets, Chain, First, None}
+use Rattle.forest.specs.State.{targets, Chain, First, None}
 use Rattle.classes.specs.Entry.{Spots, number-of, Comes}
 use Rattle.classes.specs.Holds.{Holds, class}
 use Rattle.classes.proofs.Content.{Content}
-use Rattle.classes.proofs.Links.{first-case, first-det, none-first}
-use Rattle.classes.proofs.Places.{chain-det}
+use Rattle.forest.proofs.Links.{first-case, first-det, none-first}
+use Rattle.forest.proofs.Places.{chain-det}
 use Rattle.classes.proofs.Added.{arcs-find}
 use Rattle.classes.proofs.Writer.{spot-low, class-low, class-top, class-root, content}
 use Rattle.trying.specs.Leaf.{feature, leaf-head, Leaves}

@@ -10,10 +10,10 @@ use Rattle.theory.specs.Limits.{code-limit}
 use Rattle.theory.specs.Net.{Node, nodeAt, arcsOf, Clash}
 use Rattle.area.specs.Region.{words}
 use Rattle.loading.specs.Entry.{Entry, graphs}
-use Rattle.classes.specs.State.{targets, Pile, Same, Clashes, Chain}
+use Rattle.forest.specs.State.{targets, Pile, Same, Clashes, Chain}
 use Rattle.classes.specs.Entry.{Comes}
 use Rattle.classes.specs.Holds.{Holds, class, code}
-use Rattle.classes.proofs.Links.{first-mem, first-feature}
+use Rattle.forest.proofs.Links.{first-mem, first-feature}
 use Rattle.classes.proofs.Grown.{same-extends}
 use Rattle.classes.proofs.Comings.{pile, extends, same', some', tied', clash'}
 use Rattle.classes.proofs.Writer.{class-low, class-top}

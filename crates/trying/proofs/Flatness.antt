@@ -10,7 +10,7 @@ use Rattle.theory.specs.Net.{Node, atom, arcs, Graph, nodeAt}
 use Rattle.theory.specs.Layout.{NodeFits, GraphFits}
 use Rattle.area.specs.Region.{words}
 use Rattle.loading.specs.Entry.{Entry}
-use Rattle.classes.specs.State.{targets}
+use Rattle.forest.specs.State.{targets}
 use Rattle.classes.specs.Nodes.{spans}
 use Rattle.classes.proofs.Added.{ArcsLie, NodesLie, arcs-at}
 use Rattle.trying.specs.Leaf.{feature, leaf-head, Next}

@@ -7,7 +7,7 @@ use native.Mathlib.Omega.{arith}
 use lib.ListN.{length, getD}
 use Rattle.area.specs.Region.{words}
 use Rattle.loading.specs.Entry.{Entry}
-use Rattle.classes.specs.State.{targets}
+use Rattle.forest.specs.State.{targets}
 use Rattle.classes.specs.Entry.{Comes}
 use Rattle.classes.specs.Holds.{Holds, Pushing, Labelled, Classed, class}
 use Rattle.classes.proofs.Added.{weight-spans}

@@ -6,9 +6,9 @@ use native.Mathlib.Omega.{arith}
 use lib.ListN.{getD}
 use Rattle.area.specs.Region.{words}
 use Rattle.loading.specs.Entry.{Entry}
-use Rattle.classes.specs.State.{targets, Chain, Runs, Looked}
+use Rattle.forest.specs.State.{targets, Chain, Runs, Looked}
 use Rattle.classes.specs.Holds.{Holds, class, Classed}
-use Rattle.classes.proofs.Links.{first-det, none-first}
+use Rattle.forest.proofs.Links.{first-det, none-first}
 use Rattle.classes.proofs.Answers.{asked-low, asked-runs, target-low}
 use Rattle.classes.proofs.Writer.{class-low, class-top}
 use Rattle.sieving.proofs.Keeping.{roots-first}

@@ -7,7 +7,7 @@ use lib.ListN.{getD}
 use Rattle.theory.specs.Limits.{code-limit}
 use Rattle.area.specs.Region.{words}
 use Rattle.loading.specs.Entry.{Entry}
-use Rattle.classes.specs.State.{targets, Chain, First}
+use Rattle.forest.specs.State.{targets, Chain, First}
 use Rattle.classes.specs.Holds.{Holds, Labelled, class, Classed}
 use Rattle.trying.specs.declared.told.Guess.{Guess}
 use Rattle.trying.specs.declared.told.Guess.the-variants.{Agrees, Clashes}

@@ -11,10 +11,10 @@ use Rattle.layout.specs.Standing.{Stands}
 use Rattle.area.specs.Map.{PARENT, NEXT, LOG, STACK, WORDS, RESULT}
 use Rattle.area.specs.Region.{region, words}
 use Rattle.area.proofs.Region.{region-ext, words-same}
-use Rattle.classes.specs.State.{targets, Chain}
-use Rattle.classes.proofs.Words.{targets-same}
-use Rattle.classes.proofs.Links.{chain-same}
-use Rattle.classes.proofs.Places.{chain-low}
+use Rattle.forest.specs.State.{targets, Chain}
+use Rattle.forest.proofs.Words.{targets-same}
+use Rattle.forest.proofs.Links.{chain-same}
+use Rattle.forest.proofs.Places.{chain-low}
 use Rattle.writing.specs.Classes.{Fan, Classes, Met}
 use Rattle.writing.specs.Writing.{Kept, Cleared}
 use Rattle.loading.proofs.Putting.{stands-frame}

@@ -17,13 +17,13 @@ use Rattle.area.specs.Map.{PARENT}
 use Rattle.area.specs.Region.{region, words}
 use Rattle.area.proofs.Region.{length-region}
 use Rattle.loading.specs.Entry.{Entry, graphs}
-use Rattle.classes.specs.Labels.{pick}
-use Rattle.classes.specs.Forest.{tops}
+use Rattle.forest.specs.Labels.{pick}
+use Rattle.forest.specs.Forest.{tops}
 use Rattle.classes.specs.Entry.{Spots, number-of}
 use Rattle.classes.specs.Holds.{Holds, class}
 use Rattle.classes.proofs.Content.{Content}
-use Rattle.classes.proofs.Links.{first-mem, first-feature}
-use Rattle.classes.proofs.Fuse.{label-low}
+use Rattle.forest.proofs.Links.{first-mem, first-feature}
+use Rattle.forest.proofs.Fuse.{label-low}
 use Rattle.classes.proofs.Writer.{holds-room, spot-low, class-low, class-top, class-root, same-class, class-same, content}
 use Rattle.writing.specs.Classes.{Fan, Classes}
 

@@ -12,7 +12,7 @@ use Rattle.layout.specs.Standing.{Stands}
 use Rattle.layout.proofs.Standing.{stands-length}
 use Rattle.area.specs.Map.{PARENT, RESULT, SIZE}
 use Rattle.area.specs.Region.{region}
-use Rattle.classes.specs.Forest.{Shape, Root}
+use Rattle.forest.specs.Forest.{Shape, Root}
 use Rattle.classes.specs.Holds.{class}
 use Rattle.classes.proofs.Laws.{holds-few, holds-again, since-again}
 use Rattle.writing.specs.Classes.{Classes, Met}

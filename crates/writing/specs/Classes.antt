@@ -7,8 +7,8 @@ use Rattle.theory.specs.Limits.{code-limit}
 use Rattle.theory.specs.Net.{Graph, atom, arcs, nodeAt}
 use Rattle.area.specs.Map.{PARENT, LOG, STACK, SIZE}
 use Rattle.area.specs.Region.{region, words}
-use Rattle.classes.specs.Forest.{Shape, Root}
-use Rattle.classes.specs.State.{targets, Chain}
+use Rattle.forest.specs.Forest.{Shape, Root}
+use Rattle.forest.specs.State.{targets, Chain}
 
 -- the chain from x has the arcs l, whose features are from low on, and else only arcs below low: ord lists the classes of the nodes, lab has the class of each number
 pub record Fan (n : ℕ) (w : List ℕ) (lab : ℕ → ℕ) (ord : List ℕ) (x low : ℕ) (l : List (ℕ × ℕ)) : Type 0 where

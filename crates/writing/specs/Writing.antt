@@ -11,7 +11,7 @@ use Rattle.layout.specs.Standing.{Stands, graph-words}
 use Rattle.loading.specs.Entry.{Entry, graphs}
 use Rattle.area.specs.Map.{LOG, STACK, WORDS, RESULT}
 use Rattle.area.specs.Region.{words}
-use Rattle.classes.specs.State.{targets, Chain}
+use Rattle.forest.specs.State.{targets, Chain}
 use Rattle.classes.specs.Holds.{Holds, Since}
 use Rattle.writing.specs.Classes.{Fan, Classes, Met}
 

@@ -6,7 +6,7 @@ use area::log::wide;
 use area::map::LOG;
 use area::map::RESULT;
 use area::map::STACK;
-use classes::forest::find;
+use forest::forest::find;
 ghost use mathlib.Core.Path.{_≡_};
 ghost use Prim.Native.Nat.{ℕ, _+_, _≤_, _<_};
 ghost use lib.ListN.{length, getD};

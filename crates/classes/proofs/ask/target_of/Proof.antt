@@ -4,9 +4,9 @@ use mathlib.Core.Path.{_≡_, sym, subst}
 use native.Mathlib.Omega.{arith}
 use lib.ListN.{getD}
 use Rattle.area.specs.Region.{words}
-use Rattle.classes.specs.State.{Runs, Looked}
+use Rattle.forest.specs.State.{Runs, Looked}
 use Rattle.classes.specs.Holds.{Classed}
-use Rattle.classes.proofs.Walks.{some}
+use Rattle.forest.proofs.Walks.{some}
 use Rattle.classes.proofs.Answers.{asked-low, asked-runs, target-bare, target-none, target-low, target-there}
 use borrow.Author.Needs.{needs}
 use Rattle.classes.proofs.ask.target_of.Statement.{statement}

@@ -1,7 +1,7 @@
 -- `classes::push::add` meets its contract. Assumes nothing.
 use mathlib.Core.Path.{_∙_}
 use native.Mathlib.Omega.{arith}
-use Rattle.classes.proofs.Words.{words-later, targets-later}
+use Rattle.forest.proofs.Words.{words-later, targets-later}
 use Rattle.classes.proofs.Pushings.{add-asked, add-low, add-listing, adds-bad, adds}
 use borrow.Author.Needs.{needs}
 use Rattle.classes.proofs.push.add.Statement.{statement}

@@ -3,8 +3,8 @@ use Prim.Native.Nat.{ℕ}
 use mathlib.Core.Path.{sym, subst}
 use native.Mathlib.Omega.{arith}
 use Rattle.area.specs.Region.{words}
-use Rattle.classes.specs.State.{Runs}
-use Rattle.classes.specs.Order.{Risen}
+use Rattle.forest.specs.State.{Runs}
+use Rattle.forest.specs.Order.{Risen}
 use Rattle.classes.proofs.Visits.{ordered-none, ordered-hint, hint-first, class-runs}
 use borrow.Author.Needs.{needs}
 use Rattle.classes.proofs.visit.afresh.Statement.{statement}

@@ -4,8 +4,8 @@ use mathlib.Core.Path.{_≡_, _∙_}
 use native.Mathlib.Omega.{arith}
 use lib.ListN.{length}
 use Rattle.area.specs.Region.{words}
-use Rattle.classes.specs.State.{targets}
-use Rattle.classes.proofs.Words.{words-later, targets-later}
+use Rattle.forest.specs.State.{targets}
+use Rattle.forest.proofs.Words.{words-later, targets-later}
 use Rattle.classes.proofs.Runs.{Stringing, stringing-start, stringing-coming, stringing-turn, run-bad, run-end}
 use borrow.Author.Needs.{needs}
 use Rattle.classes.proofs.visit.arcs.Statement.{statement}

@@ -1,7 +1,7 @@
 -- `classes::visit::mark` meets its contract. Assumes nothing.
 use native.Mathlib.Omega.{arith}
 use Rattle.area.specs.Region.{words}
-use Rattle.classes.specs.State.{targets}
+use Rattle.forest.specs.State.{targets}
 use Rattle.classes.proofs.Visits.{mark-new, mark-same, mark-clash}
 use borrow.Author.Needs.{needs}
 use Rattle.classes.proofs.visit.mark.Statement.{statement}

@@ -3,7 +3,7 @@ use mathlib.Core.Path.{_≡_, _∙_}
 use native.Mathlib.Omega.{arith}
 use lib.ListN.{getD}
 use Rattle.area.specs.Region.{words}
-use Rattle.classes.specs.State.{targets}
+use Rattle.forest.specs.State.{targets}
 use Rattle.classes.proofs.Runs.{node-low, node-marking, node-batched, noded-mark, noded-run}
 use borrow.Author.Needs.{needs}
 use Rattle.classes.proofs.visit.node.Statement.{statement}

@@ -5,9 +5,9 @@ use mathlib.Core.List.{List}
 use native.Mathlib.Omega.{arith}
 use lib.ListN.{length, getD}
 use Rattle.area.specs.Region.{words}
-use Rattle.classes.specs.State.{targets}
-use Rattle.classes.proofs.Words.{words-later, targets-later}
-use Rattle.classes.proofs.Walks.{some}
+use Rattle.forest.specs.State.{targets}
+use Rattle.forest.proofs.Words.{words-later, targets-later}
+use Rattle.forest.proofs.Walks.{some}
 use Rattle.classes.proofs.Runs.{node-low, node-span, Marching, marching-start, marching-noding, marching-turn, listed-bad, listed-end}
 use borrow.Author.Needs.{needs}
 use Rattle.classes.proofs.visit.nodes.Statement.{statement}

@@ -4,8 +4,8 @@ use mathlib.Core.Path.{subst}
 use native.Mathlib.Omega.{arith}
 use Rattle.area.specs.Map.{PARENT, NEXT}
 use Rattle.area.specs.Region.{region, words}
-use Rattle.classes.specs.Forest.{Root}
-use Rattle.classes.proofs.Walks.{some}
+use Rattle.forest.specs.Forest.{Root}
+use Rattle.forest.proofs.Walks.{some}
 use Rattle.classes.proofs.Visits.{ordered-none, ordered-hint}
 use borrow.Author.Needs.{needs}
 use Rattle.classes.proofs.visit.onward.Statement.{statement}

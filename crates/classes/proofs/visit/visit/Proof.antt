@@ -4,10 +4,10 @@ use mathlib.Core.Path.{_≡_, refl}
 use native.Mathlib.Omega.{arith}
 use lib.ListN.{getD}
 use Rattle.area.specs.Region.{words}
-use Rattle.classes.specs.State.{targets, Looked, withPair}
-use Rattle.classes.specs.Order.{Located}
-use Rattle.classes.proofs.Words.{words-later}
-use Rattle.classes.proofs.Walks.{some}
+use Rattle.forest.specs.State.{targets, Looked, withPair}
+use Rattle.forest.specs.Order.{Located}
+use Rattle.forest.proofs.Words.{words-later}
+use Rattle.forest.proofs.Walks.{some}
 use Rattle.classes.proofs.Visits.{ordered-none, hint-calm, class-runs, visit-clash, visit-hung, hung-ordered, visit-found, found-arc, found-same}
 use borrow.Author.Needs.{needs}
 use Rattle.classes.proofs.visit.visit.Statement.{statement}

@@ -4,8 +4,8 @@ use mathlib.Core.Path.{_≡_, refl, ap, _∙_}
 use mathlib.Core.Logic.{⊎-elim}
 use native.Mathlib.Omega.{arith}
 use lib.ListN.{length, getD}
-use Rattle.classes.proofs.Steps.{steps}
-use Rattle.classes.proofs.Walks.{some, runs-below, runs-less}
+use Rattle.forest.proofs.Steps.{steps}
+use Rattle.forest.proofs.Walks.{some, runs-below, runs-less}
 use Rattle.sieving.proofs.Gathering.{Noted, noted-new, noted-old, Noting, note-start, note-turn, note-end, note-none}
 use borrow.Author.Needs.{needs}
 use Rattle.sieving.proofs.gather.gather.Statement.{statement}

@@ -2,7 +2,7 @@
 use mathlib.Core.Path.{_∙_}
 use native.Mathlib.Omega.{arith}
 use Rattle.classes.proofs.Answers.{asked-low}
-use Rattle.classes.proofs.Walks.{some}
+use Rattle.forest.proofs.Walks.{some}
 use Rattle.trying.proofs.Guessing.{guesses-unsure, guess-low, guess-room, guess-anchored, guesses-root, guesses-arcs}
 use borrow.Author.Needs.{needs}
 use Rattle.trying.proofs.guess.guess_through.Statement.{statement}

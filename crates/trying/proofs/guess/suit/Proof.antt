@@ -3,7 +3,7 @@ use Prim.Native.Nat.{ℕ}
 use mathlib.Core.Path.{subst}
 use native.Mathlib.Omega.{arith}
 use Rattle.classes.specs.Holds.{Classed}
-use Rattle.classes.proofs.Walks.{some}
+use Rattle.forest.proofs.Walks.{some}
 use Rattle.trying.proofs.Suiting.{anchored-first, anchored-runs, suits-free, suits-low, suits-inside, suits-same, suits-other, suits-unsure}
 use borrow.Author.Needs.{needs}
 use Rattle.trying.proofs.guess.suit.Statement.{statement}
