@@ -1,16 +1,11 @@
 // An undo log in the working area: the body is the words before LOG, and the log has an entry a word from LOG on, 4,096 of them at most.
 use crate::map::LOG;
+use limits::wide;
 ghost use mathlib.Core.Path.{_≡_};
 ghost use Prim.Native.Nat.{_+_, _*_, _≤_, _<_};
 ghost use lib.ListN.{length};
 ghost use Rattle.area.specs.Map.{LOG, SIZE};
 ghost use Rattle.area.specs.Log.{Logged, Put, Undone};
-
-pub fn wide(x: u32) -> usize
-    ensures { λ r. ⌜ r ≡ x ⌝ }
-{
-    x as usize
-}
 
 // Stores v at i of the body, and what stood there in the log, which has n entries. The entries after it.
 pub fn put(w: &mut [u32], n: usize, i: usize, v: u32) -> usize

@@ -1,8 +1,8 @@
 // What may be asked of the classes: the atom of one, and its target under a feature.
 use crate::push::class_of;
-use area::log::wide;
 use forest::chain::look;
 use forest::chain::target;
+use limits::wide;
 ghost use Prim.Native.Nat.{_<_};
 ghost use Rattle.classes.specs.Holds.{Labelled};
 ghost use Rattle.classes.specs.Ask.{AtomOf, TargetOf};

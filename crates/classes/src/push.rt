@@ -1,13 +1,13 @@
 // Graphs are pushed and taken back.
 use crate::visit::nodes;
 use area::log::undo;
-use area::log::wide;
 use area::map::NEXT;
 use area::map::PARENT;
 use forest::chain::loaded;
 use forest::forest::find;
 use forest::merge::Made;
 use forest::settle::unite;
+use limits::wide;
 ghost use Prim.Native.Nat.{_+_, _≤_, _<_};
 ghost use lib.ListN.{length};
 ghost use Rattle.area.specs.Map.{SIZE};

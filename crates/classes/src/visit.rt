@@ -1,6 +1,5 @@
 // The arcs and atoms of a graph meet the classes of its nodes.
 use area::log::put;
-use area::log::wide;
 use area::map::NEXT;
 use forest::chain::loaded;
 use forest::chain::locate;
@@ -9,6 +8,7 @@ use forest::chain::target;
 use forest::forest::find;
 use forest::merge::Made;
 use forest::settle::unite;
+use limits::wide;
 ghost use mathlib.Core.Path.{_≡_};
 ghost use mathlib.Core.Bool.{true, false};
 ghost use Prim.Native.Nat.{_+_, _*_, _-_, _≤_, _<_};

@@ -1,5 +1,6 @@
 // Counting choices by descent over the nesting.
 use area::map::SECOND;
+use limits::CHOICE_STOP;
 use marks::marking::kept;
 use marks::positions::after_at;
 use marks::positions::alternatives_at;
@@ -11,9 +12,6 @@ ghost use Prim.Native.Nat.{min};
 ghost use Rattle.area.specs.Map.{SECOND};
 ghost use Rattle.theory.specs.Limits.{choice-stop};
 ghost use Rattle.counting.specs.Counted.{Countable, Counted, CountedBoth};
-
-// "stopping at 4,097"
-pub const CHOICE_STOP: u32 = 4097;
 
 // The lesser of x and the stop.
 pub fn capped(x: u32) -> u32

@@ -20,7 +20,7 @@ use Rattle.theory.proofs.FitTable.{fit-table, fit-satisfies}
 use Rattle.layout.specs.declared.reading.Judgement.{Judgement}
 use Rattle.layout.specs.declared.reading.Judgement.the-variants.{Malformed}
 use Rattle.layout.specs.Judged.{Judged}
-use Rattle.layout.specs.Reading.{pick}
+use Rattle.graphs.specs.Graph.{pick}
 use Rattle.layout.specs.Skipping.{graphEnd}
 use Rattle.layout.proofs.Standing.{stands-whole, stands-graph, stands-description}
 use Rattle.layout.proofs.Whole.{malformed-apart}

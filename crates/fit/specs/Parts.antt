@@ -6,7 +6,7 @@ use lib.ListN.{getD}
 use lib.Dec.{ltb}
 use Rattle.theory.specs.Limits.{code-limit}
 use Rattle.theory.specs.Net.{Node, atom, arcs, Graph}
-use Rattle.layout.specs.Reading.{pick}
+use Rattle.graphs.specs.Graph.{pick}
 
 -- no graph in an input has more nodes: each but the root has an arc to it, and takes three words
 abbrev pub node-limit : ℕ

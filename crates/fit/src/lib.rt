@@ -1,15 +1,13 @@
 // The fit test of document 01: whether a structure, a description with no disjunctions, satisfies a description.
-pub mod limits;
 mod sending;
 mod testing;
-mod width;
 
-use crate::limits::INPUT_LIMIT;
 use crate::sending::Answer;
 use crate::testing::satisfied;
 use layout::reading::Judgement;
 use layout::reading::judge;
 use layout::skipping::skip_graph;
+use limits::INPUT_LIMIT;
 ghost use mathlib.Core.Path.{_≡_};
 ghost use Rattle.theory.specs.FitTest.{FitGiven};
 ghost use Rattle.fit.specs.Number.{number-of};

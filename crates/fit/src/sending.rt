@@ -1,12 +1,14 @@
 // Giving each node of a graph its structure node: the one possible map, from the root on.
-use crate::limits::NODE_LIMIT;
-use crate::width::wide;
-use layout::limits::CODE_LIMIT;
+use limits::CODE_LIMIT;
+use limits::wide;
 ghost use mathlib.Core.Path.{_≡_};
 ghost use Prim.Native.Nat.{_≤_, suc, max};
 ghost use lib.ListN.{length};
 ghost use Rattle.fit.specs.Parts.{node-limit, arcs-in, arcsFrom, lastArcs, graphIn};
 ghost use Rattle.fit.specs.Sending.{Finds, Steps, Sends, Walks, SentNodes, Findable, Sendable, ArcsAsked, NodeAsked, NodesAsked, Noted, Notable};
+
+// A graph in an input has at most so many nodes: each but the root has an arc to it, so it takes three words.
+pub const NODE_LIMIT: usize = 342;
 
 // What looking for a feature finds: the target of its arc and how many arcs come after that, or no such arc.
 pub enum Found {

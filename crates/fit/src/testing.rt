@@ -1,10 +1,10 @@
 // Testing a description against a structure: its graph, and of each disjunction an alternative.
-use crate::limits::NODE_LIMIT;
 use crate::sending::Answer;
+use crate::sending::NODE_LIMIT;
 use crate::sending::note;
 use crate::sending::send_nodes;
-use layout::limits::DEPTH_LIMIT;
 use layout::skipping::skip_description;
+use limits::DEPTH_LIMIT;
 ghost use mathlib.Core.Path.{_≡_};
 ghost use Prim.Native.Nat.{_≤_};
 ghost use lib.ListN.{length};

@@ -1,6 +1,6 @@
 // Classes as a forest in the working area: PARENT + i has the parent of the node i, which is at most i, and a root is its own parent.
-use area::log::wide;
 use area::map::PARENT;
+use limits::wide;
 ghost use mathlib.Core.Path.{_≡_};
 ghost use Prim.Native.Nat.{_+_, _≤_, _<_};
 ghost use lib.ListN.{length, getD};

@@ -4,10 +4,10 @@
 use crate::chain::last;
 use crate::forest::find;
 use area::log::put;
-use area::log::wide;
 use area::map::NEXT;
 use area::map::PARENT;
 use area::map::STACK;
+use limits::wide;
 ghost use mathlib.Core.Path.{_≡_};
 ghost use mathlib.Core.Bool.{true, false};
 ghost use Prim.Native.Nat.{_+_, _*_, _≤_, _<_};

@@ -4,14 +4,12 @@ use classes::push::Pushed;
 use classes::push::back;
 use counting::choices::count_both;
 use entering::enter::enter;
-use layout::limits::DEPTH_LIMIT;
+use limits::CHOICE_LIMIT;
+use limits::DEPTH_LIMIT;
 use marks::marking::keep_lit;
 use search::search::search;
 ghost use Rattle.full.specs.Restarted.{Restarting, Restarts};
 ghost use Rattle.full.specs.Fulled.{Fulling, Fulls};
-
-// "over 4,096 choices"
-const CHOICE_LIMIT: u32 = 4096;
 
 // There are too many choices; or none is consistent; or only alternatives in consistent choices are left, with so many entries in the log and so many readings.
 pub enum Fully {

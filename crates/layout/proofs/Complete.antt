@@ -12,12 +12,14 @@ use Rattle.theory.specs.Net.{Node, atom, arcs, Graph, arcsOf, met, Rising, InOr
 use Rattle.theory.specs.Descr.{Desc, desc, Disjs, end, _and_, Alts, fail, _or_, disjs, alts}
 use Rattle.theory.specs.Layout.{arc-words, node-words, nodes-words, words, disjs-words, alts-words, ArcsFit, NodeFits, GraphFits, WellFormed, WellAll, WellAny}
 use Rattle.theory.proofs.Instance.{met-ge, numbered-ge}
-use Rattle.layout.specs.declared.reading.Arc.the-variants.{Meets}
-use Rattle.layout.specs.declared.reading.Walk.the-variants.{Went}
-use Rattle.layout.specs.declared.reading.Read.the-variants.{Fine}
-use Rattle.layout.specs.Reading.{times, readArc, arcsFrom, readNode, readNodes, readGraph, readDisjunction, readDescription}
+use Rattle.graphs.specs.declared.graph.Arc.the-variants.{Meets}
+use Rattle.graphs.specs.declared.graph.Walk.the-variants.{Went}
+use Rattle.graphs.specs.declared.graph.Read.the-variants.{Fine}
+use Rattle.layout.specs.Reading.{times, readDisjunction, readDescription}
+use Rattle.graphs.specs.Graph.{readArc, arcsFrom, readNode, readNodes, readGraph}
 use Rattle.layout.specs.Standing.{Stands, graph-words}
-use Rattle.layout.proofs.Laws.{arc-met, arc-next, arcs-there, node-arcs, node-atom, graph-nodes, description-times, disjunction-times}
+use Rattle.layout.proofs.Laws.{description-times, disjunction-times}
+use Rattle.graphs.proofs.Laws.{arc-met, arc-next, arcs-there, node-arcs, node-atom, graph-nodes}
 use Rattle.layout.proofs.Standing.{stands-nil, stands-atom, stands-node, stands-arc, stands-arcs, stands-within, stands-graph, stands-nodes, stands-description, stands-disjunctions, stands-disjunction, stands-alternatives}
 
 arc-complete : (n low m f t : ℕ) → low ≤ f → f < code-limit → t ≤ m → max m (suc t) ≤ n → readArc n low m f t ≡ Meets (max m (suc t))

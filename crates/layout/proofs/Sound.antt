@@ -14,15 +14,16 @@ use Rattle.theory.specs.Net.{Node, atom, arcs, Graph, arcsOf, met, Rising, InOr
 use Rattle.theory.specs.Descr.{Desc, desc, Disjs, end, _and_, Alts, fail, _or_, disjs, alts}
 use Rattle.theory.specs.Layout.{arc-words, node-words, nodes-words, words, disjs-words, alts-words, ArcsFit, NodeFits, GraphFits, WellFormed, WellAll, WellAny}
 use Rattle.theory.proofs.Instance.{met-ge}
-use Rattle.layout.specs.declared.reading.Arc.{Arc}
-use Rattle.layout.specs.declared.reading.Arc.the-variants.{Meets, Misplaced}
-use Rattle.layout.specs.declared.reading.Walk.{Walk}
-use Rattle.layout.specs.declared.reading.Walk.the-variants.{Went, Stopped}
-use Rattle.layout.specs.declared.reading.Read.{Read}
-use Rattle.layout.specs.declared.reading.Read.the-variants.{Fine, Wrong}
-use Rattle.layout.specs.Reading.{pick, past, walk, then, times, readArc, arcsFrom, readArcs, readNode, readNodes, readGraph, disjunctionOf, descriptionOf, readDisjunction, readDescription}
+use Rattle.graphs.specs.declared.graph.Arc.{Arc}
+use Rattle.graphs.specs.declared.graph.Arc.the-variants.{Meets, Misplaced}
+use Rattle.graphs.specs.declared.graph.Walk.{Walk}
+use Rattle.graphs.specs.declared.graph.Walk.the-variants.{Went, Stopped}
+use Rattle.graphs.specs.declared.graph.Read.{Read}
+use Rattle.graphs.specs.declared.graph.Read.the-variants.{Fine, Wrong}
+use Rattle.layout.specs.Reading.{then, times, disjunctionOf, descriptionOf, readDisjunction, readDescription}
+use Rattle.graphs.specs.Graph.{pick, past, walk, readArc, arcsFrom, readArcs, readNode, readNodes, readGraph}
 use Rattle.layout.specs.Standing.{Stands, graph-words, disjunction-words}
-use Rattle.layout.proofs.Laws.{pick-meets}
+use Rattle.graphs.proofs.Laws.{pick-meets}
 use Rattle.layout.proofs.Standing.{stands-nil, stands-cons, stands-arc, stands-nodes, stands-description, stands-disjunctions, stands-alternatives}
 
 -- a reading that went well took the good way at each test

@@ -13,7 +13,7 @@ use Rattle.theory.specs.Layout.{words, WellFormed}
 use Rattle.theory.specs.LayoutOne.{Image}
 use Rattle.theory.specs.Reading.{decode}
 use Rattle.theory.proofs.Decode.{Decoded, is, decoded, decode-iff, one-image}
-use Rattle.layout.specs.declared.reading.Read.the-variants.{Fine, Wrong}
+use Rattle.graphs.specs.declared.graph.Read.the-variants.{Fine, Wrong}
 use Rattle.layout.specs.declared.reading.Judgement.{Judgement}
 use Rattle.layout.specs.declared.reading.Judgement.the-variants.{Accepted, Malformed}
 use Rattle.layout.specs.Reading.{readDescription}

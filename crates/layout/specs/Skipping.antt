@@ -5,7 +5,7 @@ use mathlib.Core.List.{List}
 use lib.ListN.{length}
 use lib.Dec.{ltb, leb}
 use Rattle.theory.specs.Limits.{code-limit, depth-limit}
-use Rattle.layout.specs.Reading.{pick, word}
+use Rattle.graphs.specs.Graph.{pick, word}
 
 -- k things one after the other, each from where the one before ends
 unfoldable pub ends : List ℕ → (ℕ → ℕ) → ℕ → ℕ → ℕ

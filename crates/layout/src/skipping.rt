@@ -1,7 +1,7 @@
 // Finding where a graph or a description ends, without judging it.
-use crate::limits::CODE_LIMIT;
-use crate::limits::DEPTH_LIMIT;
-use crate::width::wide;
+use limits::CODE_LIMIT;
+use limits::DEPTH_LIMIT;
+use limits::wide;
 ghost use mathlib.Core.Path.{_≡_};
 ghost use Rattle.layout.specs.Skipping.{nodeEnd, graphEnd, disjunctionEnd, nestedEnd, descriptionEnd};
 

@@ -2,8 +2,8 @@
 use crate::packing::END_STEP;
 use crate::packing::EXTENT_STEP;
 use crate::packing::NUMBER_STEP;
-use layout::limits::CODE_LIMIT;
-use layout::limits::DEPTH_LIMIT;
+use limits::CODE_LIMIT;
+use limits::DEPTH_LIMIT;
 ghost use Rattle.loading.specs.Loading.{its-arcs, a-node, its-nodes, a-graph, a-disjunction, a-description, Room, Asked, Loads, Loadable, LoadedAt};
 
 // Where a thing ends, and the number of the next node.

@@ -1,5 +1,5 @@
 // What the packed words of a loaded description hold.
-use area::log::wide;
+use limits::wide;
 use loading::packing::END_STEP;
 use loading::packing::EXTENT_STEP;
 use loading::packing::NUMBER_STEP;

@@ -3,7 +3,7 @@ use crate::narrow::narrow;
 use crate::step::Step;
 use area::map::SECOND;
 use classes::push::back;
-use layout::limits::DEPTH_LIMIT;
+use limits::DEPTH_LIMIT;
 ghost use Rattle.quick.specs.Passed.{Passing, Passes};
 
 // Narrows the disjunctions of the first input, then those of the second.

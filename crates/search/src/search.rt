@@ -10,7 +10,7 @@ use classes::push::Pushed;
 use classes::push::back;
 use counting::choices::capped;
 use entering::enter::enter;
-use layout::limits::DEPTH_LIMIT;
+use limits::DEPTH_LIMIT;
 use marks::marking::kept;
 use marks::marking::light;
 use marks::positions::after_at;

@@ -1,6 +1,6 @@
 // A graph as it was loaded is put out as it came in: each target by its number within the graph.
 use area::map::RESULT;
-use layout::limits::CODE_LIMIT;
+use limits::CODE_LIMIT;
 use marks::fields::nodes_of;
 use marks::positions::number_at;
 use marks::positions::word_at;

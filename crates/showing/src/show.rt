@@ -3,7 +3,7 @@ use crate::put::put_disjunctions;
 use area::map::RESULT;
 use area::map::SECOND;
 use classes::push::back;
-use layout::limits::DEPTH_LIMIT;
+use limits::DEPTH_LIMIT;
 use marks::positions::disjunctions_at;
 use marks::positions::tail_at;
 use writing::graph::write_graph;

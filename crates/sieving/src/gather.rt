@@ -1,7 +1,7 @@
 // The sieve has a word for each feature modulo 256: the first arc of such a feature on the chain of the class of all roots, counted from 1, or 0 where there is none.
-use area::log::wide;
 use forest::chain::loaded;
 use forest::chain::next;
+use limits::wide;
 ghost use mathlib.Core.Path.{_≡_};
 ghost use Prim.Native.Nat.{_≤_};
 ghost use lib.ListN.{length, getD};

@@ -1,6 +1,6 @@
 // A feature is looked for through the sieve.
-use area::log::wide;
 use forest::chain::look;
+use limits::wide;
 ghost use mathlib.Core.Path.{_≡_};
 ghost use Prim.Native.Nat.{_≤_};
 ghost use lib.ListN.{length, getD};

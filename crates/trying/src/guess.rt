@@ -1,9 +1,9 @@
 // A flat graph is tried on the classes of the graphs that are pushed, and nothing is written. Its root has an arc to each of its other nodes, in order, and each of these is a leaf: it bears an atom or says nothing.
 use crate::told::Guess;
-use area::log::wide;
 use classes::push::class_of;
 use forest::chain::loaded;
 use forest::chain::target;
+use limits::wide;
 use sieving::through::look_through;
 ghost use Prim.Native.Nat.{_+_, _*_, _≤_, _<_};
 ghost use Rattle.classes.specs.Holds.{Pushing};

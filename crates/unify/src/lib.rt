@@ -9,15 +9,13 @@ use crate::making::make;
 use area::map::SIZE;
 use layout::reading::Judgement;
 use layout::reading::judge;
+use limits::INPUT_LIMIT;
 ghost use mathlib.Core.Path.{_≡_};
 ghost use Prim.Native.Nat.{_≤_};
 ghost use Rattle.theory.specs.Outcome.{Areas, Outcome};
 ghost use Rattle.opening.specs.Opening.{Opening};
 ghost use Rattle.unify.specs.Number.{number-of, extent-of, readings-of};
 ghost use Rattle.unify.specs.Handing.{Room, Handed};
-
-// "either input over 1,024 words"
-const INPUT_LIMIT: usize = 1024;
 
 // "mode above 2"
 const LAST_MODE: u32 = 2;

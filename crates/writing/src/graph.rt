@@ -2,11 +2,11 @@
 use crate::arcs::Place;
 use crate::arcs::arcs;
 use crate::arcs::number;
-use area::log::wide;
 use area::map::LOG;
 use area::map::RESULT;
 use area::map::STACK;
 use forest::forest::find;
+use limits::wide;
 ghost use mathlib.Core.Path.{_≡_};
 ghost use Prim.Native.Nat.{ℕ, _+_, _≤_, _<_};
 ghost use lib.ListN.{length, getD};

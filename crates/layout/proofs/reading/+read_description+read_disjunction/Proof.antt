@@ -14,7 +14,7 @@ use Rattle.layout.proofs.reading.+read_description+read_disjunction.Lts
 use Rattle.layout.proofs.reading.read_disjunction.Reads as read-disjunction
 use Rattle.layout.proofs.reading.read_disjunction.Kinds as read-disjunction-kinds
 use Rattle.layout.proofs.reading.+read_description+read_disjunction.Lts-read_disjunction as read-disjunction-lts
-use Rattle.layout.proofs.reading.read_graph.Reads as read-graph-reads
+use Rattle.graphs.proofs.graph.read_graph.Reads as read-graph-reads
 use Rattle.layout.proofs.reading.+read_description+read_disjunction.{statement}
 use Rattle.layout.proofs.reading.+read_description+read_disjunction.Tie.{close}
 

@@ -3,9 +3,9 @@
 use borrow.Author.Needs.{needs}
 use native.Mathlib.Omega.{arith}
 use mathlib.Core.Path.{_∙_}
-use Rattle.layout.proofs.Laws.{graph-none, graph-empty, graph-nodes}
-use Rattle.layout.proofs.reading.read_graph.Statement.{statement}
-use Rattle.layout.proofs.reading.read_graph.Tie as tie
+use Rattle.graphs.proofs.Laws.{graph-none, graph-empty, graph-nodes}
+use Rattle.graphs.proofs.graph.read_graph.Statement.{statement}
+use Rattle.graphs.proofs.graph.read_graph.Tie as tie
 
 returns : tie.Need-returns
 returns c = graph-none _ _ (omega arith)

@@ -2,9 +2,9 @@
 -- Assumes nothing.
 use borrow.Author.Needs.{needs}
 use native.Mathlib.Omega.{arith}
-use Rattle.layout.proofs.Laws.{arc-low, arc-high, arc-met, arc-far, arc-no-node, arc-next}
-use Rattle.layout.proofs.reading.read_arc.Statement.{statement}
-use Rattle.layout.proofs.reading.read_arc.Tie as tie
+use Rattle.graphs.proofs.Laws.{arc-low, arc-high, arc-met, arc-far, arc-no-node, arc-next}
+use Rattle.graphs.proofs.graph.read_arc.Statement.{statement}
+use Rattle.graphs.proofs.graph.read_arc.Tie as tie
 
 returns : tie.Need-returns
 returns c = arc-low _ _ _ _ _ (omega arith)

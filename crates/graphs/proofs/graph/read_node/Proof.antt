@@ -3,9 +3,9 @@
 use borrow.Author.Needs.{needs}
 use native.Mathlib.Omega.{arith}
 use mathlib.Core.Path.{_∙_}
-use Rattle.layout.proofs.Laws.{node-unmet, node-none, node-arcs, node-bad, node-atom}
-use Rattle.layout.proofs.reading.read_node.Statement.{statement}
-use Rattle.layout.proofs.reading.read_node.Tie as tie
+use Rattle.graphs.proofs.Laws.{node-unmet, node-none, node-arcs, node-bad, node-atom}
+use Rattle.graphs.proofs.graph.read_node.Statement.{statement}
+use Rattle.graphs.proofs.graph.read_node.Tie as tie
 
 returns : tie.Need-returns
 returns c = node-unmet _ _ _ _ _ (omega arith)

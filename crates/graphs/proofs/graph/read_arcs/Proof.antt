@@ -5,10 +5,10 @@ use native.Mathlib.Omega.{arith}
 use mathlib.Core.Path.{_≡_, sym, _∙_}
 use Prim.Native.Nat.{_+_, _≤_}
 use lib.ListN.{length}
-use Rattle.layout.specs.Reading.{arcsFrom, readArcs}
-use Rattle.layout.proofs.Laws.{arc-feature, arcs-short, arcs-there, arcs-done, arcs-stop, arcs-step}
-use Rattle.layout.proofs.reading.read_arcs.Statement.{statement}
-use Rattle.layout.proofs.reading.read_arcs.Tie as tie
+use Rattle.graphs.specs.Graph.{arcsFrom, readArcs}
+use Rattle.graphs.proofs.Laws.{arc-feature, arcs-short, arcs-there, arcs-done, arcs-stop, arcs-step}
+use Rattle.graphs.proofs.graph.read_arcs.Statement.{statement}
+use Rattle.graphs.proofs.graph.read_arcs.Tie as tie
 
 abbrev Inv-loop : tie.InvT-loop
 Inv-loop ws p count nodes first at₀ left₀ low₀ met₀ at left low met = (at + (left + left) ≤ length ws) × (readArcs ws nodes count first p ≡ arcsFrom ws nodes left low met at)

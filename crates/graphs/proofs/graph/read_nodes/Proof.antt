@@ -5,10 +5,10 @@ use native.Mathlib.Omega.{arith}
 use native.Mathlib.Nat.{sub-zero}
 use mathlib.Core.Path.{_≡_, sym, _∙_}
 use Prim.Native.Nat.{_≤_, _-_}
-use Rattle.layout.specs.Reading.{readNodes}
-use Rattle.layout.proofs.Laws.{nodes-done, nodes-stop, nodes-step}
-use Rattle.layout.proofs.reading.read_nodes.Statement.{statement}
-use Rattle.layout.proofs.reading.read_nodes.Tie as tie
+use Rattle.graphs.specs.Graph.{readNodes}
+use Rattle.graphs.proofs.Laws.{nodes-done, nodes-stop, nodes-step}
+use Rattle.graphs.proofs.graph.read_nodes.Statement.{statement}
+use Rattle.graphs.proofs.graph.read_nodes.Tie as tie
 
 abbrev Inv-loop : tie.InvT-loop
 Inv-loop ws p nodes at₀ i₀ met₀ at i met = (i ≤ nodes) × (readNodes ws nodes nodes 0 1 p ≡ readNodes ws nodes (nodes - i) i met at)

@@ -1,0 +1,2 @@
+-- `Graph` mirrors the reader of graphs.
+pub mod Graph
