@@ -12,8 +12,8 @@ Every citation of every document has to be found, and every path that is named h
   statement cites a definition or a function, the proof anything, and what shows a wrong answer is an edit, a theorem in
   proofs/, or "the contract alone". Every edit is cited by a block, and every public function of a library is named at
   the head of one, as **`name`** (`crate`).
-- AUDIT names every public definition of the crates in READ, and every file under specs/. Layout one's instance of a
-  definition, which is that of the same file and name with what layout one has for its parameters, needs no row.
+- TRACE names every public definition of the crates in READ, and every file under specs/. Layout one's instance of a
+  definition, which is that of the same file and name with what layout one has for its parameters, needs no line.
 Prints what is wrong and exits with 1; exits with 2 if there is nothing to look up. With --mend, a citation that is not
 found, or a head whose functions are elsewhere, is first rewritten where one place only can be meant, as after a move.
 """
@@ -236,7 +236,7 @@ def check_complete(path):
         if crate in READ:
             for name in sorted(set(public(file)) - instances(file)):
                 if (crate, file.stem, name) not in names:
-                    says(doc, f"no row has `{crate}:{file.stem}.{name}`")
+                    says(doc, f"no line has `{crate}:{file.stem}.{name}`")
 
 
 if "--mend" in sys.argv[1:]:
@@ -244,7 +244,7 @@ if "--mend" in sys.argv[1:]:
         mend(path)
 cited = sum(check_citations(path) for path in DOCS)
 rows = check_promises(TOP / "docs" / "PROMISES.md")
-check_complete(TOP / "docs" / "AUDIT.md")
+check_complete(TOP / "docs" / "TRACE.md")
 for line in wrong:
     print(line)
 if cited == 0 or rows == 0:
