@@ -7,7 +7,8 @@ A citation stands between backquotes and has one of these forms:
   unify:fn unify, told   the crate's code declares these functions
   unify:proof of unify   a file Proof.antt of the crate is of this function; several names as above
   unify!nothing_written  the edit must-fail/nothing_written.edit of the crate
-Every citation of every document has to be found, and every path that is named has to be there.
+Every citation of every document has to be found, and every path that is named has to be there; in a path NAME stands
+for a crate and NN for a number.
 - PROMISES has a block a promise: the promise, then `stated:`, `proved:` and two times `rules out: … (shown by …)`. The
   statement cites a definition or a function, the proof anything, and what shows a wrong answer is an edit, a theorem in
   proofs/, or "the contract alone". Every edit is cited by a block, and every public function of a library is named at
@@ -27,6 +28,7 @@ READ = ["descriptions", "theory", "unify", "fit", "meet_text", "reply"]
 DOCS = sorted(TOP.glob("*.md")) + sorted(TOP.glob("docs/**/*.md"))
 CITED = re.compile(r"`(\w+)(?:(!)(\w+)|:(fn|proof of) ([\w, ]+)|:([A-Z]\w*)(?:\.([^`\s]+))?)`")
 PATH = re.compile(r"`((?:crates|second|docs|include|examples|bench|fuzz|mutation)/[^` ]+)`")
+STANDS_FOR = re.compile(r"\b(?:NAME|NN)\b|\*")
 HEAD = re.compile(r"\*\*([^*]+)\*\* \(`(\w+)`\)")
 ALONE = "the contract alone"
 
@@ -134,9 +136,8 @@ def check_citations(path):
             says(doc, f"no crate {each[0]}: {written(each)}")
         elif not found(each):
             says(doc, f"not found: {written(each)}")
-    # a part in capitals stands for a name
     for name in sorted(set(PATH.findall(text))):
-        if not re.search(r"\b[A-Z]{2,}\b(?!\.md)|\*", name) and not (TOP / name).exists():
+        if not STANDS_FOR.search(name) and not (TOP / name).exists():
             says(doc, f"no file {name}")
     return len(cited)
 
