@@ -131,6 +131,9 @@ def check_citations(path):
     doc, text = path.relative_to(TOP), path.read_text(encoding="utf-8")
     crates = {root.name for root in TOP.glob("crates/*")}
     cited = citations(text)
+    for word, crate in re.findall(r"(`(\w+)(?:!|:(?!:))[^`\n]*`)", text):
+        if crate in crates and not CITED.fullmatch(word):
+            says(doc, f"no form of a citation: {word}")
     for each in cited:
         if each[0] not in crates:
             says(doc, f"no crate {each[0]}: {written(each)}")
