@@ -7,8 +7,10 @@
 #include <stdlib.h>
 
 #define COUNT(array) (sizeof(array) / sizeof(array)[0])
-#define ALL(array) {array, COUNT(array)}
-#define NONE {NULL, 0}
+#define ALL(array)                                                                                 \
+    { array, COUNT(array) }
+#define NONE                                                                                       \
+    { NULL, 0 }
 
 // Known inputs of document 01, by its names: N says nothing; in A feature 1 is atom 10, in B atom 11; P is A or B; S is
 // A, or that features 1 and 2 are each atom 10.
@@ -20,8 +22,8 @@ static const uint32_t S[] = {1, 0, 1, 2, 2, 1, 1, 1, 65546, 0, 3, 2, 1, 1, 2, 2,
 
 // 13 disjunctions of N or N, which have 8,192 choices.
 #define N_OR_N 2, 1, 0, 0, 1, 0, 0
-static const uint32_t many[] = {1, 0, 13, N_OR_N, N_OR_N, N_OR_N, N_OR_N, N_OR_N, N_OR_N, N_OR_N,
-                                N_OR_N, N_OR_N, N_OR_N, N_OR_N, N_OR_N, N_OR_N};
+static const uint32_t many[] = {1,      0,      13,     N_OR_N, N_OR_N, N_OR_N, N_OR_N, N_OR_N,
+                                N_OR_N, N_OR_N, N_OR_N, N_OR_N, N_OR_N, N_OR_N, N_OR_N, N_OR_N};
 
 // A word more than an input may have.
 static const uint32_t long_input[1025];
@@ -99,7 +101,8 @@ static const struct {
 
 static void expect(const char *what, size_t row, uint32_t found, uint32_t expected) {
     if (found != expected) {
-        printf("null: %s of row %zu is %u, not %u\n", what, row, (unsigned)found, (unsigned)expected);
+        printf("null: %s of row %zu is %u, not %u\n", what, row, (unsigned)found,
+               (unsigned)expected);
         exit(1);
     }
 }
@@ -114,7 +117,8 @@ static void fill(uint32_t *words, size_t count) {
 // the result area is written by 0 alone.
 static void expect_areas(size_t row, uint32_t number) {
     for (size_t index = 0; index < COUNT(work); index++) {
-        expect("the working area", row, work[index], number > 5 && index < BUBLASTYR_WORKING ? 0 : FILL);
+        expect("the working area", row, work[index],
+               number > 5 && index < BUBLASTYR_WORKING ? 0 : FILL);
     }
     for (size_t index = 0; index < COUNT(room); index++) {
         expect("the result area", row, room[index], FILL);
@@ -128,8 +132,9 @@ int main(void) {
         uint32_t told[2] = {FILL, FILL};
         fill(room, COUNT(room));
         fill(work, COUNT(work));
-        uint32_t number = bublastyr_unify(unifications[row].mode, first.at, first.count, second.at, second.count,
-                                          result.at, result.count, working.at, working.count, told);
+        uint32_t number =
+            bublastyr_unify(unifications[row].mode, first.at, first.count, second.at, second.count,
+                            result.at, result.count, working.at, working.count, told);
         expect("the number", row, number, unifications[row].number);
         expect("the length", row, told[0], unifications[row].length);
         expect("the readings", row, told[1], 0);
@@ -137,7 +142,8 @@ int main(void) {
     }
     for (size_t row = 0; row < COUNT(fits); row++) {
         struct words structure = fits[row].structure, description = fits[row].description;
-        uint32_t number = bublastyr_fit(structure.at, structure.count, description.at, description.count);
+        uint32_t number =
+            bublastyr_fit(structure.at, structure.count, description.at, description.count);
         expect("the number of the fit test", row, number, fits[row].number);
     }
     printf("examples: null.c has %zu unifications and %zu fit tests answered as document 01 says\n",

@@ -30,8 +30,8 @@ static void expect(const char *what, uint32_t found, uint32_t number) {
 int main(void) {
     uint32_t told[2];
     expect("either, with shared, in mode 2",
-           bublastyr_unify(2, either, COUNT(either), shared, COUNT(shared), result, COUNT(result), working,
-                           COUNT(working), told),
+           bublastyr_unify(2, either, COUNT(either), shared, COUNT(shared), result, COUNT(result),
+                           working, COUNT(working), told),
            BUBLASTYR_DONE);
     printf("%u words, %u readings:", (unsigned)told[0], (unsigned)told[1]);
     for (uint32_t index = 0; index < told[0]; index++) {
@@ -39,7 +39,8 @@ int main(void) {
     }
     putchar('\n');
     expect("the same in an area of 5 words",
-           bublastyr_unify(2, either, COUNT(either), shared, COUNT(shared), result, 5, working, COUNT(working), told),
+           bublastyr_unify(2, either, COUNT(either), shared, COUNT(shared), result, 5, working,
+                           COUNT(working), told),
            BUBLASTYR_NO_ROOM);
     printf("%u words are needed\n", (unsigned)told[0]);
     expect("feature 1 is atom 10, against either",

@@ -11,10 +11,10 @@
 #include <time.h>
 
 enum {
-    MARGIN = 32,          // words before and after each area, which nothing may touch
-    POOL = 1 << 17,       // random words with which the areas are filled
-    NUMBERS = 10,         // the numbers that come back, 0 to 9
-    COLUMNS = 5,          // modes 0, 1 and 2, modes above, the fit test
+    MARGIN = 32,           // words before and after each area, which nothing may touch
+    POOL = 1 << 17,        // random words with which the areas are filled
+    NUMBERS = 10,          // the numbers that come back, 0 to 9
+    COLUMNS = 5,           // modes 0, 1 and 2, modes above, the fit test
     PROGRESS_EVERY = 50000 // calls between two lines of progress
 };
 

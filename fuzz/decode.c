@@ -2,10 +2,10 @@
 #include "decode.h"
 
 enum {
-    SEPARATOR = 0xFF,     // parts the two inputs where bytes are small words
-    FIRST_ATOM = 0xC0,    // bytes from here to the first edge are atoms 10 and up
-    FIRST_EDGE = 0xE0,    // bytes from here are words at the edges
-    MOST_NODES = 8,       // of a graph that is built
+    SEPARATOR = 0xFF,    // parts the two inputs where bytes are small words
+    FIRST_ATOM = 0xC0,   // bytes from here to the first edge are atoms 10 and up
+    FIRST_EDGE = 0xE0,   // bytes from here are words at the edges
+    MOST_NODES = 8,      // of a graph that is built
     LONGEST_BUILT = 1100 // words after which nothing more is built
 };
 
@@ -83,8 +83,8 @@ static void build_inputs(Bytes *bytes, Call *call) {
 }
 
 static uint32_t edge_word(Bytes *bytes, uint8_t byte) {
-    static const uint32_t edges[] = {1023,   1024,   65534,  65535,      65536,
-                                     131070, 131071, 131072, 0x7FFFFFFF, 0x80000000,
+    static const uint32_t edges[] = {1023,   1024,   65534,  65535,          65536,
+                                     131070, 131071, 131072, 0x7FFFFFFF,     0x80000000,
                                      65792,  196608, 256,    UINT32_MAX - 1, UINT32_MAX};
     uint32_t index = (uint32_t)byte - FIRST_EDGE;
     if (index < sizeof edges / sizeof *edges) {

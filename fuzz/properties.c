@@ -40,8 +40,7 @@ static void demand(const Call *call, bool holds, const char *property) {
 
 static bool words_equal(const Words *left, const Words *right) {
     return left->count == right->count &&
-           (left->count == 0 ||
-            memcmp(left->at, right->at, left->count * sizeof *left->at) == 0);
+           (left->count == 0 || memcmp(left->at, right->at, left->count * sizeof *left->at) == 0);
 }
 
 static bool outcomes_equal(const Outcome *left, const Outcome *right) {
@@ -127,8 +126,9 @@ static void check_room(const Case *this, uint32_t mode, size_t room) {
     Outcome outcome = unify(mode, call->first.at, call->first.count, call->second.at,
                             call->second.count, room, WORKING_NEEDED);
     if (ample->length > room) {
-        demand(call, outcome.number == RESULT_LONG && outcome.length == ample->length &&
-                         outcome.readings == 0 && outcome.result.count == 0,
+        demand(call,
+               outcome.number == RESULT_LONG && outcome.length == ample->length &&
+                   outcome.readings == 0 && outcome.result.count == 0,
                "a result longer than the room gives 8 and its length");
     } else {
         demand(call, outcomes_equal(&outcome, ample), "room that suffices changes nothing");
@@ -151,8 +151,9 @@ static void check_exchanged(const Case *this, uint32_t mode) {
     const Call *call = this->call;
     const Outcome *outcome = &this->outcomes[mode];
     Outcome exchanged = run(mode, &call->second, &call->first);
-    demand(call, exchanged.number == outcome->number && exchanged.length == outcome->length &&
-                     exchanged.readings == outcome->readings,
+    demand(call,
+           exchanged.number == outcome->number && exchanged.length == outcome->length &&
+               exchanged.readings == outcome->readings,
            "exchanged inputs give the same number, length and readings");
     words_free(&exchanged.result);
 }
@@ -275,8 +276,9 @@ static void check_reading(const Case *this, const Pick *pick) {
     sheet_merge_all(sheet(), pick);
     sheet_write(sheet(), &structure);
     words_add(&structure, 0);
-    demand(this->call, run_fit(&structure, &this->call->first) == SUCCESS &&
-                           run_fit(&structure, &this->call->second) == SUCCESS,
+    demand(this->call,
+           run_fit(&structure, &this->call->first) == SUCCESS &&
+               run_fit(&structure, &this->call->second) == SUCCESS,
            "a reading satisfies both inputs");
     check_structure(this, &structure);
     words_free(&structure);
@@ -410,8 +412,9 @@ static void check_read(const Call *call) {
 // A call that is refused before its inputs are unified.
 static void check_refused(const Call *call, uint32_t number) {
     Outcome outcome = call_run(call);
-    demand(call, outcome.number == number && outcome.length == 0 && outcome.readings == 0 &&
-                     outcome.result.count == 0,
+    demand(call,
+           outcome.number == number && outcome.length == 0 && outcome.readings == 0 &&
+               outcome.result.count == 0,
            "the first check that fails gives the number, without length and readings");
     words_free(&outcome.result);
 }

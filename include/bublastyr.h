@@ -13,15 +13,15 @@ extern "C" {
 // The numbers that come back. Only 0 is a pass; 6 says that the two do not agree, and every other number that
 // the call was refused and nothing was decided.
 enum {
-    BUBLASTYR_DONE = 0,             // unified; or: the structure satisfies the description
-    BUBLASTYR_BAD_MODE = 1,         // the mode is above 2
-    BUBLASTYR_SMALL_AREA = 2,       // the working area has fewer than 16,384 words
-    BUBLASTYR_TOO_LONG = 3,         // an input has more than 1,024 words
-    BUBLASTYR_BAD_FIRST = 4,        // the first input is malformed; in the fit test, the structure
-    BUBLASTYR_BAD_SECOND = 5,       // the second input is malformed; in the fit test, the description
-    BUBLASTYR_CLASH = 6,            // no structure satisfies both; or: it does not satisfy the description
-    BUBLASTYR_TOO_MANY = 7,         // mode 2: over 4,096 choices are left to search
-    BUBLASTYR_NO_ROOM = 8,          // the result is longer than the result area
+    BUBLASTYR_DONE = 0,       // unified, or the structure satisfies the description
+    BUBLASTYR_BAD_MODE = 1,   // the mode is above 2
+    BUBLASTYR_SMALL_AREA = 2, // the working area has fewer than 16,384 words
+    BUBLASTYR_TOO_LONG = 3,   // an input has more than 1,024 words
+    BUBLASTYR_BAD_FIRST = 4,  // the first input is malformed; in the fit test, the structure
+    BUBLASTYR_BAD_SECOND = 5, // the second input is malformed; in the fit test, the description
+    BUBLASTYR_CLASH = 6,      // no structure satisfies both, or it does not satisfy the description
+    BUBLASTYR_TOO_MANY = 7,   // mode 2: over 4,096 choices are left to search
+    BUBLASTYR_NO_ROOM = 8,    // the result is longer than the result area
     BUBLASTYR_HAS_DISJUNCTIONS = 9, // the fit test's structure has disjunctions
 };
 
@@ -42,9 +42,10 @@ enum {
 // 6, 7, 8 and 0 its first 16,384 words are zero and later ones are as they were.
 //
 // The areas, the inputs and told must not overlap. A pointer may be null where its length is 0.
-uint32_t bublastyr_unify(uint32_t mode, const uint32_t *first, size_t first_len, const uint32_t *second,
-                         size_t second_len, uint32_t *result, size_t result_len, uint32_t *working,
-                         size_t working_len, uint32_t told[2]);
+uint32_t bublastyr_unify(uint32_t mode, const uint32_t *first, size_t first_len,
+                         const uint32_t *second, size_t second_len, uint32_t *result,
+                         size_t result_len, uint32_t *working, size_t working_len,
+                         uint32_t told[2]);
 
 // Tells whether a structure, a description with no disjunctions, satisfies a description. Answers 3, 4, 5, 9,
 // 0 or 6, checked in that order. Writes nothing. Here too a pointer may be null where its length is 0.

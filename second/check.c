@@ -64,8 +64,7 @@ static Picks consistent_picks(Check *check, const Words *words) {
 }
 
 // In how many ways a choice of each description from `next` on agrees with what is taken.
-static size_t count_ways(Check *check, const Picks *lists, size_t next, size_t count,
-                         Pick *taken) {
+static size_t count_ways(Check *check, const Picks *lists, size_t next, size_t count, Pick *taken) {
     if (next == count) {
         return sheet_merge_all(&check->sheet, taken);
     }
@@ -151,8 +150,9 @@ static void check_result(Check *check, uint32_t mode, const Words *first, const 
     demand(check, result->count + 3 <= first->count + second->count, "the result is too long");
     Outcome tight = unify(mode, first->at, first->count, second->at, second->count,
                           result->count - 1, WORKING_NEEDED);
-    demand(check, tight.number == RESULT_LONG && tight.length == outcome->length &&
-                      tight.readings == 0 && tight.result.count == 0,
+    demand(check,
+           tight.number == RESULT_LONG && tight.length == outcome->length && tight.readings == 0 &&
+               tight.result.count == 0,
            "one word short is not refused");
     words_free(&tight.result);
 }
@@ -232,8 +232,8 @@ static void check_clash(Check *check, const Words *first, const Words *second) {
 // Both inputs in every mode; false when there are too many ways to choose.
 static bool check_pair(Check *check, const Words *first, const Words *second) {
     Picks lists[] = {all_picks(first->at, MOST_WAYS), all_picks(second->at, MOST_WAYS)};
-    bool small = !lists[0].too_many && !lists[1].too_many &&
-                 lists[0].count * lists[1].count <= MOST_WAYS;
+    bool small =
+        !lists[0].too_many && !lists[1].too_many && lists[0].count * lists[1].count <= MOST_WAYS;
     if (small) {
         Words joined = {0};
         size_t ways = ways_of(check, lists, 2);
@@ -341,9 +341,10 @@ static void check_malformed(Check *check) {
     if (broken.count <= LONGEST_INPUT && sound.count <= LONGEST_INPUT) {
         Outcome first = run(MODE_JOIN, &broken, &sound);
         Outcome second = run(MODE_JOIN, &sound, &broken);
-        demand(check, first.number == FIRST_MALFORMED && second.number == SECOND_MALFORMED &&
-                          fit(broken.at, broken.count, sound.at, sound.count) == FIRST_MALFORMED &&
-                          fit(sound.at, sound.count, broken.at, broken.count) == SECOND_MALFORMED,
+        demand(check,
+               first.number == FIRST_MALFORMED && second.number == SECOND_MALFORMED &&
+                   fit(broken.at, broken.count, sound.at, sound.count) == FIRST_MALFORMED &&
+                   fit(sound.at, sound.count, broken.at, broken.count) == SECOND_MALFORMED,
                "malformed words are not refused");
         words_free(&first.result);
         words_free(&second.result);
@@ -376,8 +377,8 @@ static void check_case(Check *check) {
             checked = check_pair(check, &first, &second);
         }
         if (check->failure != NULL) {
-            Call call = {.room = AMPLE_ROOM, .work = WORKING_NEEDED, .first = first,
-                         .second = second};
+            Call call = {
+                .room = AMPLE_ROOM, .work = WORKING_NEEDED, .first = first, .second = second};
             call_print(&call, stdout);
         }
         words_free(&first);

@@ -111,9 +111,8 @@ static void change_an_atom(Random *random, Graph *structure) {
 // A structure that mostly satisfies the description, or nearly.
 static Description random_structure(Random *random, const Description *description) {
     Vocabulary vocabulary = random_vocabulary(random);
-    Description structure = {.graph = random_one_in(random, 3)
-                                          ? random_graph(random, vocabulary, 4)
-                                          : graph_of_nothing()};
+    Description structure = {.graph = random_one_in(random, 3) ? random_graph(random, vocabulary, 4)
+                                                               : graph_of_nothing()};
     if (random_below(random, 8) > 0) {
         grow_structure(random, description, &structure.graph);
     }
@@ -125,9 +124,8 @@ static Description random_structure(Random *random, const Description *descripti
 
 Call random_fit(Random *random) {
     Pair pair = random_pair(random);
-    Description structure = random_one_in(random, 3)
-                                ? description_copy(&pair.first)
-                                : random_structure(random, &pair.second);
+    Description structure = random_one_in(random, 3) ? description_copy(&pair.first)
+                                                     : random_structure(random, &pair.second);
     Call call = {.is_fit = true};
     call.first = perhaps_spoilt(random, &structure, 20);
     call.second = perhaps_spoilt(random, &pair.second, 20);

@@ -157,8 +157,8 @@ static bool side_clashes(const Side *side) {
 // The classes in the order of first arrival.
 typedef struct {
     uint32_t count;
-    uint32_t *classes;  // by number
-    uint32_t *numbers;  // by class, plus one; 0 is a class not yet met
+    uint32_t *classes; // by number
+    uint32_t *numbers; // by class, plus one; 0 is a class not yet met
 } Arrival;
 
 static uint32_t arrive(Arrival *arrival, uint32_t class) {

@@ -81,8 +81,7 @@ static bool expect(const char *name, const Call *call, const Outcome *expected) 
     Outcome outcome = call_run(call);
     const Words *result = &outcome.result;
     bool same = outcome.number == expected->number && outcome.length == expected->length &&
-                outcome.readings == expected->readings &&
-                result->count == expected->result.count &&
+                outcome.readings == expected->readings && result->count == expected->result.count &&
                 (result->count == 0 ||
                  memcmp(result->at, expected->result.at, result->count * sizeof *result->at) == 0);
     if (!same) {
@@ -98,7 +97,8 @@ static bool expect(const char *name, const Call *call, const Outcome *expected) 
 
 // One case in one mode.
 static bool known_in_mode(const Known *known, uint32_t mode) {
-    Call call = {.is_fit = known->mode == FIT, .first = words_from(known->first),
+    Call call = {.is_fit = known->mode == FIT,
+                 .first = words_from(known->first),
                  .second = words_from(known->second)};
     if (!call.is_fit) {
         call.mode = mode;
@@ -159,7 +159,10 @@ static Words of_length(uint32_t length) {
 // and on success the result is the words themselves.
 static bool with_nothing(const char *name, uint32_t mode, Words words, uint32_t first,
                          uint32_t second, uint32_t readings) {
-    Call call = {.mode = mode, .room = 2048, .work = WORKING_NEEDED, .first = words,
+    Call call = {.mode = mode,
+                 .room = 2048,
+                 .work = WORKING_NEEDED,
+                 .first = words,
                  .second = words_from(N)};
     Outcome expected = {first, 0, readings, {0}};
     if (first == SUCCESS) {

@@ -141,8 +141,8 @@ static Description chain_of_folds(Random *random) {
         chain = with_value(chain, length, BAD);
     }
     for (uint32_t link = 0; link < length; link++) {
-        description_add(&chain, either(random, value(link, BAD),
-                                       values(link, GOOD, link + 1, GOOD)));
+        description_add(&chain,
+                        either(random, value(link, BAD), values(link, GOOD, link + 1, GOOD)));
     }
     uint32_t order = random_below(random, 3);
     if (order == 1) {
@@ -243,8 +243,8 @@ static Description many_alternatives(Random *random) {
 static Description free_binary(Random *random, uint32_t count) {
     Description description = nothing();
     for (uint32_t index = 0; index < count; index++) {
-        description_add(&description, either(random, value(20 + index, GOOD),
-                                             value(20 + index, BAD)));
+        description_add(&description,
+                        either(random, value(20 + index, GOOD), value(20 + index, BAD)));
     }
     return description;
 }
@@ -396,9 +396,9 @@ Description random_of_length(Random *random, uint32_t length) {
         uint32_t left = length - used;
         bool back = left == 2 || left == 4 || (left > 4 && random_one_in(random, 50));
         uint32_t step = back ? 2 : 3;
-        description = back ? with_link(description, feature, 0)
-                           : with_value(description, feature,
-                                        random_one_in(random, 400) ? BAD : GOOD);
+        description =
+            back ? with_link(description, feature, 0)
+                 : with_value(description, feature, random_one_in(random, 400) ? BAD : GOOD);
         used += step;
         feature++;
     }
