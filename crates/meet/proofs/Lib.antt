@@ -1,2 +1,2 @@
--- `Printing` shows that what was written can be printed.
+-- `Printing` shows that what was written is all there, and can be printed.
 pub mod Printing

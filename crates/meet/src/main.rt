@@ -2,7 +2,11 @@
 use meet_text::line::Written;
 use reply::reply;
 ghost use mathlib.Core.Path.{_≡_};
+ghost use Prim.Native.Nat.{_≤_};
 ghost use lib.ListN.{length};
+ghost use Rattle.meet_text.specs.Answer.{Wrote};
+ghost use Rattle.meet_text.specs.declared.line.Written.the-variants.{Bytes};
+ghost use Rattle.reply.specs.Printed.{printed};
 
 // "input over 65,536 bytes" is bad input: room for one byte more is enough to tell.
 fn text_space() -> [u8; 65537]
@@ -11,24 +15,37 @@ fn text_space() -> [u8; 65537]
     [0; 65537]
 }
 
-// An answer has at most 23,000 bytes.
+// What is printed has at most 23,000 bytes (`printed-small`).
 fn out_space() -> [u8; 32768]
     ensures { λ r. ⌜ length r ≡ 32768 ⌝ }
 {
     [0; 32768]
 }
 
-// Prints what comes of the text.
-fn print(text: &[u8], out: &mut [u8]) {
+// Writes what comes of the text to the start of out, and answers how many bytes that is. There is always room.
+fn answer(text: &[u8], out: &mut [u8]) -> usize
+    requires { ⌜ 32768 ≤ length (now out) ⌝ }
+    ensures { λ r. ⌜ Wrote (printed (now (text .entry))) (now (out .entry)) (now (out .exit)) (Bytes r) ⌝ }
+{
     let written = reply(text, out);
-    let Written::Bytes(n) = written else {
-        return;
-    };
+    match written {
+        Written::Bytes(n) => n,
+        Written::NoRoom => 0,
+    }
+}
+
+// Prints what comes of the text.
+fn print(text: &[u8], out: &mut [u8])
+    requires { ⌜ 32768 ≤ length (now out) ⌝ }
+{
+    let n = answer(text, out);
     io::write_all(1, &out[..n]);
 }
 
 // Reads the text, and prints what comes of it.
-fn run(text: &mut [u8], out: &mut [u8]) {
+fn run(text: &mut [u8], out: &mut [u8])
+    requires { ⌜ 32768 ≤ length (now out) ⌝ }
+{
     let n = io::read_full(0, text);
     print(&text[..n], out);
 }

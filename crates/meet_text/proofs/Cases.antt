@@ -4,9 +4,15 @@ use mathlib.Core.Path.{_≡_, refl}
 use mathlib.Core.Option.{none, some}
 use mathlib.Core.List.{List, [], _∷_}
 use Prim.Native.Nat.{ℕ}
-use Rattle.meet_text.specs.Token.{blank, digit, more, token}
+use Rattle.meet_text.specs.Token.{blank, digit, more, token, placed}
+use Rattle.meet_text.specs.declared.number.Token.the-variants.{Is}
 use Rattle.meet_text.specs.Call.{words-in, counted, done, inputs, call, heard}
 use Rattle.meet_text.specs.Answer.{digits, decimal, after-spaces, spaced, labelled, first-line, second-line, answer-text}
+
+-- `07`: the number ends with the text, and no text is left after position 2
+pub last-number : placed (48 ∷ 55 ∷ []) (token (48 ∷ 55 ∷ [])) ≡ Is 7 2
+unfolding token more digit blank
+last-number = refl
 
 -- `3 1 0 0`: mode 3, one word and none; the form is judged before the mode
 pub mode-three : heard (51 ∷ 32 ∷ 49 ∷ 32 ∷ 48 ∷ 32 ∷ 48 ∷ []) ≡ some (record { mode = 3; first = 0 ∷ []; second = [] })

@@ -2,7 +2,7 @@
 -- `Goings` has what writing piece by piece asks, `Decimals` what is so of numbers in decimal, `Answers` what is so of an answer's lines; `Cases` has worked texts.
 mod Tokens
 mod Runs
-mod Calls
+pub mod Calls
 mod Goings
 pub mod Decimals
 pub mod Answers

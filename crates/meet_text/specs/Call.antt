@@ -1,17 +1,15 @@
 -- A call as `meet` reads it: "namely mode, word count, first words, word count, second words".
 -- Assumes nothing: these are definitions.
-use Prim.Native.Nat.{ℕ, zero, suc, _≤_}
+use Prim.Native.Nat.{ℕ, zero, suc}
 use mathlib.Core.Path.{_≡_}
 use mathlib.Core.Bool.{Bool, true, false}
 use mathlib.Core.Option.{Option, none, some}
 use mathlib.Core.List.{List, [], _∷_, _++_}
-use lib.ListN.{length, take, drop}
+use lib.ListN.{length, drop}
 use lib.Dec.{ltb}
 use Rattle.meet_text.specs.Token.{is, over, bad, token}
 use Rattle.meet_text.specs.declared.call.Call.{Call}
 use Rattle.meet_text.specs.declared.call.Call.the-variants.{Good, BadInput}
-use Rattle.meet_text.specs.declared.call.Words.{Words}
-use Rattle.meet_text.specs.declared.call.Words.the-variants.{Run, Wrong}
 
 -- words, and the text after them
 abbrev pub Taken : Type 0
@@ -33,11 +31,6 @@ count-limit = 2048
 -- a word count, and so many words
 unfoldable pub counted : List ℕ → Option Taken
 counted cs = elim (token cs) [ is n rest ↦ elim (ltb count-limit n) [ true ↦ none | false ↦ words-in n rest ] | over ↦ none | bad ↦ none ]
-
--- what the reader's answer says: the words stand at the start of dst
-abbrev pub taken : List ℕ → List ℕ → Words → Option Taken
-taken text dst (Run n q) = some (take n dst, drop q text)
-taken text dst Wrong = none
 
 -- "a missing or surplus number": whether no number is left
 unfoldable pub done : List ℕ → Bool
@@ -66,11 +59,30 @@ text-limit = 65536
 unfoldable pub heard : List ℕ → Option Asked
 heard text = elim (ltb text-limit (length text)) [ true ↦ none | false ↦ call text ]
 
--- what the answer says, where the words of both inputs are
-abbrev pub told : List ℕ → List ℕ → Call → Option Asked
-told first second (Good m n k) = some (record { mode = m; first = take n first; second = take k second })
-told first second BadInput = none
+-- for lists of so many words: without room for the longest run in each, there is no call
+unfoldable pub heard-in : ℕ → ℕ → List ℕ → Option Asked
+heard-in n m text = elim (ltb n count-limit) [ true ↦ none | false ↦ elim (ltb m count-limit) [ true ↦ none | false ↦ heard text ] ]
 
--- where there is room for both inputs, the answer is what the text says
-abbrev pub Heard : List ℕ → List ℕ → List ℕ → List ℕ → List ℕ → Call → Type 0
-Heard text first second first′ second′ r = count-limit ≤ length first → count-limit ≤ length second → told first′ second′ r ≡ heard text
+-- the answer: the mode, and how many words each input has
+abbrev pub told : Option Asked → Call
+told none = BadInput
+told (some c) = Good (c .mode) (length (c .first)) (length (c .second))
+
+-- the words of each input, none after bad input
+abbrev pub first-words : Option Asked → List ℕ
+first-words none = []
+first-words (some c) = c .first
+
+abbrev pub second-words : Option Asked → List ℕ
+second-words none = []
+second-words (some c) = c .second
+
+-- these words at the start of a list, and after them what stood there
+abbrev pub upon : List ℕ → List ℕ → List ℕ
+upon words l = words ++ drop (length words) l
+
+-- the answer to a call, and every word of both lists: the inputs stand at their starts, and bad input changes neither
+pub record Heard (o : Option Asked) (first second first′ second′ : List ℕ) (r : Call) : Type 0 where
+  pub answer : r ≡ told o
+  pub the-first : first′ ≡ upon (first-words o) first
+  pub the-second : second′ ≡ upon (second-words o) second

@@ -3,7 +3,7 @@
 use Prim.Native.Nat.{ℕ, _+_, _*_, _-_}
 use mathlib.Core.Bool.{Bool, true, false}
 use mathlib.Core.List.{List, [], _∷_}
-use lib.ListN.{drop}
+use lib.ListN.{length}
 use lib.Dec.{eqb, ltb}
 use Rattle.meet_text.specs.declared.number.Token.{Token}
 use Rattle.meet_text.specs.declared.number.Token.the-variants.{Is, Over, Bad}
@@ -38,8 +38,8 @@ unfoldable pub token : List ℕ → Start
 token [] = over
 token (c ∷ cs) = elim (blank c) [ true ↦ token cs | false ↦ elim (digit c) [ true ↦ more 0 (c ∷ cs) | false ↦ bad ] ]
 
--- what an answer of the reader says of the text
-abbrev pub meant : List ℕ → Token → Start
-meant text (Is v q) = is v (drop q text)
-meant text Over = over
-meant text Bad = bad
+-- the answer for a start: a number goes with the position where the text after it begins
+abbrev pub placed : List ℕ → Start → Token
+placed text (is v rest) = Is v (length text - length rest)
+placed text over = Over
+placed text bad = Bad

@@ -1,7 +1,8 @@
 // Reading one number from bytes: decimal digits, parted by spaces or newlines.
 ghost use mathlib.Core.Path.{_≡_};
-ghost use lib.ListN.{drop};
-ghost use Rattle.meet_text.specs.Token.{blank, digit, more, token, meant};
+ghost use Prim.Native.Nat.{_≤_};
+ghost use lib.ListN.{length, drop};
+ghost use Rattle.meet_text.specs.Token.{blank, digit, more, token, placed};
 
 // What stands next: a number and the position after it, no number any more, or something else.
 pub enum Token {
@@ -38,7 +39,8 @@ fn wide(c: u8) -> u64
 
 // The rest of a number whose value so far is `first`, from p on.
 fn read_more(text: &[u8], p: usize, first: u32) -> Token
-    ensures { λ r. ⌜ meant (now (text .entry)) r ≡ more first (drop p (now (text .entry))) ⌝ }
+    requires { ⌜ p ≤ length (now text) ⌝ }
+    ensures { λ r. ⌜ r ≡ placed (now (text .entry)) (more first (drop p (now (text .entry)))) ⌝ }
 {
     let mut at = p;
     let mut value = first;
@@ -65,7 +67,7 @@ fn read_more(text: &[u8], p: usize, first: u32) -> Token
 
 // The next number from p on.
 pub fn read_token(text: &[u8], p: usize) -> Token
-    ensures { λ r. ⌜ meant (now (text .entry)) r ≡ token (drop p (now (text .entry))) ⌝ }
+    ensures { λ r. ⌜ r ≡ placed (now (text .entry)) (token (drop p (now (text .entry)))) ⌝ }
 {
     let mut at = p;
     while at < text.len() {

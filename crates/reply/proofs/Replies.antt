@@ -1,24 +1,25 @@
 -- What is written is what the definition prints. Assumes nothing.
 use mathlib.Core.Path.{_≡_, refl, sym, ap, ap₂, _∙_, subst}
-use mathlib.Core.Bool.{Bool, true, false}
+use mathlib.Core.Bool.{false}
 use mathlib.Core.Option.{Option, none, some}
 use mathlib.Core.List.{List}
-use Prim.Native.Nat.{ℕ, _≤_, min}
+use Prim.Native.Nat.{ℕ, _≤_}
 use native.Mathlib.Omega.{arith}
-use lib.Dec.{eqb, ltb}
-use lib.ListN.{length, take, drop, length-take}
-use lib.Seq.{take-all, take-append-seam}
-use borrow.Author.Tests.{ne-eqb, ltb-true, ltb-false}
+use lib.Dec.{eqb}
+use lib.ListN.{length, take, drop, length-take, length-append}
+use lib.Seq.{take-append-seam}
+use borrow.Author.Tests.{ne-eqb}
 use Rattle.theory.specs.Unified.{unified}
 use Rattle.theory.specs.Outcome.{Outcome}
 use Rattle.theory.proofs.Areas.{given-writes}
 use Rattle.descriptions.proofs.Areas.{Writes, nothing, result}
 use Rattle.theory.proofs.Table.{outcome-answer}
-use Rattle.meet_text.specs.Call.{Asked, heard, told}
+use Rattle.meet_text.specs.Call.{Asked, heard, heard-in, upon, Heard}
 use Rattle.meet_text.specs.declared.call.Call.{Call}
 use Rattle.meet_text.specs.declared.call.Call.the-variants.{Good, BadInput}
 use Rattle.meet_text.specs.Answer.{second-line, answer-text, bad-text, Wrote}
 use Rattle.meet_text.specs.declared.line.Written.{Written}
+use Rattle.meet_text.proofs.Calls.{with-room}
 use Rattle.reply.specs.Printed.{in-words, spoken, printed}
 
 -- only number 0 has a second line
@@ -66,25 +67,68 @@ pub take-count : (k : ℕ) (l : List ℕ) → k ≤ length l → k ≡ length (t
 take-count k l h = let e = length-take k l in omega arith
 
 -- ---- the text
--- words beyond those that there are take nothing more
-capped : (n i : ℕ) (l : List ℕ) → i ≡ min n 2048 → length l ≡ 2048 → take i l ≡ take n l
-capped n i l e h = go (ltb n 2048) refl
-  where
-    go : (t : Bool) → ltb n 2048 ≡ t → take i l ≡ take n l
-    go true q = let x = ltb-true n 2048 q in let z : i ≡ n = omega arith in ap (λ (k : ℕ). take k l) z
-    go false q = let x = ltb-false n 2048 q in take-all i l (omega arith) ∙ sym (take-all n l (omega arith))
+-- what is printed for a call, or for bad input
+abbrev replied : Option Asked → List ℕ
+replied none = bad-text
+replied (some c) = spoken (c .mode) (c .first) (c .second)
 
-module _ (text first second : List ℕ) (c : Call) (e : told first second c ≡ heard text) where
-  pub printed-bad : c ≡ BadInput → bad-text ≡ printed text
-  unfolding printed
-  printed-bad q = ap {B = List ℕ} (λ (o : Option Asked). elim o [ none ↦ bad-text | some c ↦ spoken (c .mode) (c .first) (c .second) ]) (ap (told first second) (sym q) ∙ e)
+replied-is : (o : Option Asked) → replied o ≡ elim o [ none ↦ bad-text | some c ↦ spoken (c .mode) (c .first) (c .second) ]
+replied-is none = refl
+replied-is (some c) = refl
 
-  good : (mode n m : ℕ) → c ≡ Good mode n m → spoken mode (take n first) (take m second) ≡ printed text
-  unfolding printed
-  good mode n m q = ap {B = List ℕ} (λ (o : Option Asked). elim o [ none ↦ bad-text | some c ↦ spoken (c .mode) (c .first) (c .second) ]) (ap (told first second) (sym q) ∙ e)
+printed-is : (text : List ℕ) → replied (heard text) ≡ printed text
+unfolding printed
+printed-is text = replied-is (heard text)
 
-  pub printed-good : (mode n m i k : ℕ) → c ≡ Good mode n m → i ≡ min n 2048 → k ≡ min m 2048 → length first ≡ 2048 → length second ≡ 2048 → spoken mode (take i first) (take k second) ≡ printed text
-  printed-good mode n m i k q f g lf ls = ap₂ {C = List ℕ} (spoken mode) (capped n i first f lf) (capped m k second g ls) ∙ good mode n m q
+-- words that stand at the start
+front : (ws l l′ : List ℕ) (n : ℕ) → n ≡ length ws → l′ ≡ upon ws l → take n l′ ≡ ws
+front ws l l′ n e f = ap₂ {C = List ℕ} take e f ∙ take-append-seam ws (drop (length ws) l)
+
+front-room : (ws l l′ : List ℕ) (n : ℕ) → n ≡ length ws → l′ ≡ upon ws l → n ≤ length l′
+front-room ws l l′ n e f = let i = ap length f in let j = length-append ws (drop (length ws) l) in omega arith
+
+module _ (text first second first′ second′ : List ℕ) (r : Call) (lf : length first ≡ 2048) (ls : length second ≡ 2048)
+    (h : Heard (heard-in (length first) (length second) text) first second first′ second′ r) where
+  -- there is room for every call
+  is-heard : Heard (heard text) first second first′ second′ r
+  is-heard =
+      subst (λ (o : Option Asked). Heard o first second first′ second′ r)
+      (with-room (length first) (length second) text (omega arith) (omega arith)) h
+
+  pub printed-bad : r ≡ BadInput → bad-text ≡ printed text
+  printed-bad q = go (heard text) is-heard ∙ printed-is text
+    where
+      go : (o : Option Asked) → Heard o first second first′ second′ r → bad-text ≡ replied o
+      go none k = refl
+      go (some c) k = let e = k .answer in let z : _≡_ {A = ℕ} 0 1 = cc in absurd (omega arith)
+
+  module _ (mode n m : ℕ) (q : r ≡ Good mode n m) where
+    -- the inputs stand at the start of each list, and what they say is the text
+    abbrev Says : List ℕ → Type 0
+    Says l = (n ≤ length first′) × (m ≤ length second′) × (spoken mode (take n first′) (take m second′) ≡ l)
+
+    good : Says (replied (heard text))
+    good = go (heard text) is-heard
+      where
+        go : (o : Option Asked) → Heard o first second first′ second′ r → Says (replied o)
+        go none k = let e = k .answer in let z : _≡_ {A = ℕ} 0 1 = cc in absurd (omega arith)
+        go (some c) k =
+            let e : Good mode n m ≡ Good (c .mode) (length (c .first)) (length (c .second)) = sym q ∙ k .answer in
+            let x : mode ≡ c .mode = cc in
+            let y : n ≡ length (c .first) = cc in
+            let z : m ≡ length (c .second) = cc in
+            let f = front (c .first) first first′ n y (k .the-first) in
+            let g = front (c .second) second second′ m z (k .the-second) in (
+              front-room (c .first) first first′ n y (k .the-first),
+              front-room (c .second) second second′ m z (k .the-second),
+              ap (λ (v : ℕ). spoken v (take n first′) (take m second′)) x ∙ ap₂ {C = List ℕ} (spoken (c .mode)) f g,
+            )
+
+    pub rooms : (n ≤ length first′) × (m ≤ length second′)
+    rooms = (good .0, good .1)
+
+    pub printed-good : spoken mode (take n first′) (take m second′) ≡ printed text
+    printed-good = good .2 ∙ printed-is text
 
 -- ---- a text by another name
 pub wrote-same : (x y dst dst′ : List ℕ) (r : Written) → x ≡ y → Wrote x dst dst′ r → Wrote y dst dst′ r

@@ -7,7 +7,6 @@ use meet_text::line::Written;
 use unify::told;
 use unify::unify;
 ghost use mathlib.Core.Path.{_≡_};
-ghost use Prim.Native.Nat.{min};
 ghost use lib.ListN.{length};
 ghost use Rattle.meet_text.specs.Answer.{Wrote};
 ghost use Rattle.reply.specs.Printed.{spoken, printed};
@@ -24,13 +23,6 @@ fn working_space() -> [u32; 16384]
     ensures { λ r. ⌜ length r ≡ 16384 ⌝ }
 {
     [0; 16384]
-}
-
-// The lesser of n and the words that an input has room for.
-fn within(n: usize) -> usize
-    ensures { λ r. ⌜ r ≡ min n 2048 ⌝ }
-{
-    if n < 2048 { n } else { 2048 }
 }
 
 // Unifies two inputs in these areas, and writes the answer to the start of out.
@@ -79,9 +71,7 @@ fn reply_in(text: &[u8], first: &mut [u32], second: &mut [u32], out: &mut [u8]) 
     else {
         return write_bad(out);
     };
-    let i = within(n);
-    let k = within(m);
-    answer(mode, &first[..i], &second[..k], out)
+    answer(mode, &first[..n], &second[..m], out)
 }
 
 // Answers the call that the text is, and writes what `meet` prints to the start of out.

@@ -1,7 +1,9 @@
 -- `reply::reply_in` meets its contract. Assumes nothing.
+use mathlib.Core.Path.{_≡_}
 use borrow.Author.Needs.{needs}
 use native.Mathlib.Omega.{arith}
-use Rattle.reply.proofs.Replies.{printed-bad, printed-good, take-count, wrote-same}
+use Rattle.meet_text.specs.declared.call.Call.the-variants.{BadInput}
+use Rattle.reply.proofs.Replies.{printed-bad, rooms, printed-good, take-count, wrote-same}
 use Rattle.reply.proofs.reply_in.Statement.{statement}
 use Rattle.reply.proofs.reply_in.Tie as tie
 
@@ -27,25 +29,55 @@ same-length-3 : tie.Need-same-length-3
 same-length-3 c = search needs
 
 returns : tie.Need-returns
-returns c = wrote-same _ _ (c .before .before .before .before .before .before .before .before .before .before .before .before .before .before .before .before .before .args .out .now) (c .before .before .write-bad .last .0) (c .before .before .write-bad .result) (printed-bad _ _ _ (c .before .before .before .before .before .before .before .before .before .before .read-call .result) (c .before .before .before .before .before .before .before .before .before .before .read-call .ensures (omega arith) (omega arith)) (cc)) (c .before .before .write-bad .ensures)
-
-within-requires : tie.Need-within-requires
-within-requires c κs = search needs
-
-within-requires-2 : tie.Need-within-requires-2
-within-requires-2 c κs = search needs
+returns c =
+    let k = c .before .before .before .before .before .before .before .before .before .before in
+    let start = k .before .before .before .before .before .before .before in
+    let a = start .args in
+    let r = k .read-call in
+    let w = c .before .before .write-bad in
+    let q : r .result ≡ BadInput = cc in
+    let e = printed-bad _ (a .first .now) (a .second .now) _ _ (r .result) (start .pre .0) (start .pre .1) (r .ensures) q in
+    wrote-same _ _ (a .out .now) (w .last .0) (w .result) e (w .ensures)
 
 slice-reshare-prefix-answer : tie.Need-slice-reshare-prefix-answer
-slice-reshare-prefix-answer c = search needs
+slice-reshare-prefix-answer c =
+    let k = c .before .before .before .before .before .before .before in
+    let start = k .before .before .before .before .before .before .before in
+    let a = start .args in
+    let r = k .read-call in
+    let v = c .before .call .given in
+    let h = rooms _ (a .first .now) (a .second .now) _ _ (r .result) (start .pre .0) (start .pre .1) (r .ensures) _ _ _ (v .1) in
+    omega arith
 
 slice-aggregate-answer : tie.Need-slice-aggregate-answer
-slice-aggregate-answer c = take-count _ _ (omega arith)
+slice-aggregate-answer c =
+    let k = c .before .before .before .before .before .before .before .before in
+    let start = k .before .before .before .before .before .before .before in
+    let a = start .args in
+    let r = k .read-call in
+    let v = c .before .before .call .given in
+    let h = rooms _ (a .first .now) (a .second .now) _ _ (r .result) (start .pre .0) (start .pre .1) (r .ensures) _ _ _ (v .1) in
+    take-count _ _ (omega arith)
 
 slice-reshare-prefix-answer-2 : tie.Need-slice-reshare-prefix-answer-2
-slice-reshare-prefix-answer-2 c = search needs
+slice-reshare-prefix-answer-2 c =
+    let k = c .before .before .before .before .before .before .before .before in
+    let start = k .before .before .before .before .before .before .before in
+    let a = start .args in
+    let r = k .read-call in
+    let v = c .before .before .call .given in
+    let h = rooms _ (a .first .now) (a .second .now) _ _ (r .result) (start .pre .0) (start .pre .1) (r .ensures) _ _ _ (v .1) in
+    omega arith
 
 slice-aggregate-answer-2 : tie.Need-slice-aggregate-answer-2
-slice-aggregate-answer-2 c = take-count _ _ (omega arith)
+slice-aggregate-answer-2 c =
+    let k = c .before .before .before .before .before .before .before .before .before in
+    let start = k .before .before .before .before .before .before .before in
+    let a = start .args in
+    let r = k .read-call in
+    let v = c .before .before .before .call .given in
+    let h = rooms _ (a .first .now) (a .second .now) _ _ (r .result) (start .pre .0) (start .pre .1) (r .ensures) _ _ _ (v .1) in
+    take-count _ _ (omega arith)
 
 answer-requires : tie.Need-answer-requires
 answer-requires c κs = search needs
@@ -60,7 +92,15 @@ same-length-6 : tie.Need-same-length-6
 same-length-6 c = search needs
 
 returns-2 : tie.Need-returns-2
-returns-2 c = wrote-same _ _ (c .before .before .before .before .before .before .before .before .before .before .before .before .before .before .before .before .before .before .before .before .before .before .args .out .now) (c .before .before .answer .last .1 .1 .1 .0) (c .before .before .answer .result) (printed-good _ _ _ (c .before .before .before .before .before .before .before .before .before .before .before .before .before .before .before .read-call .result) (c .before .before .before .before .before .before .before .before .before .before .before .before .before .before .before .read-call .ensures (omega arith) (omega arith)) _ _ _ _ _ (c .before .before .before .before .before .before .before .before .before .call .given .1) (c .before .before .before .before .before .before .before .within .ensures) (c .before .before .before .before .before .before .within2 .ensures) (omega arith) (omega arith)) (c .before .before .answer .ensures)
+returns-2 c =
+    let k = c .before .before .before .before .before .before .before .before .before .before .before .before .before in
+    let start = k .before .before .before .before .before .before .before in
+    let a = start .args in
+    let r = k .read-call in
+    let v = c .before .before .before .before .before .before .before .call .given in
+    let w = c .before .before .answer in
+    let e = printed-good _ (a .first .now) (a .second .now) _ _ (r .result) (start .pre .0) (start .pre .1) (r .ensures) _ _ _ (v .1) in
+    wrote-same _ _ (a .out .now) (w .last .1 .1 .1 .0) (w .result) e (w .ensures)
 
 pub reply-in-spec : {M : Type 1} → statement M
 reply-in-spec =
@@ -74,8 +114,6 @@ reply-in-spec =
     same-length-2
     same-length-3
     returns
-    within-requires
-    within-requires-2
     slice-reshare-prefix-answer
     slice-aggregate-answer
     slice-reshare-prefix-answer-2

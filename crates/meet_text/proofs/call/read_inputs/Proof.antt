@@ -1,17 +1,16 @@
 -- `meet_text::call::read_inputs` meets its contract.
 -- Assumes nothing.
-use mathlib.Core.Path.{_≡_, sym, ap, _∙_}
-use mathlib.Core.Bool.{true, false}
-use lib.ListN.{take, drop}
-use Rattle.meet_text.specs.Call.{taken}
-use Rattle.meet_text.specs.declared.call.Words.the-variants.{Wrong}
-use Rattle.meet_text.proofs.Calls.{inputs-none, inputs-one, inputs-both}
+use native.Mathlib.Omega.{arith}
+use mathlib.Core.Path.{_≡_, refl, sym, _∙_}
+use lib.ListN.{drop}
 use borrow.Author.Needs.{needs}
+use Rattle.meet_text.specs.declared.call.Words.the-variants.{Wrong}
+use Rattle.meet_text.proofs.Calls.{unheard, without-first, without-second, with-more, with-both, found-few}
 use Rattle.meet_text.proofs.call.read_inputs.Statement.{statement}
 use Rattle.meet_text.proofs.call.read_inputs.Tie as tie
 
-read-counted-requires : tie.Need-read-counted-requires
-read-counted-requires c κs = search needs
+find-counted-requires : tie.Need-find-counted-requires
+find-counted-requires c κs = search needs
 
 enum-known-one : tie.Need-enum-known-one
 enum-known-one c = search needs
@@ -19,19 +18,15 @@ enum-known-one c = search needs
 enum-told : tie.Need-enum-told
 enum-told c = search needs
 
-same-length : tie.Need-same-length
-same-length c = search needs
-
 returns : tie.Need-returns
 returns c =
-    let s = c .before .before .before .before .before .before .before .before .before in
-    let text = s .args .text .now in
-    let r = c .before .before .before .before .read-counted in
-    let gone : Wrong ≡ r .result = cc in
-    inputs-none (s .args .mode) (drop (s .args .p) text) (ap (taken text (r .last .1 .1 .0)) gone ∙ r .ensures .0)
+    let a = c .before .before .before .before .before .before .args in
+    let r = c .before .before .find-counted in
+    let gone : r .result ≡ Wrong = cc in
+    unheard _ _ _ _ (without-first (a .mode) (a .text .now) (drop (a .p) (a .text .now)) (r .result) (r .ensures) gone) refl
 
-read-counted-requires-2 : tie.Need-read-counted-requires-2
-read-counted-requires-2 c κs = search needs
+find-counted-requires-2 : tie.Need-find-counted-requires-2
+find-counted-requires-2 c κs = search needs
 
 enum-known-two : tie.Need-enum-known-two
 enum-known-two c = search needs
@@ -39,82 +34,87 @@ enum-known-two c = search needs
 enum-told-2 : tie.Need-enum-told-2
 enum-told-2 c = search needs
 
-same-length-2 : tie.Need-same-length-2
-same-length-2 c = search needs
-
-same-length-3 : tie.Need-same-length-3
-same-length-3 c = search needs
-
 returns-2 : tie.Need-returns-2
 returns-2 c =
-    let s = c .before .before .before .before .before .before .before .before .before .before .before .before .before .before .before .before in
-    let text = s .args .text .now in
-    let r = c .before .before .before .before .before .before .before .before .before .before .before .read-counted in
-    let v = c .before .before .before .before .before .before .before .one .given in
-    let a = take (v .0 .0) (r .last .1 .1 .0) in
-    let e = ap (taken text (r .last .1 .1 .0)) (sym (v .1)) ∙ r .ensures .0 in
-    let u = c .before .before .before .before .read-counted2 in
-    let gone : Wrong ≡ u .result = cc in
-    inputs-one (s .args .mode) (drop (s .args .p) text) a (drop (v .0 .1 .0) text) e (ap (taken text (u .last .1 .1 .0)) gone ∙ u .ensures .0)
+    let a = c .before .before .before .before .before .before .before .before .before .before .args in
+    let text = a .text .now in
+    let r = c .before .before .before .before .before .before .find-counted in
+    let v = c .before .before .before .before .one .given in
+    let w = c .before .before .find-counted2 in
+    let gone : w .result ≡ Wrong = cc in
+    unheard _ _ _ _
+    (without-second (a .mode) text (drop (a .p) text) (r .result) (r .ensures) (v .0 .0) (v .0 .1 .0) (v .0 .1 .1 .0) (v .1)
+    (w .result) (w .ensures) gone)
+    refl
 
 is-over-requires : tie.Need-is-over-requires
 is-over-requires c κs = search needs
 
-same-length-4 : tie.Need-same-length-4
-same-length-4 c = search needs
+read-words-requires : tie.Need-read-words-requires
+read-words-requires c κs =
+    let r = c .before .before .before .before .before .before .before .before .before .before .find-counted in
+    let v = c .before .before .before .before .before .before .before .before .one .given in
+    let h = found-few _ _ (r .result) (r .ensures) (v .0 .0) (v .0 .1 .0) (v .0 .1 .1 .0) (v .1) in
+    omega arith
 
-same-length-5 : tie.Need-same-length-5
-same-length-5 c = search needs
+read-words-requires-2 : tie.Need-read-words-requires-2
+read-words-requires-2 c κs =
+    let r = c .before .before .before .before .before .before .before .before .before .before .find-counted2 in
+    let v = c .before .before .before .before .before .before .before .before .two .given in
+    let h = found-few _ _ (r .result) (r .ensures) (v .0 .0) (v .0 .1 .0) (v .0 .1 .1 .0) (v .1) in
+    omega arith
+
+same-length : tie.Need-same-length
+same-length c = search needs
+
+same-length-2 : tie.Need-same-length-2
+same-length-2 c = search needs
 
 returns-3 : tie.Need-returns-3
 returns-3 c =
-    let s = c .before .before .before .before .before .before .before .before .before .before .before .before .before .before .before .before .before .before .before in
-    let text = s .args .text .now in
-    let r = c .before .before .before .before .before .before .before .before .before .before .before .before .before .before .read-counted in
-    let v = c .before .before .before .before .before .before .before .before .before .before .one .given in
-    let a = take (v .0 .0) (r .last .1 .1 .0) in
-    let e = ap (taken text (r .last .1 .1 .0)) (sym (v .1)) ∙ r .ensures .0 in
-    let u = c .before .before .before .before .before .before .before .read-counted2 in
-    let w = c .before .before .before .two .given in
-    inputs-both (s .args .mode) (drop (s .args .p) text) a (drop (v .0 .1 .0) text) e (take (w .0 .0) (u .last .1 .1 .0)) (drop (w .0 .1 .0) text) (ap (taken text (u .last .1 .1 .0)) (sym (w .1)) ∙ u .ensures .0) true (sym (c .if1 .taken) ∙ c .before .is-over .ensures)
-
-same-length-6 : tie.Need-same-length-6
-same-length-6 c = search needs
-
-same-length-7 : tie.Need-same-length-7
-same-length-7 c = search needs
+    let test = c .before .before .before .before .before .before .before .before in
+    let second = test .before .before .before .before .before in
+    let first = second .before .before .before .before in
+    let a = first .before .before .before .before .args in
+    let text = a .text .now in
+    let r = first .find-counted in
+    let v = second .before .before .one .given in
+    let w = second .find-counted2 in
+    let u = test .before .before .before .two .given in
+    with-both (a .mode) text (drop (a .p) text) (r .result) (r .ensures) (v .0 .0) (v .0 .1 .0) (v .0 .1 .1 .0) (v .1)
+    (w .result) (w .ensures) (u .0 .0) (u .0 .1 .0) (u .0 .1 .1 .0) (u .1) (sym (test .if1 .taken) ∙ test .before .is-over .ensures)
+    (a .first .now) (a .second .now) _ _ _ refl
+    (c .before .before .before .before .before .before .read-words .ensures) (c .before .before .read-words2 .ensures)
 
 returns-4 : tie.Need-returns-4
 returns-4 c =
-    let s = c .before .before .before .before .before .before .before .before .before .before .before .before .before .before .before .before .before .before .before in
-    let text = s .args .text .now in
-    let r = c .before .before .before .before .before .before .before .before .before .before .before .before .before .before .read-counted in
-    let v = c .before .before .before .before .before .before .before .before .before .before .one .given in
-    let a = take (v .0 .0) (r .last .1 .1 .0) in
-    let e = ap (taken text (r .last .1 .1 .0)) (sym (v .1)) ∙ r .ensures .0 in
-    let u = c .before .before .before .before .before .before .before .read-counted2 in
-    let w = c .before .before .before .two .given in
-    inputs-both (s .args .mode) (drop (s .args .p) text) a (drop (v .0 .1 .0) text) e (take (w .0 .0) (u .last .1 .1 .0)) (drop (w .0 .1 .0) text) (ap (taken text (u .last .1 .1 .0)) (sym (w .1)) ∙ u .ensures .0) false (sym (c .if1 .left) ∙ c .before .is-over .ensures)
+    let a = c .before .before .before .before .before .before .before .before .before .before .before .before .before .args in
+    let text = a .text .now in
+    let r = c .before .before .before .before .before .before .before .before .before .find-counted in
+    let v = c .before .before .before .before .before .before .before .one .given in
+    let w = c .before .before .before .before .before .find-counted2 in
+    let u = c .before .before .before .two .given in
+    unheard _ _ _ _
+    (with-more (a .mode) text (drop (a .p) text) (r .result) (r .ensures) (v .0 .0) (v .0 .1 .0) (v .0 .1 .1 .0) (v .1)
+    (w .result) (w .ensures) (u .0 .0) (u .0 .1 .0) (u .0 .1 .1 .0) (u .1) (sym (c .if1 .left) ∙ c .before .is-over .ensures))
+    refl
 
 pub read-inputs-spec : {M : Type 1} → statement M
 read-inputs-spec =
     tie.close
     (tie.spec
-    read-counted-requires
+    find-counted-requires
     enum-known-one
     enum-told
-    same-length
     returns
-    read-counted-requires-2
+    find-counted-requires-2
     enum-known-two
     enum-told-2
-    same-length-2
-    same-length-3
     returns-2
     is-over-requires
-    same-length-4
-    same-length-5
+    read-words-requires
+    read-words-requires-2
+    same-length
+    same-length-2
     returns-3
-    same-length-6
-    same-length-7
     returns-4)

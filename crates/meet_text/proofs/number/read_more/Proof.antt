@@ -5,19 +5,19 @@ use native.Mathlib.Omega.{arith}
 use mathlib.Core.Path.{_≡_, refl, sym, ap, _∙_}
 use lib.ListN.{length, getD, drop}
 use borrow.Author.Tests.{lt-ltb, le-ltb}
-use Rattle.meet_text.specs.Token.{largest, more}
-use Rattle.meet_text.proofs.Tokens.{digit-range, more-end, more-digit, more-large, more-blank, more-other}
+use Rattle.meet_text.specs.Token.{largest, more, placed}
+use Rattle.meet_text.proofs.Tokens.{digit-range, more-end, more-digit, more-large, more-blank, more-other, placed-by}
 use Rattle.meet_text.proofs.number.read_more.Statement.{statement}
 use Rattle.meet_text.proofs.number.read_more.Tie as tie
 
 abbrev Inv-loop : tie.InvT-loop
-Inv-loop text p first at₀ value₀ at value = (value ≤ largest) × (more value (drop at text) ≡ more first (drop p text))
+Inv-loop text p first at₀ value₀ at value = (value ≤ largest) × (more value (drop at text) ≡ more first (drop p text)) × (at ≤ length text)
 
 abbrev μ-loop : tie.MeasureT-loop
 μ-loop text p first at₀ value₀ at value = length text - at
 
 loop-holds : tie.Need-loop-holds Inv-loop μ-loop
-loop-holds c = (omega (arith, c .before .fits), refl)
+loop-holds c = (omega (arith, c .before .fits), refl, omega arith)
 
 shared-slice-read-c : tie.Need-shared-slice-read-c Inv-loop μ-loop
 shared-slice-read-c c = omega arith
@@ -45,7 +45,10 @@ returns c =
     let s = c .before .before .before .before .before .before .before .before in
     let l = c .before .before .before .before .before .before .loop in
     let text = s .args .text .now in
-    more-large text (l .at) (c .before .before .before .before .before .loop-test .taken) (l .value) (sym (c .before .before .before .is-digit .ensures) ∙ c .before .before .if1 .taken) (lt-ltb largest (l .value * 10 + (getD text (l .at) 0 - 48)) (omega (arith, c .before .wide .ensures, c .if2 .taken))) ∙ l .inv .1
+    let here = c .before .before .before .before .before .loop-test .taken in
+    let digit = sym (c .before .before .before .is-digit .ensures) ∙ c .before .before .if1 .taken in
+    let large = lt-ltb largest (l .value * 10 + (getD text (l .at) 0 - 48)) (omega (arith, c .before .wide .ensures, c .if2 .taken)) in
+    ap (placed text) (more-large text (l .at) here (l .value) digit large ∙ l .inv .1)
 
 cast-value : tie.Need-cast-value Inv-loop μ-loop
 cast-value c = omega arith
@@ -65,6 +68,7 @@ loop-again c =
       ap (λ (z : ℕ). more (l .value * 10 + (z - 48)) (drop (l .at + 1) text)) (c .before .wide .ensures)
           ∙ sym (more-digit text (l .at) (c .before .before .before .before .before .loop-test .taken) (l .value) (sym (c .before .before .before .is-digit .ensures) ∙ c .before .before .if1 .taken) (le-ltb largest (l .value * 10 + (getD text (l .at) 0 - 48)) (omega (arith, c .before .wide .ensures, c .if2 .left))))
           ∙ l .inv .1,
+      omega arith,
     )
 
 is-blank-requires : tie.Need-is-blank-requires Inv-loop μ-loop
@@ -75,20 +79,27 @@ returns-2 c =
     let s = c .before .before .before .before .before .before .before .before in
     let l = c .before .before .before .before .before .before .loop in
     let text = s .args .text .now in
-    more-blank text (l .at) (c .before .before .before .before .before .loop-test .taken) (l .value) (sym (c .before .before .before .is-digit .ensures) ∙ c .before .before .if1 .left) (sym (c .before .is-blank .ensures) ∙ c .if3 .taken) ∙ l .inv .1
+    let here = c .before .before .before .before .before .loop-test .taken in
+    let other = sym (c .before .before .before .is-digit .ensures) ∙ c .before .before .if1 .left in
+    let blank = sym (c .before .is-blank .ensures) ∙ c .if3 .taken in
+    placed-by text (l .value) (l .at) _ (l .inv .2) (more-blank text (l .at) here (l .value) other blank ∙ l .inv .1)
 
 returns-3 : tie.Need-returns-3 Inv-loop μ-loop
 returns-3 c =
     let s = c .before .before .before .before .before .before .before .before in
     let l = c .before .before .before .before .before .before .loop in
     let text = s .args .text .now in
-    more-other text (l .at) (c .before .before .before .before .before .loop-test .taken) (l .value) (sym (c .before .before .before .is-digit .ensures) ∙ c .before .before .if1 .left) (sym (c .before .is-blank .ensures) ∙ c .if3 .left) ∙ l .inv .1
+    let here = c .before .before .before .before .before .loop-test .taken in
+    let other = sym (c .before .before .before .is-digit .ensures) ∙ c .before .before .if1 .left in
+    let dark = sym (c .before .is-blank .ensures) ∙ c .if3 .left in
+    ap (placed text) (more-other text (l .at) here (l .value) other dark ∙ l .inv .1)
 
 returns-4 : tie.Need-returns-4 Inv-loop μ-loop
 returns-4 c =
     let s = c .before .before .before in
     let l = c .before .loop in
-    more-end (s .args .text .now) (l .at) (omega arith) (l .value) ∙ l .inv .1
+    let text = s .args .text .now in
+    placed-by text (l .value) (l .at) _ (l .inv .2) (more-end text (l .at) (omega arith) (l .value) ∙ l .inv .1)
 
 pub read-more-spec : {M : Type 1} → statement M
 read-more-spec =

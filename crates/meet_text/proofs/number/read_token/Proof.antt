@@ -2,9 +2,9 @@
 -- Assumes nothing.
 use Prim.Native.Nat.{_-_}
 use native.Mathlib.Omega.{arith}
-use mathlib.Core.Path.{_≡_, refl, sym, _∙_}
+use mathlib.Core.Path.{_≡_, refl, sym, ap, _∙_}
 use lib.ListN.{length, drop}
-use Rattle.meet_text.specs.Token.{token}
+use Rattle.meet_text.specs.Token.{token, placed}
 use Rattle.meet_text.proofs.Tokens.{token-end, token-blank, token-digit, token-other}
 use Rattle.meet_text.proofs.number.read_token.Statement.{statement}
 use Rattle.meet_text.proofs.number.read_token.Tie as tie
@@ -41,27 +41,34 @@ is-digit-requires : tie.Need-is-digit-requires Inv-loop μ-loop
 is-digit-requires c κs = tt
 
 read-more-requires : tie.Need-read-more-requires Inv-loop μ-loop
-read-more-requires c κs = tt
+read-more-requires c κs = omega arith
 
 returns : tie.Need-returns Inv-loop μ-loop
 returns c =
     let s = c .before .before .before .before .before .before .before .before .before in
     let l = c .before .before .before .before .before .before .before .loop in
     let text = s .args .text .now in
-    c .read-more .ensures ∙ token-digit text (l .at) (c .before .before .before .before .before .before .loop-test .taken) (sym (c .before .before .before .before .is-blank .ensures) ∙ c .before .before .before .if1 .left) (sym (c .before .before .is-digit .ensures) ∙ c .before .if2 .taken) ∙ l .inv
+    let here = c .before .before .before .before .before .before .loop-test .taken in
+    let dark = sym (c .before .before .before .before .is-blank .ensures) ∙ c .before .before .before .if1 .left in
+    let digit = sym (c .before .before .is-digit .ensures) ∙ c .before .if2 .taken in
+    c .read-more .ensures ∙ ap (placed text) (token-digit text (l .at) here dark digit ∙ l .inv)
 
 returns-2 : tie.Need-returns-2 Inv-loop μ-loop
 returns-2 c =
     let s = c .before .before .before .before .before .before .before .before in
     let l = c .before .before .before .before .before .before .loop in
     let text = s .args .text .now in
-    token-other text (l .at) (c .before .before .before .before .before .loop-test .taken) (sym (c .before .before .before .is-blank .ensures) ∙ c .before .before .if1 .left) (sym (c .before .is-digit .ensures) ∙ c .if2 .left) ∙ l .inv
+    let here = c .before .before .before .before .before .loop-test .taken in
+    let dark = sym (c .before .before .before .is-blank .ensures) ∙ c .before .before .if1 .left in
+    let other = sym (c .before .is-digit .ensures) ∙ c .if2 .left in
+    ap (placed text) (token-other text (l .at) here dark other ∙ l .inv)
 
 returns-3 : tie.Need-returns-3 Inv-loop μ-loop
 returns-3 c =
     let s = c .before .before .before in
     let l = c .before .loop in
-    token-end (s .args .text .now) (l .at) (omega arith) ∙ l .inv
+    let text = s .args .text .now in
+    ap (placed text) (token-end text (l .at) (omega arith) ∙ l .inv)
 
 pub read-token-spec : {M : Type 1} → statement M
 read-token-spec =

@@ -1,0 +1,209 @@
+-- What `meet` prints for a text, whatever the text is, has at most 23,000 bytes; so 32,768 bytes of room are always enough.
+-- Assumes nothing.
+use Prim.Native.Nat.{ℕ, zero, suc, _≤_, _<_}
+use native.Mathlib.Omega.{arith}
+use mathlib.Core.Path.{_≡_, refl, ap, _∙_}
+use mathlib.Core.Logic.{inr}
+use mathlib.Core.Option.{Option, none, some}
+use mathlib.Core.List.{List, [], _∷_, _++_, List·Memᴰ, List·Memᴰ·head, List·Memᴰ·tail}
+use lib.ListN.{length, getD, take, drop, length-append}
+use lib.Seq.{take-append-seam}
+use Rattle.theory.specs.Limits.{depth-limit, choice-limit}
+use Rattle.theory.specs.Net.{Node, atom, arcs, Graph, nodeAt, arcsOf}
+use Rattle.theory.specs.Descr.{Desc, desc, Disjs, end, _and_, Alts, fail, _or_, disjs, alts, number, readings}
+use Rattle.theory.specs.Layout.{arc-words, node-words, nodes-words, words, disjs-words, alts-words}
+use Rattle.theory.specs.Layout.{ArcsFit, NodeFits, GraphFits, WellFormed, WellAll, WellAny}
+use Rattle.theory.specs.Modes.{joined, quick}
+use Rattle.theory.specs.Answer.{Answer, consistent}
+use Rattle.theory.specs.Rules.{mode-result, mode-readings, Accepted, Clashes, TooMany}
+use Rattle.theory.specs.Rules.{Given, one, two, three, four, five, six, seven, six-after, eight, done}
+use Rattle.theory.specs.Unified.{unified}
+use Rattle.theory.proofs.Instance.{numbered-target}
+use Rattle.theory.proofs.Counting.{readings-number}
+use Rattle.theory.proofs.Kept.{well-can, result-words, result-well}
+use Rattle.theory.proofs.Modes.{mode-readings-kept}
+use Rattle.theory.proofs.Table.{unified-given}
+use Rattle.meet_text.specs.Token.{largest}
+use Rattle.meet_text.specs.Call.{Asked, heard}
+use Rattle.meet_text.specs.Answer.{bad-text, Wrote}
+use Rattle.meet_text.specs.declared.line.Written.{Written}
+use Rattle.meet_text.specs.declared.line.Written.the-variants.{Bytes}
+use Rattle.meet_text.proofs.Answers.{text-small, wrote-fits}
+use Rattle.reply.specs.Printed.{spoken, printed}
+
+-- ---- every word of a description is a 32-bit word
+abbrev Below : List ℕ → Type 0
+Below [] = Unit {0}
+Below (w ∷ ws) = (w ≤ largest) × Below ws
+
+below-append : (xs ys : List ℕ) → Below xs → Below ys → Below (xs ++ ys)
+below-append [] ys p q = q
+below-append (x ∷ xs) ys p q = (p .0, below-append xs ys (p .1) q)
+
+below-at : (ws : List ℕ) → Below ws → (i : ℕ) → i < length ws → getD ws i 0 ≤ largest
+below-at [] b i h = absurd (omega arith)
+below-at (w ∷ ws) b zero h = b .0
+below-at (w ∷ ws) b (suc i) h = below-at ws (b .1) i (omega arith)
+
+module _ (n : ℕ) (few : n ≤ largest) where
+  arcs-below : (l : List (ℕ × ℕ)) → ArcsFit l → ((f t : ℕ) → List·Memᴰ (f, t) l → t < n) → Below (arc-words l)
+  arcs-below [] a h = tt
+  arcs-below (p ∷ l) a h =
+      let f = a .0 in
+      let t = h (p .0) (p .1) (List·Memᴰ·head refl) in
+      (omega arith, (omega arith, arcs-below l (a .1) (λ f t m. h f t (List·Memᴰ·tail m))))
+
+  node-below : (v : Node) → NodeFits v → ((f t : ℕ) → List·Memᴰ (f, t) (arcsOf v) → t < n) → Below (node-words v)
+  node-below (atom a) p h = (omega arith, tt)
+  node-below (arcs l) p h = let k = p .0 in (omega arith, arcs-below l (p .1) h)
+
+  nodes-below : (g : Graph) → GraphFits g → ((i f t : ℕ) → List·Memᴰ (f, t) (arcsOf (nodeAt g i)) → t < n) → Below (nodes-words g)
+  nodes-below [] p h = tt
+  nodes-below (v ∷ vs) p h =
+      below-append (node-words v) (nodes-words vs) (node-below v (p .0) (h 0)) (nodes-below vs (p .1) (λ i. h (suc i)))
+
+-- nothing is counted that has no word
+node-long : (v : Node) → 1 ≤ length (node-words v)
+node-long (atom a) = omega arith
+node-long (arcs l) = omega arith
+
+nodes-long : (g : Graph) → length g ≤ length (nodes-words g)
+nodes-long [] = omega arith
+nodes-long (v ∷ vs) = let a = node-long v in let b = nodes-long vs in let e = length-append (node-words v) (nodes-words vs) in omega arith
+
+disjs-long : (ds : Disjs) → disjs ds ≤ length (disjs-words ds)
+disjs-long end = omega arith
+disjs-long (a and ds) = let b = disjs-long ds in let e = length-append (alts a ∷ alts-words a) (disjs-words ds) in omega arith
+
+words-long : (d : Desc) → 1 ≤ length (words d)
+words-long (desc g ds) = omega arith
+
+alts-long : (a : Alts) → alts a ≤ length (alts-words a)
+alts-long fail = omega arith
+alts-long (d or a) = let b = words-long d in let c = alts-long a in let e = length-append (words d) (alts-words a) in omega arith
+
+mutual
+  words-below : (d : Desc) (n : ℕ) → WellFormed d n → length (words d) ≤ largest → Below (words d)
+  words-below (desc g ds) n w h =
+      let e = length-append (length g ∷ nodes-words g) (disjs ds ∷ disjs-words ds) in
+      let a = nodes-long g in
+      let b = disjs-long ds in
+      let few : length g ≤ largest = omega arith in
+      below-append (length g ∷ nodes-words g) (disjs ds ∷ disjs-words ds)
+      (few, nodes-below (length g) few g (w .1) (λ i f t m. let k = numbered-target 0 1 g (w .0) i f t m in omega arith))
+      (omega arith, disjs-below ds n (w .2) (omega arith))
+
+  disjs-below : (ds : Disjs) (n : ℕ) → WellAll ds n → length (disjs-words ds) ≤ largest → Below (disjs-words ds)
+  disjs-below end n w h = tt
+  disjs-below (a and ds) zero w h = absurd w
+  disjs-below (a and ds) (suc n) w h =
+      let e = length-append (alts a ∷ alts-words a) (disjs-words ds) in
+      let b = alts-long a in
+      below-append (alts a ∷ alts-words a) (disjs-words ds)
+      (omega arith, alts-below a n (w .1) (omega arith))
+      (disjs-below ds (suc n) (w .2) (omega arith))
+
+  alts-below : (a : Alts) (n : ℕ) → WellAny a n → length (alts-words a) ≤ largest → Below (alts-words a)
+  alts-below fail n w h = tt
+  alts-below (d or a) n w h =
+      let e = length-append (words d) (alts-words a) in
+      below-append (words d) (alts-words a) (words-below d n (w .0) (omega arith)) (alts-below a n (w .1) (omega arith))
+
+-- ---- the numbers of an answer
+-- number, length, readings and words are 32-bit words, and the words have room
+record Short (room : ℕ) (r : Answer) : Type 0 where
+  few : r .number ≤ largest
+  short : r .extent ≤ largest
+  known : r .readings ≤ largest
+  below : Below (r .result)
+  inside : length (r .result) ≤ room
+
+module _ (mode : ℕ) (a b : List ℕ) (work : ℕ) (d e : Desc) (A : Accepted mode a b work d e) where
+  module _ (s : Desc) (f : mode-result mode d e ≡ some s) where
+    extent-short : length (words s) ≤ 2045
+    extent-short =
+        let h = result-words mode d e s (A .first-well) (A .second-well) f in
+        let p = ap length (A .first-is) in
+        let q = ap length (A .second-is) in
+        let x = A .first-short in
+        let y = A .second-short in
+        omega arith
+
+    result-below : Below (words s)
+    result-below =
+        let p = ap length (A .first-is) in
+        let q = ap length (A .second-is) in
+        let x = A .first-short in
+        let y = A .second-short in
+        let h = extent-short in
+        words-below s depth-limit (result-well mode d e s (A .first-well) (A .second-well) f (omega arith) (omega arith)) (omega arith)
+
+  -- "its result has over 4,096 choices" is refused, and no reading is lost on the way to it
+  module _ (c : ¬ (Clashes mode d e)) (t : ¬ (TooMany mode d e)) where
+    complete-few : mode ≡ 2 → consistent d e ≤ choice-limit
+    unfolding consistent
+    complete-few m = go (joined d e) refl (quick d e) refl
+      where
+        go : (j : Option Desc) → joined d e ≡ j → (q : Option Desc) → quick d e ≡ q
+            → elim j [ none ↦ 0 | some j ↦ readings j ] ≤ choice-limit
+        go none h q k = omega arith
+        go (some j) h none k = absurd (c (inr (omega arith, k)))
+        go (some j) h (some q) k =
+            let x = mode-readings-kept 1 d e (well-can d (A .first-well)) (well-can e (A .second-well)) j h q k in
+            let y = readings-number q in
+            let z : choice-limit < number q → ⊥ = λ l. t (m, q, k, l) in
+            omega arith
+
+    readings-few : mode-readings mode d e ≤ choice-limit
+    readings-few = go mode refl
+      where
+        go : (m : ℕ) → mode ≡ m → mode-readings m d e ≤ choice-limit
+        go zero h = omega arith
+        go (suc zero) h = omega arith
+        go (suc (suc m)) h = let x = A .mode-fine in complete-few (omega arith)
+
+refused : (room n : ℕ) → n ≤ largest → Short room (record { number = n; extent = 0; readings = 0; result = [] })
+refused room n h = record { few = h; short = omega arith; known = omega arith; below = tt; inside = omega arith }
+
+given-short : (mode : ℕ) (a b : List ℕ) (room work : ℕ) (r : Answer) → Given mode a b room work r → Short room r
+given-short mode a b room work r (one h) = refused room 1 (omega arith)
+given-short mode a b room work r (two m h) = refused room 2 (omega arith)
+given-short mode a b room work r (three m w h) = refused room 3 (omega arith)
+given-short mode a b room work r (four m w la lb n) = refused room 4 (omega arith)
+given-short mode a b room work r (five m w la lb i n) = refused room 5 (omega arith)
+given-short mode a b room work r (six d e A c) = refused room 6 (omega arith)
+given-short mode a b room work r (seven d e A c t) = refused room 7 (omega arith)
+given-short mode a b room work r (six-after d e A c t m n) = refused room 6 (omega arith)
+given-short mode a b room work r (eight d e s A c t f l) =
+    let h = extent-short mode a b work d e A s f in
+    record { few = omega arith; short = omega arith; known = omega arith; below = tt; inside = omega arith }
+given-short mode a b room work r (done d e s A c t f l) =
+    let h = extent-short mode a b work d e A s f in
+    let k = readings-few mode a b work d e A c t in
+    record { few = omega arith; short = omega arith; known = omega arith; below = result-below mode a b work d e A s f; inside = l }
+
+-- ---- the text
+spoken-small : (mode : ℕ) (a b : List ℕ) → length (spoken mode a b) ≤ 23000
+unfolding spoken
+spoken-small mode a b =
+    let r : Answer = unified mode a b 2048 16384 in
+    let s = given-short mode a b 2048 16384 r (unified-given mode a b 2048 16384) in
+    text-small (r .number) (r .extent) (r .readings) (s .few) (s .short) (s .known)
+    (r .result) (below-at (r .result) (s .below)) (s .inside)
+
+-- whatever the text is, an answer to it is short
+pub printed-small : (text : List ℕ) → length (printed text) ≤ 23000
+unfolding printed
+printed-small text = go (heard text)
+  where
+    go : (o : Option Asked) → length {A = ℕ} (elim o [ none ↦ bad-text | some c ↦ spoken (c .mode) (c .first) (c .second) ]) ≤ 23000
+    go none = omega arith
+    go (some c) = spoken-small (c .mode) (c .first) (c .second)
+
+-- in 32,768 bytes `reply` always has room, and what it writes there is what `meet` prints
+pub always-printed : (text out out′ : List ℕ) (r : Written) → 32768 ≤ length out → Wrote (printed text) out out′ r
+    → (r ≡ Bytes (length (printed text))) × (take (length (printed text)) out′ ≡ printed text)
+always-printed text out out′ r h w =
+    let k = printed-small text in
+    let e = wrote-fits (printed text) out out′ r w (omega arith) in
+    (e .0, ap (take (length (printed text))) (e .1) ∙ take-append-seam (printed text) (drop (length (printed text)) out))
