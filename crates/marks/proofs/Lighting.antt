@@ -10,7 +10,7 @@ use borrow.Author.Tests.{ltb-true, ltb-false}
 use lib.Dec.{eqb, ltb}
 use lib.ListN.{length, getD, set, length-set, List·getD-eq-default}
 use lib.Seq.{getD-set-same, getD-set-other}
-use Rattle.theory.proofs.Close.{eqb-no}
+use Rattle.descriptions.proofs.Tests.{eqb-no}
 use Rattle.area.specs.Map.{MARKS}
 use Rattle.marks.specs.Marked.{marking, lights, Cleared, dimmed, LitKept, doused, Doused}
 use Rattle.area.specs.Region.{region}

@@ -6,7 +6,7 @@ use Rattle.theory.specs.Answer.{Answer}
 use Rattle.theory.specs.Rules.{Given}
 use Rattle.theory.specs.LayoutOne.{layout-one}
 use Rattle.theory.specs.JoiningOne.{joining-one}
-use Rattle.descriptions.proofs.Areas.{Writes, nothing}
+use Rattle.descriptions.proofs.Areas.{Writes}
 
 pub given-writes : (mode : ℕ) (a b : List ℕ) (room work : ℕ) (r : Answer) → Given mode a b room work r → Writes room r
 given-writes = Rattle.descriptions.proofs.Areas.given-writes joining-one layout-one

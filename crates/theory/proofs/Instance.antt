@@ -16,7 +16,8 @@ use Rattle.theory.specs.Net.{Node, atom, arcs, Graph, nodeAt, arcsOf, Ne
 use Rattle.theory.proofs.Meaning.{canonical-some, joined-agrees}
 use Rattle.theory.proofs.Unique.{joined-unique}
 use Rattle.theory.specs.Join.{Edge, Rule, labels, seed-rules, pair-rules, edge-rules, clashes, order, graph-for, arcs-from, edges-from, edges, atom-at, atoms-from, atom-list, root-seeds, rules, join}
-use Rattle.theory.proofs.Close.{Test, equal, differ, test, Kept, Good, Closed, labels-good}
+use Rattle.theory.proofs.Close.{Kept, Good, Closed, labels-good}
+use Rattle.descriptions.proofs.Tests.{Test, equal, differ, test}
 use Rattle.theory.proofs.Number.{TestLt, less, geq, test-lt}
 use Rattle.theory.proofs.Correct.{ClashView, no-clash, clash-view, Coded, clash-found, joined-ok}
 

@@ -14,7 +14,7 @@ use Rattle.theory.specs.Layout.{nodes-words}
 use Rattle.theory.proofs.Meaning.{canonical-some}
 use Rattle.theory.proofs.Instance.{numbered-target}
 use Rattle.theory.proofs.Unique.{In, canonical-same}
-use Rattle.theory.proofs.Weight.{map-in}
+use Rattle.descriptions.proofs.Tests.{map-in}
 
 -- a graph is isomorphic to itself
 pub isomorphic-self : (g : Graph) → Isomorphic g g

@@ -6,7 +6,6 @@ use mathlib.Core.List.{List}
 use Prim.Native.Nat.{ℕ, zero, suc, _+_, _≤_}
 use native.Mathlib.Omega.{arith}
 use lib.ListN.{length}
-use Rattle.descriptions.specs.Layout.{Layout}
 use Rattle.descriptions.proofs.Layouts as G
 use Rattle.descriptions.proofs.Layouts.{Reads}
 use Rattle.descriptions.proofs.Soft as Soft

@@ -12,7 +12,7 @@ use lib.Dec.{ltb}
 use Rattle.theory.specs.Net.{Graph, Clash, NodeOf, beside, Canonical}
 use Rattle.theory.specs.Join.{join}
 use Rattle.theory.specs.Structure.{Satisfies, Proper, structures}
-use Rattle.theory.proofs.Decode.{Tells, holds, fails, tells-lt}
+use Rattle.descriptions.proofs.Tests.{Tells, holds, fails, tells-lt}
 use Rattle.theory.proofs.Meaning.{canonical-some, joined-satisfied, clash-unsatisfied}
 use Rattle.theory.proofs.Instance.{AllCanonical, reach, join-none}
 use Rattle.theory.proofs.Fit.{structure, same-node}

@@ -12,15 +12,10 @@ use lib.Dec.{ltb}
 use Rattle.descriptions.proofs.Weights.{total as sum}
 use Rattle.theory.specs.Net.{Node, atom, arcs, Graph, nodeAt, arcsOf, NodeOf, beside, Rising, met, Numbered, Joined}
 use Rattle.theory.specs.Layout.{arc-words, node-words, nodes-words}
-use Rattle.theory.proofs.Decode.{Tells, holds, fails, tells-lt}
+use Rattle.descriptions.proofs.Tests.{Tells, holds, fails, tells-lt, Distinct, distinct-append, map-in}
 use Rattle.theory.proofs.Instance.{AllCanonical}
 use Rattle.theory.proofs.Meaning.{canonical-some}
 use Rattle.theory.proofs.Unique.{rising-above}
-
--- a list without repetition
-abbrev pub Distinct : {A : Type 0} → List A → Type 0
-Distinct [] = Unit {0}
-Distinct (x ∷ l) = (List·Memᴰ x l → ⊥) × Distinct l
 
 -- what is left when x is taken out
 taken : {A : Type 0} (x : A) (m : List A) → List·Memᴰ x m → (r : List A) × (length m ≡ suc (length r)) × ((y : A) → List·Memᴰ y m → (y ≡ x) ⊎ List·Memᴰ y r)
@@ -110,10 +105,6 @@ triples-distinct : (k b : ℕ) (l : List (ℕ × ℕ)) → Rising b l → Distin
 triples-distinct k b [] r = tt
 triples-distinct k b (p ∷ l) r = (λ i. let m = triples-from k l (k, p .0, p .1) i .1 in let h = rising-above (suc (p .0)) l (r .1) (p .0) (p .1) m in omega arith, triples-distinct k (suc (p .0)) l (r .1))
 
-pub distinct-append : {A : Type 0} (l m : List A) → Distinct l → Distinct m → ((x : A) → List·Memᴰ x l → List·Memᴰ x m → ⊥) → Distinct (l ++ m)
-distinct-append [] m p q n = q
-distinct-append (x ∷ l) m p q n = (λ i. ⊎-elim (p .0) (n x (List·Memᴰ·head refl)) (List·Memᴰ·append-cases l i), distinct-append l m (p .1) q (λ y i j. n y (List·Memᴰ·tail i) j))
-
 arcs-distinct : (k j m : ℕ) (g : Graph) → Numbered j m g → Distinct (arcs-of k g)
 arcs-distinct k j m [] c = tt
 arcs-distinct k j m (v ∷ vs) c = distinct-append (triples k (arcsOf v)) (arcs-of (suc k) vs) (triples-distinct k 0 (arcsOf v) (c .1)) (arcs-distinct (suc k) (suc j) (met m (arcsOf v)) vs (c .3))
@@ -159,10 +150,6 @@ total-is g c n h = go (ltb n (length g)) (tells-lt n (length g))
     go : (t : Bool) (w : Tells (n < length g) t) → total-at g c n t w ≡ c (n, h)
     go true (holds k) = ap (λ (z : n < length g). c (n, z)) (le-prop k h)
     go false (fails p) = absurd (p h)
-
-pub map-in : {A B : Type 0} (f : A → B) (l : List A) (x : A) → List·Memᴰ x l → List·Memᴰ (f x) (map f l)
-map-in f [] x i = absurd (List·Memᴰ·not-nil i)
-map-in f (y ∷ l) x i = ⊎-elim (λ e. List·Memᴰ·head (ap f e)) (λ j. List·Memᴰ·tail (map-in f l x j)) (List·Memᴰ·cases-cons i)
 
 -- all nodes that are no roots, and all arcs, under a numbering of the nodes
 abbrev nodes-under : (gs : List Graph) → (beside gs .Spot → ℕ) → List ℕ

@@ -8,7 +8,6 @@ use native.Mathlib.Omega.{arith}
 use lib.ListN.{length, length-append}
 use Rattle.theory.specs.Limits.{code-limit}
 use Rattle.theory.specs.Net.{Node, atom, arcs, Graph, nodeAt, arcsOf, Joined}
-use Rattle.theory.specs.Join.{join}
 use Rattle.theory.specs.Descr.{Desc, desc, Disjs, end, _and_, Alts, fail, _or_, disjs}
 use Rattle.theory.specs.Layout.{arc-words, node-words, nodes-words, words, disjs-words, alts-words, ArcsFit, GraphFits, WellFormed, WellAll, WellAny}
 use Rattle.theory.proofs.Sets.{graph-of, number, graph-in, spot-atom, spot-arc}

@@ -10,9 +10,10 @@ use lib.Dec.{eqb}
 use lib.ListN.{length, getD, length-map}
 use Rattle.theory.specs.Limits.{code-limit}
 use Rattle.theory.specs.Net.{atom, arcs, Graph, nodeAt, arcsOf, Joined}
-use Rattle.theory.proofs.Close.{Test, differ, test}
+use Rattle.descriptions.proofs.Tests.{Test, differ, test}
 use Rattle.theory.proofs.Meaning.{joined-root}
-use Rattle.theory.proofs.Weight.{Distinct, distinct-length, range, range-length}
+use Rattle.theory.proofs.Weight.{distinct-length, range, range-length}
+use Rattle.descriptions.proofs.Tests.{Distinct}
 use Rattle.area.specs.Map.{PARENT}
 use Rattle.area.specs.Region.{region, words}
 use Rattle.area.proofs.Region.{length-region}
