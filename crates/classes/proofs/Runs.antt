@@ -11,7 +11,7 @@ use lib.ListN.{length, getD}
 use Rattle.theory.specs.Net.{Node, atom, arcs, Graph}
 use Rattle.area.specs.Log.{Logged, Later}
 use Rattle.area.proofs.Undo.{later-refl, later-trans}
-use Rattle.forest.specs.State.{Pile, Done, Clashes, State, Fresh, Coming, Bearing, Marking, Marked}
+use Rattle.forest.specs.State.{Pile, Done, Clashes, State, Fresh, Coming, Bearing, Heading, Headed}
 use Rattle.forest.specs.Order.{Ordered, Taken}
 use Rattle.classes.specs.Nodes.{strung, grown, Batch, Batched, Run, span, AtomAt, ArcsAt, NodeAt, Ahead, noded, Noding, Noded, spans, NodesAt, listed, Listing, Listed}
 
@@ -109,10 +109,10 @@ module _ (F T : List ℕ) (n k : ℕ) (w : List ℕ) (x p : ℕ) where
   batch : (G : Pile) (H : Done) (l : List (ℕ × ℕ)) → ArcsAt F G n x p (length l) → Ahead H n p (1 + 2 * length l) → Batch G H n x (p + 1) (length l)
   batch G H l s r = let m = r .room in record { arcs = s .arcs; new = λ i h. r .new (p + 1 + 2 * i) (omega arith) (omega arith); room = omega arith }
 
-  pub node-marking : Noding F T n k w x p → 65536 ≤ getD F p 0 → Marking F T n k w x (getD F p 0) × (getD F p 0 < 131072)
+  pub node-marking : Noding F T n k w x p → 65536 ≤ getD F p 0 → Heading F T n k w x (getD F p 0) × (getD F p 0 < 131072)
   node-marking g h = go (g .v) (g .node) (g .ahead)
     where
-      go : (v : Node) → NodeAt F (g .G) n x p v → Ahead (g .H) n p (span v) → Marking F T n k w x (getD F p 0) × (getD F p 0 < 131072)
+      go : (v : Node) → NodeAt F (g .G) n x p v → Ahead (g .H) n p (span v) → Heading F T n k w x (getD F p 0) × (getD F p 0 < 131072)
       go (atom a) s r = let e = s .head in let b = s .small in (record { G = g .G; H = g .H; state = g .state; bears = bearing (g .G) (g .H) a s r }, omega arith)
       go (arcs l) s r = let e = s .head in let b = s .low in absurd (omega arith)
 
@@ -123,7 +123,7 @@ module _ (F T : List ℕ) (n k : ℕ) (w : List ℕ) (x p : ℕ) where
       go (atom a) s r = let e = s .head in absurd (omega arith)
       go (arcs l) s r = let e : getD F p 0 ≡ length l = s .head in let b = s .low in (rw e (record { G = g .G; H = g .H; state = g .state; batch = batch (g .G) (g .H) l s r }), omega arith)
 
-  pub noded-mark : (k' : ℕ) (bad : Bool) (w' : List ℕ) → 65536 ≤ getD F p 0 → Marked F T n k w x (getD F p 0) k' bad w' → Noded F T n k w x p k' bad w'
+  pub noded-mark : (k' : ℕ) (bad : Bool) (w' : List ℕ) → 65536 ≤ getD F p 0 → Headed F T n k w x (getD F p 0) k' bad w' → Noded F T n k w x p k' bad w'
   noded-mark k' bad w' h m = record { later = m .later; fine = λ z G H v u s r. fine z G H v u s r; clash = λ z G H v u s r. clash z G H v u s r }
     where
       fine : bad ≡ false → (G : Pile) (H : Done) (v : Node) → State G H F T n k 0 [] w → NodeAt F G n x p v → Ahead H n p (span v) → State G (noded H x p v) F T n k' 0 [] w'

@@ -14,7 +14,7 @@ use Rattle.area.specs.Region.{region}
 use Rattle.forest.specs.Labels.{Eq}
 use Rattle.area.specs.Log.{Logged, Put}
 use Rattle.forest.specs.Forest.{Root, tops}
-use Rattle.forest.specs.State.{Pile, Done, Same, Clashes, Chain, First, None, Near, Bears, State, Runs, Calm, Looked, withPair, withArc, withNode, Fresh, Visited, United, Bearing, Marked}
+use Rattle.forest.specs.State.{Pile, Done, Same, Clashes, Chain, First, None, Near, Bears, State, Runs, Calm, Looked, withPair, withArc, withNode, Fresh, Visited, United, Bearing, Headed}
 use Rattle.forest.specs.Order.{Rising, Risen, Between, Hint, Ordered, Located, Steady}
 use Rattle.area.proofs.Region.{length-region, region-ext}
 use Rattle.area.proofs.Undo.{later-refl, later-trans, put-at, put-off}
@@ -342,7 +342,7 @@ module _ (F T : List ℕ) (n k : ℕ) (w : List ℕ) (hn : n ≤ 1024) (hw : SIZ
 
   -- ---- an atom
   module _ (v : ℕ) (hv : 2048 < v) where
-    pub mark-clash : Logged k w → (getD w c 0 ≡ 0 → ⊥) → (getD w c 0 ≡ v → ⊥) → Marked F T n k w x v k true w
+    pub mark-clash : Logged k w → (getD w c 0 ≡ 0 → ⊥) → (getD w c 0 ≡ v → ⊥) → Headed F T n k w x v k true w
     mark-clash g d e = record {
       later = later-refl k w g;
       fine = λ z. let y : _≡_ {A = ℕ} 0 1 = cc in absurd (omega arith);
@@ -361,7 +361,7 @@ module _ (F T : List ℕ) (n k : ℕ) (w : List ℕ) (hn : n ≤ 1024) (hw : SIZ
             let q' : (G .A) x ≡ v = b .is in
             Clashes.mixed (b .node) (λ o. omega arith) (a .0) (a .1 .0)
 
-    pub mark-same : Logged k w → getD w c 0 ≡ v → Marked F T n k w x v k false w
+    pub mark-same : Logged k w → getD w c 0 ≡ v → Headed F T n k w x v k false w
     mark-same g e = record {
       later = later-refl k w g;
       fine = λ z G H u b.
@@ -454,7 +454,7 @@ module _ (F T : List ℕ) (n k : ℕ) (w : List ℕ) (hn : n ≤ 1024) (hw : SIZ
               let r = u .bare d a m (omega arith) in
               (r .0, subst (λ (j : ℕ). Bears G n (u .M) d j) (sym o) (r .1))
 
-      pub mark-new : Marked F T n k w x v k1 false w1
+      pub mark-new : Headed F T n k w x v k1 false w1
       mark-new = record {
         later = p1 .later;
         fine = λ z G H u b. noted G H u b;

@@ -15,7 +15,7 @@ ghost use Prim.Native.Nat.{_+_, _*_, _-_, _≤_, _<_};
 ghost use lib.ListN.{length};
 ghost use Rattle.area.specs.Map.{SIZE};
 ghost use Rattle.area.specs.Region.{words};
-ghost use Rattle.forest.specs.State.{targets, Coming, Marking, Marked};
+ghost use Rattle.forest.specs.State.{targets, Coming, Heading, Headed};
 ghost use Rattle.forest.specs.Order.{Ordered, Steady, Turning, Taken};
 ghost use Rattle.classes.specs.Nodes.{Batched, Run, Noding, Noded, Listing, Listed};
 
@@ -128,8 +128,8 @@ fn visit(w: &mut [u32], k: usize, n: usize, x: usize, t: usize, at: usize) -> Ca
 fn mark(w: &mut [u32], k: usize, n: usize, x: usize, v: u32) -> Made
     requires { ⌜ (n ≤ 1024) × ((x < n) × (SIZE ≤ length (now w))) ⌝ }
     requires { ⌜ (2048 < v) × (v < 1048576) ⌝ }
-    requires { ⌜ Marking (words (now w)) (targets (now w)) n k (now w) x v ⌝ }
-    ensures { λ r. ⌜ Marked (words (now (w .entry))) (targets (now (w .entry))) n k (now (w .entry)) x v (r .k) (r .bad) (now (w .exit)) ⌝ }
+    requires { ⌜ Heading (words (now w)) (targets (now w)) n k (now w) x v ⌝ }
+    ensures { λ r. ⌜ Headed (words (now (w .entry))) (targets (now (w .entry))) n k (now (w .entry)) x v (r .k) (r .bad) (now (w .exit)) ⌝ }
 {
     let c = find(w, n, x);
     let h = w[c];

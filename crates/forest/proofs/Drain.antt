@@ -11,7 +11,7 @@ use Rattle.area.specs.Map.{PARENT, NEXT, STACK}
 use Rattle.area.specs.Region.{region}
 use Rattle.area.specs.Log.{Logged, Later}
 use Rattle.forest.specs.Forest.{tops}
-use Rattle.forest.specs.State.{Pile, Done, Same, Seg, Near, State, Calm, Met, frames, withPair, Walk, Working, Told, Turned, Drained, Stacked, Settled, United}
+use Rattle.forest.specs.State.{Pile, Done, Same, Seg, Near, State, Calm, Met, frames, withPair, Walk, Working, ClashTold, Turned, Drained, Stacked, Settled, United}
 use Rattle.area.proofs.Undo.{later-refl, later-trans}
 
 pub walk-refl : (F T : List ℕ) (n k s : ℕ) (w : List ℕ) (x to : ℕ) → Logged k w → Walk F T n k s w x to k s w x
@@ -29,7 +29,7 @@ walk-trans F T n k s w x to k1 s1 w1 x1 k2 s2 w2 x2 p q = record {
 pub walk-working : (F T : List ℕ) (n k s : ℕ) (w : List ℕ) (x to k1 s1 : ℕ) (w1 : List ℕ) (x1 : ℕ) → Working F T n k s x to w → Walk F T n k s w x to k1 s1 w1 x1 → Working F T n k1 s1 x1 to w1
 walk-working F T n k s w x to k1 s1 w1 x1 g p = record { G = g .G; H = g .H; fs = p .new ++ g .fs; state = p .go (g .G) (g .H) (g .fs) (g .state) }
 
-pub walk-told : (F T : List ℕ) (n k s : ℕ) (w : List ℕ) (x to k1 s1 : ℕ) (w1 : List ℕ) (x1 : ℕ) → Walk F T n k s w x to k1 s1 w1 x1 → Told F T n k1 s1 w1 x1 to → Told F T n k s w x to
+pub walk-told : (F T : List ℕ) (n k s : ℕ) (w : List ℕ) (x to k1 s1 : ℕ) (w1 : List ℕ) (x1 : ℕ) → Walk F T n k s w x to k1 s1 w1 x1 → ClashTold F T n k1 s1 w1 x1 to → ClashTold F T n k s w x to
 walk-told F T n k s w x to k1 s1 w1 x1 p t = λ G H fs u. t G H (p .new ++ fs) (p .go G H fs u)
 
 -- ---- as `drain` has it

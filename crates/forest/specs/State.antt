@@ -201,19 +201,19 @@ pub record Working (F T : List ℕ) (n k s x to : ℕ) (w : List ℕ) : Type 0 w
   pub fs : List (ℕ × ℕ)
   pub state : State G H F T n k s ((x, to) ∷ fs) w
 
-abbrev pub Told : (F T : List ℕ) (n k s : ℕ) (w : List ℕ) (x to : ℕ) → Type 0
-Told F T n k s w x to = (G : Pile) (H : Done) (fs : List (ℕ × ℕ)) → State G H F T n k s ((x, to) ∷ fs) w → Clashes G F T
+abbrev pub ClashTold : (F T : List ℕ) (n k s : ℕ) (w : List ℕ) (x to : ℕ) → Type 0
+ClashTold F T n k s w x to = (G : Pile) (H : Done) (fs : List (ℕ × ℕ)) → State G H F T n k s ((x, to) ∷ fs) w → Clashes G F T
 
 pub record Turned (F T : List ℕ) (n k s : ℕ) (w : List ℕ) (x to k' s' : ℕ) (bad : Bool) (w' : List ℕ) : Type 0 where
   pub later : Later k w k' w'
   pub fine : bad ≡ false → Walk F T n k s w x to k' s' w' (getD w' (NEXT + (x - 1)) 0)
   pub less : bad ≡ false → hops 2048 w' to (getD w' (NEXT + (x - 1)) 0) < hops 2048 w to x
-  pub clash : bad ≡ true → Told F T n k s w x to
+  pub clash : bad ≡ true → ClashTold F T n k s w x to
 
 pub record Drained (F T : List ℕ) (n k s : ℕ) (w : List ℕ) (x to k' s' : ℕ) (bad : Bool) (w' : List ℕ) : Type 0 where
   pub later : Later k w k' w'
   pub fine : bad ≡ false → Walk F T n k s w x to k' s' w' to
-  pub clash : bad ≡ true → Told F T n k s w x to
+  pub clash : bad ≡ true → ClashTold F T n k s w x to
 
 -- the stack holds all that is owed
 pub record Stacked (F T : List ℕ) (n k s : ℕ) (w : List ℕ) : Type 0 where
@@ -282,13 +282,13 @@ pub record Bearing (G : Pile) (H : Done) (n x v : ℕ) : Type 0 where
   pub is : (G .A) x ≡ v
   pub room : 3 * n + (2 * length (H .K) + suc (length (H .U))) ≤ 4096
 
-pub record Marking (F T : List ℕ) (n k : ℕ) (w : List ℕ) (x v : ℕ) : Type 0 where
+pub record Heading (F T : List ℕ) (n k : ℕ) (w : List ℕ) (x v : ℕ) : Type 0 where
   pub G : Pile
   pub H : Done
   pub state : State G H F T n k 0 [] w
   pub bears : Bearing G H n x v
 
-pub record Marked (F T : List ℕ) (n k : ℕ) (w : List ℕ) (x v k' : ℕ) (bad : Bool) (w' : List ℕ) : Type 0 where
+pub record Headed (F T : List ℕ) (n k : ℕ) (w : List ℕ) (x v k' : ℕ) (bad : Bool) (w' : List ℕ) : Type 0 where
   pub later : Later k w k' w'
   pub fine : bad ≡ false → (G : Pile) (H : Done) → State G H F T n k 0 [] w → Bearing G H n x v → State G (withNode H x) F T n k' 0 [] w'
   pub clash : bad ≡ true → (G : Pile) (H : Done) → State G H F T n k 0 [] w → Bearing G H n x v → Clashes G F T

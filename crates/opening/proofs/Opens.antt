@@ -25,7 +25,7 @@ use Rattle.classes.proofs.Laws.{undoable-start, undoable-on}
 use Rattle.classes.specs.declared.push.Pushed.{Pushed}
 use Rattle.classes.specs.declared.push.Pushed.the-variants.{In, Clashed}
 use Rattle.opening.specs.declared.Opened.the-variants as opened
-use Rattle.opening.specs.Opening.{Read, Stand, Paired, Opening, definite, Told, Opens}
+use Rattle.opening.specs.Opening.{Read, Stand, Paired, Opening, definite, OpenedAs, Opens}
 use Rattle.opening.proofs.Universe.{universe, in-one, in-two, nodes-room, comes}
 
 -- ---- k words from p on, put back into the area
@@ -59,10 +59,10 @@ pub number-definite : (p n : ℕ) (d : Desc) → definite p n d .number ≡ n
 number-definite p n (desc g ds) = refl
 
 -- a clash of the pushed graphs, as the opening tells it
-both : (w : List ℕ) (d e : Desc) → Clash (definite 0 0 d .graph ∷ definite SECOND (nodes-in d) e .graph ∷ []) → Told w d e opened.Clashed
+both : (w : List ℕ) (d e : Desc) → Clash (definite 0 0 d .graph ∷ definite SECOND (nodes-in d) e .graph ∷ []) → OpenedAs w d e opened.Clashed
 both w (desc g ds) (desc h es) c = c
 
-alone : (w : List ℕ) (d e : Desc) → WellFormed d depth-limit → WellFormed e depth-limit → Clash (definite 0 0 d .graph ∷ []) → Told w d e opened.Clashed
+alone : (w : List ℕ) (d e : Desc) → WellFormed d depth-limit → WellFormed e depth-limit → Clash (definite 0 0 d .graph ∷ []) → OpenedAs w d e opened.Clashed
 alone w (desc g ds) (desc h es) p q c = clash-within (g ∷ []) (g ∷ h ∷ []) (p .0, tt) (p .0, (q .0, tt)) (λ x i. ⊎-elim (λ m. List·Memᴰ·head m) (λ m. absurd (List·Memᴰ·not-nil m)) (List·Memᴰ·cases-cons i)) c
 
 module _ (w a b t : List ℕ) (o : Opening w a b) (n : ℕ) (p : Paired (take 2048 (drop WORDS w)) a b n t) (w₂ : List ℕ) (s : Starts (take WORDS w ++ (t ++ drop 2048 (drop WORDS w))) w₂) where
@@ -115,7 +115,7 @@ module _ (w a b t : List ℕ) (o : Opening w a b) (n : ℕ) (p : Paired (take 20
     first-pushing = record { es = []; e = one; is = at-definite 0 0 d; holds = empty; comes = first-comes }
 
     -- the first graph alone clashes: then both do
-    pub first-clashes : (w₃ : List ℕ) (x : Pushed) → Pushes n 0 w₂ 0 x w₃ → x ≡ Clashed → Told w₃ d e opened.Clashed
+    pub first-clashes : (w₃ : List ℕ) (x : Pushed) → Pushes n 0 w₂ 0 x w₃ → x ≡ Clashed → OpenedAs w₃ d e opened.Clashed
     first-clashes w₃ x u z = alone w₃ d e (r .first-well) (r .second-well) (u .clashed z .1 [] one (at-definite 0 0 d) empty first-comes .0)
 
     module _ (w₃ : List ℕ) (k : ℕ) (x : Pushed) (u : Pushes n 0 w₂ 0 x w₃) (z : x ≡ In k) where
@@ -146,10 +146,10 @@ module _ (w a b t : List ℕ) (o : Opening w a b) (n : ℕ) (p : Paired (take 20
       second-pushing = record { es = one ∷ []; e = two; is = at-definite SECOND (nodes-in d) e; holds = held; comes = second-comes }
 
       module _ (w₄ : List ℕ) (y : Pushed) (v : Pushes n k w₃ SECOND y w₄) where
-        pub second-clashes : y ≡ Clashed → Told w₄ d e opened.Clashed
+        pub second-clashes : y ≡ Clashed → OpenedAs w₄ d e opened.Clashed
         second-clashes q = both w₄ d e (v .clashed q .1 (one ∷ []) two (at-definite SECOND (nodes-in d) e) held second-comes .0)
 
-        pub joined : (j : ℕ) → y ≡ In j → Told w₄ d e (opened.Joined n j)
+        pub joined : (j : ℕ) → y ≡ In j → OpenedAs w₄ d e (opened.Joined n j)
         joined j q = (
           stand w₄ (v .len ∙ u .len) (λ i h. v .rest i h ∙ u .rest i h),
           v .inside j q .1 (one ∷ []) two (at-definite SECOND (nodes-in d) e) held second-comes,

@@ -16,12 +16,12 @@ use Rattle.loading.specs.Loading.{Put, Loadable, LoadedAt}
 use Rattle.loading.proofs.Sizes.{nodes-few}
 use Rattle.loading.proofs.Putting.{stands-frame}
 use Rattle.area.specs.Map.{SECOND}
-use Rattle.opening.specs.Opening.{Pair, Read, Stand, Paired}
+use Rattle.opening.specs.Opening.{Pairing, Read, Stand, Paired}
 
-pub begins : (t a b : List ℕ) → Pair t a b → Loadable t a 0 0
+pub begins : (t a b : List ℕ) → Pairing t a b → Loadable t a 0 0
 begins t a b p = record { image = p .inputs .first; few = p .inputs .first-few; near = omega arith; room = p .room; numbers = omega arith }
 
-module _ (t a b t₁ : List ℕ) (m : ℕ) (p : Pair t a b) (l : LoadedAt a 0 0 t t₁ m) where
+module _ (t a b t₁ : List ℕ) (m : ℕ) (p : Pairing t a b) (l : LoadedAt a 0 0 t t₁ m) where
   abbrev d₀ : Desc
   d₀ = p .inputs .first .0
 

@@ -19,16 +19,16 @@ use Rattle.opening.specs.declared.Opened.{Opened}
 use Rattle.opening.specs.declared.Opened.the-variants.{Joined, Clashed}
 
 -- two inputs that are well formed and not too long
-pub record Inputs (a b : List ℕ) : Type 0 where
+pub record Acceptable (a b : List ℕ) : Type 0 where
   pub first : Image a
   pub second : Image b
   pub first-few : length a ≤ input-limit
   pub second-few : length b ≤ input-limit
 
 -- what loading both asks: room for them
-pub record Pair (t a b : List ℕ) : Type 0 where
+pub record Pairing (t a b : List ℕ) : Type 0 where
   pub room : 2 * input-limit ≤ length t
-  pub inputs : Inputs a b
+  pub inputs : Acceptable a b
 
 -- two inputs are the words of two well-formed descriptions
 pub record Read (a b : List ℕ) (d e : Desc) : Type 0 where
@@ -50,18 +50,18 @@ pub record Paired (t a b : List ℕ) (n : ℕ) (t′ : List ℕ) : Type 0 where
 -- what opening asks: an area, and two inputs
 pub record Opening (w a b : List ℕ) : Type 0 where
   pub long : SIZE ≤ length w
-  pub inputs : Inputs a b
+  pub inputs : Acceptable a b
 
 -- the entry of a definite graph at p, whose node 0 has the number n
 abbrev pub definite : ℕ → ℕ → Desc → Entry
 definite p n (desc g ds) = record { at = p; number = n; graph = g }
 
 -- "0, join. The graph is the join of both definite graphs (a clash there is a clash in all modes).": both are pushed and can be taken back, or they clash
-abbrev pub Told : List ℕ → Desc → Desc → Opened → Type 0
-Told w d e (Joined n k) = Stand (region WORDS 2048 w) d e n × Holds n (definite 0 0 d ∷ definite SECOND (nodes-in d) e ∷ []) k w × Undoable n k w
-Told w (desc g ds) (desc h es) Clashed = Clash (g ∷ h ∷ [])
+abbrev pub OpenedAs : List ℕ → Desc → Desc → Opened → Type 0
+OpenedAs w d e (Joined n k) = Stand (region WORDS 2048 w) d e n × Holds n (definite 0 0 d ∷ definite SECOND (nodes-in d) e ∷ []) k w × Undoable n k w
+OpenedAs w (desc g ds) (desc h es) Clashed = Clash (g ∷ h ∷ [])
 
 pub record Opens (w a b : List ℕ) (r : Opened) (w′ : List ℕ) : Type 0 where
   pub len : length w′ ≡ length w
   pub rest : (j : ℕ) → MARKS ≤ j → getD w′ j 0 ≡ getD w j 0
-  pub told : (d e : Desc) → Read a b d e → Told w′ d e r
+  pub told : (d e : Desc) → Read a b d e → OpenedAs w′ d e r

@@ -6,7 +6,7 @@ use classes::push::Pushed;
 use classes::push::push;
 use classes::push::start;
 use loading::loading::load;
-ghost use Rattle.opening.specs.Opening.{Pair, Paired, Opening, Opens};
+ghost use Rattle.opening.specs.Opening.{Pairing, Paired, Opening, Opens};
 
 // How it came out: the definite graphs join, there are so many nodes, and the log has so many entries; or they clash.
 pub enum Opened {
@@ -16,7 +16,7 @@ pub enum Opened {
 
 // Loads both inputs into the words t. The number of their nodes.
 fn load_both(t: &mut [u32], a: &[u32], b: &[u32]) -> usize
-    requires { ⌜ Pair (now t) (now a) (now b) ⌝ }
+    requires { ⌜ Pairing (now t) (now a) (now b) ⌝ }
     ensures { λ r. ⌜ Paired (now (t .entry)) (now (a .entry)) (now (b .entry)) r (now (t .exit)) ⌝ }
 {
     let m = load(t, a, 0, 0);

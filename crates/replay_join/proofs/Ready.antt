@@ -18,7 +18,7 @@ use Rattle.classes.specs.Holds.{Holds}
 use Rattle.classes.proofs.Laws.{holds-agree}
 use Rattle.opening.specs.declared.Opened.the-variants as opened
 use Rattle.area.specs.Map.{SECOND}
-use Rattle.opening.specs.Opening.{Inputs, definite, Opens}
+use Rattle.opening.specs.Opening.{Acceptable, definite, Opens}
 use Rattle.writing.specs.Writing.{Writing}
 
 -- the words of a description are those of its graph, and two more
@@ -37,7 +37,7 @@ joined n e es k w h c = go (join (graphs (e ∷ es))) refl
     go (some G) q = (G, join-some (e .graph) (graphs es) c G q)
     go none q = absurd (holds-agree n (e ∷ es) k w h (join-none (e .graph) (graphs es) c q))
 
-pub ready : (v a b w : List ℕ) (n k : ℕ) → Inputs a b → Opens v a b (opened.Joined n k) w → Writing n k w 0
+pub ready : (v a b w : List ℕ) (n k : ℕ) → Acceptable a b → Opens v a b (opened.Joined n k) w → Writing n k w 0
 ready v a b w n k i o =
     let d = i .first .0 in
     let e = i .second .0 in

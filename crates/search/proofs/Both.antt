@@ -38,7 +38,7 @@ use Rattle.entering.proofs.Settling.{agrees-true}
 use Rattle.entering.proofs.Pairs.{whole-comes, half-low}
 use Rattle.search.specs.declared.agenda.Agenda.{Agenda}
 use Rattle.search.specs.Frames.{Slot, Lists, onto, Frames, plan}
-use Rattle.search.specs.Searched.{Standing, Resuming, resumed, Resumes, Searching, Searches}
+use Rattle.search.specs.Searched.{Footing, Resuming, resumed, Resumes, Searching, Searches}
 use Rattle.search.proofs.Planning.{frames-wide, Opened, opened, open-here, open-room}
 use Rattle.search.proofs.Finding.{finds-same}
 
@@ -64,7 +64,7 @@ both-found (place g ds) (place h es) j e m c T s w =
 
 module _ (n k : ℕ) (w : List ℕ) where
   module _ (c : Searching n k w) where
-    abbrev standing : Standing n k w
+    abbrev standing : Footing n k w
     standing = record { t = c .t; loaded = c .stage .ready .loaded; m = marking w; marks = refl; U = c .p .inputs .U; ground = c .p .inputs .ground; es = c .stage .es; holds = c .stage .ready .holds; inside = c .stage .ready .inside }
 
     few : n < number-step

@@ -30,7 +30,7 @@ use Rattle.entering.proofs.Certain.{free-narrow}
 use Rattle.entering.proofs.Moves.{moved-trans, moved-words}
 use Rattle.search.specs.declared.agenda.Agenda.{Agenda}
 use Rattle.search.specs.Frames.{Frames, plan}
-use Rattle.search.specs.Searched.{Finds, Taking, taken-with, Takes, Choosing, chosen}
+use Rattle.search.specs.Searched.{Finds, Taking, taken-with, Takes, Branching, chosen}
 use Rattle.search.proofs.Planning.{frames-bound, frames-wide}
 use Rattle.search.proofs.Finding.{finds-none, finds-same, finds-small, finds-append}
 
@@ -40,11 +40,11 @@ pub data Turn (n k : ℕ) (w₁ : List ℕ) (at x : ℕ) (a : Agenda) (sum sum' 
   took : (r : ℕ) (w' : List ℕ) → marking w₁ x ≡ true → Takes n k w₁ at a r w' → w₂ ≡ w' → sum' ≡ min (sum + r) choice-stop → Turn n k w₁ at x a sum sum' w₂
 
 module _ (n k : ℕ) (w : List ℕ) (p count : ℕ) (a : Agenda) where
-  abbrev left-of : Choosing n k w p count a → List Places
+  abbrev left-of : Branching n k w p count a → List Places
   left-of c = plan n (c .s .t) (c .s .U) (c .s .es) (c .s .m) (c .l) (c .end) (c .to) (c .frames)
 
   -- `left` alternatives are to be taken, from `at` on
-  pub record Going (c : Choosing n k w p count a) (left at sum : ℕ) (w₁ : List ℕ) : Type 0 where
+  pub record Going (c : Branching n k w p count a) (left at sum : ℕ) (w₁ : List ℕ) : Type 0 where
     pub b : Options
     pub l : ℕ
     pub stand : AtAny (c .s .t) at l b (c .end) (c .to)
@@ -58,23 +58,23 @@ module _ (n k : ℕ) (w : List ℕ) (p count : ℕ) (a : Agenda) where
     pub is : chosen c ≡ f ++ each-at (c .s .m) (graphs (c .s .es)) b (left-of c)
     pub finds : Finds n k w (c .s .es) f sum w₁
 
-  pub choose-moved : Choosing n k w p count a → Moved k w k w
+  pub choose-moved : Branching n k w p count a → Moved k w k w
   choose-moved c = record { len = refl; rest = λ j h. refl; since = since-refl n (c .s .es) k w (c .s .holds) }
 
-  pub choose-start : (c : Choosing n k w p count a) → Going c count p 0 w
+  pub choose-start : (c : Branching n k w p count a) → Going c count p 0 w
   choose-start c = record { b = c .o; l = c .from; stand = c .at; within = c .within; many = c .many; nests = c .nests; among = c .among; above = omega arith; on = omega arith; f = []; is = refl; finds = finds-none n k w (c .s .es) (c .s .holds) }
 
-  pub choose-done : (c : Choosing n k w p count a) (left at sum : ℕ) (w₁ : List ℕ) → Going c left at sum w₁ → left ≤ 0 → Finds n k w (c .s .es) (chosen c) sum w₁
+  pub choose-done : (c : Branching n k w p count a) (left at sum : ℕ) (w₁ : List ℕ) → Going c left at sum w₁ → left ≤ 0 → Finds n k w (c .s .es) (chosen c) sum w₁
   choose-done c left at sum w₁ s h = finds-same n k w (c .s .es) (s .f) (chosen c) sum w₁ (go (s .b) (s .many) (s .is)) (s .finds)
     where
       go : (b : Options) → options b ≡ left → chosen c ≡ s .f ++ each-at (c .s .m) (graphs (c .s .es)) b (left-of c) → chosen c ≡ s .f
       go no-more e q = q ∙ ap (λ (z : Found). s .f ++ z) (each-at-none (c .s .m) (graphs (c .s .es)) (left-of c)) ∙ append-nil (s .f)
       go (option x d b) e q = absurd (omega arith)
 
-  pub choose-small : (c : Choosing n k w p count a) (left at sum : ℕ) (w₁ : List ℕ) → Going c left at sum w₁ → sum ≤ choice-stop
+  pub choose-small : (c : Branching n k w p count a) (left at sum : ℕ) (w₁ : List ℕ) → Going c left at sum w₁ → sum ≤ choice-stop
   choose-small c left at sum w₁ s = finds-small n k w (c .s .es) (s .f) sum w₁ (s .finds)
 
-  module _ (c : Choosing n k w p count a) (left at sum : ℕ) (w₁ : List ℕ) (mv : Moved k w k w₁) (s : Going c left at sum w₁) (h : 0 < left) where
+  module _ (c : Branching n k w p count a) (left at sum : ℕ) (w₁ : List ℕ) (mv : Moved k w k w₁) (s : Going c left at sum w₁) (h : 0 < left) where
     -- the next alternative
     record Next : Type 0 where
       x : ℕ

@@ -34,7 +34,7 @@ use Rattle.entering.proofs.Certain.{Lone, lone-at}
 use Rattle.entering.proofs.Moves.{moved-words}
 use Rattle.search.specs.declared.agenda.Agenda.{Agenda}
 use Rattle.search.specs.Frames.{Slot, slots, Lists, onto, Frames, plan}
-use Rattle.search.specs.Searched.{Noting, Notes, Resuming, resumed, Resumes, Choosing, chosen, Chooses}
+use Rattle.search.specs.Searched.{Noting, Notes, Resuming, resumed, Resumes, Branching, chosen, Branches}
 use Rattle.search.proofs.Slots.{lists-none, lists-size, lists-first}
 use Rattle.search.proofs.Planning.{reach, frames-bound, frames-reach, frames-wide, frames-onto, Opened, opened, open-here, open-room}
 use Rattle.search.proofs.Finding.{finds-none, finds-leaf, finds-same, finds-taking, moved-noted}
@@ -277,7 +277,7 @@ module _ (n k : ℕ) (w : List ℕ) (a : Agenda) where
                   go (suc zero) e x = absurd (omega arith)
                   go (suc (suc i)) e x = x
 
-              abbrev choosing₁ : Resuming n k w a → Choosing n k w (a .at0 + 1) count rest
+              abbrev choosing₁ : Resuming n k w a → Branching n k w (a .at0 + 1) count rest
               choosing₁ c = record {
                 s = c .s;
                 o = next c .o;
@@ -298,10 +298,10 @@ module _ (n k : ℕ) (w : List ℕ) (a : Agenda) where
                 frames = frames₂ c .0;
               }
 
-              pub several-asks : Resuming n k w a → Choosing n k w (a .at0 + 1) count rest
+              pub several-asks : Resuming n k w a → Branching n k w (a .at0 + 1) count rest
               several-asks c = choosing₁ c
 
-              pub resumes-several : (r : ℕ) (w' : List ℕ) → Chooses n k w (a .at0 + 1) count rest r w' → Resumes n k w a r w'
+              pub resumes-several : (r : ℕ) (w' : List ℕ) → Branches n k w (a .at0 + 1) count rest r w' → Resumes n k w a r w'
               resumes-several r w' v = record {
                 moved = v .moved;
                 found = λ c. finds-same n k w (c .s .es) (chosen (choosing₁ c)) (resumed c) r w' (choice-is c ∙ choose-several (c .s .m) (graphs (c .s .es)) (next c .o) (left-of c) (omega (arith, kept-is c))) (v .found (choosing₁ c));

@@ -38,7 +38,7 @@ use Rattle.entering.proofs.Within.{entered-graphs, entered-inside, entered-clea
 use Rattle.entering.proofs.Moves.{moved-words}
 use Rattle.search.specs.declared.agenda.Agenda.{Agenda}
 use Rattle.search.specs.Frames.{Slot, slots, Lists, onto, Frames, plan}
-use Rattle.search.specs.Searched.{Noting, Notes, Standing, Finds, Resuming, resumed, Resumes, Taking, taken-with, Takes}
+use Rattle.search.specs.Searched.{Noting, Notes, Footing, Finds, Resuming, resumed, Resumes, Taking, taken-with, Takes}
 use Rattle.search.proofs.Planning.{nests-more, reach, frames-bound, frames-reach, frames-wide, frames-pushed, Opened, opened, open-here, open-room}
 use Rattle.search.proofs.Finding.{finds-none, finds-same, finds-under, finds-taking, moved-noted}
 
@@ -122,7 +122,7 @@ module _ (n k : ℕ) (w : List ℕ) (g : ℕ) (a : Agenda) where
     }
 
     module _ (e : ℕ) (z : o ≡ In e) where
-      abbrev standing₁ : (c : Taking n k w g a) → Standing n e w₁
+      abbrev standing₁ : (c : Taking n k w g a) → Footing n e w₁
       standing₁ c = record {
         t = c .s .t;
         loaded = words₁ ∙ c .s .loaded;

@@ -43,7 +43,7 @@ pub record Notes (w : List ℕ) (g found : ℕ) (w' : List ℕ) : Type 0 where
 
 -- ---- what is found
 -- the graphs es are pushed, and the marks are m
-pub record Standing (n k : ℕ) (w : List ℕ) : Type 0 where
+pub record Footing (n k : ℕ) (w : List ℕ) : Type 0 where
   pub t : List ℕ
   pub loaded : words w ≡ t
   pub m : Marking
@@ -63,7 +63,7 @@ pub record Finds (n k : ℕ) (w : List ℕ) (es : List Entry) (f : Found) (r : �
 
 -- ---- what is left
 pub record Resuming (n k : ℕ) (w : List ℕ) (a : Agenda) : Type 0 where
-  pub s : Standing n k w
+  pub s : Footing n k w
   pub l : List Slot
   pub lists : Lists a l
   pub frames : Frames n (s .t) (s .U) (s .es) (s .m) l 0 0
@@ -77,7 +77,7 @@ pub record Resumes (n k : ℕ) (w : List ℕ) (a : Agenda) (r : ℕ) (w' : List 
 
 -- ---- an alternative that stands loaded at g, and then what is left
 pub record Taking (n k : ℕ) (w : List ℕ) (g : ℕ) (a : Agenda) : Type 0 where
-  pub s : Standing n k w
+  pub s : Footing n k w
   pub d : Placed
   pub from : ℕ
   pub end : ℕ
@@ -102,8 +102,8 @@ pub record Takes (n k : ℕ) (w : List ℕ) (g : ℕ) (a : Agenda) (r : ℕ) (w'
   pub found : (c : Taking n k w g a) → Finds n k w (c .s .es) (taken-with c) r w'
 
 -- ---- `count` alternatives that stand loaded from p on, and then what is left
-pub record Choosing (n k : ℕ) (w : List ℕ) (p count : ℕ) (a : Agenda) : Type 0 where
-  pub s : Standing n k w
+pub record Branching (n k : ℕ) (w : List ℕ) (p count : ℕ) (a : Agenda) : Type 0 where
+  pub s : Footing n k w
   pub o : Options
   pub from : ℕ
   pub end : ℕ
@@ -121,12 +121,12 @@ pub record Choosing (n k : ℕ) (w : List ℕ) (p count : ℕ) (a : Agenda) : Ty
   pub deep : length l + left ≤ 5
   pub frames : Frames n (s .t) (s .U) (s .es) (s .m) l end to
 
-abbrev pub chosen : {n k : ℕ} {w : List ℕ} {p count : ℕ} {a : Agenda} → Choosing n k w p count a → Found
+abbrev pub chosen : {n k : ℕ} {w : List ℕ} {p count : ℕ} {a : Agenda} → Branching n k w p count a → Found
 chosen {n} {k} {w} {p} {count} {a} c = each-at (c .s .m) (graphs (c .s .es)) (c .o) (plan n (c .s .t) (c .s .U) (c .s .es) (c .s .m) (c .l) (c .end) (c .to) (c .frames))
 
-pub record Chooses (n k : ℕ) (w : List ℕ) (p count : ℕ) (a : Agenda) (r : ℕ) (w' : List ℕ) : Type 0 where
+pub record Branches (n k : ℕ) (w : List ℕ) (p count : ℕ) (a : Agenda) (r : ℕ) (w' : List ℕ) : Type 0 where
   pub moved : Moved k w k w'
-  pub found : (c : Choosing n k w p count a) → Finds n k w (c .s .es) (chosen c) r w'
+  pub found : (c : Branching n k w p count a) → Finds n k w (c .s .es) (chosen c) r w'
 
 -- ---- both inputs
 pub record Searching (n k : ℕ) (w : List ℕ) : Type 0 where

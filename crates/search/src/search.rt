@@ -18,7 +18,7 @@ use marks::positions::alternatives_at;
 use marks::positions::number_at;
 use marks::tally::count_kept;
 use trying::told::Guess;
-ghost use Rattle.search.specs.Searched.{Noting, Notes, Resuming, Resumes, Taking, Takes, Choosing, Chooses, Searching, Searches};
+ghost use Rattle.search.specs.Searched.{Noting, Notes, Resuming, Resumes, Taking, Takes, Branching, Branches, Searching, Searches};
 
 // The consistent choices with an alternative that clashes.
 const NONE: u32 = 0;
@@ -63,8 +63,8 @@ fn resume(w: &mut [u32], k: usize, n: usize, a: Agenda) -> u32
 
 // The same with one of the `count` alternatives from p on, which are several.
 fn choose(w: &mut [u32], k: usize, n: usize, p: usize, count: usize, a: Agenda) -> u32
-    requires { ⌜ Choosing n k (now w) p count a ⌝ }
-    ensures { λ r. ⌜ Chooses n k (now (w .entry)) p count a r (now (w .exit)) ⌝ }
+    requires { ⌜ Branching n k (now w) p count a ⌝ }
+    ensures { λ r. ⌜ Branches n k (now (w .entry)) p count a r (now (w .exit)) ⌝ }
 {
     let mut left = count;
     let mut at = p;

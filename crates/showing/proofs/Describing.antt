@@ -14,7 +14,7 @@ use Rattle.engine.specs.Placed.{Placed, place, strip}
 use Rattle.engine.specs.Marks.{Marking, keep}
 use Rattle.engine.specs.Shown.{shown-all}
 use Rattle.engine.proofs.Sane.{Sane, SaneAll}
-use Rattle.showing.specs.Putting.{Written, Describing, Describes, Leads, lead, left-all, Disjoining, Disjoins}
+use Rattle.showing.specs.Putting.{Written, Describing, Describes, LeadPut, lead, left-all, Disjoining, Disjoins}
 use Rattle.showing.proofs.Written.{written-order, written-between, based}
 use Rattle.showing.proofs.Leaving.{description-words, few-disjunctions}
 use Rattle.showing.proofs.Leading.{lead-room}
@@ -25,7 +25,7 @@ inner-can (place g ds) m c = c .1
 pub inner-sane : (d : Placed) (m : Marking) → Sane (strip (keep m d)) → SaneAll (left-all m d)
 inner-sane (place g ds) m c = c .1
 
-module _ (n : ℕ) (w : List ℕ) (g left o e : ℕ) (w₁ : List ℕ) (u : Leads n w g left o e w₁) (c : Describing n w g left o) where
+module _ (n : ℕ) (w : List ℕ) (g left o e : ℕ) (w₁ : List ℕ) (u : LeadPut n w g left o e w₁) (c : Describing n w g left o) where
   abbrev later : Disjs
   later = shown-all (left-all (c .base .m) (c .lies .d))
 
@@ -59,5 +59,5 @@ module _ (n : ℕ) (w : List ℕ) (g left o e : ℕ) (w₁ : List ℕ) (u : Lead
     described = subst (λ (k : ℕ). Written n w o (graph-words (lead (strip (keep (c .base .m) (c .lies .d)))) ++ k ∷ disjs-words later) r (set w₂ (RESULT + e) count)) (told .1)
         (written-between n w o (graph-words (lead (strip (keep (c .base .m) (c .lies .d))))) e w₁ (disjs-words later) r w₂ count (u c) (told .0) graph-end)
 
-pub describes : (n : ℕ) (w : List ℕ) (g left o e : ℕ) (w₁ : List ℕ) → Leads n w g left o e w₁ → (r count : ℕ) (w₂ : List ℕ) → Disjoins n w₁ g left (e + 1) r count w₂ → Describes n w g left o r (set w₂ (RESULT + e) count)
+pub describes : (n : ℕ) (w : List ℕ) (g left o e : ℕ) (w₁ : List ℕ) → LeadPut n w g left o e w₁ → (r count : ℕ) (w₂ : List ℕ) → Disjoins n w₁ g left (e + 1) r count w₂ → Describes n w g left o r (set w₂ (RESULT + e) count)
 describes n w g left o e w₁ u r count w₂ v c = subst (λ (xs : List ℕ). Written n w o xs r (set w₂ (RESULT + e) count)) (sym (description-words (c .lies .d) (c .base .m))) (described n w g left o e w₁ u c r count w₂ v)

@@ -73,8 +73,8 @@ Describes n w g left o r w' = (c : Describing n w g left o) → Written n w o (l
 abbrev pub lead : Desc → Graph
 lead (desc g ds) = or-else g (glue g (sure ds))
 
-abbrev pub Leads : (n : ℕ) (w : List ℕ) (g left o r : ℕ) (w' : List ℕ) → Type 0
-Leads n w g left o r w' = (c : Describing n w g left o) → Written n w o (graph-words (lead (strip (keep (c .base .m) (c .lies .d))))) r w'
+abbrev pub LeadPut : (n : ℕ) (w : List ℕ) (g left o r : ℕ) (w' : List ℕ) → Type 0
+LeadPut n w g left o r w' = (c : Describing n w g left o) → Written n w o (graph-words (lead (strip (keep (c .base .m) (c .lies .d))))) r w'
 
 -- ---- its disjunctions
 abbrev pub later : Placed → Places
@@ -97,7 +97,7 @@ Disjoins n w g left o r count w' =
 
 -- ---- the alternatives of one disjunction
 -- the alternatives a stand loaded at p, `of` of them
-pub record Standing (n : ℕ) (t : List ℕ) (U : List Entry) (p of left : ℕ) : Type 0 where
+pub record LyingAny (n : ℕ) (t : List ℕ) (U : List Entry) (p of left : ℕ) : Type 0 where
   pub a : Options
   pub from : ℕ
   pub end : ℕ
@@ -115,7 +115,7 @@ folded m a = shown-all (strip-any (keep-any m a) and end)
 
 pub record Varying (n : ℕ) (w : List ℕ) (p of left o : ℕ) : Type 0 where
   pub base : Base n w
-  pub lies : Standing n (base .t) (base .U) p of left
+  pub lies : LyingAny n (base .t) (base .U) p of left
   pub can : CanAny (strip-any (keep-any (base .m) (lies .a)))
   pub sane : SaneAny (strip-any (keep-any (base .m) (lies .a)))
   pub room : o + length (disjs-words (folded (base .m) (lies .a))) ≤ 2048
@@ -127,7 +127,7 @@ Varies n w p of left o r count after w' =
 
 pub record Offering (n : ℕ) (w : List ℕ) (p of left o : ℕ) : Type 0 where
   pub base : Base n w
-  pub lies : Standing n (base .t) (base .U) p of left
+  pub lies : LyingAny n (base .t) (base .U) p of left
   pub can : CanAny (strip-any (keep-any (base .m) (lies .a)))
   pub sane : SaneAny (strip-any (keep-any (base .m) (lies .a)))
   pub room : o + length (alts-words (shown-any (strip-any (keep-any (base .m) (lies .a))))) ≤ 2048

@@ -13,7 +13,7 @@ use Rattle.classes.specs.Holds.{Holds, Pushing, Labelled, Classed, class}
 use Rattle.classes.proofs.Added.{weight-spans}
 use Rattle.classes.proofs.Comings.{lie, some'}
 use Rattle.classes.proofs.Pushings.{parts}
-use Rattle.trying.specs.Leaf.{Anchored, Leaves, Torn, LeadsAll}
+use Rattle.trying.specs.Leaf.{Anchored, Leaves, Torn, LeavesTold}
 use Rattle.trying.specs.Guessed.{Guesses}
 use Rattle.trying.specs.declared.told.Guess.{Guess}
 use Rattle.trying.specs.declared.told.Guess.the-variants.{Clashes, Unsure}
@@ -73,7 +73,7 @@ module _ (n k : ℕ) (w : List ℕ) (g head d : ℕ) (is : head ≡ getD (words 
     }
 
     -- what is told of all arcs
-    pub guesses-arcs : getD w a 0 ≤ 2048 → (r : Guess) → LeadsAll n w g (head / 1024 % 1024) d r → Guesses n k w g r
+    pub guesses-arcs : getD w a 0 ≤ 2048 → (r : Guess) → LeavesTold n w g (head / 1024 % 1024) d r → Guesses n k w g r
     guesses-arcs l r s = record {
       agrees = λ y es e i h c. flat-agrees n es k w e h c d (level es e i h c) (many es e i h c) (leaves es e i h c d (s .agrees y)) (low es h);
       clashes = λ y es e i h c.

@@ -64,7 +64,7 @@ pub record Torn (n : ℕ) (w : List ℕ) (g b d i : ℕ) : Type 0 where
   pub atom : code-limit ≤ leaf-head w g d i
   pub foul : Foul n w (feature w g i) (leaf-head w g d i)
 
-pub record Leads (n : ℕ) (w : List ℕ) (g b d i : ℕ) (r : Guess) : Type 0 where
+pub record LeafTold (n : ℕ) (w : List ℕ) (g b d i : ℕ) (r : Guess) : Type 0 where
   pub agrees : r ≡ Agrees → Leaf n w g b d i
   pub clashes : r ≡ Clashes → Torn n w g b d i
 
@@ -72,6 +72,6 @@ pub record Leads (n : ℕ) (w : List ℕ) (g b d i : ℕ) (r : Guess) : Type 0 w
 abbrev pub Leaves : ℕ → List ℕ → ℕ → ℕ → ℕ → ℕ → Type 0
 Leaves n w g b d i = (j : ℕ) → j < i → Leaf n w g b d j
 
-pub record LeadsAll (n : ℕ) (w : List ℕ) (g b d : ℕ) (r : Guess) : Type 0 where
+pub record LeavesTold (n : ℕ) (w : List ℕ) (g b d : ℕ) (r : Guess) : Type 0 where
   pub agrees : r ≡ Agrees → Leaves n w g b d d
   pub clashes : r ≡ Clashes → (i : ℕ) × ((i < d) × (Leaves n w g b d i × Torn n w g b d i))

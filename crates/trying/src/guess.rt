@@ -8,7 +8,7 @@ use sieving::through::look_through;
 ghost use Prim.Native.Nat.{_+_, _*_, _≤_, _<_};
 ghost use Rattle.classes.specs.Holds.{Pushing};
 ghost use Rattle.sieving.specs.Sieved.{Sieved};
-ghost use Rattle.trying.specs.Leaf.{Anchored, Suits, Leads, LeadsAll};
+ghost use Rattle.trying.specs.Leaf.{Anchored, Suits, LeafTold, LeavesTold};
 ghost use Rattle.trying.specs.Guessed.{Guesses};
 
 // Whether the atom's head v may stand under the feature f of the roots, whose chain begins with the code x.
@@ -48,7 +48,7 @@ fn lead(
     requires { ⌜ Anchored n (now w) x ⌝ }
     requires { ⌜ Sieved (now w) (now t) ⌝ }
     requires { ⌜ (base < 1024) × ((i < d) × (g + 2 + 3 * d ≤ 2048)) ⌝ }
-    ensures { λ r. ⌜ Leads n (now (w .entry)) g base d i r ⌝ }
+    ensures { λ r. ⌜ LeafTold n (now (w .entry)) g base d i r ⌝ }
 {
     let at = g + 2 + 2 * i;
     let to = target(w, at);
@@ -71,7 +71,7 @@ fn lead_all(w: &[u32], n: usize, g: usize, base: usize, d: usize, x: usize, t: &
     requires { ⌜ Anchored n (now w) x ⌝ }
     requires { ⌜ Sieved (now w) (now t) ⌝ }
     requires { ⌜ (base < 1024) × (g + 2 + 3 * d ≤ 2048) ⌝ }
-    ensures { λ r. ⌜ LeadsAll n (now (w .entry)) g base d r ⌝ }
+    ensures { λ r. ⌜ LeavesTold n (now (w .entry)) g base d r ⌝ }
 {
     let mut i: usize = 0;
     while i < d {

@@ -18,13 +18,13 @@ use Rattle.area.specs.Region.{region, words}
 use Rattle.area.proofs.Region.{words-same}
 use Rattle.classes.proofs.Laws.{holds-frame, undoable-frame}
 use Rattle.marks.specs.Marked.{Cleared}
-use Rattle.opening.specs.Opening.{Read, Stand, Told, Opening, Opens}
+use Rattle.opening.specs.Opening.{Read, Stand, OpenedAs, Opening, Opens}
 use Rattle.opening.specs.declared.Opened.{Opened}
 use Rattle.opening.specs.declared.Opened.the-variants.{Joined, Clashed}
 use Rattle.entering.proofs.Stages.{first-stage}
 use Rattle.unify.specs.Making.{Begun, Begins}
 
-clash-none : (d e : Desc) → WellFormed d depth-limit → WellFormed e depth-limit → (w : List ℕ) → Told w d e Clashed → joined d e ≡ none
+clash-none : (d e : Desc) → WellFormed d depth-limit → WellFormed e depth-limit → (w : List ℕ) → OpenedAs w d e Clashed → joined d e ≡ none
 unfolding Rattle.descriptions.specs.Modes.joined
 clash-none (desc g ds) (desc h es) p q w c = let z : join (g ∷ h ∷ []) ≡ none = none-join g (h ∷ []) (p .0, (q .0, tt)) c in rw (z, Rattle.descriptions.specs.Modes.joined) refl
 
@@ -43,7 +43,7 @@ module _ (w a b : List ℕ) (o : Opening w a b) (r : Opened) (w₁ : List ℕ) (
     told = λ d e q. go r d e q (p .told d e q);
   }
     where
-      go : (r : Opened) (d e : Desc) → Read a b d e → Told w₁ d e r → Begun d e w₂ r
+      go : (r : Opened) (d e : Desc) → Read a b d e → OpenedAs w₁ d e r → Begun d e w₂ r
       go Clashed d e q t = clash-none d e (q .first-well) (q .second-well) w₁ t
       go (Joined n k) d e q t =
           let l = c .len in let h = long in

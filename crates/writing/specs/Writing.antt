@@ -39,7 +39,7 @@ pub record Passed (F : List ℕ) (low : ℕ) (chain rest : List ℕ) (best : ℕ
   pub all : (q : ℕ) → List·Memᴰ q chain → low ≤ getD F q 0 → List·Memᴰ q rest ⊎ ((b : ℕ) × ((best ≡ suc b) × (getD F b 0 ≤ getD F q 0)))
 
 -- the arc r, counted from 1, has the least feature from low on of the chain from x; 0 where there is none
-pub record Leads (w : List ℕ) (x low r : ℕ) : Type 0 where
+pub record LeastArc (w : List ℕ) (x low r : ℕ) : Type 0 where
   pub is : (chain : List ℕ) → Chain w x chain → Passed (words w) low chain [] r
 
 -- what a number asks: the class c has one, or is the next to get one

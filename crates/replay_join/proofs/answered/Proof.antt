@@ -1,7 +1,7 @@
 -- `replay_join::answered` is safe. Assumes nothing.
 use mathlib.Core.Path.{subst}
 use Rattle.opening.specs.declared.Opened.{Opened}
-use Rattle.opening.specs.Opening.{Inputs, Opens}
+use Rattle.opening.specs.Opening.{Acceptable, Opens}
 use Rattle.replay_join.proofs.Ready.{ready}
 use borrow.Author.Needs.{needs}
 use Rattle.replay_join.proofs.answered.Statement.{statement}
@@ -22,7 +22,7 @@ returns-2 c = search needs
 open-requires : tie.Need-open-requires
 open-requires c κs =
     let s = c .before .before .before .before .before .before .before .before in
-    let i : Inputs (s .args .a .now) (s .args .b .now) = record { first = c .before .before .before .before .malformed .ensures (c .before .before .before .if1 .left); second = c .before .before .malformed2 .ensures (c .before .if2 .left); first-few = s .pre .1 .0; second-few = s .pre .1 .1 } in
+    let i : Acceptable (s .args .a .now) (s .args .b .now) = record { first = c .before .before .before .before .malformed .ensures (c .before .before .before .if1 .left); second = c .before .before .malformed2 .ensures (c .before .if2 .left); first-few = s .pre .1 .0; second-few = s .pre .1 .1 } in
     record { long = s .pre .0; inputs = i }
 
 enum-known-opened : tie.Need-enum-known-opened
@@ -40,7 +40,7 @@ returns-3 c = search needs
 write-graph-requires : tie.Need-write-graph-requires
 write-graph-requires c κs =
     let s = c .before .before .before .before .before .before .before .before .before .before .before .before .before .before .before in
-    let i : Inputs (s .args .a .now) (s .args .b .now) = record { first = c .before .before .before .before .before .before .before .before .before .before .before .malformed .ensures (c .before .before .before .before .before .before .before .before .before .before .if1 .left); second = c .before .before .before .before .before .before .before .before .before .malformed2 .ensures (c .before .before .before .before .before .before .before .before .if2 .left); first-few = s .pre .1 .0; second-few = s .pre .1 .1 } in
+    let i : Acceptable (s .args .a .now) (s .args .b .now) = record { first = c .before .before .before .before .before .before .before .before .before .before .before .malformed .ensures (c .before .before .before .before .before .before .before .before .before .before .if1 .left); second = c .before .before .before .before .before .before .before .before .before .malformed2 .ensures (c .before .before .before .before .before .before .before .before .if2 .left); first-few = s .pre .1 .0; second-few = s .pre .1 .1 } in
     let o = c .before .before .before .before .before .before .«open» in
     ready (s .args .w .now) (s .args .a .now) (s .args .b .now) (o .last .0) (c .before .before .opened .given .0 .0) (c .before .before .opened .given .0 .1 .0) i (subst (λ (r : Opened). Opens (s .args .w .now) (s .args .a .now) (s .args .b .now) r (o .last .0)) (c .before .before .opened .given .1) (o .ensures))
 

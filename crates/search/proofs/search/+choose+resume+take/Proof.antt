@@ -6,7 +6,7 @@ use mathlib.Core.Path.{refl, _∙_}
 use mathlib.Core.Logic.{⊎-elim}
 use Rattle.entering.specs.Moved.{Moved}
 use Rattle.search.specs.Frames.{slots}
-use Rattle.search.specs.Searched.{Choosing}
+use Rattle.search.specs.Searched.{Branching}
 use Rattle.search.proofs.Finding.{finds-small}
 use Rattle.search.proofs.Planning.{reach}
 use Rattle.search.proofs.Taking.{asks-enter, takes-clash, take-opens, take-asks, take-falls, take-back, take-notes, takes-found}
@@ -69,7 +69,7 @@ abbrev take-below : ℕ → In 1 take-kinds.ps
 take-below t = and 1 take-kinds.ps (falls 1 take-kinds.ps _<_ μ-take t) take.Pre
 
 abbrev choose-Inv-loop : choose-lts.InvT-loop
-choose-Inv-loop w₀ k n p count a left₀ at₀ sum₀ w left at sum = Moved k w₀ k w × ((c : Choosing n k w₀ p count a) → Going n k w₀ p count a c left at sum w)
+choose-Inv-loop w₀ k n p count a left₀ at₀ sum₀ w left at sum = Moved k w₀ k w × ((c : Branching n k w₀ p count a) → Going n k w₀ p count a c left at sum w)
 
 abbrev choose-μ-loop : choose-lts.MeasureT-loop
 choose-μ-loop w₀ k n p count a left₀ at₀ sum₀ w left at sum = left

@@ -3,7 +3,7 @@ use Prim.Native.Nat.{ℕ, _-_, _≤_}
 use mathlib.Core.Path.{_≡_, subst}
 use mathlib.Core.Logic.{⊎-elim}
 use native.Mathlib.Omega.{arith}
-use Rattle.trying.specs.Leaf.{Leads, Leaves}
+use Rattle.trying.specs.Leaf.{LeafTold, Leaves}
 use Rattle.trying.proofs.Leading.{leaves-none, leaves-more, all-agree, all-stop}
 use borrow.Author.Needs.{needs}
 use Rattle.trying.proofs.guess.lead_all.Statement.{statement}
@@ -40,7 +40,7 @@ loop-again : tie.Need-loop-again Inv-loop μ-loop
 loop-again c =
     let a = c .before .before .before .before .before .before .before .args in
     let o = c .before .before .before .before .loop in
-    (omega arith, leaves-more (a .n) (a .w .now) (a .g) (a .base) (a .d) (o .i) (o .inv .1) (subst (Leads (a .n) (a .w .now) (a .g) (a .base) (a .d) (o .i)) (c .enum-told .given .1) (c .before .before .lead .ensures)))
+    (omega arith, leaves-more (a .n) (a .w .now) (a .g) (a .base) (a .d) (o .i) (o .inv .1) (subst (LeafTold (a .n) (a .w .now) (a .g) (a .base) (a .d) (o .i)) (c .enum-told .given .1) (c .before .before .lead .ensures)))
 
 returns-2 : tie.Need-returns-2 Inv-loop μ-loop
 returns-2 c =
