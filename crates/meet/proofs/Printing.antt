@@ -4,9 +4,9 @@ use mathlib.Core.List.{List}
 use Prim.Native.Nat.{ℕ, _≤_}
 use native.Mathlib.Omega.{arith}
 use lib.ListN.{length}
-use Rattle.meet_text.specs.Answer.{Wrote}
-use Rattle.meet_text.specs.declared.line.Written.{Written}
-use Rattle.meet_text.specs.declared.line.Written.the-variants.{Bytes, NoRoom}
+use Rattle.answer_text.specs.Answer.{Wrote}
+use Rattle.answer_text.specs.declared.line.Written.{Written}
+use Rattle.answer_text.specs.declared.line.Written.the-variants.{Bytes, NoRoom}
 use Rattle.reply.specs.Printed.{printed}
 use Rattle.reply.proofs.Lengths.{always-printed}
 

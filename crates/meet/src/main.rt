@@ -1,11 +1,11 @@
 // The program `meet`: one call from standard input, what comes of it to standard output.
-use meet_text::line::Written;
+use answer_text::line::Written;
 use reply::reply;
 ghost use mathlib.Core.Path.{_≡_};
 ghost use Prim.Native.Nat.{_≤_};
 ghost use lib.ListN.{length};
-ghost use Rattle.meet_text.specs.Answer.{Wrote};
-ghost use Rattle.meet_text.specs.declared.line.Written.the-variants.{Bytes};
+ghost use Rattle.answer_text.specs.Answer.{Wrote};
+ghost use Rattle.answer_text.specs.declared.line.Written.the-variants.{Bytes};
 ghost use Rattle.reply.specs.Printed.{printed};
 
 // "input over 65,536 bytes" is bad input: room for one byte more is enough to tell.

@@ -23,12 +23,12 @@ use Rattle.theory.proofs.Counting.{readings-number}
 use Rattle.theory.proofs.Kept.{well-can, result-words, result-well}
 use Rattle.theory.proofs.Modes.{mode-readings-kept}
 use Rattle.theory.proofs.Table.{unified-given}
-use Rattle.meet_text.specs.Token.{largest}
-use Rattle.meet_text.specs.Call.{Asked, heard}
-use Rattle.meet_text.specs.Answer.{bad-text, Wrote}
-use Rattle.meet_text.specs.declared.line.Written.{Written}
-use Rattle.meet_text.specs.declared.line.Written.the-variants.{Bytes}
-use Rattle.meet_text.proofs.Answers.{text-small, wrote-fits}
+use Rattle.call_text.specs.Token.{largest}
+use Rattle.call_text.specs.Call.{Asked, heard}
+use Rattle.answer_text.specs.Answer.{bad-text, Wrote}
+use Rattle.answer_text.specs.declared.line.Written.{Written}
+use Rattle.answer_text.specs.declared.line.Written.the-variants.{Bytes}
+use Rattle.answer_text.proofs.Answers.{text-small, wrote-fits}
 use Rattle.reply.specs.Printed.{spoken, printed}
 
 -- ---- every word of a description is a 32-bit word

@@ -14,12 +14,12 @@ use Rattle.theory.specs.Outcome.{Outcome}
 use Rattle.theory.proofs.Areas.{given-writes}
 use Rattle.descriptions.proofs.Areas.{Writes, nothing, result}
 use Rattle.theory.proofs.Table.{outcome-answer}
-use Rattle.meet_text.specs.Call.{Asked, heard, heard-in, upon, Heard}
-use Rattle.meet_text.specs.declared.call.Call.{Call}
-use Rattle.meet_text.specs.declared.call.Call.the-variants.{Good, BadInput}
-use Rattle.meet_text.specs.Answer.{second-line, answer-text, bad-text, Wrote}
-use Rattle.meet_text.specs.declared.line.Written.{Written}
-use Rattle.meet_text.proofs.Calls.{with-room}
+use Rattle.call_text.specs.Call.{Asked, heard, heard-in, upon, Heard}
+use Rattle.call_text.specs.declared.call.Call.{Call}
+use Rattle.call_text.specs.declared.call.Call.the-variants.{Good, BadInput}
+use Rattle.answer_text.specs.Answer.{second-line, answer-text, bad-text, Wrote}
+use Rattle.answer_text.specs.declared.line.Written.{Written}
+use Rattle.call_text.proofs.Calls.{with-room}
 use Rattle.reply.specs.Printed.{in-words, spoken, printed}
 
 -- only number 0 has a second line

@@ -5,8 +5,8 @@ use mathlib.Core.Option.{none, some}
 use mathlib.Core.List.{List}
 use Rattle.theory.specs.Answer.{Answer}
 use Rattle.theory.specs.Unified.{unified}
-use Rattle.meet_text.specs.Call.{heard}
-use Rattle.meet_text.specs.Answer.{answer-text, bad-text}
+use Rattle.call_text.specs.Call.{heard}
+use Rattle.answer_text.specs.Answer.{answer-text, bad-text}
 
 -- "It prints `answer` number `words` length `readings` count and, after 0 only, a second line of result words"
 abbrev pub in-words : Answer → List ℕ

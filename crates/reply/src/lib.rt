@@ -1,14 +1,14 @@
 // From the text that `meet` reads to the text that it prints.
-use meet_text::answer::write_answer;
-use meet_text::answer::write_bad;
-use meet_text::call::Call;
-use meet_text::call::read_call;
-use meet_text::line::Written;
+use answer_text::answer::write_answer;
+use answer_text::answer::write_bad;
+use answer_text::line::Written;
+use call_text::call::Call;
+use call_text::call::read_call;
 use unify::told;
 use unify::unify;
 ghost use mathlib.Core.Path.{_≡_};
 ghost use lib.ListN.{length};
-ghost use Rattle.meet_text.specs.Answer.{Wrote};
+ghost use Rattle.answer_text.specs.Answer.{Wrote};
 ghost use Rattle.reply.specs.Printed.{spoken, printed};
 
 // "Its result area has 2,048 words", and so have the inputs at most.

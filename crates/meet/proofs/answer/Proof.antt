@@ -1,7 +1,7 @@
 -- `meet::answer` meets its contract. Assumes nothing.
 use mathlib.Core.Path.{_≡_}
 use borrow.Author.Needs.{needs}
-use Rattle.meet_text.specs.declared.line.Written.the-variants.{NoRoom}
+use Rattle.answer_text.specs.declared.line.Written.the-variants.{NoRoom}
 use Rattle.meet.proofs.Printing.{written, never-without}
 use Rattle.meet.proofs.answer.Statement.{statement}
 use Rattle.meet.proofs.answer.Tie as tie

@@ -1,0 +1,63 @@
+// Writing what `meet` prints: an answer, or `bad input`.
+use crate::line::Written;
+use crate::line::put;
+use crate::line::put_labelled;
+use crate::line::put_run;
+use crate::line::put_words_line;
+use crate::line::wide;
+ghost use mathlib.Core.List.{_++_};
+ghost use Rattle.answer_text.specs.Answer.{first-line, labelled, readings-label, newline, answer-text, bad-text, Wrote};
+ghost use Rattle.answer_text.specs.Going.{Appends};
+
+// Writes how many readings there are, and ends the line.
+fn put_readings(dst: &mut [u8], at: usize, readings: u32) -> Written
+    ensures { λ r. ⌜ Appends (labelled readings-label readings ++ newline) (now (dst .entry)) at (now (dst .exit)) r ⌝ }
+{
+    let front = put_labelled(dst, at, b" readings ", wide(readings));
+    let Written::Bytes(next) = front else {
+        return Written::NoRoom;
+    };
+    put(dst, next, 10)
+}
+
+// Writes the first line.
+fn put_first_line(dst: &mut [u8], number: u32, length: usize, readings: u32) -> Written
+    ensures { λ r. ⌜ Appends (first-line number length readings) (now (dst .entry)) 0 (now (dst .exit)) r ⌝ }
+{
+    let one = put_labelled(dst, 0, b"answer ", wide(number));
+    let Written::Bytes(at) = one else {
+        return Written::NoRoom;
+    };
+    let two = put_labelled(dst, at, b" words ", length as u64);
+    let Written::Bytes(next) = two else {
+        return Written::NoRoom;
+    };
+    put_readings(dst, next, readings)
+}
+
+// Writes an answer to the start of dst: a line with its numbers and, after number 0 only, a line with the words.
+pub fn write_answer(
+    dst: &mut [u8],
+    number: u32,
+    length: usize,
+    readings: u32,
+    words: &[u32],
+) -> Written
+    ensures { λ r. ⌜ Wrote (answer-text number length readings (now (words .entry))) (now (dst .entry)) (now (dst .exit)) r ⌝ }
+{
+    let first = put_first_line(dst, number, length, readings);
+    let Written::Bytes(at) = first else {
+        return Written::NoRoom;
+    };
+    if number == 0 {
+        return put_words_line(dst, at, words);
+    }
+    Written::Bytes(at)
+}
+
+// Writes `bad input` to the start of dst.
+pub fn write_bad(dst: &mut [u8]) -> Written
+    ensures { λ r. ⌜ Wrote bad-text (now (dst .entry)) (now (dst .exit)) r ⌝ }
+{
+    put_run(dst, 0, b"bad input\n")
+}

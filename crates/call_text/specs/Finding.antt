@@ -1,0 +1,25 @@
+-- Where a counted run of words was found in a text.
+-- Assumes nothing: these are definitions.
+use Prim.Native.Nat.{ℕ, _≤_}
+use mathlib.Core.Path.{_≡_}
+use mathlib.Core.Option.{Option, none, some}
+use mathlib.Core.List.{List}
+use lib.ListN.{drop}
+use Rattle.call_text.specs.Call.{Taken, words-in, count-limit, upon}
+use Rattle.call_text.specs.declared.call.Words.{Words}
+use Rattle.call_text.specs.declared.call.Words.the-variants.{Run, Wrong}
+
+-- the text after a run
+abbrev pub beyond : Option Taken → Option (List ℕ)
+beyond none = none
+beyond (some t) = some (t .1)
+
+-- a run of so many numbers was found from `start` on, the text goes on at `next`; or there is none
+abbrev pub Finds : List ℕ → Option Taken → Words → Type 0
+Finds text run (Run count start next) =
+    (count ≤ count-limit) × (words-in count (drop start text) ≡ run) × (beyond run ≡ some (drop next text))
+Finds text run Wrong = run ≡ none
+
+-- the words of a run, where there is one, were put at the start of dst
+abbrev pub Puts : Option Taken → List ℕ → List ℕ → Type 0
+Puts run dst dst′ = (t : Taken) → run ≡ some t → dst′ ≡ upon (t .0) dst
