@@ -1,4 +1,5 @@
 // An undo log in the working area: the body is the words before LOG, and the log has an entry a word from LOG on, 4,096 of them at most.
+use crate::map::ENTRY_STEP;
 use crate::map::LOG;
 use limits::wide;
 ghost use mathlib.Core.Path.{_≡_};
@@ -14,7 +15,7 @@ pub fn put(w: &mut [u32], n: usize, i: usize, v: u32) -> usize
     ensures { λ r. ⌜ Put n (now (w .entry)) i v r (now (w .exit)) ⌝ }
 {
     let old = w[i];
-    w[LOG + n] = i as u32 + 4096 * old;
+    w[LOG + n] = i as u32 + ENTRY_STEP * old;
     w[i] = v;
     n + 1
 }
@@ -29,7 +30,7 @@ pub fn undo(w: &mut [u32], n: usize, m: usize)
     while m < k {
         k -= 1;
         let e = w[LOG + k];
-        let i = wide(e % 4096);
-        w[i] = e / 4096;
+        let i = wide(e % ENTRY_STEP);
+        w[i] = e / ENTRY_STEP;
     }
 }

@@ -9,6 +9,18 @@
 //   11,264  1,024  MARKS
 //   12,288  2,048  RESULT
 //   14,336  2,048  unused
+//
+// The tables go by the numbers of nodes, which are below NODES. A class holds 0, or an arc counted from 1 up to LAST_ARC,
+// or an atom's head, which is above that.
+pub const NODES: usize = 1024;
+
+pub const LAST_ARC: u32 = 2048;
+
+// An entry of the log is address + ENTRY_STEP * old value, a pending comparison from + FRAME_STEP * to.
+pub const ENTRY_STEP: u32 = 4096;
+
+pub const FRAME_STEP: u32 = 4096;
+
 pub const PARENT: usize = 1024;
 
 pub const NEXT: usize = 2048;

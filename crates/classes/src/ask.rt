@@ -1,7 +1,9 @@
 // What may be asked of the classes: the atom of one, and its target under a feature.
 use crate::push::class_of;
+use area::map::LAST_ARC;
 use forest::chain::look;
 use forest::chain::target;
+use limits::CODE_LIMIT;
 use limits::wide;
 ghost use Prim.Native.Nat.{_<_};
 ghost use Rattle.classes.specs.Holds.{Labelled};
@@ -27,8 +29,8 @@ pub fn atom_of(w: &[u32], n: usize, x: usize) -> Borne
 {
     let c = class_of(w, n, x);
     let h = w[c];
-    if h > 2048 {
-        return Borne::Atom(h - 65536);
+    if h > LAST_ARC {
+        return Borne::Atom(h - CODE_LIMIT);
     }
     Borne::Nothing
 }
@@ -41,7 +43,7 @@ pub fn target_of(w: &[u32], n: usize, x: usize, f: u32) -> Led
 {
     let c = class_of(w, n, x);
     let h = w[c];
-    if h > 2048 {
+    if h > LAST_ARC {
         return Led::Nowhere;
     }
     let r = look(w, wide(h), f);

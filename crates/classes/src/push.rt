@@ -2,6 +2,7 @@
 use crate::visit::nodes;
 use area::log::undo;
 use area::map::NEXT;
+use area::map::NODES;
 use area::map::PARENT;
 use forest::chain::loaded;
 use forest::forest::find;
@@ -25,11 +26,11 @@ pub fn start(w: &mut [u32])
     ensures { λ _. ⌜ Starts (now (w .entry)) (now (w .exit)) ⌝ }
 {
     let mut i: usize = 0;
-    while i < 1024 {
+    while i < NODES {
         w[i] = 0;
         w[PARENT + i] = i as u32;
         w[NEXT + i] = 0;
-        w[NEXT + 1024 + i] = 0;
+        w[NEXT + NODES + i] = 0;
         i += 1;
     }
 }

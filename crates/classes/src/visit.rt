@@ -1,5 +1,6 @@
 // The arcs and atoms of a graph meet the classes of its nodes.
 use area::log::put;
+use area::map::LAST_ARC;
 use area::map::NEXT;
 use forest::chain::loaded;
 use forest::chain::locate;
@@ -8,6 +9,7 @@ use forest::chain::target;
 use forest::forest::find;
 use forest::merge::Made;
 use forest::settle::unite;
+use limits::CODE_LIMIT;
 use limits::wide;
 ghost use mathlib.Core.Path.{_≡_};
 ghost use mathlib.Core.Bool.{true, false};
@@ -35,7 +37,7 @@ fn afresh(w: &[u32], k: usize, n: usize, x: usize) -> usize
 {
     let c = find(w, n, x);
     let h = w[c];
-    if h > 2048 {
+    if h > LAST_ARC {
         return 0;
     }
     let up = rises(w, wide(h));
@@ -83,7 +85,7 @@ fn visit(w: &mut [u32], k: usize, n: usize, x: usize, t: usize, at: usize) -> Ca
 {
     let c = find(w, n, x);
     let h = w[c];
-    if h > 2048 {
+    if h > LAST_ARC {
         return Came {
             k: k,
             at: 0,
@@ -192,7 +194,7 @@ fn node(w: &mut [u32], k: usize, n: usize, x: usize, p: usize) -> Made
     ensures { λ r. ⌜ Noded (words (now (w .entry))) (targets (now (w .entry))) n k (now (w .entry)) x p (r .k) (r .bad) (now (w .exit)) ⌝ }
 {
     let h = loaded(w, p);
-    if h >= 65536 {
+    if h >= CODE_LIMIT {
         return mark(w, k, n, x, h);
     }
     arcs(w, k, n, x, p + 1, wide(h))
@@ -202,7 +204,7 @@ fn node(w: &mut [u32], k: usize, n: usize, x: usize, p: usize) -> Made
 fn span(h: u32) -> usize
     ensures { λ r. ⌜ ((65536 ≤ h → r ≡ 1) × (h < 65536 → r ≡ 1 + 2 * h)) ⌝ }
 {
-    if h >= 65536 { 1 } else { 1 + 2 * wide(h) }
+    if h >= CODE_LIMIT { 1 } else { 1 + 2 * wide(h) }
 }
 
 // The c nodes from x on, the first of which has its head at p.

@@ -4,6 +4,8 @@
 use crate::chain::last;
 use crate::forest::find;
 use area::log::put;
+use area::map::FRAME_STEP;
+use area::map::LAST_ARC;
 use area::map::NEXT;
 use area::map::PARENT;
 use area::map::STACK;
@@ -35,7 +37,7 @@ fn knit(w: &mut [u32], k: usize, s: usize, n: usize, a: usize, b: usize, p: u32,
     let e = put(w, k, PARENT + b, a as u32);
     let d = put(w, e, NEXT + z, q);
     let c = put(w, d, a, p);
-    w[STACK + s] = p + 4096 * q;
+    w[STACK + s] = p + FRAME_STEP * q;
     Made {
         k: c,
         s: s + 1,
@@ -69,7 +71,7 @@ fn fuse(w: &mut [u32], k: usize, s: usize, n: usize, a: usize, b: usize) -> Made
             bad: false,
         };
     }
-    if p > 2048 {
+    if p > LAST_ARC {
         if p == q {
             let e = put(w, k, PARENT + b, a as u32);
             return Made {
@@ -84,7 +86,7 @@ fn fuse(w: &mut [u32], k: usize, s: usize, n: usize, a: usize, b: usize) -> Made
             bad: true,
         };
     }
-    if q > 2048 {
+    if q > LAST_ARC {
         return Made {
             k: k,
             s: s,

@@ -1,5 +1,6 @@
 // The marks, a word for each alternative under the number of its node 0: 1 where it is dropped, 0 or 2 where it is kept, 2 where it was found to stand in a consistent choice.
 use area::map::MARKS;
+use area::map::NODES;
 ghost use mathlib.Core.Path.{_≡_};
 ghost use Prim.Native.Nat.{_≤_, _<_};
 ghost use lib.ListN.{length};
@@ -26,7 +27,7 @@ pub fn clear_marks(w: &mut [u32])
     requires { ⌜ 16384 ≤ length (now w) ⌝ }
     ensures { λ _. ⌜ Cleared (now (w .entry)) (now (w .exit)) ⌝ }
 {
-    let mut left: usize = 1024;
+    let mut left: usize = NODES;
     while 0 < left {
         left -= 1;
         w[MARKS + left] = 0;
@@ -72,7 +73,7 @@ pub fn douse(w: &mut [u32])
     requires { ⌜ 16384 ≤ length (now w) ⌝ }
     ensures { λ _. ⌜ Doused (now (w .entry)) (now (w .exit)) ⌝ }
 {
-    let mut left: usize = 1024;
+    let mut left: usize = NODES;
     while 0 < left {
         left -= 1;
         w[MARKS + left] = doused(w[MARKS + left]);

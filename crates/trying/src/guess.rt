@@ -1,8 +1,10 @@
 // A flat graph is tried on the classes of the graphs that are pushed, and nothing is written. Its root has an arc to each of its other nodes, in order, and each of these is a leaf: it bears an atom or says nothing.
 use crate::told::Guess;
+use area::map::LAST_ARC;
 use classes::push::class_of;
 use forest::chain::loaded;
 use forest::chain::target;
+use limits::CODE_LIMIT;
 use limits::wide;
 use sieving::through::look_through;
 ghost use Prim.Native.Nat.{_+_, _*_, _≤_, _<_};
@@ -59,7 +61,7 @@ fn lead(
     if v == 0 {
         return Guess::Agrees;
     }
-    if v < 65536 {
+    if v < CODE_LIMIT {
         return Guess::Unsure;
     }
     let f = loaded(w, at);
@@ -99,7 +101,7 @@ pub fn guess_through(w: &[u32], k: usize, n: usize, g: usize, t: &[u32]) -> Gues
     }
     let a = class_of(w, n, 0);
     let h = w[a];
-    if h > 2048 {
+    if h > LAST_ARC {
         if d == 0 {
             return Guess::Unsure;
         }

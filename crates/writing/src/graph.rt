@@ -2,6 +2,7 @@
 use crate::arcs::Place;
 use crate::arcs::arcs;
 use crate::arcs::number;
+use area::map::LAST_ARC;
 use area::map::LOG;
 use area::map::RESULT;
 use area::map::STACK;
@@ -32,7 +33,7 @@ fn node(w: &mut [u32], k: usize, n: usize, i: usize, at: usize, m: usize) -> Pla
 {
     let c = wide(w[LOG + k + i]);
     let h = w[c];
-    if h > 2048 {
+    if h > LAST_ARC {
         w[RESULT + at] = h;
         return Place { at: at + 1, met: m };
     }
