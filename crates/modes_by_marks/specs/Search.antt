@@ -38,7 +38,7 @@ module _ {Graph : Type 0} (J : Joining Graph) where
   -- "A choice takes one alternative of each disjunction and, within it, a choice of that alternative." In the order of the words; k is what comes after. An alternative is pushed with all that is certain in it; one that stands alone is on the stack already
   unfoldable mutual
     pub dive : List Graph → Placed Graph → (List Graph → Found) → Found
-    dive S (place g ds) k = elim (agree J (S ++ g ∷ sure (strip-all ds))) [ false ↦ [] | true ↦ dive-all (S ++ g ∷ sure (strip-all ds)) ds k ]
+    dive S (place g ds) k = let T = S ++ g ∷ sure (strip-all ds) in elim (agree J T) [ false ↦ [] | true ↦ dive-all T ds k ]
 
     pub dive-all : List Graph → Places Graph → (List Graph → Found) → Found
     dive-all S stop k = k S
