@@ -12,7 +12,7 @@ static int usage(void) {
           "       second known\n"
           "       second check SEED COUNT\n"
           "       second generate SEED COUNT\n"
-          "       second vectors SEED COUNT calls|fits|reading|joins\n",
+          "       second vectors SEED COUNT calls|fits|reading|joins [COUNT KIND ..]\n",
           stderr);
     return 2;
 }
@@ -20,6 +20,18 @@ static int usage(void) {
 static bool number_of(const char *text, uint64_t *number) {
     char surplus;
     return sscanf(text, "%" SCNu64 "%c", number, &surplus) == 1;
+}
+
+// Stored vectors of one kind after the other, each from the seed.
+static int run_vectors(uint64_t seed, char **parts) {
+    for (; parts[0] != NULL; parts += 2) {
+        uint64_t count;
+        if (!number_of(parts[0], &count) || !put_vectors(seed, count, parts[1])) {
+            return usage();
+        }
+    }
+    end_vectors();
+    return 0;
 }
 
 // The ways with a seed and a count.
@@ -35,8 +47,8 @@ static int run_seeded(int argument_count, char **arguments) {
     if (argument_count == 4 && strcmp(arguments[1], "generate") == 0) {
         return run_generate(seed, count);
     }
-    if (argument_count == 5 && strcmp(arguments[1], "vectors") == 0) {
-        return run_vectors(seed, count, arguments[4]);
+    if (argument_count % 2 == 1 && strcmp(arguments[1], "vectors") == 0) {
+        return run_vectors(seed, arguments + 3);
     }
     return usage();
 }

@@ -8,6 +8,9 @@
 
 enum { LONGEST_STORED = 2048 };
 
+// What a vector is of.
+enum { STORED_UNIFY, STORED_FIT, STORED_JOIN };
+
 static void put_word(uint32_t word) {
     for (int shift = 0; shift < 32; shift += 8) {
         putchar((int)(word >> shift & 0xFF));
@@ -25,25 +28,25 @@ static void put_counted(const Words *words) {
     put_words(words);
 }
 
-// op, mode, room, work, both inputs, number, length, readings, and the words of a result.
-static void put_call(const Call *call) {
+// What it is of, mode, room, work, number, length, readings, both inputs, and the words of a result.
+static void put_call(uint32_t stored, const Call *call) {
     Outcome outcome = call_run(call);
-    put_word(call->is_fit);
+    put_word(stored);
     put_word(call->mode);
     put_word(call->room);
     put_word(call->work);
-    put_counted(&call->first);
-    put_counted(&call->second);
     put_word(outcome.number);
     put_word(outcome.length);
     put_word(outcome.readings);
-    put_words(&outcome.result);
+    put_counted(&call->first);
+    put_counted(&call->second);
+    put_counted(&outcome.result);
     words_free(&outcome.result);
 }
 
 static void put_random_call(Random *random) {
     Call call = random_call(random);
-    put_call(&call);
+    put_call(call.is_fit ? STORED_FIT : STORED_UNIFY, &call);
     call_free(&call);
 }
 
@@ -53,18 +56,14 @@ static bool too_long_to_store(Random *random, const Call *call) {
            (call->first.count + call->second.count > LONGEST_INPUT && random_one_in(random, 2));
 }
 
-// A fit test: both inputs, of at most 2,048 words each, and the number.
+// A fit test of inputs of at most 2,048 words each.
 static void put_random_fit(Random *random) {
     Call call = random_fit(random);
     while (too_long_to_store(random, &call)) {
         call_free(&call);
         call = random_fit(random);
     }
-    Outcome outcome = call_run(&call);
-    put_counted(&call.first);
-    put_counted(&call.second);
-    put_word(outcome.number);
-    words_free(&outcome.result);
+    put_call(STORED_FIT, &call);
     call_free(&call);
 }
 
@@ -83,7 +82,7 @@ static void put_random_join(Random *random) {
     Call call = {.mode = MODE_JOIN, .room = 2048, .work = WORKING_NEEDED};
     call.first = random_graph_words(random, vocabulary, most_nodes);
     call.second = random_graph_words(random, vocabulary, most_nodes);
-    put_call(&call);
+    put_call(STORED_JOIN, &call);
     call_free(&call);
 }
 
@@ -132,7 +131,7 @@ static void put_random_reading(Random *random) {
     words_free(&words);
 }
 
-int run_vectors(uint64_t seed, uint64_t count, const char *kind) {
+bool put_vectors(uint64_t seed, uint64_t count, const char *kind) {
     Random random = {seed};
     void (*put)(Random *) = strcmp(kind, "calls") == 0     ? put_random_call
                             : strcmp(kind, "fits") == 0    ? put_random_fit
@@ -140,12 +139,14 @@ int run_vectors(uint64_t seed, uint64_t count, const char *kind) {
                             : strcmp(kind, "joins") == 0   ? put_random_join
                                                            : NULL;
     if (put == NULL) {
-        fputs("second: the kind is calls, fits, reading or joins\n", stderr);
-        return 2;
+        return false;
     }
     for (uint64_t index = 0; index < count; index++) {
         put(&random);
     }
+    return true;
+}
+
+void end_vectors(void) {
     put_word(UINT32_MAX);
-    return 0;
 }

@@ -1,324 +1,146 @@
-// Answers stored calls of the second program and compares each outcome, and every word of both areas, with what is stored.
-// Standard input has the vectors of its kind `calls`: 0 for unification or 1 for the fit test, mode, words of the result area, words of the
-// working area, each input's length and words, number, length, readings, and after number 0 the result's words; 4,294,967,295 ends them.
+// Runs stored vectors of the second program and compares what comes of each with what is stored: number, length, readings and every word of
+// both areas of a unification, the number of a fit test, the number and the words of a join.
+// Standard input has for each vector: 0 for a unification, 1 for a fit test or 2 for a join, mode, words of the result area, words of the
+// working area, number, length, readings, and the words of both inputs and of the result, each after their length; 4,294,967,295 ends them.
+mod areas;
+mod joining;
+
+use crate::areas::prepare;
+use crate::areas::result_right;
+use crate::areas::space;
+use crate::areas::work_space;
+use crate::areas::working_right;
+use crate::joining::joined;
 use unify::Row;
 use unify::told;
 use unify::unify;
+use vectors::Run;
 use vectors::Word;
 ghost use Prim.Native.Nat.{_≤_};
-ghost use lib.ListN.{length};
 
-// An input or a result has at most so many words here.
-const LONGEST: u32 = 4096;
-
-// A result area has at most so many.
+// A result area has at most so many words here.
 const MOST_ROOM: usize = 4096;
 
 // And a working area.
 const MOST_WORK: usize = 20000;
 
-// What is stored of a call, but for its words.
-struct Head {
-    op: u32,
-    mode: u32,
-    room: usize,
-    work: usize,
-}
+// How many kinds of vectors there are; another word ends them.
+const KINDS: u32 = 3;
 
-// And of its outcome.
-struct Stored {
+// A kind has so many counts: a count for each number, 0 to 9, that came out as stored, and one of what came out otherwise.
+const COUNTS: usize = 11;
+
+// What is stored of a vector, but for its words.
+struct Vector {
+    kind: u32,
+    mode: u32,
+    room: u32,
+    work: u32,
     number: u32,
     length: u32,
     readings: u32,
 }
 
-// What came of one vector: its number, as stored, or something else; or no vector.
-enum Seen {
-    Alike(u32),
-    Otherwise,
-    End,
-}
-
-fn space() -> [u32; 4096]
-    ensures { λ r. ⌜ 4096 ≤ length r ⌝ }
-{
-    [0; 4096]
-}
-
-fn work_space() -> [u32; 20000]
-    ensures { λ r. ⌜ 20000 ≤ length r ⌝ }
-{
-    [0; 20000]
-}
-
-// What stands at i before a call: never 0.
-fn before(i: usize) -> u32 {
-    (i % 4093) as u32 * 1048573 + 1
-}
-
-// Fills an area with what stands there before a call.
-fn prepare(w: &mut [u32]) {
-    let mut i: usize = 0;
-    while i < w.len() {
-        w[i] = before(i);
-        i += 1;
-    }
-}
-
-// Whether the words from `from` on are as they were before the call.
-fn untouched(w: &[u32], from: usize) -> bool {
-    let mut i = from;
-    while i < w.len() {
-        if w[i] != before(i) {
-            return false;
-        }
-        i += 1;
-    }
-    true
-}
-
-// Whether the first `to` words are there and zero.
-fn zeroed(w: &[u32], to: usize) -> bool {
-    if w.len() < to {
+// Whether a row has the stored number, length and readings.
+fn row_right(row: Row, v: Vector) -> bool {
+    if row.number != v.number {
         return false;
     }
-    let mut i: usize = 0;
-    while i < to {
-        if w[i] != 0 {
-            return false;
-        }
-        i += 1;
-    }
-    true
-}
-
-// Whether a starts with b.
-fn starts(a: &[u32], b: &[u32]) -> bool {
-    if a.len() < b.len() {
+    if row.length != v.length as usize {
         return false;
     }
-    let mut i: usize = 0;
-    while i < b.len() {
-        if a[i] != b[i] {
-            return false;
-        }
-        i += 1;
-    }
-    true
+    row.readings == v.readings
 }
 
-// Whether the working area is as document 01 fixes it after this number.
-fn working_right(number: u32, w: &[u32]) -> bool {
-    if 0 < number {
-        if number < 6 {
-            return untouched(w, 0);
-        }
-    }
-    if zeroed(w, 16384) {
-        return untouched(w, 16384);
-    }
-    false
-}
-
-// Whether the result area has the words of a result and is else as it was.
-fn result_right(area: &[u32], words: &[u32]) -> bool {
-    if starts(area, words) {
-        return untouched(area, words.len());
-    }
-    false
-}
-
-// Compares number, length, readings and both areas after a call with what is stored.
-fn agrees(row: Row, stored: Stored, result: &[u32], working: &[u32], words: &[u32]) -> Seen {
-    if row.number != stored.number {
-        return Seen::Otherwise;
-    }
-    if row.length != stored.length as usize {
-        return Seen::Otherwise;
-    }
-    if row.readings != stored.readings {
-        return Seen::Otherwise;
-    }
-    if result_right(result, words) {
-        if working_right(row.number, working) {
-            return Seen::Alike(row.number);
-        }
-    }
-    Seen::Otherwise
-}
-
-// Unifies in these areas, and compares the outcome with what is stored.
+// Unifies in these areas: whether all comes out as stored.
 fn unified(
-    mode: u32,
+    v: Vector,
     a: &[u32],
     b: &[u32],
+    words: &[u32],
     result: &mut [u32],
     working: &mut [u32],
-    stored: Stored,
-    words: &[u32],
-) -> Seen {
+) -> bool {
     prepare(result);
     prepare(working);
-    let answer = unify(mode, a, b, result, working);
+    let answer = unify(v.mode, a, b, result, working);
     let row = told(answer);
-    agrees(row, stored, result, working, words)
+    if row_right(row, v) {
+        if result_right(result, words) {
+            return working_right(v.number, working);
+        }
+    }
+    false
 }
 
-// Tests the fit, and compares the number with the stored one.
-fn fitted(a: &[u32], b: &[u32], number: u32) -> Seen {
-    let verdict = fit::fit(a, b);
-    let found = fit::number(verdict);
-    if found == number {
-        return Seen::Alike(number);
+// Unifies in areas of the stored lengths.
+fn lent(v: Vector, a: &[u32], b: &[u32], words: &[u32]) -> bool {
+    let room = v.room as usize;
+    let work = v.work as usize;
+    if MOST_ROOM < room {
+        return false;
     }
-    Seen::Otherwise
-}
-
-// Runs one call whose stored words are `words`.
-fn compared(head: Head, a: &[u32], b: &[u32], stored: Stored, words: &[u32]) -> Seen {
-    if head.op == 1 {
-        return fitted(a, b, stored.number);
+    if MOST_WORK < work {
+        return false;
     }
-    if MOST_ROOM < head.room {
-        return Seen::Otherwise;
-    }
-    if MOST_WORK < head.work {
-        return Seen::Otherwise;
-    }
-    let room = head.room;
-    let work = head.work;
     let mut here = space();
     let result: &mut [u32] = &mut here;
     let mut there = work_space();
     let working: &mut [u32] = &mut there;
-    unified(
-        head.mode,
-        a,
-        b,
-        &mut result[..room],
-        &mut working[..work],
-        stored,
-        words,
-    )
+    unified(v, a, b, words, &mut result[..room], &mut working[..work])
 }
 
-// The rest of a vector whose stored words fill `words`.
-fn rest(head: Head, a: &[u32], b: &[u32], stored: Stored, words: &mut [u32]) -> Seen {
-    let filled = vectors::fill(0, words);
-    if !filled {
-        return Seen::Otherwise;
-    }
-    compared(head, a, b, stored, words)
+// Tests the fit: whether its number is the stored one.
+fn fitted(a: &[u32], b: &[u32], number: u32) -> bool {
+    let verdict = fit::fit(a, b);
+    fit::number(verdict) == number
 }
 
-// How many words are stored of a result: only number 0 has them.
-fn stored_words(number: u32, length: u32) -> u32 {
-    if number == 0 {
-        return length;
+// Whether what comes of a vector is what is stored.
+fn as_stored(v: Vector, a: &[u32], b: &[u32], words: &[u32]) -> bool {
+    let kind = v.kind;
+    match kind {
+        0 => lent(v, a, b, words),
+        1 => fitted(a, b, v.number),
+        _ => joined(a, b, v.number, words),
     }
-    0
 }
 
-// The rest of a vector from its number on.
-fn outcome(head: Head, a: &[u32], b: &[u32]) -> Seen {
-    let first = vectors::next(0);
-    let Word::Is(number) = first else {
-        return Seen::Otherwise;
+// Reads the words of a vector into these: whether they are there and it comes out as stored.
+fn read_in(v: Vector, a: &mut [u32], b: &mut [u32], words: &mut [u32]) -> bool {
+    let first = vectors::counted(0, a);
+    let Run::Of(n) = first else {
+        return false;
     };
-    let second = vectors::next(0);
-    let Word::Is(length) = second else {
-        return Seen::Otherwise;
+    let second = vectors::counted(0, b);
+    let Run::Of(m) = second else {
+        return false;
     };
-    let third = vectors::next(0);
-    let Word::Is(readings) = third else {
-        return Seen::Otherwise;
+    let third = vectors::counted(0, words);
+    let Run::Of(k) = third else {
+        return false;
     };
-    let len = stored_words(number, length);
-    if LONGEST < len {
-        return Seen::Otherwise;
-    }
-    let n = len as usize;
-    let mut there = space();
-    let words: &mut [u32] = &mut there;
-    let stored = Stored {
-        number,
-        length,
-        readings,
-    };
-    rest(head, a, b, stored, &mut words[..n])
+    as_stored(v, &a[..n], &b[..m], &words[..k])
 }
 
-// The rest of a vector whose second input fills b.
-fn second(head: Head, a: &[u32], b: &mut [u32]) -> Seen {
-    let filled = vectors::fill(0, b);
-    if !filled {
-        return Seen::Otherwise;
-    }
-    outcome(head, a, b)
+// Whether the words of a vector are there and it comes out as stored.
+fn read(v: Vector) -> bool {
+    let mut a = space();
+    let mut b = space();
+    let mut words = space();
+    read_in(v, &mut a, &mut b, &mut words)
 }
 
-// The rest of a vector whose first input fills a.
-fn first(head: Head, a: &mut [u32]) -> Seen {
-    let filled = vectors::fill(0, a);
-    if !filled {
-        return Seen::Otherwise;
+// Which of the counts of its kind a vector belongs to.
+fn column(v: Vector) -> usize
+    ensures { λ r. ⌜ r ≤ 10 ⌝ }
+{
+    if read(v) {
+        if v.number < 10 {
+            return v.number as usize;
+        }
     }
-    let word = vectors::next(0);
-    let Word::Is(len) = word else {
-        return Seen::Otherwise;
-    };
-    if LONGEST < len {
-        return Seen::Otherwise;
-    }
-    let n = len as usize;
-    let mut there = space();
-    let words: &mut [u32] = &mut there;
-    second(head, a, &mut words[..n])
-}
-
-// The rest of a vector from its mode on.
-fn call(op: u32) -> Seen {
-    let w1 = vectors::next(0);
-    let Word::Is(mode) = w1 else {
-        return Seen::Otherwise;
-    };
-    let w2 = vectors::next(0);
-    let Word::Is(room) = w2 else {
-        return Seen::Otherwise;
-    };
-    let w3 = vectors::next(0);
-    let Word::Is(work) = w3 else {
-        return Seen::Otherwise;
-    };
-    let w4 = vectors::next(0);
-    let Word::Is(len) = w4 else {
-        return Seen::Otherwise;
-    };
-    if LONGEST < len {
-        return Seen::Otherwise;
-    }
-    let n = len as usize;
-    let mut there = space();
-    let words: &mut [u32] = &mut there;
-    let head = Head {
-        op,
-        mode,
-        room: room as usize,
-        work: work as usize,
-    };
-    first(head, &mut words[..n])
-}
-
-// The next vector.
-fn one() -> Seen {
-    let word = vectors::next(0);
-    let Word::Is(op) = word else {
-        return Seen::Otherwise;
-    };
-    if op == 4294967295 {
-        return Seen::End;
-    }
-    call(op)
+    10
 }
 
 // Counts one more at i.
@@ -331,20 +153,28 @@ fn count(counts: &mut [u32], i: usize) {
     }
 }
 
-// Runs the next vector: how many came out as stored is counted by number, and what came out otherwise after these. Whether there was one.
+// Runs the next vector and counts what came of it. Whether there was one.
 fn turn(counts: &mut [u32]) -> bool {
-    let seen = one();
-    match seen {
-        Seen::Alike(number) => {
-            count(counts, number as usize);
-            true
-        }
-        Seen::Otherwise => {
-            count(counts, 10);
-            true
-        }
-        Seen::End => false,
+    let word = vectors::next(0);
+    let Word::Is(kind) = word else {
+        return false;
+    };
+    if KINDS <= kind {
+        return false;
     }
+    let mut row: [u32; 6] = [0; 6];
+    let filled = vectors::fill(0, &mut row);
+    let v = Vector {
+        kind,
+        mode: row[0],
+        room: row[1],
+        work: row[2],
+        number: row[3],
+        length: row[4],
+        readings: row[5],
+    };
+    count(counts, kind as usize * COUNTS + column(v));
+    filled
 }
 
 // Runs all vectors, at most a million.
@@ -359,25 +189,37 @@ fn all(counts: &mut [u32]) {
     }
 }
 
-fn say(label: &[u8], n: u32) {
+fn say_count(label: &[u8], n: u32) {
     io::write_all(1, label);
     io::print_decimal(1, n as u64);
+}
+
+// Says the counts of a kind, which stand from `from` on.
+fn say(label: &[u8], counts: &[u32; 33], from: usize)
+    requires { ⌜ from ≤ 22 ⌝ }
+{
+    io::write_all(1, label);
+    let mut i: usize = 0;
+    while i < 10 {
+        say_count(b" ", counts[from + i]);
+        i += 1;
+    }
+    say_count(b", otherwise: ", counts[from + 10]);
     io::write_all(1, b"\n");
 }
 
-fn say_number(number: u32, n: u32) {
-    io::write_all(1, b"number ");
-    io::print_decimal(1, number as u64);
-    say(b", as stored: ", n);
-}
-
 fn main() {
-    let mut counts: [u32; 11] = [0; 11];
+    let mut counts: [u32; 33] = [0; 33];
     all(&mut counts);
-    let mut i: u32 = 0;
-    while i < 10 {
-        say_number(i, counts[i as usize]);
-        i += 1;
-    }
-    say(b"came out otherwise: ", counts[10]);
+    say(b"unified, as stored with numbers 0 to 9:", &counts, 0);
+    say(
+        b"tested for fit, as stored with numbers 0 to 9:",
+        &counts,
+        COUNTS,
+    );
+    say(
+        b"joined, as stored with numbers 0 to 9:",
+        &counts,
+        COUNTS * 2,
+    );
 }

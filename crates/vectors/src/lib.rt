@@ -1,11 +1,19 @@
 // Stored vectors: runs of little-endian 32-bit words on a file descriptor.
-// No contract can say which bytes a read brings; what is proved is that each function is safe and ends.
-ghost use Prim.Native.Nat.{_<_};
+// No contract can say which bytes a read brings; what is proved is that each function is safe and ends, and that what is read had room.
+ghost use mathlib.Core.Path.{_≡_};
+ghost use Prim.Native.Nat.{ℕ, _≤_, _<_};
+ghost use lib.ListN.{length};
 
 // A word of the run, or the end of it.
 pub enum Word {
     Is(u32),
     End,
+}
+
+// A run of so many words in the front of what is lent; or there is none, or it has no room.
+pub enum Run {
+    Of(usize),
+    Broken,
 }
 
 fn wide(x: u8) -> u32
@@ -54,15 +62,41 @@ fn decode(bytes: &[u8], dst: &mut [u32]) {
     }
 }
 
+// Room for the bytes of 4,096 words.
+fn byte_space() -> [u8; 16384]
+    ensures { λ r. ⌜ 16384 ≤ length r ⌝ }
+{
+    [0; 16384]
+}
+
 // Fills dst, which has at most 4,096 words, with the next words: false where the run ends before or dst is longer.
 pub fn fill(fd: i32, dst: &mut [u32]) -> bool {
     if 4096 < dst.len() {
         return false;
     }
     let n = dst.len() * 4;
-    let mut space = io::large_buffer();
+    let mut space = byte_space();
     let bytes: &mut [u8] = &mut space;
     let got = io::read_full(fd, &mut bytes[..n]);
     decode(bytes, dst);
     got == n
+}
+
+// Fills the front of dst with the next words, as many as the word before them says.
+pub fn counted(fd: i32, dst: &mut [u32]) -> Run
+    ensures { λ r. ⌜ ((n : ℕ) → r ≡ Run.Of n → n ≤ length (now (dst .entry))) ⌝ }
+{
+    let first = next(fd);
+    let Word::Is(len) = first else {
+        return Run::Broken;
+    };
+    let n = len as usize;
+    if dst.len() < n {
+        return Run::Broken;
+    }
+    let filled = fill(fd, &mut dst[..n]);
+    if !filled {
+        return Run::Broken;
+    }
+    Run::Of(n)
 }

@@ -8,8 +8,6 @@ use lib.Seq.{length-take-le}
 use borrow.Author.Needs.{needs}
 use Rattle.vectors.proofs.fill.Statement.{statement}
 use Rattle.vectors.proofs.fill.Tie as tie
-use Rattle.io.proofs.large_buffer.Reads as large-buffer-reads
-use Rattle.io.proofs.read_full.Reads as read-full-reads
 
 returns : tie.Need-returns
 returns c = search needs
@@ -17,8 +15,8 @@ returns c = search needs
 mul-n : tie.Need-mul-n
 mul-n c = search needs
 
-large-buffer-requires : tie.Need-large-buffer-requires
-large-buffer-requires c κs = search needs
+byte-space-requires : tie.Need-byte-space-requires
+byte-space-requires c κs = search needs
 
 slice-aggregate-bytes : tie.Need-slice-aggregate-bytes
 slice-aggregate-bytes c = search needs
@@ -29,8 +27,8 @@ slice-relend-prefix-read-full c = search needs
 slice-aggregate-read-full : tie.Need-slice-aggregate-read-full
 slice-aggregate-read-full c =
     let d = c .before .before .before .before .before .args .dst .now in
-    let b = c .before .before .large-buffer .result in
-    sym (length-take-le (length d * 4) b (omega (arith, c .before .before .large-buffer .ensures)))
+    let b = c .before .before .byte-space .result in
+    sym (length-take-le (length d * 4) b (omega (arith, c .before .before .byte-space .ensures)))
 
 read-full-requires : tie.Need-read-full-requires
 read-full-requires c κs = search needs
@@ -50,7 +48,7 @@ fill-spec =
     (tie.spec
     returns
     mul-n
-    large-buffer-requires
+    byte-space-requires
     slice-aggregate-bytes
     slice-relend-prefix-read-full
     slice-aggregate-read-full
