@@ -2,13 +2,14 @@
 -- Assumes nothing: these are definitions.
 use mathlib.Core.Bool.{true, false, _||_}
 use mathlib.Core.Option.{Option, none, some}
-use mathlib.Core.List.{List, []}
+use mathlib.Core.List.{[]}
 use Prim.Native.Nat.{ℕ, zero, suc}
 use lib.ListN.{length}
 use lib.Dec.{ltb}
 use Rattle.descriptions.specs.Limits.{choice-limit, input-limit, working-size}
 use Rattle.descriptions.specs.Descr.{Desc, number}
 use Rattle.descriptions.specs.Modes.{full, joined, quick}
+use Rattle.descriptions.specs.Call.{Call}
 use Rattle.descriptions.specs.Answer.{Answer, consistent, refuse}
 use Rattle.descriptions.specs.Joining.{Joining}
 use Rattle.descriptions.specs.Layout.{Layout}
@@ -37,21 +38,21 @@ module _ {Graph : Type 0} (J : Joining Graph) (𝓕 : Layout Graph) where
   in-mode (suc (suc m)) d e room = complete room d e
 
   -- "1 | mode above 2", "2 | working area under 16,384 words", "3 | either input over 1,024 words", "4 | first input malformed", "5 | second input malformed"; "Checks run in the order of the table"
-  unfoldable pub unified : ℕ → List ℕ → List ℕ → ℕ → ℕ → Answer
-  unified mode a b room work =
-      elim (ltb 2 mode) [
+  unfoldable pub unified : Call → ℕ → ℕ → Answer
+  unified c room work =
+      elim (ltb 2 (c .mode)) [
         | true ↦ refuse 1
         | false ↦
             elim (ltb work working-size) [
               | true ↦ refuse 2
               | false ↦
-                  elim (ltb input-limit (length a) || ltb input-limit (length b)) [
+                  elim (ltb input-limit (length (c .first)) || ltb input-limit (length (c .second))) [
                     | true ↦ refuse 3
                     | false ↦
-                        elim (decode a) [
+                        elim (decode (c .first)) [
                           | none ↦ refuse 4
                           | some d ↦
-                              elim (decode b) [ none ↦ refuse 5 | some e ↦ in-mode mode d e room ]
+                              elim (decode (c .second)) [ none ↦ refuse 5 | some e ↦ in-mode (c .mode) d e room ]
                         ]
                   ]
             ]
