@@ -10,7 +10,7 @@ use borrow.Author.Tests.{lt-ltb, le-ltb}
 use Rattle.descriptions.specs.Limits.{working-size}
 use Rattle.descriptions.specs.Call.{Call}
 use Rattle.descriptions.specs.Answer.{Answer}
-use Rattle.descriptions.specs.Outcome.{Areas, Left, Outcome, wiped, worked}
+use Rattle.descriptions.specs.Outcome.{Areas, Outcome, Row, wiped, worked}
 use Rattle.descriptions.specs.Unified.{unified}
 use Rattle.descriptions.specs.Rules.{Given, done, eight, five, four, one, seven, six, six-after, three, two}
 use Rattle.descriptions.proofs.Table.{unified-given}
@@ -86,21 +86,10 @@ module _ {Graph : Type 0} {J : Joining Graph} {𝓛 : Laws J} {𝓕 : Layout Gra
     abbrev told : Answer
     told = unified J 𝓕 C room work
 
-    -- what is left after the call
-    abbrev comes : Left
-    comes = record {
-      number = told .number;
-      extent = told .extent;
-      readings = told .readings;
-      after = record {
-        result = told .result ++ drop (length (told .result)) (before .result);
-        working = worked (told .number) (before .working);
-      };
-    }
-
-    pub outcome : (r : Left) × Outcome J 𝓕 C before r
+    pub outcome : (r : Row) × (after : Areas) × Outcome J 𝓕 C before r after
     outcome = (
-      comes,
+      record { number = told .number; extent = told .extent; readings = told .readings },
+      record { result = told .result ++ drop (length (told .result)) (before .result); working = worked (told .number) (before .working) },
       record {
         answer = told;
         given = unified-given 𝓡 C room work;
@@ -112,12 +101,9 @@ module _ {Graph : Type 0} {J : Joining Graph} {𝓛 : Laws J} {𝓕 : Layout Gra
       },
     )
 
-    module _ (r : Left) (o : Outcome J 𝓕 C before r) where
+    module _ (r : Row) (after : Areas) (o : Outcome J 𝓕 C before r after) where
       abbrev n : ℕ
       n = r .number
-
-      abbrev after : Areas
-      after = r .after
 
       abbrev s : Answer
       s = o .answer

@@ -62,7 +62,10 @@ module _ {Graph : Type 0} (𝓕 : Layout Graph) where
         u : List ℕ → List ℕ → Call
         u a b = record { mode = s .mode; first = a; second = b }
 
-        go : (t : Bool) → elim t [ true ↦ u (words d) (words (s .item)) | false ↦ u (words (s .item)) (words d) ]
+        i : List ℕ
+        i = words (s .item)
+
+        go : (t : Bool) → u (elim t [ true ↦ words d | false ↦ i ]) (elim t [ true ↦ i | false ↦ words d ])
             ≡ u (words (elim t [ true ↦ d | false ↦ s .item ])) (words (elim t [ true ↦ s .item | false ↦ d ]))
         go true = refl
         go false = refl

@@ -14,8 +14,8 @@ use Rattle.descriptions.specs.Descr.{Desc}
 use Rattle.descriptions.specs.Satisfaction.{Sat}
 use Rattle.descriptions.specs.Call.{Call}
 use Rattle.descriptions.specs.Answer.{Answer}
-use Rattle.descriptions.specs.Outcome.{Areas, Left, Outcome}
-use Rattle.descriptions.specs.Programs.{Program, all-small, are-words, in-words, answer-of, blank, Meets, sized}
+use Rattle.descriptions.specs.Outcome.{Areas, Outcome}
+use Rattle.descriptions.specs.Programs.{Left, Program, all-small, are-words, in-words, answer-of, blank, Meets, sized}
 use Rattle.descriptions.specs.Limits.{word-limit, length-limit}
 use Rattle.descriptions.specs.Unified.{unified}
 use Rattle.descriptions.specs.Rules.{Given}
@@ -57,20 +57,25 @@ module _ {Graph : Type 0} (J : Joining Graph) (𝓕 : Layout Graph) where
   ByTable U = (C : Call) (room work : ℕ) → Given J 𝓕 C room work (U C room work)
 
   -- what a call answers is what its contract says
-  left-answer : (C : Call) (before : Areas) (r : Left) → (o : Outcome J 𝓕 C before r) → o .answer ≡ answer-of r
-  left-answer C before r o = go (eqb (r .number) 0) refl (given-writes J 𝓕 C _ _ (o .answer) (o .given))
+  left-answer : (C : Call) (before : Areas) (r : Left) → (o : Outcome J 𝓕 C before (r .row) (r .after)) → o .answer ≡ answer-of r
+  left-answer C before r o = go (eqb (r .row .number) 0) refl (given-writes J 𝓕 C _ _ (o .answer) (o .given))
     where
       whole : List ℕ → Answer
-      whole ws = record { number = r .number; extent = r .extent; readings = r .readings; result = ws }
+      whole ws = record { number = r .row .number; extent = r .row .extent; readings = r .row .readings; result = ws }
 
       parts : (ws : List ℕ) → o .answer .result ≡ ws → o .answer ≡ whole ws
       parts ws e = rw (o .the-number, o .the-extent, o .the-readings, sym e) refl
 
-      go : (t : Bool) → eqb (r .number) 0 ≡ t → Writes (length (before .result)) (o .answer) → o .answer ≡ whole (elim t [ true ↦ take (r .extent) (r .after .result) | false ↦ [] ])
-      go true z (nothing n e) = absurd (n (sym (o .the-number) ∙ eqb→eq (r .number) 0 (subst T (sym z) tt)))
-      go true z (result n e l) = parts (take (r .extent) (r .after .result)) (sym (ap (λ (k : ℕ). take k (r .after .result)) (o .the-extent ∙ e) ∙ ap (take (length (o .answer .result))) (o .the-result) ∙ take-front (o .answer .result) _))
+      go : (t : Bool) → eqb (r .row .number) 0 ≡ t → Writes (length (before .result)) (o .answer) →
+          o .answer ≡ whole (elim t [ true ↦ take (r .row .extent) (r .after .result) | false ↦ [] ])
+      go true z (nothing n e) = absurd (n (sym (o .the-number) ∙ eqb→eq (r .row .number) 0 (subst T (sym z) tt)))
+      go true z (result n e l) =
+          let front = ap (λ (k : ℕ). take k (r .after .result)) (o .the-extent ∙ e) ∙ ap (take (length (o .answer .result))) (o .the-result) in
+          parts (take (r .row .extent) (r .after .result)) (sym (front ∙ take-front (o .answer .result) _))
       go false z (nothing n e) = parts [] e
-      go false z (result n e l) = let y : eqb (r .number) 0 ≡ true = eqb-yes (r .number) 0 (o .the-number ∙ n) in let x : _≡_ {A = ℕ} 0 1 = cc in absurd (omega arith)
+      go false z (result n e l) =
+          let y : eqb (r .row .number) 0 ≡ true = eqb-yes (r .row .number) 0 (o .the-number ∙ n) in
+          let x : _≡_ {A = ℕ} 0 1 = cc in absurd (omega arith)
 
 module _ {Graph : Type 0} {J : Joining Graph} {𝓛 : Laws J} {𝓜 : Structures Graph} (𝓢 : Sense 𝓛 𝓜) {𝓕 : Layout Graph} (𝓡 : Reads 𝓛 𝓕) where
   open Structures 𝓜 using (Structure)
@@ -158,14 +163,14 @@ module _ {Graph : Type 0} {J : Joining Graph} {𝓛 : Laws J} {𝓜 : Structures
 
     -- "one that reports 0 and writes nothing": after 0 an area that was left as it was held the result's words before
     pub program-writes : (C : Call) (before : Areas) → in-words C before ≡ true →
-        P C before .number ≡ 0 → P C before .after .result ≡ before .result →
-        unified J 𝓕 C (length (before .result)) (length (before .working)) .result ≡ take (P C before .extent) (before .result)
+        P C before .row .number ≡ 0 → P C before .after .result ≡ before .result →
+        unified J 𝓕 C (length (before .result)) (length (before .working)) .result ≡ take (P C before .row .extent) (before .result)
     program-writes C before w z u =
         let e = given-unified 𝓡 C _ _ (answer-of (P C before)) (program-given C before w) in
         ap (λ (r : Answer). r .result) e
-        ∙ ap (λ (t : Bool). elim t [ true ↦ take (P C before .extent) (P C before .after .result) | false ↦ [] ])
-        (eqb-yes (P C before .number) 0 z)
-        ∙ ap (take (P C before .extent)) u
+        ∙ ap (λ (t : Bool). elim t [ true ↦ take (P C before .row .extent) (P C before .after .result) | false ↦ [] ])
+        (eqb-yes (P C before .row .number) 0 z)
+        ∙ ap (take (P C before .row .extent)) u
 
   -- a program whose readings differ from the table's somewhere is not by the table
   pub other-readings : (U : Unifier) (C : Call) (room work : ℕ) → (U C room work .readings ≡ unified J 𝓕 C room work .readings → ⊥) →

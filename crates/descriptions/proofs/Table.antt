@@ -15,7 +15,7 @@ use Rattle.descriptions.specs.Descr.{Desc, agree, agreeing, choices, num
 use Rattle.descriptions.specs.Modes.{fold, full, joined, prune, quick, some-agree}
 use Rattle.descriptions.specs.Call.{Call}
 use Rattle.descriptions.specs.Answer.{Answer, consistent, refuse}
-use Rattle.descriptions.specs.Outcome.{Areas, Left, Outcome, worked}
+use Rattle.descriptions.specs.Outcome.{Areas, Outcome, Row, worked}
 use Rattle.descriptions.specs.Unified.{complete, deliver, in-mode, unified}
 use Rattle.descriptions.specs.Rules.{Accepted, Clashes, Given, TooMany, done, eight, five, four, mode-readings, mode-result, one, seven, six, six-after, three, two}
 use Rattle.descriptions.proofs.Tests.{Tells, fails, holds, none-is, tells-lt}
@@ -355,10 +355,11 @@ module _ {Graph : Type 0} {J : Joining Graph} {𝓛 : Laws J} {𝓕 : Layout Gra
   one-answer C room work r s g h = sym (given-unified C room work r g) ∙ given-unified C room work s h
 
   -- two outcomes allowed for one input are equal
-  pub one-outcome : (C : Call) (before : Areas) (r r′ : Left) → Outcome J 𝓕 C before r → Outcome J 𝓕 C before r′ →
+  pub one-outcome : (C : Call) (before : Areas) (r r′ : Row) (after after′ : Areas) →
+      Outcome J 𝓕 C before r after → Outcome J 𝓕 C before r′ after′ →
       (r .number ≡ r′ .number) × (r .extent ≡ r′ .extent) × (r .readings ≡ r′ .readings)
-      × (r .after .result ≡ r′ .after .result) × (r .after .working ≡ r′ .after .working)
-  one-outcome C before r r′ p q =
+      × (after .result ≡ after′ .result) × (after .working ≡ after′ .working)
+  one-outcome C before r r′ after after′ p q =
       let s : p .answer ≡ q .answer = one-answer C _ _ (p .answer) (q .answer) (p .given) (q .given) in
       let e : r .number ≡ r′ .number = p .the-number ∙ ap (λ (z : Answer). z .number) s ∙ sym (q .the-number) in (
         e,
@@ -369,6 +370,6 @@ module _ {Graph : Type 0} {J : Joining Graph} {𝓛 : Laws J} {𝓕 : Layout Gra
       )
 
   -- and it is `unified`'s
-  pub outcome-answer : (C : Call) (before : Areas) (r : Left) (p : Outcome J 𝓕 C before r) →
+  pub outcome-answer : (C : Call) (before : Areas) (r : Row) (after : Areas) (p : Outcome J 𝓕 C before r after) →
       unified J 𝓕 C (length (before .result)) (length (before .working)) ≡ p .answer
-  outcome-answer C before r p = given-unified C (length (before .result)) (length (before .working)) (p .answer) (p .given)
+  outcome-answer C before r after p = given-unified C (length (before .result)) (length (before .working)) (p .answer) (p .given)

@@ -55,10 +55,8 @@ module _ {Graph : Type 0} (𝓕 : Layout Graph) where
 
   -- the call that a step makes with the words in hand
   abbrev pub next-call : List ℕ → Step → Call
-  next-call ws s = elim (s .in-hand-first) [
-    | true ↦ record { mode = s .mode; first = ws; second = words (s .item) }
-    | false ↦ record { mode = s .mode; first = words (s .item); second = ws }
-  ]
+  next-call ws s = let b = words (s .item) in let t = s .in-hand-first in
+      record { mode = s .mode; first = elim t [ true ↦ ws | false ↦ b ]; second = elim t [ true ↦ b | false ↦ ws ] }
 
   abbrev pub call : Unifier → List ℕ → Step → Answer
   call U ws s = U (next-call ws s) (s .room) (s .work)

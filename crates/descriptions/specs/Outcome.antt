@@ -18,12 +18,11 @@ pub record Areas : Type 0 where
   pub result : List ℕ
   pub working : List ℕ
 
--- "It returns a number, a length and a count of readings": what comes back from a call, and the areas after it
-pub record Left : Type 0 where
+-- "It returns a number, a length and a count of readings"
+pub record Row : Type 0 where
   pub number : ℕ
   pub extent : ℕ
   pub readings : ℕ
-  pub after : Areas
 
 -- the first n words zero
 unfoldable pub wiped : ℕ → List ℕ → List ℕ
@@ -38,12 +37,12 @@ module _ {Graph : Type 0} (J : Joining Graph) (𝓕 : Layout Graph) where
   open Layout 𝓕 using (words)
 
   -- number, length, readings and every word of both areas after a call
-  pub record Outcome (c : Call) (before : Areas) (r : Left) : Type 0 where
+  pub record Outcome (c : Call) (before : Areas) (r : Row) (after : Areas) : Type 0 where
     pub answer : Answer
     pub given : Given J 𝓕 c (length (before .result)) (length (before .working)) answer
     pub the-number : r .number ≡ answer .number
     pub the-extent : r .extent ≡ answer .extent
     pub the-readings : r .readings ≡ answer .readings
     -- "only number 0 writes, the first so many words; the rest stays"
-    pub the-result : r .after .result ≡ answer .result ++ drop (length (answer .result)) (before .result)
-    pub the-working : r .after .working ≡ worked (r .number) (before .working)
+    pub the-result : after .result ≡ answer .result ++ drop (length (answer .result)) (before .result)
+    pub the-working : after .working ≡ worked (r .number) (before .working)

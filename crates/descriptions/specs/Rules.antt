@@ -14,19 +14,20 @@ use Rattle.descriptions.specs.Call.{Call}
 use Rattle.descriptions.specs.Answer.{Answer, consistent, refuse}
 use Rattle.descriptions.specs.Joining.{Joining}
 
-module _ {Graph : Type 0} (𝓕 : Layout Graph) where
+module _ {Graph : Type 0} (𝓕 : Layout Graph) (c : Call) where
   open Layout 𝓕 using (words, WellFormed)
+  open Call c using (mode, first, second)
 
   -- none of the rules 1 to 5 holds, and the inputs are the words of these two
-  pub record Accepted (c : Call) (work : ℕ) (d e : Desc Graph) : Type 0 where
-    pub mode-fine : c .mode ≤ 2
+  pub record Accepted (work : ℕ) (d e : Desc Graph) : Type 0 where
+    pub mode-fine : mode ≤ 2
     pub area-fine : working-size ≤ work
-    pub first-short : length (c .first) ≤ input-limit
-    pub second-short : length (c .second) ≤ input-limit
+    pub first-short : length first ≤ input-limit
+    pub second-short : length second ≤ input-limit
     pub first-well : WellFormed d depth-limit
     pub second-well : WellFormed e depth-limit
-    pub first-is : c .first ≡ words d
-    pub second-is : c .second ≡ words e
+    pub first-is : first ≡ words d
+    pub second-is : second ≡ words e
 
 module _ {Graph : Type 0} (J : Joining Graph) where
   -- what the mode makes of two descriptions, or a clash
@@ -49,28 +50,26 @@ module _ {Graph : Type 0} (J : Joining Graph) where
   abbrev pub TooMany : ℕ → Desc Graph → Desc Graph → Type 0
   TooMany mode d e = (mode ≡ 2) × (q : Desc Graph) × (quick J d e ≡ some q) × (choice-limit < number q)
 
-module _ {Graph : Type 0} (J : Joining Graph) (𝓕 : Layout Graph) where
+module _ {Graph : Type 0} (J : Joining Graph) (𝓕 : Layout Graph) (c : Call) (room work : ℕ) where
   open Layout 𝓕 using (words)
+  open Call c using (mode, first, second)
 
   -- each answer under its rule, no earlier rule holding
-  pub data Given (c : Call) (room work : ℕ) : Answer → Type 0 where
-    one : 2 < c .mode → Given c room work (refuse 1)
-    two : c .mode ≤ 2 → work < working-size → Given c room work (refuse 2)
-    three : c .mode ≤ 2 → working-size ≤ work → (input-limit < length (c .first)) ⊎ (input-limit < length (c .second)) →
-        Given c room work (refuse 3)
-    four : c .mode ≤ 2 → working-size ≤ work → length (c .first) ≤ input-limit → length (c .second) ≤ input-limit →
-        ¬ (Image 𝓕 (c .first)) → Given c room work (refuse 4)
-    five : c .mode ≤ 2 → working-size ≤ work → length (c .first) ≤ input-limit → length (c .second) ≤ input-limit →
-        Image 𝓕 (c .first) → ¬ (Image 𝓕 (c .second)) → Given c room work (refuse 5)
-    six : (d e : Desc Graph) → Accepted 𝓕 c work d e → Clashes J (c .mode) d e → Given c room work (refuse 6)
-    seven : (d e : Desc Graph) → Accepted 𝓕 c work d e → ¬ (Clashes J (c .mode) d e) → TooMany J (c .mode) d e →
-        Given c room work (refuse 7)
+  pub data Given : Answer → Type 0 where
+    one : 2 < mode → Given (refuse 1)
+    two : mode ≤ 2 → work < working-size → Given (refuse 2)
+    three : mode ≤ 2 → working-size ≤ work → (input-limit < length first) ⊎ (input-limit < length second) → Given (refuse 3)
+    four : mode ≤ 2 → working-size ≤ work → length first ≤ input-limit → length second ≤ input-limit → ¬ (Image 𝓕 first) → Given (refuse 4)
+    five : mode ≤ 2 → working-size ≤ work → length first ≤ input-limit → length second ≤ input-limit → Image 𝓕 first →
+        ¬ (Image 𝓕 second) → Given (refuse 5)
+    six : (d e : Desc Graph) → Accepted 𝓕 c work d e → Clashes J mode d e → Given (refuse 6)
+    seven : (d e : Desc Graph) → Accepted 𝓕 c work d e → ¬ (Clashes J mode d e) → TooMany J mode d e → Given (refuse 7)
     -- "in mode 2, after check 7, also no consistent choice"
-    six-after : (d e : Desc Graph) → Accepted 𝓕 c work d e → ¬ (Clashes J (c .mode) d e) → ¬ (TooMany J (c .mode) d e) →
-        c .mode ≡ 2 → consistent J d e ≡ 0 → Given c room work (refuse 6)
-    eight : (d e r : Desc Graph) → Accepted 𝓕 c work d e → ¬ (Clashes J (c .mode) d e) → ¬ (TooMany J (c .mode) d e) →
-        mode-result J (c .mode) d e ≡ some r → room < length (words r) →
-        Given c room work (record { number = 8; extent = length (words r); readings = 0; result = [] })
-    done : (d e r : Desc Graph) → Accepted 𝓕 c work d e → ¬ (Clashes J (c .mode) d e) → ¬ (TooMany J (c .mode) d e) →
-        mode-result J (c .mode) d e ≡ some r → length (words r) ≤ room →
-        Given c room work (record { number = 0; extent = length (words r); readings = mode-readings J (c .mode) d e; result = words r })
+    six-after : (d e : Desc Graph) → Accepted 𝓕 c work d e → ¬ (Clashes J mode d e) → ¬ (TooMany J mode d e) →
+        mode ≡ 2 → consistent J d e ≡ 0 → Given (refuse 6)
+    eight : (d e r : Desc Graph) → Accepted 𝓕 c work d e → ¬ (Clashes J mode d e) → ¬ (TooMany J mode d e) →
+        mode-result J mode d e ≡ some r → room < length (words r) →
+        Given (record { number = 8; extent = length (words r); readings = 0; result = [] })
+    done : (d e r : Desc Graph) → Accepted 𝓕 c work d e → ¬ (Clashes J mode d e) → ¬ (TooMany J mode d e) →
+        mode-result J mode d e ≡ some r → length (words r) ≤ room →
+        Given (record { number = 0; extent = length (words r); readings = mode-readings J mode d e; result = words r })

@@ -26,8 +26,6 @@ module _ {Graph : Type 0} (𝓕 : Layout Graph) where
   ]
 
 module _ {Graph : Type 0} (J : Joining Graph) (𝓕 : Layout Graph) where
-  open Layout 𝓕 using (decode)
-
   -- "7 | mode 2, quick step did not fail, its result has over 4,096 choices"
   unfoldable pub complete : ℕ → Desc Graph → Desc Graph → Answer
   complete room d e = elim (quick J d e) [ none ↦ refuse 6 | some q ↦ elim (ltb choice-limit (number q)) [ true ↦ refuse 7 | false ↦ deliver 𝓕 room (consistent J d e) (full J d e) ] ]
@@ -37,22 +35,27 @@ module _ {Graph : Type 0} (J : Joining Graph) (𝓕 : Layout Graph) where
   in-mode (suc zero) d e room = deliver 𝓕 room 0 (quick J d e)
   in-mode (suc (suc m)) d e room = complete room d e
 
-  -- "1 | mode above 2", "2 | working area under 16,384 words", "3 | either input over 1,024 words", "4 | first input malformed", "5 | second input malformed"; "Checks run in the order of the table"
-  unfoldable pub unified : Call → ℕ → ℕ → Answer
-  unified c room work =
-      elim (ltb 2 (c .mode)) [
+module _ {Graph : Type 0} (J : Joining Graph) (𝓕 : Layout Graph) (c : Call) (room work : ℕ) where
+  open Layout 𝓕 using (decode)
+  open Call c using (mode, first, second)
+
+  -- "1 | mode above 2", "2 | working area under 16,384 words", "3 | either input over 1,024 words", "4 | first input malformed"
+  -- "5 | second input malformed"; "Checks run in the order of the table"
+  unfoldable pub unified : Answer
+  unified =
+      elim (ltb 2 mode) [
         | true ↦ refuse 1
         | false ↦
             elim (ltb work working-size) [
               | true ↦ refuse 2
               | false ↦
-                  elim (ltb input-limit (length (c .first)) || ltb input-limit (length (c .second))) [
+                  elim (ltb input-limit (length first) || ltb input-limit (length second)) [
                     | true ↦ refuse 3
                     | false ↦
-                        elim (decode (c .first)) [
+                        elim (decode first) [
                           | none ↦ refuse 4
                           | some d ↦
-                              elim (decode (c .second)) [ none ↦ refuse 5 | some e ↦ in-mode (c .mode) d e room ]
+                              elim (decode second) [ none ↦ refuse 5 | some e ↦ in-mode J 𝓕 mode d e room ]
                         ]
                   ]
             ]

@@ -268,12 +268,16 @@ made-up-table n h (suc (suc m)) k g = absurd (omega (arith, k))
 pub leaves-result : Program
 leaves-result c before =
     let r = unified c (length (before .result)) (length (before .working)) in
-    record { number = r .number; extent = r .extent; readings = r .readings; after = record { result = before .result; working = before .working } }
+    record {
+      row = record { number = r .number; extent = r .extent; readings = r .readings };
+      after = record { result = before .result; working = before .working };
+    }
 
 -- any program that does so where other words stood before
 pub silent-areas : (P : Program) (c : Call) (before : Areas) → in-words c before ≡ true →
-    P c before .number ≡ 0 → P c before .after .result ≡ before .result →
-    (unified c (length (before .result)) (length (before .working)) .result ≡ take (P c before .extent) (before .result) → ⊥) → Meets P → ⊥
+    P c before .row .number ≡ 0 → P c before .after .result ≡ before .result →
+    (unified c (length (before .result)) (length (before .working)) .result ≡ take (P c before .row .extent) (before .result) → ⊥) →
+    Meets P → ⊥
 silent-areas P c before w z u n m = n (program-writes sense reads P m c before w z u)
 
 written-N : (unified (with-words 0 dN dN) 3 16384 .number ≡ 0) × (unified (with-words 0 dN dN) 3 16384 .result ≡ 1 ∷ 0 ∷ 0 ∷ [])
