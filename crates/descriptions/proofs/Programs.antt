@@ -70,8 +70,9 @@ module _ {Graph : Type 0} (J : Joining Graph) (𝓕 : Layout Graph) where
           o .answer ≡ whole (elim t [ true ↦ take (r .row .extent) (r .after .result) | false ↦ [] ])
       go true z (nothing n e) = absurd (n (sym (o .the-number) ∙ eqb→eq (r .row .number) 0 (subst T (sym z) tt)))
       go true z (result n e l) =
-          let front = ap (λ (k : ℕ). take k (r .after .result)) (o .the-extent ∙ e) ∙ ap (take (length (o .answer .result))) (o .the-result) in
-          parts (take (r .row .extent) (r .after .result)) (sym (front ∙ take-front (o .answer .result) _))
+          let first = ap (λ (k : ℕ). take k (r .after .result)) (o .the-extent ∙ e) in
+          let then = ap (take (length (o .answer .result))) (o .the-result) in
+          parts (take (r .row .extent) (r .after .result)) (sym (first ∙ then ∙ take-front (o .answer .result) _))
       go false z (nothing n e) = parts [] e
       go false z (result n e l) =
           let y : eqb (r .row .number) 0 ≡ true = eqb-yes (r .row .number) 0 (o .the-number ∙ n) in
