@@ -14,9 +14,7 @@ TOP = pathlib.Path(__file__).resolve().parent.parent
 LIMIT = 470
 ROOTS = [
     ("theory", "Outcome", "Outcome"),
-    ("unify", "Number", "number-of"),
-    ("unify", "Number", "extent-of"),
-    ("unify", "Number", "readings-of"),
+    ("unify", "Number", "row-of"),
     ("theory", "FitTest", "FitGiven"),
     ("fit", "Number", "number-of"),
     ("theory", "Demands", "Demand2"),

@@ -1,8 +1,8 @@
 // The entry points for C, which include/bublastyr.h declares.
-ghost use mathlib.Core.Path.{_≡_};
 ghost use lib.ListN.{getD};
 ghost use Rattle.theory.specs.FitTest.{FitGiven};
-ghost use Rattle.theory.specs.Outcome.{Areas, Outcome};
+ghost use Rattle.theory.specs.Answer.{Call};
+ghost use Rattle.theory.specs.Outcome.{Areas, Outcome, Row};
 
 // Unifies two descriptions. Answers document 01's number; length and readings go to `told`.
 #[no_mangle]
@@ -14,7 +14,10 @@ pub extern "C" fn bublastyr_unify(
     working: &mut [u32],
     told: &mut [u32; 2],
 ) -> u32
-    ensures { λ r. ⌜ Outcome mode (now (first .entry)) (now (second .entry)) (record { result = now (result .entry); working = now (working .entry) }) r (getD (now (told .exit)) 0 0) (getD (now (told .exit)) 1 0) (record { result = now (result .exit); working = now (working .exit) }) ⌝ }
+    ensures { λ r. ⌜ Outcome (record { mode = mode; first = now (first .entry); second = now (second .entry) })
+        (record { result = now (result .entry); working = now (working .entry) })
+        (record { number = r; extent = getD (now (told .exit)) 0 0; readings = getD (now (told .exit)) 1 0 })
+        (record { result = now (result .exit); working = now (working .exit) }) ⌝ }
 {
     let answer = unify::unify(mode, first, second, result, working);
     let row = unify::told(answer);

@@ -8,8 +8,9 @@ use native.Mathlib.Omega.{arith}
 use lib.ListN.{length, drop, replicate, length-append, length-drop, length-replicate}
 use borrow.Author.Tests.{lt-ltb, le-ltb}
 use Rattle.descriptions.specs.Limits.{working-size}
+use Rattle.descriptions.specs.Call.{Call}
 use Rattle.descriptions.specs.Answer.{Answer}
-use Rattle.descriptions.specs.Outcome.{Areas, Outcome, wiped, worked}
+use Rattle.descriptions.specs.Outcome.{Areas, Outcome, Row, wiped, worked}
 use Rattle.descriptions.specs.Unified.{unified}
 use Rattle.descriptions.specs.Rules.{Given, done, eight, five, four, one, seven, six, six-after, three, two}
 use Rattle.descriptions.proofs.Table.{unified-given}
@@ -48,58 +49,71 @@ worked-more (suc n) w h = let e = le-ltb n 5 (omega arith) in rw (e, worked)
 module _ {Graph : Type 0} (J : Joining Graph) (𝓕 : Layout Graph) where
   open Layout 𝓕 using (words)
 
-  pub given-writes : (mode : ℕ) (a b : List ℕ) (room work : ℕ) (r : Answer) → Given J 𝓕 mode a b room work r → Writes room r
-  given-writes mode a b room work r (one h) = nothing (not-zero 1 (omega arith)) refl
-  given-writes mode a b room work r (two m h) = nothing (not-zero 2 (omega arith)) refl
-  given-writes mode a b room work r (three m w h) = nothing (not-zero 3 (omega arith)) refl
-  given-writes mode a b room work r (four m w la lb n) = nothing (not-zero 4 (omega arith)) refl
-  given-writes mode a b room work r (five m w la lb i n) = nothing (not-zero 5 (omega arith)) refl
-  given-writes mode a b room work r (six d e A c) = nothing (not-zero 6 (omega arith)) refl
-  given-writes mode a b room work r (seven d e A c t) = nothing (not-zero 7 (omega arith)) refl
-  given-writes mode a b room work r (six-after d e A c t m n) = nothing (not-zero 6 (omega arith)) refl
-  given-writes mode a b room work r (eight d e s A c t h l) = nothing (not-zero 8 (omega arith)) refl
-  given-writes mode a b room work r (done d e s A c t h l) = result refl refl l
+  pub given-writes : (C : Call) (room work : ℕ) (r : Answer) → Given J 𝓕 C room work r → Writes room r
+  given-writes C room work r (one h) = nothing (not-zero 1 (omega arith)) refl
+  given-writes C room work r (two m h) = nothing (not-zero 2 (omega arith)) refl
+  given-writes C room work r (three m w h) = nothing (not-zero 3 (omega arith)) refl
+  given-writes C room work r (four m w la lb n) = nothing (not-zero 4 (omega arith)) refl
+  given-writes C room work r (five m w la lb i n) = nothing (not-zero 5 (omega arith)) refl
+  given-writes C room work r (six d e A c) = nothing (not-zero 6 (omega arith)) refl
+  given-writes C room work r (seven d e A c t) = nothing (not-zero 7 (omega arith)) refl
+  given-writes C room work r (six-after d e A c t m n) = nothing (not-zero 6 (omega arith)) refl
+  given-writes C room work r (eight d e s A c t h l) = nothing (not-zero 8 (omega arith)) refl
+  given-writes C room work r (done d e s A c t h l) = result refl refl l
 
   -- from number 6 on, and at 0, the working area has its 16,384 words
-  given-area : (mode : ℕ) (a b : List ℕ) (room work : ℕ) (r : Answer) → Given J 𝓕 mode a b room work r → ((1 ≤ r .number) × (r .number ≤ 5)) ⊎ (((r .number ≡ 0) ⊎ (6 ≤ r .number)) × (working-size ≤ work))
-  given-area mode a b room work r (one h) = inl (omega arith, omega arith)
-  given-area mode a b room work r (two m h) = inl (omega arith, omega arith)
-  given-area mode a b room work r (three m w h) = inl (omega arith, omega arith)
-  given-area mode a b room work r (four m w la lb n) = inl (omega arith, omega arith)
-  given-area mode a b room work r (five m w la lb i n) = inl (omega arith, omega arith)
-  given-area mode a b room work r (six d e A c) = inr (inr (omega arith), A .area-fine)
-  given-area mode a b room work r (seven d e A c t) = inr (inr (omega arith), A .area-fine)
-  given-area mode a b room work r (six-after d e A c t m n) = inr (inr (omega arith), A .area-fine)
-  given-area mode a b room work r (eight d e s A c t h l) = inr (inr (omega arith), A .area-fine)
-  given-area mode a b room work r (done d e s A c t h l) = inr (inl refl, A .area-fine)
+  given-area : (C : Call) (room work : ℕ) (r : Answer) → Given J 𝓕 C room work r →
+      ((1 ≤ r .number) × (r .number ≤ 5)) ⊎ (((r .number ≡ 0) ⊎ (6 ≤ r .number)) × (working-size ≤ work))
+  given-area C room work r (one h) = inl (omega arith, omega arith)
+  given-area C room work r (two m h) = inl (omega arith, omega arith)
+  given-area C room work r (three m w h) = inl (omega arith, omega arith)
+  given-area C room work r (four m w la lb n) = inl (omega arith, omega arith)
+  given-area C room work r (five m w la lb i n) = inl (omega arith, omega arith)
+  given-area C room work r (six d e A c) = inr (inr (omega arith), A .area-fine)
+  given-area C room work r (seven d e A c t) = inr (inr (omega arith), A .area-fine)
+  given-area C room work r (six-after d e A c t m n) = inr (inr (omega arith), A .area-fine)
+  given-area C room work r (eight d e s A c t h l) = inr (inr (omega arith), A .area-fine)
+  given-area C room work r (done d e s A c t h l) = inr (inl refl, A .area-fine)
 
 module _ {Graph : Type 0} {J : Joining Graph} {𝓛 : Laws J} {𝓕 : Layout Graph} (𝓡 : Reads 𝓛 𝓕) where
-  module _ (mode : ℕ) (a b : List ℕ) (before : Areas) where
+  module _ (C : Call) (before : Areas) where
     abbrev room : ℕ
     room = length (before .result)
 
     abbrev work : ℕ
     work = length (before .working)
 
-    abbrev r : Answer
-    r = unified J 𝓕 mode a b room work
+    abbrev told : Answer
+    told = unified J 𝓕 C room work
 
-    pub outcome : (after : Areas) × Outcome J 𝓕 mode a b before (r .number) (r .extent) (r .readings) after
+    pub outcome : (r : Row) × (after : Areas) × Outcome J 𝓕 C before r after
     outcome = (
-      record { result = r .result ++ drop (length (r .result)) (before .result); working = worked (r .number) (before .working) },
-      record { answer = r; given = unified-given 𝓡 mode a b room work; the-number = refl; the-extent = refl; the-readings = refl; the-result = refl; the-working = refl },
+      record { number = told .number; extent = told .extent; readings = told .readings },
+      record { result = told .result ++ drop (length (told .result)) (before .result); working = worked (told .number) (before .working) },
+      record {
+        answer = told;
+        given = unified-given 𝓡 C room work;
+        the-number = refl;
+        the-extent = refl;
+        the-readings = refl;
+        the-result = refl;
+        the-working = refl;
+      },
     )
 
-    module _ (n l c : ℕ) (after : Areas) (o : Outcome J 𝓕 mode a b before n l c after) where
+    module _ (r : Row) (after : Areas) (o : Outcome J 𝓕 C before r after) where
+      abbrev n : ℕ
+      n = r .number
+
       abbrev s : Answer
       s = o .answer
 
-      abbrev given : Given J 𝓕 mode a b room work s
+      abbrev given : Given J 𝓕 C room work s
       given = o .given
 
       -- "only number 0 writes"
       pub refusal-result : (n ≡ 0 → ⊥) → after .result ≡ before .result
-      refusal-result h = go (given-writes J 𝓕 mode a b room work s given)
+      refusal-result h = go (given-writes J 𝓕 C room work s given)
         where
           go : Writes room s → after .result ≡ before .result
           go (nothing k e) = o .the-result ∙ ap (λ (z : List ℕ). z ++ drop (length z) (before .result)) e
@@ -110,7 +124,7 @@ module _ {Graph : Type 0} {J : Joining Graph} {𝓛 : Laws J} {𝓕 : Layout Gra
       refusal-working h k = o .the-working ∙ worked-same n (before .working) h k
 
       pub result-length : length (after .result) ≡ length (before .result)
-      result-length = go (given-writes J 𝓕 mode a b room work s given)
+      result-length = go (given-writes J 𝓕 C room work s given)
         where
           long : length (s .result) ≤ room → length (after .result) ≡ length (before .result)
           long h = let e = ap length (o .the-result) in let f = length-append (s .result) (drop (length (s .result)) (before .result)) in let g = length-drop (length (s .result)) (before .result) in omega (arith, e, f, g, h)
@@ -123,4 +137,4 @@ module _ {Graph : Type 0} {J : Joining Graph} {𝓛 : Laws J} {𝓕 : Layout Gra
       working-length = ap length (o .the-working) ∙ ⊎-elim
           (λ p. ap length (worked-same n (before .working) (rw (o .the-number) (p .0)) (rw (o .the-number) (p .1))))
           (λ p. ap length (⊎-elim (λ z. ap (λ (k : ℕ). worked k (before .working)) (o .the-number ∙ z) ∙ worked-zero (before .working)) (λ k. worked-more n (before .working) (rw (o .the-number) k)) (p .0)) ∙ wiped-length working-size (before .working) (p .1))
-          (given-area J 𝓕 mode a b room work s given)
+          (given-area J 𝓕 C room work s given)

@@ -11,10 +11,12 @@ use lib.ListN.{length}
 use lib.Dec.{eqb}
 use Rattle.descriptions.specs.Limits.{depth-limit}
 use Rattle.descriptions.specs.Descr.{Desc, choices, pairs, readings}
+use Rattle.descriptions.specs.Call.{Call}
 use Rattle.descriptions.specs.Answer.{Answer, consistent}
 use Rattle.descriptions.specs.Unified.{unified}
 use Rattle.descriptions.specs.Rules.{Accepted, Given, mode-readings, mode-result}
-use Rattle.descriptions.specs.Demands.{Demand2, Demand3, Refused, Step, Succeeds, Unifier, call, chosen, items, reached, start, ways}
+use Rattle.descriptions.specs.Demands.{Demand2, Demand3, Refused, Succeeds}
+use Rattle.descriptions.specs.Demands.{Step, call, chosen, items, reached, start, ways, next-call, with-words}
 use Rattle.descriptions.proofs.Layouts.{Reads, one-image}
 use Rattle.descriptions.proofs.Tests.{Tells, holds, tells-eq}
 use Rattle.descriptions.proofs.Mean.{Can}
@@ -54,13 +56,16 @@ module _ {Graph : Type 0} (𝓕 : Layout Graph) where
         go true = s .fine
         go false = p
 
-    call-is : (U : Unifier) → call 𝓕 U (words d) s ≡ U (s .mode) (words (front s d)) (words (back s d)) (s .room) (s .work)
-    call-is U = go (s .in-hand-first)
+    call-is : next-call 𝓕 (words d) s ≡ with-words 𝓕 (s .mode) (front s d) (back s d)
+    call-is = go (s .in-hand-first)
       where
-        u : List ℕ → List ℕ → Answer
-        u a b = U (s .mode) a b (s .room) (s .work)
+        u : List ℕ → List ℕ → Call
+        u a b = record { mode = s .mode; first = a; second = b }
 
-        go : (t : Bool) → elim t [ true ↦ u (words d) (words (s .item)) | false ↦ u (words (s .item)) (words d) ]
+        i : List ℕ
+        i = words (s .item)
+
+        go : (t : Bool) → u (elim t [ true ↦ words d | false ↦ i ]) (elim t [ true ↦ i | false ↦ words d ])
             ≡ u (words (elim t [ true ↦ d | false ↦ s .item ])) (words (elim t [ true ↦ s .item | false ↦ d ]))
         go true = refl
         go false = refl
@@ -118,29 +123,32 @@ module _ {Graph : Type 0} {J : Joining Graph} {𝓛 : Laws J} {𝓜 : Structures
 
   -- demand 2
   module _ (mode : ℕ) (a b : Desc Graph) (p : WellFormed a depth-limit) (q : WellFormed b depth-limit) (room work : ℕ) where
-    abbrev r : Answer
-    r = unified J 𝓕 mode (words a) (words b) room work
+    abbrev C : Call
+    C = with-words 𝓕 mode a b
 
-    abbrev given : Given J 𝓕 mode (words a) (words b) room work r
-    given = unified-given 𝓡 mode (words a) (words b) room work
+    abbrev r : Answer
+    r = unified J 𝓕 C room work
+
+    abbrev given : Given J 𝓕 C room work r
+    given = unified-given 𝓡 C room work
 
     -- the descriptions read are the ones written
-    pub zero-result : r .number ≡ 0 → (s : Desc Graph) × Good J 𝓕 mode (words a) (words b) work r a b s
+    pub zero-result : r .number ≡ 0 → (s : Desc Graph) × Good J 𝓕 C work r a b s
     zero-result z =
-        let (d, e, s, g) = on-zero J 𝓕 mode (words a) (words b) room work r given z in
-        let A : Accepted 𝓕 mode (words a) (words b) work d e = g .accepted in
+        let (d, e, s, g) = on-zero J 𝓕 C room work r given z in
+        let A : Accepted 𝓕 C work d e = g .accepted in
         let i : d ≡ a = one-image 𝓡 d a (A .first-well) p (sym (A .first-is)) in
         let j : e ≡ b = one-image 𝓡 e b (A .second-well) q (sym (A .second-is)) in
-        (s, subst (λ (x : Desc Graph). Good J 𝓕 mode (words a) (words b) work r x b s) i (subst (λ (y : Desc Graph). Good J 𝓕 mode (words a) (words b) work r d y s) j g))
+        (s, subst (λ (x : Desc Graph). Good J 𝓕 C work r x b s) i (subst (λ (y : Desc Graph). Good J 𝓕 C work r d y s) j g))
 
     pub six-result : r .number ≡ 6 → None J a b
     six-result z =
-        let (d, e, A, n) = on-six J 𝓕 mode (words a) (words b) room work r given z in
+        let (d, e, A, n) = on-six J 𝓕 C room work r given z in
         let i : d ≡ a = one-image 𝓡 d a (A .first-well) p (sym (A .first-is)) in
         let j : e ≡ b = one-image 𝓡 e b (A .second-well) q (sym (A .second-is)) in
         subst (λ (x : Desc Graph). None J x b) i (subst (λ (y : Desc Graph). None J d y) j n)
 
-    zero-succeeds : (s : Desc Graph) → Good J 𝓕 mode (words a) (words b) work r a b s → Succeeds J 𝓜 𝓕 mode a b r s
+    zero-succeeds : (s : Desc Graph) → Good J 𝓕 C work r a b s → Succeeds J 𝓜 𝓕 mode a b r s
     zero-succeeds s g = record {
       written = g .wrote;
       measured = g .long;
@@ -163,8 +171,11 @@ module _ {Graph : Type 0} {J : Joining Graph} {𝓛 : Laws J} {𝓜 : Structures
     abbrev behind : Desc Graph
     behind = back 𝓕 s d
 
-    answered : call 𝓕 (unified J 𝓕) ws s ≡ unified J 𝓕 (s .mode) (words before) (words behind) (s .room) (s .work)
-    answered = ap (λ (w : List ℕ). call 𝓕 (unified J 𝓕) w s) e ∙ call-is 𝓕 s d (unified J 𝓕)
+    abbrev between : Call
+    between = with-words 𝓕 (s .mode) before behind
+
+    answered : call 𝓕 (unified J 𝓕) ws s ≡ unified J 𝓕 between (s .room) (s .work)
+    answered = ap (λ (w : List ℕ). call 𝓕 (unified J 𝓕) w s) e ∙ ap (λ (z : Call). unified J 𝓕 z (s .room) (s .work)) (call-is 𝓕 s d)
 
     before-can : Can 𝓛 before
     before-can = well-can before (front-well 𝓕 s d p)
@@ -172,11 +183,12 @@ module _ {Graph : Type 0} {J : Joining Graph} {𝓛 : Laws J} {𝓜 : Structures
     behind-can : Can 𝓛 behind
     behind-can = well-can behind (back-well 𝓕 s d p)
 
-    call-zero : call 𝓕 (unified J 𝓕) ws s .number ≡ 0 → (t : Desc Graph) × Good J 𝓕 (s .mode) (words before) (words behind) (s .work) (call 𝓕 (unified J 𝓕) ws s) before behind t
+    call-zero : call 𝓕 (unified J 𝓕) ws s .number ≡ 0 →
+        (t : Desc Graph) × Good J 𝓕 between (s .work) (call 𝓕 (unified J 𝓕) ws s) before behind t
     call-zero z =
-        let number : unified J 𝓕 (s .mode) (words before) (words behind) (s .room) (s .work) .number ≡ 0 = sym (ap (λ (r : Answer). r .number) answered) ∙ z in
+        let number : unified J 𝓕 between (s .room) (s .work) .number ≡ 0 = sym (ap (λ (r : Answer). r .number) answered) ∙ z in
         let (t, g) = zero-result (s .mode) before behind (front-well 𝓕 s d p) (back-well 𝓕 s d p) (s .room) (s .work) number in
-        (t, subst (λ (r : Answer). Good J 𝓕 (s .mode) (words before) (words behind) (s .work) r before behind t) (sym answered) g)
+        (t, subst (λ (r : Answer). Good J 𝓕 between (s .work) r before behind t) (sym answered) g)
 
     call-six : call 𝓕 (unified J 𝓕) ws s .number ≡ 6 → None J before behind
     call-six z =
@@ -184,8 +196,8 @@ module _ {Graph : Type 0} {J : Joining Graph} {𝓛 : Laws J} {𝓜 : Structures
 
     call-which : (call 𝓕 (unified J 𝓕) ws s .number ≡ 0) ⊎ ((call 𝓕 (unified J 𝓕) ws s .number ≡ 6) ⊎ Refused (call 𝓕 (unified J 𝓕) ws s .number))
     call-which = subst (λ (r : Answer). (r .number ≡ 0) ⊎ ((r .number ≡ 6) ⊎ Refused (r .number))) (sym answered)
-        (which J 𝓕 (s .mode) (words before) (words behind) (s .room) (s .work) (unified J 𝓕 (s .mode) (words before) (words behind) (s .room) (s .work))
-        (unified-given 𝓡 (s .mode) (words before) (words behind) (s .room) (s .work)))
+        (which J 𝓕 between (s .room) (s .work) (unified J 𝓕 between (s .room) (s .work))
+        (unified-given 𝓡 between (s .room) (s .work)))
 
   one-call : (L : List (List Graph)) (ws : List ℕ) → State 𝓡 L ws → (s : Step 𝓕) → call 𝓕 (unified J 𝓕) ws s .number ≡ 0 →
       State 𝓡 (pairs L (choices (s .item))) (call 𝓕 (unified J 𝓕) ws s .result)

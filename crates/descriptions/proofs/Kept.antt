@@ -3,13 +3,14 @@
 use mathlib.Core.Path.{_≡_, refl, subst}
 use mathlib.Core.Logic.{_⊎_, inl, inr}
 use mathlib.Core.Option.{none, some}
-use mathlib.Core.List.{List, []}
+use mathlib.Core.List.{[]}
 use Prim.Native.Nat.{ℕ, _≤_}
 use native.Mathlib.Omega.{arith}
 use lib.ListN.{length}
 use Rattle.descriptions.specs.Descr.{Desc}
 use Rattle.descriptions.specs.Satisfaction.{Sat}
 use Rattle.descriptions.specs.Modes.{full, joined, quick}
+use Rattle.descriptions.specs.Call.{Call}
 use Rattle.descriptions.specs.Answer.{Answer}
 use Rattle.descriptions.specs.Rules.{Accepted, Clashes, Given, done, eight, five, four, mode-readings, mode-result, one, seven, six, six-after, three, two}
 use Rattle.descriptions.proofs.Mean.{Can}
@@ -35,49 +36,52 @@ module _ {Graph : Type 0} (J : Joining Graph) (𝓕 : Layout Graph) where
   open Layout 𝓕 using (words)
 
   -- what an answer 0 says
-  pub record Good (mode : ℕ) (a b : List ℕ) (work : ℕ) (r : Answer) (d e s : Desc Graph) : Type 0 where
-    pub accepted : Accepted 𝓕 mode a b work d e
-    pub by : mode-result J mode d e ≡ some s
+  pub record Good (C : Call) (work : ℕ) (r : Answer) (d e s : Desc Graph) : Type 0 where
+    pub accepted : Accepted 𝓕 C work d e
+    pub by : mode-result J (C .mode) d e ≡ some s
     pub wrote : r .result ≡ words s
     pub long : r .extent ≡ length (words s)
-    pub count : r .readings ≡ mode-readings J mode d e
+    pub count : r .readings ≡ mode-readings J (C .mode) d e
 
-  pub on-zero : (mode : ℕ) (a b : List ℕ) (room work : ℕ) (r : Answer) → Given J 𝓕 mode a b room work r → r .number ≡ 0 → (d : Desc Graph) × (e : Desc Graph) × (s : Desc Graph) × Good mode a b work r d e s
-  on-zero mode a b room work r (one h) z = let k : _≡_ {A = ℕ} 1 0 = z in absurd (omega arith)
-  on-zero mode a b room work r (two m h) z = let k : _≡_ {A = ℕ} 2 0 = z in absurd (omega arith)
-  on-zero mode a b room work r (three m w h) z = let k : _≡_ {A = ℕ} 3 0 = z in absurd (omega arith)
-  on-zero mode a b room work r (four m w la lb n) z = let k : _≡_ {A = ℕ} 4 0 = z in absurd (omega arith)
-  on-zero mode a b room work r (five m w la lb i n) z = let k : _≡_ {A = ℕ} 5 0 = z in absurd (omega arith)
-  on-zero mode a b room work r (six d e A c) z = let k : _≡_ {A = ℕ} 6 0 = z in absurd (omega arith)
-  on-zero mode a b room work r (seven d e A c t) z = let k : _≡_ {A = ℕ} 7 0 = z in absurd (omega arith)
-  on-zero mode a b room work r (six-after d e A c t m n) z = let k : _≡_ {A = ℕ} 6 0 = z in absurd (omega arith)
-  on-zero mode a b room work r (eight d e s A c t h l) z = let k : _≡_ {A = ℕ} 8 0 = z in absurd (omega arith)
-  on-zero mode a b room work r (done d e s A c t h l) z = (d, e, s, record { accepted = A; by = h; wrote = refl; long = refl; count = refl })
+  pub on-zero : (C : Call) (room work : ℕ) (r : Answer) → Given J 𝓕 C room work r → r .number ≡ 0 →
+      (d : Desc Graph) × (e : Desc Graph) × (s : Desc Graph) × Good C work r d e s
+  on-zero C room work r (one h) z = let k : _≡_ {A = ℕ} 1 0 = z in absurd (omega arith)
+  on-zero C room work r (two m h) z = let k : _≡_ {A = ℕ} 2 0 = z in absurd (omega arith)
+  on-zero C room work r (three m w h) z = let k : _≡_ {A = ℕ} 3 0 = z in absurd (omega arith)
+  on-zero C room work r (four m w la lb n) z = let k : _≡_ {A = ℕ} 4 0 = z in absurd (omega arith)
+  on-zero C room work r (five m w la lb i n) z = let k : _≡_ {A = ℕ} 5 0 = z in absurd (omega arith)
+  on-zero C room work r (six d e A c) z = let k : _≡_ {A = ℕ} 6 0 = z in absurd (omega arith)
+  on-zero C room work r (seven d e A c t) z = let k : _≡_ {A = ℕ} 7 0 = z in absurd (omega arith)
+  on-zero C room work r (six-after d e A c t m n) z = let k : _≡_ {A = ℕ} 6 0 = z in absurd (omega arith)
+  on-zero C room work r (eight d e s A c t h l) z = let k : _≡_ {A = ℕ} 8 0 = z in absurd (omega arith)
+  on-zero C room work r (done d e s A c t h l) z = (d, e, s, record { accepted = A; by = h; wrote = refl; long = refl; count = refl })
 
-  pub on-six : (mode : ℕ) (a b : List ℕ) (room work : ℕ) (r : Answer) → Given J 𝓕 mode a b room work r → r .number ≡ 6 → (d : Desc Graph) × (e : Desc Graph) × Accepted 𝓕 mode a b work d e × None J d e
-  on-six mode a b room work r (one h) z = let k : _≡_ {A = ℕ} 1 6 = z in absurd (omega arith)
-  on-six mode a b room work r (two m h) z = let k : _≡_ {A = ℕ} 2 6 = z in absurd (omega arith)
-  on-six mode a b room work r (three m w h) z = let k : _≡_ {A = ℕ} 3 6 = z in absurd (omega arith)
-  on-six mode a b room work r (four m w la lb n) z = let k : _≡_ {A = ℕ} 4 6 = z in absurd (omega arith)
-  on-six mode a b room work r (five m w la lb i n) z = let k : _≡_ {A = ℕ} 5 6 = z in absurd (omega arith)
-  on-six mode a b room work r (six d e A c) z = (d, e, A, clash-none J mode d e c)
-  on-six mode a b room work r (seven d e A c t) z = let k : _≡_ {A = ℕ} 7 6 = z in absurd (omega arith)
-  on-six mode a b room work r (six-after d e A c t m n) z = (d, e, A, inr (inr (full-is J 𝓕 d e n)))
-  on-six mode a b room work r (eight d e s A c t h l) z = let k : _≡_ {A = ℕ} 8 6 = z in absurd (omega arith)
-  on-six mode a b room work r (done d e s A c t h l) z = let k : _≡_ {A = ℕ} 0 6 = z in absurd (omega arith)
+  pub on-six : (C : Call) (room work : ℕ) (r : Answer) → Given J 𝓕 C room work r → r .number ≡ 6 →
+      (d : Desc Graph) × (e : Desc Graph) × Accepted 𝓕 C work d e × None J d e
+  on-six C room work r (one h) z = let k : _≡_ {A = ℕ} 1 6 = z in absurd (omega arith)
+  on-six C room work r (two m h) z = let k : _≡_ {A = ℕ} 2 6 = z in absurd (omega arith)
+  on-six C room work r (three m w h) z = let k : _≡_ {A = ℕ} 3 6 = z in absurd (omega arith)
+  on-six C room work r (four m w la lb n) z = let k : _≡_ {A = ℕ} 4 6 = z in absurd (omega arith)
+  on-six C room work r (five m w la lb i n) z = let k : _≡_ {A = ℕ} 5 6 = z in absurd (omega arith)
+  on-six C room work r (six d e A c) z = (d, e, A, clash-none J (C .mode) d e c)
+  on-six C room work r (seven d e A c t) z = let k : _≡_ {A = ℕ} 7 6 = z in absurd (omega arith)
+  on-six C room work r (six-after d e A c t m n) z = (d, e, A, inr (inr (full-is J 𝓕 d e n)))
+  on-six C room work r (eight d e s A c t h l) z = let k : _≡_ {A = ℕ} 8 6 = z in absurd (omega arith)
+  on-six C room work r (done d e s A c t h l) z = let k : _≡_ {A = ℕ} 0 6 = z in absurd (omega arith)
 
   -- an answer is 0, 6 or a refusal on another ground
-  pub which : (mode : ℕ) (a b : List ℕ) (room work : ℕ) (r : Answer) → Given J 𝓕 mode a b room work r → (r .number ≡ 0) ⊎ ((r .number ≡ 6) ⊎ (((1 ≤ r .number) × (r .number ≤ 5)) ⊎ ((7 ≤ r .number) × (r .number ≤ 8))))
-  which mode a b room work r (one h) = inr (inr (inl (omega arith, omega arith)))
-  which mode a b room work r (two m h) = inr (inr (inl (omega arith, omega arith)))
-  which mode a b room work r (three m w h) = inr (inr (inl (omega arith, omega arith)))
-  which mode a b room work r (four m w la lb n) = inr (inr (inl (omega arith, omega arith)))
-  which mode a b room work r (five m w la lb i n) = inr (inr (inl (omega arith, omega arith)))
-  which mode a b room work r (six d e A c) = inr (inl refl)
-  which mode a b room work r (seven d e A c t) = inr (inr (inr (omega arith, omega arith)))
-  which mode a b room work r (six-after d e A c t m n) = inr (inl refl)
-  which mode a b room work r (eight d e s A c t h l) = inr (inr (inr (omega arith, omega arith)))
-  which mode a b room work r (done d e s A c t h l) = inl refl
+  pub which : (C : Call) (room work : ℕ) (r : Answer) → Given J 𝓕 C room work r →
+      (r .number ≡ 0) ⊎ ((r .number ≡ 6) ⊎ (((1 ≤ r .number) × (r .number ≤ 5)) ⊎ ((7 ≤ r .number) × (r .number ≤ 8))))
+  which C room work r (one h) = inr (inr (inl (omega arith, omega arith)))
+  which C room work r (two m h) = inr (inr (inl (omega arith, omega arith)))
+  which C room work r (three m w h) = inr (inr (inl (omega arith, omega arith)))
+  which C room work r (four m w la lb n) = inr (inr (inl (omega arith, omega arith)))
+  which C room work r (five m w la lb i n) = inr (inr (inl (omega arith, omega arith)))
+  which C room work r (six d e A c) = inr (inl refl)
+  which C room work r (seven d e A c t) = inr (inr (inr (omega arith, omega arith)))
+  which C room work r (six-after d e A c t m n) = inr (inl refl)
+  which C room work r (eight d e s A c t h l) = inr (inr (inr (omega arith, omega arith)))
+  which C room work r (done d e s A c t h l) = inl refl
 
 module _ {Graph : Type 0} {J : Joining Graph} (𝓛 : Laws J) where
   -- where some mode finds none, there is no meaning, and nothing satisfies both

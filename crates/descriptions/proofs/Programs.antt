@@ -12,13 +12,15 @@ use borrow.Author.Tests.{lt-ltb}
 use lib.Dec.{eqb, ltb, T, eqb→eq}
 use Rattle.descriptions.specs.Descr.{Desc}
 use Rattle.descriptions.specs.Satisfaction.{Sat}
+use Rattle.descriptions.specs.Call.{Call}
 use Rattle.descriptions.specs.Answer.{Answer}
 use Rattle.descriptions.specs.Outcome.{Areas, Outcome}
 use Rattle.descriptions.specs.Programs.{Left, Program, all-small, are-words, in-words, answer-of, blank, Meets, sized}
 use Rattle.descriptions.specs.Limits.{word-limit, length-limit}
 use Rattle.descriptions.specs.Unified.{unified}
 use Rattle.descriptions.specs.Rules.{Given}
-use Rattle.descriptions.specs.Demands.{Demand2, Demand3, Refused, Step, Succeeds, Unifier, call, items, reached, start, ways}
+use Rattle.descriptions.specs.Demands.{Demand2, Demand3, Refused, Succeeds, Unifier}
+use Rattle.descriptions.specs.Demands.{Step, call, items, reached, start, ways, next-call, with-words}
 use Rattle.descriptions.proofs.Tests.{eqb-yes}
 use Rattle.descriptions.proofs.Table.{given-unified, one-answer, unified-given}
 use Rattle.descriptions.proofs.Areas.{Writes, given-writes, nothing, result}
@@ -44,57 +46,57 @@ zeros-words n h =
     ap₂ _&&_ e (small-zeros n)
 
 -- blank areas of any size that a machine has can come in
-pub blank-in-words : (mode : ℕ) (a b : List ℕ) (room work : ℕ) → mode < word-limit → are-words a ≡ true → are-words b ≡ true →
-    room < length-limit → work < length-limit → in-words mode a b (blank room work) ≡ true
-blank-in-words mode a b room work h p q r w =
-    ap₂ _&&_ (lt-ltb mode word-limit h) (ap₂ _&&_ p (ap₂ _&&_ q (ap₂ _&&_ (zeros-words room r) (zeros-words work w))))
+pub blank-in-words : (C : Call) (room work : ℕ) → C .mode < word-limit → are-words (C .first) ≡ true → are-words (C .second) ≡ true →
+    room < length-limit → work < length-limit → in-words C (blank room work) ≡ true
+blank-in-words C room work h p q r w =
+    ap₂ _&&_ (lt-ltb (C .mode) word-limit h) (ap₂ _&&_ p (ap₂ _&&_ q (ap₂ _&&_ (zeros-words room r) (zeros-words work w))))
 
 module _ {Graph : Type 0} (J : Joining Graph) (𝓕 : Layout Graph) where
   -- a program whose every answer the table gives
   abbrev pub ByTable : Unifier → Type 0
-  ByTable U = (mode : ℕ) (a b : List ℕ) (room work : ℕ) → Given J 𝓕 mode a b room work (U mode a b room work)
+  ByTable U = (C : Call) (room work : ℕ) → Given J 𝓕 C room work (U C room work)
 
   -- what a call answers is what its contract says
-  left-answer : (mode : ℕ) (a b : List ℕ) (before : Areas) (r : Left) → (o : Outcome J 𝓕 mode a b before (r .number) (r .extent) (r .readings) (r .after)) → o .answer ≡ answer-of r
-  left-answer mode a b before r o = go (eqb (r .number) 0) refl (given-writes J 𝓕 mode a b _ _ (o .answer) (o .given))
+  left-answer : (C : Call) (before : Areas) (r : Left) → (o : Outcome J 𝓕 C before (r .row) (r .after)) → o .answer ≡ answer-of r
+  left-answer C before r o = go (eqb (r .row .number) 0) refl (given-writes J 𝓕 C _ _ (o .answer) (o .given))
     where
       whole : List ℕ → Answer
-      whole ws = record { number = r .number; extent = r .extent; readings = r .readings; result = ws }
+      whole ws = record { number = r .row .number; extent = r .row .extent; readings = r .row .readings; result = ws }
 
       parts : (ws : List ℕ) → o .answer .result ≡ ws → o .answer ≡ whole ws
       parts ws e = rw (o .the-number, o .the-extent, o .the-readings, sym e) refl
 
-      go : (t : Bool) → eqb (r .number) 0 ≡ t → Writes (length (before .result)) (o .answer) → o .answer ≡ whole (elim t [ true ↦ take (r .extent) (r .after .result) | false ↦ [] ])
-      go true z (nothing n e) = absurd (n (sym (o .the-number) ∙ eqb→eq (r .number) 0 (subst T (sym z) tt)))
-      go true z (result n e l) = parts (take (r .extent) (r .after .result)) (sym (ap (λ (k : ℕ). take k (r .after .result)) (o .the-extent ∙ e) ∙ ap (take (length (o .answer .result))) (o .the-result) ∙ take-front (o .answer .result) _))
+      go : (t : Bool) → eqb (r .row .number) 0 ≡ t → Writes (length (before .result)) (o .answer) →
+          o .answer ≡ whole (elim t [ true ↦ take (r .row .extent) (r .after .result) | false ↦ [] ])
+      go true z (nothing n e) = absurd (n (sym (o .the-number) ∙ eqb→eq (r .row .number) 0 (subst T (sym z) tt)))
+      go true z (result n e l) =
+          let first = ap (λ (k : ℕ). take k (r .after .result)) (o .the-extent ∙ e) in
+          let then = ap (take (length (o .answer .result))) (o .the-result) in
+          parts (take (r .row .extent) (r .after .result)) (sym (first ∙ then ∙ take-front (o .answer .result) _))
       go false z (nothing n e) = parts [] e
-      go false z (result n e l) = let y : eqb (r .number) 0 ≡ true = eqb-yes (r .number) 0 (o .the-number ∙ n) in let x : _≡_ {A = ℕ} 0 1 = cc in absurd (omega arith)
+      go false z (result n e l) =
+          let y : eqb (r .row .number) 0 ≡ true = eqb-yes (r .row .number) 0 (o .the-number ∙ n) in
+          let x : _≡_ {A = ℕ} 0 1 = cc in absurd (omega arith)
 
 module _ {Graph : Type 0} {J : Joining Graph} {𝓛 : Laws J} {𝓜 : Structures Graph} (𝓢 : Sense 𝓛 𝓜) {𝓕 : Layout Graph} (𝓡 : Reads 𝓛 𝓕) where
   open Structures 𝓜 using (Structure)
 
   module _ (U : Unifier) (g : ByTable J 𝓕 U) where
-    same : (mode : ℕ) (a b : List ℕ) (room work : ℕ) → unified J 𝓕 mode a b room work ≡ U mode a b room work
-    same mode a b room work = given-unified 𝓡 mode a b room work (U mode a b room work) (g mode a b room work)
+    same : (C : Call) (room work : ℕ) → unified J 𝓕 C room work ≡ U C room work
+    same C room work = given-unified 𝓡 C room work (U C room work) (g C room work)
 
     pub table-demand2 : Demand2 J 𝓜 𝓕 U
     table-demand2 = record {
-      success = λ mode a b x y room work. subst (λ (r : Answer). r .number ≡ 0 → (d : Desc Graph) × Succeeds J 𝓜 𝓕 mode a b r d) (same mode _ _ room work) (demand2 𝓢 𝓡 .success mode a b x y room work);
-      clash = λ mode a b x y room work. subst (λ (r : Answer). r .number ≡ 6 → (S : Structure) → Sat 𝓜 S a → Sat 𝓜 S b → ⊥) (same mode _ _ room work) (demand2 𝓢 𝓡 .clash mode a b x y room work);
+      success = λ mode a b x y room work.
+          subst (λ (r : Answer). r .number ≡ 0 → (d : Desc Graph) × Succeeds J 𝓜 𝓕 mode a b r d) (same (with-words 𝓕 mode a b) room work)
+          (demand2 𝓢 𝓡 .success mode a b x y room work);
+      clash = λ mode a b x y room work.
+          subst (λ (r : Answer). r .number ≡ 6 → (S : Structure) → Sat 𝓜 S a → Sat 𝓜 S b → ⊥) (same (with-words 𝓕 mode a b) room work)
+          (demand2 𝓢 𝓡 .clash mode a b x y room work);
     }
 
     called : (ws : List ℕ) (s : Step 𝓕) → call 𝓕 (unified J 𝓕) ws s ≡ call 𝓕 U ws s
-    called ws s = go (s .in-hand-first)
-      where
-        b : List ℕ
-        b = 𝓕 .words (s .item)
-
-        chosen : Bool → Unifier → Answer
-        chosen t X = elim t [ true ↦ X (s .mode) ws b (s .room) (s .work) | false ↦ X (s .mode) b ws (s .room) (s .work) ]
-
-        go : (t : Bool) → chosen t (unified J 𝓕) ≡ chosen t U
-        go true = same (s .mode) ws b (s .room) (s .work)
-        go false = same (s .mode) b ws (s .room) (s .work)
+    called ws s = same (next-call 𝓕 ws s) (s .room) (s .work)
 
     reached-same : (l : List (Step 𝓕)) (ws : List ℕ) → reached 𝓕 U ws l ≡ reached 𝓕 (unified J 𝓕) ws l
     reached-same [] ws = refl
@@ -119,38 +121,39 @@ module _ {Graph : Type 0} {J : Joining Graph} {𝓛 : Laws J} {𝓜 : Structures
 
   module _ (P : Program) (m : Meets J 𝓕 P) where
     -- the answer to a call is what the table gives
-    program-given : (mode : ℕ) (a b : List ℕ) (before : Areas) → in-words mode a b before ≡ true →
-        Given J 𝓕 mode a b (length (before .result)) (length (before .working)) (answer-of (P mode a b before))
-    program-given mode a b before w =
-        let o = m mode a b before w in
-        subst (Given J 𝓕 mode a b (length (before .result)) (length (before .working))) (left-answer J 𝓕 mode a b before (P mode a b before) o) (o .given)
+    program-given : (C : Call) (before : Areas) → in-words C before ≡ true →
+        Given J 𝓕 C (length (before .result)) (length (before .working)) (answer-of (P C before))
+    program-given C before w =
+        let o = m C before w in
+        subst (Given J 𝓕 C (length (before .result)) (length (before .working))) (left-answer J 𝓕 C before (P C before) o) (o .given)
 
     pub program-table : ByTable J 𝓕 (sized J 𝓕 P)
-    program-table mode a b room work = go (in-words mode a b (blank room work)) refl
+    program-table C room work = go (in-words C (blank room work)) refl
       where
         before : Areas
         before = blank room work
 
         r : Answer
-        r = answer-of (P mode a b before)
+        r = answer-of (P C before)
 
-        here : in-words mode a b before ≡ true → Given J 𝓕 mode a b room work r
+        here : in-words C before ≡ true → Given J 𝓕 C room work r
         here w =
             let e : length (before .result) ≡ room = length-replicate {A = ℕ} room 0 in
             let f : length (before .working) ≡ work = length-replicate {A = ℕ} work 0 in
-            subst (λ (n : ℕ). Given J 𝓕 mode a b n work r) e (subst (λ (n : ℕ). Given J 𝓕 mode a b (length (before .result)) n r) f (program-given mode a b before w))
+            subst (λ (n : ℕ). Given J 𝓕 C n work r) e
+            (subst (λ (n : ℕ). Given J 𝓕 C (length (before .result)) n r) f (program-given C before w))
 
-        go : (t : Bool) → in-words mode a b before ≡ t → Given J 𝓕 mode a b room work (elim t [ true ↦ r | false ↦ unified J 𝓕 mode a b room work ])
+        go : (t : Bool) → in-words C before ≡ t → Given J 𝓕 C room work (elim t [ true ↦ r | false ↦ unified J 𝓕 C room work ])
         go true w = here w
-        go false w = unified-given 𝓡 mode a b room work
+        go false w = unified-given 𝓡 C room work
 
     -- what a call answers is the table's answer, whatever the areas hold before it
-    pub program-sized : (mode : ℕ) (a b : List ℕ) (before : Areas) → in-words mode a b before ≡ true →
-        answer-of (P mode a b before) ≡ sized J 𝓕 P mode a b (length (before .result)) (length (before .working))
-    program-sized mode a b before w =
+    pub program-sized : (C : Call) (before : Areas) → in-words C before ≡ true →
+        answer-of (P C before) ≡ sized J 𝓕 P C (length (before .result)) (length (before .working))
+    program-sized C before w =
         let room = length (before .result) in
         let work = length (before .working) in
-        one-answer 𝓡 mode a b room work (answer-of (P mode a b before)) (sized J 𝓕 P mode a b room work) (program-given mode a b before w) (program-table mode a b room work)
+        one-answer 𝓡 C room work (answer-of (P C before)) (sized J 𝓕 P C room work) (program-given C before w) (program-table C room work)
 
     -- demands 2 and 3 hold of every program that has the contract
     pub program-demand2 : Demand2 J 𝓜 𝓕 (sized J 𝓕 P)
@@ -160,16 +163,17 @@ module _ {Graph : Type 0} {J : Joining Graph} {𝓛 : Laws J} {𝓜 : Structures
     program-demand3 = table-demand3 (sized J 𝓕 P) program-table
 
     -- "one that reports 0 and writes nothing": after 0 an area that was left as it was held the result's words before
-    pub program-writes : (mode : ℕ) (a b : List ℕ) (before : Areas) → in-words mode a b before ≡ true →
-        P mode a b before .number ≡ 0 → P mode a b before .after .result ≡ before .result →
-        unified J 𝓕 mode a b (length (before .result)) (length (before .working)) .result ≡ take (P mode a b before .extent) (before .result)
-    program-writes mode a b before w z u =
-        let e = given-unified 𝓡 mode a b (length (before .result)) (length (before .working)) (answer-of (P mode a b before)) (program-given mode a b before w) in
+    pub program-writes : (C : Call) (before : Areas) → in-words C before ≡ true →
+        P C before .row .number ≡ 0 → P C before .after .result ≡ before .result →
+        unified J 𝓕 C (length (before .result)) (length (before .working)) .result ≡ take (P C before .row .extent) (before .result)
+    program-writes C before w z u =
+        let e = given-unified 𝓡 C _ _ (answer-of (P C before)) (program-given C before w) in
         ap (λ (r : Answer). r .result) e
-        ∙ ap (λ (t : Bool). elim t [ true ↦ take (P mode a b before .extent) (P mode a b before .after .result) | false ↦ [] ]) (eqb-yes (P mode a b before .number) 0 z)
-        ∙ ap (take (P mode a b before .extent)) u
+        ∙ ap (λ (t : Bool). elim t [ true ↦ take (P C before .row .extent) (P C before .after .result) | false ↦ [] ])
+        (eqb-yes (P C before .row .number) 0 z)
+        ∙ ap (take (P C before .row .extent)) u
 
   -- a program whose readings differ from the table's somewhere is not by the table
-  pub other-readings : (U : Unifier) (mode : ℕ) (a b : List ℕ) (room work : ℕ) → (U mode a b room work .readings ≡ unified J 𝓕 mode a b room work .readings → ⊥) →
+  pub other-readings : (U : Unifier) (C : Call) (room work : ℕ) → (U C room work .readings ≡ unified J 𝓕 C room work .readings → ⊥) →
       ByTable J 𝓕 U → ⊥
-  other-readings U mode a b room work n g = n (sym (ap (λ (r : Answer). r .readings) (same U g mode a b room work)))
+  other-readings U C room work n g = n (sym (ap (λ (r : Answer). r .readings) (same U g C room work)))

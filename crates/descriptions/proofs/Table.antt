@@ -13,8 +13,9 @@ use borrow.Author.Tests.{le-ltb, lt-ltb}
 use Rattle.descriptions.specs.Limits.{choice-limit, depth-limit, input-limit, working-size}
 use Rattle.descriptions.specs.Descr.{Desc, agree, agreeing, choices, number, readings}
 use Rattle.descriptions.specs.Modes.{fold, full, joined, prune, quick, some-agree}
+use Rattle.descriptions.specs.Call.{Call}
 use Rattle.descriptions.specs.Answer.{Answer, consistent, refuse}
-use Rattle.descriptions.specs.Outcome.{Areas, Outcome, worked}
+use Rattle.descriptions.specs.Outcome.{Areas, Outcome, Row, worked}
 use Rattle.descriptions.specs.Unified.{complete, deliver, in-mode, unified}
 use Rattle.descriptions.specs.Rules.{Accepted, Clashes, Given, TooMany, done, eight, five, four, mode-readings, mode-result, one, seven, six, six-after, three, two}
 use Rattle.descriptions.proofs.Tests.{Tells, fails, holds, none-is, tells-lt}
@@ -23,6 +24,12 @@ use Rattle.descriptions.proofs.Full.{whole}
 use Rattle.descriptions.specs.Joining.{Joining}
 use Rattle.descriptions.specs.Layout.{Layout}
 use Rattle.descriptions.proofs.Laws.{Laws}
+
+is-short : (ws : List ℕ) → length ws ≤ input-limit → ltb input-limit (length ws) ≡ false
+is-short ws = le-ltb input-limit (length ws)
+
+is-long : (ws : List ℕ) → input-limit < length ws → ltb input-limit (length ws) ≡ true
+is-long ws = lt-ltb input-limit (length ws)
 
 module _ {Graph : Type 0} (𝓕 : Layout Graph) where
   open Layout 𝓕 using (words)
@@ -99,55 +106,76 @@ module _ {Graph : Type 0} (J : Joining Graph) (𝓕 : Layout Graph) where
       go none h = full-none (rw (h, consistent))
       go (some j) h = two j h (some-agree J (choices j)) refl
 
-  module _ (mode : ℕ) (a b : List ℕ) (room work : ℕ) where
+  module _ (C : Call) (room work : ℕ) where
     abbrev G : Answer → Type 0
-    G r = Given J 𝓕 mode a b room work r
+    G r = Given J 𝓕 C room work r
 
     -- the answer where a result is there or not
-    give : (d e : Desc Graph) → Accepted 𝓕 mode a b work d e → ¬ (Clashes J mode d e) → ¬ (TooMany J mode d e) → (r : Desc Graph) → mode-result J mode d e ≡ some r → G (deliver 𝓕 room (mode-readings J mode d e) (some r))
+    give : (d e : Desc Graph) → Accepted 𝓕 C work d e → ¬ (Clashes J (C .mode) d e) → ¬ (TooMany J (C .mode) d e) → (r : Desc Graph) →
+        mode-result J (C .mode) d e ≡ some r → G (deliver 𝓕 room (mode-readings J (C .mode) d e) (some r))
     unfolding deliver
     give d e A c m r h = go (ltb room (length (words r))) (tells-lt room (length (words r)))
       where
         go : (t : Bool) → Tells (room < length (words r)) t → G (elim t [
           | true ↦ record { number = 8; extent = length (words r); readings = 0; result = [] }
-          | false ↦ record { number = 0; extent = length (words r); readings = mode-readings J mode d e; result = words r }
+          | false ↦ record { number = 0; extent = length (words r); readings = mode-readings J (C .mode) d e; result = words r }
         ])
         go true (holds l) = eight d e r A c m h l
         go false (fails n) = done d e r A c m h (omega arith)
 
-  none-of : (mode : ℕ) (a b : List ℕ) (room work n : ℕ) → Given J 𝓕 mode a b room work (refuse 6) → Given J 𝓕 mode a b room work (deliver 𝓕 room n none)
+  none-of : (C : Call) (room work n : ℕ) → Given J 𝓕 C room work (refuse 6) → Given J 𝓕 C room work (deliver 𝓕 room n none)
   unfolding deliver
-  none-of mode a b room work n g = g
+  none-of C room work n g = g
 
-  six-of : (mode : ℕ) (a b : List ℕ) (room work : ℕ) (d e : Desc Graph) (n : ℕ) → Accepted 𝓕 mode a b work d e → Clashes J mode d e → Given J 𝓕 mode a b room work (deliver 𝓕 room n none)
-  six-of mode a b room work d e n A c = none-of mode a b room work n (six d e A c)
+  six-of : (C : Call) (room work : ℕ) (d e : Desc Graph) (n : ℕ) → Accepted 𝓕 C work d e → Clashes J (C .mode) d e →
+      Given J 𝓕 C room work (deliver 𝓕 room n none)
+  six-of C room work d e n A c = none-of C room work n (six d e A c)
 
-  in-mode-given : (mode : ℕ) (a b : List ℕ) (room work : ℕ) (d e : Desc Graph) → Accepted 𝓕 mode a b work d e → Given J 𝓕 mode a b room work (in-mode J 𝓕 mode d e room)
+  abbrev asked : ℕ → List ℕ → List ℕ → Call
+  asked mode a b = record { mode = mode; first = a; second = b }
+
+  in-mode-given : (mode : ℕ) (a b : List ℕ) (room work : ℕ) (d e : Desc Graph) → Accepted 𝓕 (asked mode a b) work d e →
+      Given J 𝓕 (asked mode a b) room work (in-mode J 𝓕 mode d e room)
   unfolding in-mode complete
   in-mode-given zero a b room work d e A = go (joined J d e) refl
     where
-      go : (o : Option (Desc Graph)) → joined J d e ≡ o → Given J 𝓕 0 a b room work (deliver 𝓕 room 0 o)
-      go none h = six-of 0 a b room work d e 0 A (inl h)
-      go (some r) h = give 0 a b room work d e A (clash-zero J d e r h) (few J 0 d e (omega arith)) r h
+      go : (o : Option (Desc Graph)) → joined J d e ≡ o → Given J 𝓕 (asked 0 a b) room work (deliver 𝓕 room 0 o)
+      go none h = six-of (asked 0 a b) room work d e 0 A (inl h)
+      go (some r) h = give (asked 0 a b) room work d e A (clash-zero J d e r h) (few J 0 d e (omega arith)) r h
   in-mode-given (suc zero) a b room work d e A = go (quick J d e) refl
     where
-      go : (o : Option (Desc Graph)) → quick J d e ≡ o → Given J 𝓕 1 a b room work (deliver 𝓕 room 0 o)
-      go none h = six-of 1 a b room work d e 0 A (inr (omega arith, h))
-      go (some r) h = give 1 a b room work d e A (clash-more J 1 d e r h) (few J 1 d e (omega arith)) r h
+      go : (o : Option (Desc Graph)) → quick J d e ≡ o → Given J 𝓕 (asked 1 a b) room work (deliver 𝓕 room 0 o)
+      go none h = six-of (asked 1 a b) room work d e 0 A (inr (omega arith, h))
+      go (some r) h = give (asked 1 a b) room work d e A (clash-more J 1 d e r h) (few J 1 d e (omega arith)) r h
   in-mode-given (suc (suc m)) a b room work d e A = go (quick J d e) refl
     where
-      two-is : suc (suc m) ≡ 2
+      mode : ℕ
+      mode = suc (suc m)
+
+      two-is : mode ≡ 2
       two-is = let h = A .mode-fine in omega (arith, h)
 
-      after : (q : Desc Graph) → quick J d e ≡ some q → ¬ (choice-limit < number q) → (o : Option (Desc Graph)) → full J d e ≡ o → FullView J d e o → Given J 𝓕 (suc (suc m)) a b room work (deliver 𝓕 room (consistent J d e) o)
-      after q h n none f (full-none c) = none-of (suc (suc m)) a b room work (consistent J d e) (six-after d e A (clash-more J (suc (suc m)) d e q h) (few-two J (suc (suc m)) d e q h n) two-is c)
-      after q h n (some r) f v = give (suc (suc m)) a b room work d e A (clash-more J (suc (suc m)) d e q h) (few-two J (suc (suc m)) d e q h n) r f
+      counted : Answer
+      counted = deliver 𝓕 room (consistent J d e) (full J d e)
 
-      limit : (q : Desc Graph) → quick J d e ≡ some q → (t : Bool) → Tells (choice-limit < number q) t → Given J 𝓕 (suc (suc m)) a b room work (elim t [ true ↦ refuse 7 | false ↦ deliver 𝓕 room (consistent J d e) (full J d e) ])
-      limit q h true (holds l) = seven d e A (clash-more J (suc (suc m)) d e q h) (two-is, q, h, l)
+      after : (q : Desc Graph) → quick J d e ≡ some q → ¬ (choice-limit < number q) →
+          (o : Option (Desc Graph)) → full J d e ≡ o → FullView J d e o →
+          Given J 𝓕 (asked mode a b) room work (deliver 𝓕 room (consistent J d e) o)
+      after q h n none f (full-none c) =
+          none-of (asked mode a b) room work (consistent J d e)
+          (six-after d e A (clash-more J mode d e q h) (few-two J mode d e q h n) two-is c)
+      after q h n (some r) f v = give (asked mode a b) room work d e A (clash-more J mode d e q h) (few-two J mode d e q h n) r f
+
+      limit : (q : Desc Graph) → quick J d e ≡ some q → (t : Bool) → Tells (choice-limit < number q) t →
+          Given J 𝓕 (asked mode a b) room work (elim t [ true ↦ refuse 7 | false ↦ counted ])
+      limit q h true (holds l) = seven d e A (clash-more J mode d e q h) (two-is, q, h, l)
       limit q h false (fails n) = after q h n (full J d e) refl (full-view d e)
 
-      go : (o : Option (Desc Graph)) → quick J d e ≡ o → Given J 𝓕 (suc (suc m)) a b room work (elim o [ none ↦ refuse 6 | some q ↦ elim (ltb choice-limit (number q)) [ true ↦ refuse 7 | false ↦ deliver 𝓕 room (consistent J d e) (full J d e) ] ])
+      go : (o : Option (Desc Graph)) → quick J d e ≡ o →
+          Given J 𝓕 (asked mode a b) room work (elim o [
+            | none ↦ refuse 6
+            | some q ↦ elim (ltb choice-limit (number q)) [ true ↦ refuse 7 | false ↦ counted ]
+          ])
       go none h = six d e A (inr (omega arith, h))
       go (some q) h = limit q h (ltb choice-limit (number q)) (tells-lt choice-limit (number q))
 
@@ -195,103 +223,145 @@ module _ {Graph : Type 0} {J : Joining Graph} {𝓛 : Laws J} {𝓕 : Layout Gra
   open Reads 𝓡 using (decoded, decode-words)
 
   -- every answer of `unified` is given by the table
-  pub unified-given : (mode : ℕ) (a b : List ℕ) (room work : ℕ) → Given J 𝓕 mode a b room work (unified J 𝓕 mode a b room work)
+  pub unified-given : (C : Call) (room work : ℕ) → Given J 𝓕 C room work (unified J 𝓕 C room work)
   unfolding unified
-  unified-given mode a b room work = first (ltb 2 mode) (tells-lt 2 mode)
+  unified-given C room work = first (ltb 2 (C .mode)) (tells-lt 2 (C .mode))
     where
+      a : List ℕ
+      a = C .first
+
+      b : List ℕ
+      b = C .second
+
       G : Answer → Type 0
-      G r = Given J 𝓕 mode a b room work r
+      G r = Given J 𝓕 C room work r
 
-      fifth : mode ≤ 2 → working-size ≤ work → length a ≤ input-limit → length b ≤ input-limit → (d : Desc Graph) → WellFormed d depth-limit → a ≡ words d → (o : Option (Desc Graph)) → Decoded 𝓕 b o → G (elim o [ none ↦ refuse 5 | some e ↦ in-mode J 𝓕 mode d e room ])
+      -- what each check leaves to the next
+      from-five : Desc Graph → Option (Desc Graph) → Answer
+      from-five d o = elim o [ none ↦ refuse 5 | some e ↦ in-mode J 𝓕 (C .mode) d e room ]
+
+      from-four : Option (Desc Graph) → Answer
+      from-four o = elim o [ none ↦ refuse 4 | some d ↦ from-five d (decode b) ]
+
+      from-three : Bool → Answer
+      from-three t = elim t [ true ↦ refuse 3 | false ↦ from-four (decode a) ]
+
+      from-two : Bool → Answer
+      from-two t = elim t [ true ↦ refuse 2 | false ↦ from-three (ltb input-limit (length a) || ltb input-limit (length b)) ]
+
+      fifth : C .mode ≤ 2 → working-size ≤ work → length a ≤ input-limit → length b ≤ input-limit →
+          (d : Desc Graph) → WellFormed d depth-limit → a ≡ words d → (o : Option (Desc Graph)) → Decoded 𝓕 b o → G (from-five d o)
       fifth m w la lb d p h none (malformed n) = five m w la lb (d, p, h) n
-      fifth m w la lb d p h (some e) (is f q k) = in-mode-given J 𝓕 mode a b room work d e (record { mode-fine = m; area-fine = w; first-short = la; second-short = lb; first-well = p; second-well = q; first-is = h; second-is = k })
+      fifth m w la lb d p h (some e) (is f q k) = in-mode-given J 𝓕 (C .mode) a b room work d e (record {
+        mode-fine = m;
+        area-fine = w;
+        first-short = la;
+        second-short = lb;
+        first-well = p;
+        second-well = q;
+        first-is = h;
+        second-is = k;
+      })
 
-      fourth : mode ≤ 2 → working-size ≤ work → length a ≤ input-limit → length b ≤ input-limit → (o : Option (Desc Graph)) → Decoded 𝓕 a o → G (elim o [ none ↦ refuse 4 | some d ↦ elim (decode b) [ none ↦ refuse 5 | some e ↦ in-mode J 𝓕 mode d e room ] ])
+      fourth : C .mode ≤ 2 → working-size ≤ work → length a ≤ input-limit → length b ≤ input-limit →
+          (o : Option (Desc Graph)) → Decoded 𝓕 a o → G (from-four o)
       fourth m w la lb none (malformed n) = four m w la lb n
       fourth m w la lb (some d) (is f p h) = fifth m w la lb d p h (decode b) (decoded b)
 
-      third : mode ≤ 2 → working-size ≤ work → (s t : Bool) → Tells (input-limit < length a) s → Tells (input-limit < length b) t →
-          G (elim (s || t) [ true ↦ refuse 3 | false ↦ elim (decode a) [ none ↦ refuse 4 | some d ↦ elim (decode b) [ none ↦ refuse 5 | some e ↦ in-mode J 𝓕 mode d e room ] ] ])
+      third : C .mode ≤ 2 → working-size ≤ work → (s t : Bool) →
+          Tells (input-limit < length a) s → Tells (input-limit < length b) t → G (from-three (s || t))
       third m w true t (holds l) y = three m w (inl l)
       third m w false true (fails n) (holds l) = three m w (inr l)
       third m w false false (fails n) (fails k) = fourth m w (omega arith) (omega arith) (decode a) (decoded a)
 
-      second : mode ≤ 2 → (t : Bool) → Tells (work < working-size) t → G (elim t [
-        | true ↦ refuse 2
-        | false ↦
-            elim (ltb input-limit (length a) || ltb input-limit (length b)) [ true ↦ refuse 3 | false ↦ elim (decode a) [ none ↦ refuse 4 | some d ↦ elim (decode b) [ none ↦ refuse 5 | some e ↦ in-mode J 𝓕 mode d e room ] ] ]
-      ])
+      second : C .mode ≤ 2 → (t : Bool) → Tells (work < working-size) t → G (from-two t)
       second m true (holds l) = two m l
-      second m false (fails n) = third m (omega arith) (ltb input-limit (length a)) (ltb input-limit (length b)) (tells-lt input-limit (length a)) (tells-lt input-limit (length b))
+      second m false (fails n) =
+          third m (omega arith) (ltb input-limit (length a)) (ltb input-limit (length b))
+          (tells-lt input-limit (length a)) (tells-lt input-limit (length b))
 
-      first : (t : Bool) → Tells (2 < mode) t → G (elim t [
-        | true ↦ refuse 1
-        | false ↦ elim (ltb work working-size) [
-          | true ↦ refuse 2
-          | false ↦
-              elim (ltb input-limit (length a) || ltb input-limit (length b)) [ true ↦ refuse 3 | false ↦ elim (decode a) [ none ↦ refuse 4 | some d ↦ elim (decode b) [ none ↦ refuse 5 | some e ↦ in-mode J 𝓕 mode d e room ] ] ]
-        ]
-      ])
+      first : (t : Bool) → Tells (2 < C .mode) t → G (elim t [ true ↦ refuse 1 | false ↦ from-two (ltb work working-size) ])
       first true (holds l) = one l
       first false (fails n) = second (omega arith) (ltb work working-size) (tells-lt work working-size)
 
   -- and the table gives no other
-  accepted-unified : (mode : ℕ) (a b : List ℕ) (room work : ℕ) (d e : Desc Graph) → Accepted 𝓕 mode a b work d e → unified J 𝓕 mode a b room work ≡ in-mode J 𝓕 mode d e room
+  accepted-unified : (C : Call) (room work : ℕ) (d e : Desc Graph) → Accepted 𝓕 C work d e →
+      unified J 𝓕 C room work ≡ in-mode J 𝓕 (C .mode) d e room
   unfolding unified
-  accepted-unified mode a b room work d e A =
-      let e₁ : ltb 2 mode ≡ false = le-ltb 2 mode (A .mode-fine) in
+  accepted-unified C room work d e A =
+      let e₁ : ltb 2 (C .mode) ≡ false = le-ltb 2 (C .mode) (A .mode-fine) in
       let e₂ : ltb work working-size ≡ false = le-ltb work working-size (A .area-fine) in
-      let e₃ : ltb input-limit (length a) ≡ false = le-ltb input-limit (length a) (A .first-short) in
-      let e₄ : ltb input-limit (length b) ≡ false = le-ltb input-limit (length b) (A .second-short) in
-      let e₅ : decode a ≡ some d = ap decode (A .first-is) ∙ decode-words d (A .first-well) in
-      let e₆ : decode b ≡ some e = ap decode (A .second-is) ∙ decode-words e (A .second-well) in
+      let e₃ : ltb input-limit (length (C .first)) ≡ false = is-short (C .first) (A .first-short) in
+      let e₄ : ltb input-limit (length (C .second)) ≡ false = is-short (C .second) (A .second-short) in
+      let e₅ : decode (C .first) ≡ some d = ap decode (A .first-is) ∙ decode-words d (A .first-well) in
+      let e₆ : decode (C .second) ≡ some e = ap decode (A .second-is) ∙ decode-words e (A .second-well) in
       rw (e₁, e₂, e₃, e₄, e₅, e₆, unified)
 
-  pub given-unified : (mode : ℕ) (a b : List ℕ) (room work : ℕ) (r : Answer) → Given J 𝓕 mode a b room work r → unified J 𝓕 mode a b room work ≡ r
+  pub given-unified : (C : Call) (room work : ℕ) (r : Answer) → Given J 𝓕 C room work r → unified J 𝓕 C room work ≡ r
   unfolding unified
-  given-unified mode a b room work r (one h) = let e = lt-ltb 2 mode h in rw (e, unified)
-  given-unified mode a b room work r (two m h) = let e = le-ltb 2 mode m in let f = lt-ltb work working-size h in rw (e, f, unified)
-  given-unified mode a b room work r (three m w (inl h)) = let e = le-ltb 2 mode m in let f = le-ltb work working-size w in let g = lt-ltb input-limit (length a) h in rw (e, f, g, unified)
-  given-unified mode a b room work r (three m w (inr h)) = go (ltb input-limit (length a)) refl
+  given-unified C room work r (one h) = let e = lt-ltb 2 (C .mode) h in rw (e, unified)
+  given-unified C room work r (two m h) = let e = le-ltb 2 (C .mode) m in let f = lt-ltb work working-size h in rw (e, f, unified)
+  given-unified C room work r (three m w (inl h)) =
+      let e = le-ltb 2 (C .mode) m in let f = le-ltb work working-size w in let g = is-long (C .first) h in rw (e, f, g, unified)
+  given-unified C room work r (three m w (inr h)) = go (ltb input-limit (length (C .first))) refl
     where
-      go : (t : Bool) → ltb input-limit (length a) ≡ t → unified J 𝓕 mode a b room work ≡ refuse 3
-      go true g = let e = le-ltb 2 mode m in let f = le-ltb work working-size w in rw (e, f, g, unified)
-      go false g = let e = le-ltb 2 mode m in let f = le-ltb work working-size w in let k = lt-ltb input-limit (length b) h in rw (e, f, g, k, unified)
-  given-unified mode a b room work r (four m w la lb n) = go (decode a) refl (decoded a)
+      go : (t : Bool) → ltb input-limit (length (C .first)) ≡ t → unified J 𝓕 C room work ≡ refuse 3
+      go true g = let e = le-ltb 2 (C .mode) m in let f = le-ltb work working-size w in rw (e, f, g, unified)
+      go false g =
+          let e = le-ltb 2 (C .mode) m in let f = le-ltb work working-size w in let k = is-long (C .second) h in rw (e, f, g, k, unified)
+  given-unified C room work r (four m w la lb n) = go (decode (C .first)) refl (decoded (C .first))
     where
-      go : (o : Option (Desc Graph)) → decode a ≡ o → Decoded 𝓕 a o → unified J 𝓕 mode a b room work ≡ refuse 4
-      go none q v = let e = le-ltb 2 mode m in let f = le-ltb work working-size w in let g = le-ltb input-limit (length a) la in let h = le-ltb input-limit (length b) lb in rw (e, f, g, h, q, unified)
+      go : (o : Option (Desc Graph)) → decode (C .first) ≡ o → Decoded 𝓕 (C .first) o → unified J 𝓕 C room work ≡ refuse 4
+      go none q v =
+          let e = le-ltb 2 (C .mode) m in let f = le-ltb work working-size w in
+          let g = is-short (C .first) la in let h = is-short (C .second) lb in rw (e, f, g, h, q, unified)
       go (some d) q (is c p s) = absurd (n (d, p, s))
-  given-unified mode a b room work r (five m w la lb i n) = go (decode b) refl (decoded b)
+  given-unified C room work r (five m w la lb i n) = go (decode (C .second)) refl (decoded (C .second))
     where
-      go : (o : Option (Desc Graph)) → decode b ≡ o → Decoded 𝓕 b o → unified J 𝓕 mode a b room work ≡ refuse 5
-      go none q v = let e = le-ltb 2 mode m in let f = le-ltb work working-size w in let g = le-ltb input-limit (length a) la in let h = le-ltb input-limit (length b) lb in
-          let k : decode a ≡ some (i .0) = ap decode (i .2) ∙ decode-words (i .0) (i .1) in rw (e, f, g, h, k, q, unified)
+      go : (o : Option (Desc Graph)) → decode (C .second) ≡ o → Decoded 𝓕 (C .second) o → unified J 𝓕 C room work ≡ refuse 5
+      go none q v =
+          let e = le-ltb 2 (C .mode) m in let f = le-ltb work working-size w in
+          let g = is-short (C .first) la in let h = is-short (C .second) lb in
+          let k : decode (C .first) ≡ some (i .0) = ap decode (i .2) ∙ decode-words (i .0) (i .1) in rw (e, f, g, h, k, q, unified)
       go (some d) q (is c p s) = absurd (n (d, p, s))
-  given-unified mode a b room work r (six d e A c) = accepted-unified mode a b room work d e A ∙ in-mode-clash J 𝓕 mode d e room c
-  given-unified mode a b room work r (seven d e A c t) = accepted-unified mode a b room work d e A ∙ in-mode-many J 𝓕 mode d e room t
-  given-unified mode a b room work r (six-after d e A c t z n) = accepted-unified mode a b room work d e A ∙ in-mode-result J 𝓕 mode d e room (A .mode-fine) c t ∙ rw z (ap (deliver 𝓕 room (consistent J d e)) (full-is J 𝓕 d e n) ∙ deliver-none 𝓕 room (consistent J d e))
-  given-unified mode a b room work r (eight d e s A c t h l) = accepted-unified mode a b room work d e A ∙ in-mode-result J 𝓕 mode d e room (A .mode-fine) c t ∙ ap (deliver 𝓕 room (mode-readings J mode d e)) h ∙ deliver-eight 𝓕 room (mode-readings J mode d e) s l
-  given-unified mode a b room work r (done d e s A c t h l) = accepted-unified mode a b room work d e A ∙ in-mode-result J 𝓕 mode d e room (A .mode-fine) c t ∙ ap (deliver 𝓕 room (mode-readings J mode d e)) h ∙ deliver-done 𝓕 room (mode-readings J mode d e) s l
+  given-unified C room work r (six d e A c) = accepted-unified C room work d e A ∙ in-mode-clash J 𝓕 (C .mode) d e room c
+  given-unified C room work r (seven d e A c t) = accepted-unified C room work d e A ∙ in-mode-many J 𝓕 (C .mode) d e room t
+  given-unified C room work r (six-after d e A c t z n) =
+      accepted-unified C room work d e A ∙ in-mode-result J 𝓕 (C .mode) d e room (A .mode-fine) c t
+      ∙ rw z (ap (deliver 𝓕 room (consistent J d e)) (full-is J 𝓕 d e n) ∙ deliver-none 𝓕 room (consistent J d e))
+  given-unified C room work r (eight d e s A c t h l) =
+      let n = mode-readings J (C .mode) d e in
+      accepted-unified C room work d e A ∙ in-mode-result J 𝓕 (C .mode) d e room (A .mode-fine) c t
+      ∙ ap (deliver 𝓕 room n) h ∙ deliver-eight 𝓕 room n s l
+  given-unified C room work r (done d e s A c t h l) =
+      let n = mode-readings J (C .mode) d e in
+      accepted-unified C room work d e A ∙ in-mode-result J 𝓕 (C .mode) d e room (A .mode-fine) c t
+      ∙ ap (deliver 𝓕 room n) h ∙ deliver-done 𝓕 room n s l
 
   -- an answer is given by the table exactly when it is `unified`'s
-  pub table : (mode : ℕ) (a b : List ℕ) (room work : ℕ) (r : Answer) → (unified J 𝓕 mode a b room work ≡ r) ↔ Given J 𝓕 mode a b room work r
-  table mode a b room work r = (λ e. subst (Given J 𝓕 mode a b room work) e (unified-given mode a b room work), given-unified mode a b room work r)
+  pub table : (C : Call) (room work : ℕ) (r : Answer) → (unified J 𝓕 C room work ≡ r) ↔ Given J 𝓕 C room work r
+  table C room work r = (λ e. subst (Given J 𝓕 C room work) e (unified-given C room work), given-unified C room work r)
 
   -- for each number
-  pub number-iff : (mode : ℕ) (a b : List ℕ) (room work n : ℕ) → (unified J 𝓕 mode a b room work .number ≡ n) ↔ ((r : Answer) × (r .number ≡ n) × Given J 𝓕 mode a b room work r)
-  number-iff mode a b room work n = (λ e. (unified J 𝓕 mode a b room work, e, unified-given mode a b room work), λ (r, e, g). ap (λ (z : Answer). z .number) (given-unified mode a b room work r g) ∙ e)
+  pub number-iff : (C : Call) (room work n : ℕ) →
+      (unified J 𝓕 C room work .number ≡ n) ↔ ((r : Answer) × (r .number ≡ n) × Given J 𝓕 C room work r)
+  number-iff C room work n = (
+    λ e. (unified J 𝓕 C room work, e, unified-given C room work),
+    λ (r, e, g). ap (λ (z : Answer). z .number) (given-unified C room work r g) ∙ e,
+  )
 
   -- the table gives one answer
-  pub one-answer : (mode : ℕ) (a b : List ℕ) (room work : ℕ) (r s : Answer) → Given J 𝓕 mode a b room work r → Given J 𝓕 mode a b room work s → r ≡ s
-  one-answer mode a b room work r s g h = sym (given-unified mode a b room work r g) ∙ given-unified mode a b room work s h
+  pub one-answer : (C : Call) (room work : ℕ) (r s : Answer) → Given J 𝓕 C room work r → Given J 𝓕 C room work s → r ≡ s
+  one-answer C room work r s g h = sym (given-unified C room work r g) ∙ given-unified C room work s h
 
   -- two outcomes allowed for one input are equal
-  pub one-outcome : (mode : ℕ) (a b : List ℕ) (before : Areas) (n l r n′ l′ r′ : ℕ) (after after′ : Areas) → Outcome J 𝓕 mode a b before n l r after → Outcome J 𝓕 mode a b before n′ l′ r′ after′ →
-      (n ≡ n′) × (l ≡ l′) × (r ≡ r′) × (after .result ≡ after′ .result) × (after .working ≡ after′ .working)
-  one-outcome mode a b before n l r n′ l′ r′ after after′ p q =
-      let s : p .answer ≡ q .answer = one-answer mode a b (length (before .result)) (length (before .working)) (p .answer) (q .answer) (p .given) (q .given) in
-      let e : n ≡ n′ = p .the-number ∙ ap (λ (z : Answer). z .number) s ∙ sym (q .the-number) in (
+  pub one-outcome : (C : Call) (before : Areas) (r r′ : Row) (after after′ : Areas) →
+      Outcome J 𝓕 C before r after → Outcome J 𝓕 C before r′ after′ →
+      (r .number ≡ r′ .number) × (r .extent ≡ r′ .extent) × (r .readings ≡ r′ .readings)
+      × (after .result ≡ after′ .result) × (after .working ≡ after′ .working)
+  one-outcome C before r r′ after after′ p q =
+      let s : p .answer ≡ q .answer = one-answer C _ _ (p .answer) (q .answer) (p .given) (q .given) in
+      let e : r .number ≡ r′ .number = p .the-number ∙ ap (λ (z : Answer). z .number) s ∙ sym (q .the-number) in (
         e,
         p .the-extent ∙ ap (λ (z : Answer). z .extent) s ∙ sym (q .the-extent),
         p .the-readings ∙ ap (λ (z : Answer). z .readings) s ∙ sym (q .the-readings),
@@ -300,5 +370,6 @@ module _ {Graph : Type 0} {J : Joining Graph} {𝓛 : Laws J} {𝓕 : Layout Gra
       )
 
   -- and it is `unified`'s
-  pub outcome-answer : (mode : ℕ) (a b : List ℕ) (before : Areas) (n l r : ℕ) (after : Areas) (p : Outcome J 𝓕 mode a b before n l r after) → unified J 𝓕 mode a b (length (before .result)) (length (before .working)) ≡ p .answer
-  outcome-answer mode a b before n l r after p = given-unified mode a b (length (before .result)) (length (before .working)) (p .answer) (p .given)
+  pub outcome-answer : (C : Call) (before : Areas) (r : Row) (after : Areas) (p : Outcome J 𝓕 C before r after) →
+      unified J 𝓕 C (length (before .result)) (length (before .working)) ≡ p .answer
+  outcome-answer C before r after p = given-unified C (length (before .result)) (length (before .working)) (p .answer) (p .given)

@@ -11,15 +11,16 @@ use lib.Dec.{eqb}
 use Rattle.descriptions.specs.Limits.{depth-limit}
 use Rattle.descriptions.specs.Descr.{Desc, agreeing, choices, desc, end, pairs, readings}
 use Rattle.descriptions.specs.Satisfaction.{Sat}
+use Rattle.descriptions.specs.Call.{Call}
 use Rattle.descriptions.specs.Answer.{Answer}
 use Rattle.descriptions.specs.Rules.{mode-result}
 use Rattle.descriptions.specs.Structures.{Structures}
 use Rattle.descriptions.specs.Joining.{Joining}
 use Rattle.descriptions.specs.Layout.{Layout}
 
--- "Unification takes a mode, two descriptions, a result area and a working area": mode, words of both, words that each area has
+-- "Unification takes a mode, two descriptions, a result area and a working area": of the areas, how many words each has
 abbrev pub Unifier : Type 0
-Unifier = ℕ → List ℕ → List ℕ → ℕ → ℕ → Answer
+Unifier = Call → ℕ → ℕ → Answer
 
 -- a refusal on another ground
 abbrev pub Refused : ℕ → Type 0
@@ -39,6 +40,10 @@ module _ {Graph : Type 0} where
 module _ {Graph : Type 0} (𝓕 : Layout Graph) where
   open Layout 𝓕 using (words, WellFormed)
 
+  -- a call with the words of two descriptions
+  abbrev pub with-words : ℕ → Desc Graph → Desc Graph → Call
+  with-words mode a b = record { mode = mode; first = words a; second = words b }
+
   -- Demand 3. A description on the list, with the mode and the areas of its call, and whether the words in hand are the first input of it or the second
   pub record Step : Type 0 where
     pub item : Desc Graph
@@ -48,8 +53,13 @@ module _ {Graph : Type 0} (𝓕 : Layout Graph) where
     pub room : ℕ
     pub work : ℕ
 
+  -- the call that a step makes with the words in hand
+  abbrev pub next-call : List ℕ → Step → Call
+  next-call ws s = let b = words (s .item) in let t = s .in-hand-first in
+      record { mode = s .mode; first = elim t [ true ↦ ws | false ↦ b ]; second = elim t [ true ↦ b | false ↦ ws ] }
+
   abbrev pub call : Unifier → List ℕ → Step → Answer
-  call U ws s = elim (s .in-hand-first) [ true ↦ U (s .mode) ws (words (s .item)) (s .room) (s .work) | false ↦ U (s .mode) (words (s .item)) ws (s .room) (s .work) ]
+  call U ws s = U (next-call ws s) (s .room) (s .work)
 
   -- the words in hand after these calls, "while every call succeeds"
   abbrev pub reached : Unifier → List ℕ → List Step → Option (List ℕ)
@@ -101,7 +111,7 @@ module _ {Graph : Type 0} (J : Joining Graph) (𝓜 : Structures Graph) (𝓕 : 
     pub means : (S : Structure) → Sat 𝓜 S d ↔ (Sat 𝓜 S a × Sat 𝓜 S b)
 
   pub record Demand2 (U : Unifier) : Type 1 where
-    pub success : (mode : ℕ) (a b : Desc Graph) → WellFormed a depth-limit → WellFormed b depth-limit → (room work : ℕ) → U mode (words a) (words b) room work .number ≡ 0 →
-        (d : Desc Graph) × Succeeds mode a b (U mode (words a) (words b) room work) d
-    pub clash : (mode : ℕ) (a b : Desc Graph) → WellFormed a depth-limit → WellFormed b depth-limit → (room work : ℕ) → U mode (words a) (words b) room work .number ≡ 6 →
-        (S : Structure) → Sat 𝓜 S a → Sat 𝓜 S b → ⊥
+    pub success : (mode : ℕ) (a b : Desc Graph) → WellFormed a depth-limit → WellFormed b depth-limit → (room work : ℕ) →
+        U (with-words 𝓕 mode a b) room work .number ≡ 0 → (d : Desc Graph) × Succeeds mode a b (U (with-words 𝓕 mode a b) room work) d
+    pub clash : (mode : ℕ) (a b : Desc Graph) → WellFormed a depth-limit → WellFormed b depth-limit → (room work : ℕ) →
+        U (with-words 𝓕 mode a b) room work .number ≡ 6 → (S : Structure) → Sat 𝓜 S a → Sat 𝓜 S b → ⊥

@@ -7,6 +7,7 @@ use Prim.Native.Nat.{ℕ, zero, suc}
 use lib.ListN.{length, drop, replicate}
 use lib.Dec.{ltb}
 use Rattle.descriptions.specs.Limits.{working-size}
+use Rattle.descriptions.specs.Call.{Call}
 use Rattle.descriptions.specs.Answer.{Answer}
 use Rattle.descriptions.specs.Rules.{Given}
 use Rattle.descriptions.specs.Joining.{Joining}
@@ -16,6 +17,12 @@ use Rattle.descriptions.specs.Layout.{Layout}
 pub record Areas : Type 0 where
   pub result : List ℕ
   pub working : List ℕ
+
+-- "It returns a number, a length and a count of readings"
+pub record Row : Type 0 where
+  pub number : ℕ
+  pub extent : ℕ
+  pub readings : ℕ
 
 -- the first n words zero
 unfoldable pub wiped : ℕ → List ℕ → List ℕ
@@ -30,12 +37,12 @@ module _ {Graph : Type 0} (J : Joining Graph) (𝓕 : Layout Graph) where
   open Layout 𝓕 using (words)
 
   -- number, length, readings and every word of both areas after a call
-  pub record Outcome (mode : ℕ) (a b : List ℕ) (before : Areas) (number extent readings : ℕ) (after : Areas) : Type 0 where
+  pub record Outcome (c : Call) (before : Areas) (r : Row) (after : Areas) : Type 0 where
     pub answer : Answer
-    pub given : Given J 𝓕 mode a b (length (before .result)) (length (before .working)) answer
-    pub the-number : number ≡ answer .number
-    pub the-extent : extent ≡ answer .extent
-    pub the-readings : readings ≡ answer .readings
+    pub given : Given J 𝓕 c (length (before .result)) (length (before .working)) answer
+    pub the-number : r .number ≡ answer .number
+    pub the-extent : r .extent ≡ answer .extent
+    pub the-readings : r .readings ≡ answer .readings
     -- "only number 0 writes, the first so many words; the rest stays"
     pub the-result : after .result ≡ answer .result ++ drop (length (answer .result)) (before .result)
-    pub the-working : after .working ≡ worked number (before .working)
+    pub the-working : after .working ≡ worked (r .number) (before .working)

@@ -9,21 +9,20 @@ use lib.Dec.{eqb, ltb}
 use Rattle.descriptions.specs.Limits.{word-limit, length-limit}
 use Rattle.descriptions.specs.Joining.{Joining}
 use Rattle.descriptions.specs.Layout.{Layout}
+use Rattle.descriptions.specs.Call.{Call}
 use Rattle.descriptions.specs.Answer.{Answer}
 use Rattle.descriptions.specs.Unified.{unified}
-use Rattle.descriptions.specs.Outcome.{Areas, Outcome}
+use Rattle.descriptions.specs.Outcome.{Areas, Outcome, Row}
 use Rattle.descriptions.specs.Demands.{Unifier}
 
 -- what comes back from a call, and the areas after it
 pub record Left : Type 0 where
-  pub number : ℕ
-  pub extent : ℕ
-  pub readings : ℕ
+  pub row : Row
   pub after : Areas
 
--- from mode, both inputs and the areas before the call
+-- from what comes in and the areas before the call
 abbrev pub Program : Type 0
-Program = ℕ → List ℕ → List ℕ → Areas → Left
+Program = Call → Areas → Left
 
 abbrev pub all-small : List ℕ → Bool
 all-small [] = true
@@ -33,16 +32,20 @@ all-small (w ∷ ws) = ltb w word-limit && all-small ws
 abbrev pub are-words : List ℕ → Bool
 are-words ws = ltb (length ws) length-limit && all-small ws
 
--- what can come in: a mode in a word, inputs and areas of words
-abbrev pub in-words : ℕ → List ℕ → List ℕ → Areas → Bool
-in-words mode a b before = ltb mode word-limit && (are-words a && (are-words b && (are-words (before .result) && are-words (before .working))))
+module _ (c : Call) (before : Areas) where
+  open Call c using (mode, first, second)
+  open Areas before using (result, working)
+
+  -- what can come in: a mode in a word, inputs and areas of words
+  abbrev pub in-words : Bool
+  in-words = ltb mode word-limit && (are-words first && (are-words second && (are-words result && are-words working)))
 
 -- the words that a call has written: none but after 0
 abbrev pub written : Left → List ℕ
-written r = elim (eqb (r .number) 0) [ true ↦ take (r .extent) (r .after .result) | false ↦ [] ]
+written r = elim (eqb (r .row .number) 0) [ true ↦ take (r .row .extent) (r .after .result) | false ↦ [] ]
 
 abbrev pub answer-of : Left → Answer
-answer-of r = record { number = r .number; extent = r .extent; readings = r .readings; result = written r }
+answer-of r = record { number = r .row .number; extent = r .row .extent; readings = r .row .readings; result = written r }
 
 -- areas of so many words
 abbrev pub blank : ℕ → ℕ → Areas
@@ -51,9 +54,8 @@ blank room work = record { result = replicate room 0; working = replicate work 0
 module _ {Graph : Type 0} (J : Joining Graph) (𝓕 : Layout Graph) where
   -- what the contract of `unify` says of a program, for all that can come in
   abbrev pub Meets : Program → Type 0
-  Meets P = (mode : ℕ) (a b : List ℕ) (before : Areas) → in-words mode a b before ≡ true →
-      Outcome J 𝓕 mode a b before (P mode a b before .number) (P mode a b before .extent) (P mode a b before .readings) (P mode a b before .after)
+  Meets P = (c : Call) (before : Areas) → in-words c before ≡ true → Outcome J 𝓕 c before (P c before .row) (P c before .after)
 
   -- the program as a function of the sizes of its areas; of what cannot come in, the table's answer is taken for its own
   abbrev pub sized : Program → Unifier
-  sized P mode a b room work = elim (in-words mode a b (blank room work)) [ true ↦ answer-of (P mode a b (blank room work)) | false ↦ unified J 𝓕 mode a b room work ]
+  sized P c room work = elim (in-words c (blank room work)) [ true ↦ answer-of (P c (blank room work)) | false ↦ unified J 𝓕 c room work ]

@@ -3,29 +3,31 @@
 use mathlib.Core.Path.{_≡_}
 use mathlib.Core.Logic.{_⊎_}
 use mathlib.Core.Option.{Option, none, some}
-use mathlib.Core.List.{List, []}
+use mathlib.Core.List.{[]}
 use Prim.Native.Nat.{ℕ, zero, suc, _≤_, _<_}
 use lib.ListN.{length}
 use Rattle.descriptions.specs.Limits.{choice-limit, depth-limit, input-limit, working-size}
 use Rattle.descriptions.specs.Descr.{Desc, number}
 use Rattle.descriptions.specs.Layout.{Image, Layout}
 use Rattle.descriptions.specs.Modes.{full, joined, quick}
+use Rattle.descriptions.specs.Call.{Call}
 use Rattle.descriptions.specs.Answer.{Answer, consistent, refuse}
 use Rattle.descriptions.specs.Joining.{Joining}
 
-module _ {Graph : Type 0} (𝓕 : Layout Graph) where
+module _ {Graph : Type 0} (𝓕 : Layout Graph) (c : Call) where
   open Layout 𝓕 using (words, WellFormed)
+  open Call c using (mode, first, second)
 
   -- none of the rules 1 to 5 holds, and the inputs are the words of these two
-  pub record Accepted (mode : ℕ) (a b : List ℕ) (work : ℕ) (d e : Desc Graph) : Type 0 where
+  pub record Accepted (work : ℕ) (d e : Desc Graph) : Type 0 where
     pub mode-fine : mode ≤ 2
     pub area-fine : working-size ≤ work
-    pub first-short : length a ≤ input-limit
-    pub second-short : length b ≤ input-limit
+    pub first-short : length first ≤ input-limit
+    pub second-short : length second ≤ input-limit
     pub first-well : WellFormed d depth-limit
     pub second-well : WellFormed e depth-limit
-    pub first-is : a ≡ words d
-    pub second-is : b ≡ words e
+    pub first-is : first ≡ words d
+    pub second-is : second ≡ words e
 
 module _ {Graph : Type 0} (J : Joining Graph) where
   -- what the mode makes of two descriptions, or a clash
@@ -48,21 +50,26 @@ module _ {Graph : Type 0} (J : Joining Graph) where
   abbrev pub TooMany : ℕ → Desc Graph → Desc Graph → Type 0
   TooMany mode d e = (mode ≡ 2) × (q : Desc Graph) × (quick J d e ≡ some q) × (choice-limit < number q)
 
-module _ {Graph : Type 0} (J : Joining Graph) (𝓕 : Layout Graph) where
+module _ {Graph : Type 0} (J : Joining Graph) (𝓕 : Layout Graph) (c : Call) (room work : ℕ) where
   open Layout 𝓕 using (words)
+  open Call c using (mode, first, second)
 
   -- each answer under its rule, no earlier rule holding
-  pub data Given (mode : ℕ) (a b : List ℕ) (room work : ℕ) : Answer → Type 0 where
-    one : 2 < mode → Given mode a b room work (refuse 1)
-    two : mode ≤ 2 → work < working-size → Given mode a b room work (refuse 2)
-    three : mode ≤ 2 → working-size ≤ work → (input-limit < length a) ⊎ (input-limit < length b) → Given mode a b room work (refuse 3)
-    four : mode ≤ 2 → working-size ≤ work → length a ≤ input-limit → length b ≤ input-limit → ¬ (Image 𝓕 a) → Given mode a b room work (refuse 4)
-    five : mode ≤ 2 → working-size ≤ work → length a ≤ input-limit → length b ≤ input-limit → Image 𝓕 a → ¬ (Image 𝓕 b) → Given mode a b room work (refuse 5)
-    six : (d e : Desc Graph) → Accepted 𝓕 mode a b work d e → Clashes J mode d e → Given mode a b room work (refuse 6)
-    seven : (d e : Desc Graph) → Accepted 𝓕 mode a b work d e → ¬ (Clashes J mode d e) → TooMany J mode d e → Given mode a b room work (refuse 7)
+  pub data Given : Answer → Type 0 where
+    one : 2 < mode → Given (refuse 1)
+    two : mode ≤ 2 → work < working-size → Given (refuse 2)
+    three : mode ≤ 2 → working-size ≤ work → (input-limit < length first) ⊎ (input-limit < length second) → Given (refuse 3)
+    four : mode ≤ 2 → working-size ≤ work → length first ≤ input-limit → length second ≤ input-limit → ¬ (Image 𝓕 first) → Given (refuse 4)
+    five : mode ≤ 2 → working-size ≤ work → length first ≤ input-limit → length second ≤ input-limit → Image 𝓕 first →
+        ¬ (Image 𝓕 second) → Given (refuse 5)
+    six : (d e : Desc Graph) → Accepted 𝓕 c work d e → Clashes J mode d e → Given (refuse 6)
+    seven : (d e : Desc Graph) → Accepted 𝓕 c work d e → ¬ (Clashes J mode d e) → TooMany J mode d e → Given (refuse 7)
     -- "in mode 2, after check 7, also no consistent choice"
-    six-after : (d e : Desc Graph) → Accepted 𝓕 mode a b work d e → ¬ (Clashes J mode d e) → ¬ (TooMany J mode d e) → mode ≡ 2 → consistent J d e ≡ 0 → Given mode a b room work (refuse 6)
-    eight : (d e r : Desc Graph) → Accepted 𝓕 mode a b work d e → ¬ (Clashes J mode d e) → ¬ (TooMany J mode d e) → mode-result J mode d e ≡ some r → room < length (words r) →
-        Given mode a b room work (record { number = 8; extent = length (words r); readings = 0; result = [] })
-    done : (d e r : Desc Graph) → Accepted 𝓕 mode a b work d e → ¬ (Clashes J mode d e) → ¬ (TooMany J mode d e) → mode-result J mode d e ≡ some r → length (words r) ≤ room →
-        Given mode a b room work (record { number = 0; extent = length (words r); readings = mode-readings J mode d e; result = words r })
+    six-after : (d e : Desc Graph) → Accepted 𝓕 c work d e → ¬ (Clashes J mode d e) → ¬ (TooMany J mode d e) →
+        mode ≡ 2 → consistent J d e ≡ 0 → Given (refuse 6)
+    eight : (d e r : Desc Graph) → Accepted 𝓕 c work d e → ¬ (Clashes J mode d e) → ¬ (TooMany J mode d e) →
+        mode-result J mode d e ≡ some r → room < length (words r) →
+        Given (record { number = 8; extent = length (words r); readings = 0; result = [] })
+    done : (d e r : Desc Graph) → Accepted 𝓕 c work d e → ¬ (Clashes J mode d e) → ¬ (TooMany J mode d e) →
+        mode-result J mode d e ≡ some r → length (words r) ≤ room →
+        Given (record { number = 0; extent = length (words r); readings = mode-readings J mode d e; result = words r })

@@ -11,18 +11,17 @@ use lib.Seq.{take-append-seam}
 use Rattle.theory.specs.Limits.{depth-limit, choice-limit}
 use Rattle.theory.specs.Net.{Node, atom, arcs, Graph, nodeAt, arcsOf}
 use Rattle.theory.specs.Descr.{Desc, desc, Disjs, end, _and_, Alts, fail, _or_, disjs, alts, number, readings}
-use Rattle.theory.specs.Layout.{arc-words, node-words, nodes-words, words, disjs-words, alts-words}
-use Rattle.theory.specs.Layout.{ArcsFit, NodeFits, GraphFits, WellFormed, WellAll, WellAny}
+use Rattle.theory.specs.Layout.{arc-words, node-words, nodes-words, words, disjs-words, alts-words, ArcsFit, NodeFits, GraphFits, WellFormed, WellAll, WellAny}
 use Rattle.theory.specs.Modes.{joined, quick}
-use Rattle.theory.specs.Answer.{Answer, consistent}
-use Rattle.theory.specs.Rules.{mode-result, mode-readings, Accepted, Clashes, TooMany}
-use Rattle.theory.specs.Rules.{Given, one, two, three, four, five, six, seven, six-after, eight, done}
+use Rattle.theory.specs.Answer.{Answer, Call, consistent}
+use Rattle.theory.specs.Rules.{mode-result, mode-readings, Accepted, Clashes, TooMany, Given, one, two, three, four, five, six, seven, six-after, eight, done}
 use Rattle.theory.specs.Unified.{unified}
 use Rattle.theory.proofs.Instance.{numbered-target}
 use Rattle.theory.proofs.Counting.{readings-number}
-use Rattle.theory.proofs.Kept.{well-can, result-words, result-well}
-use Rattle.theory.proofs.Modes.{mode-readings-kept}
-use Rattle.theory.proofs.Table.{unified-given}
+use Rattle.theory.proofs.Reading.{well-can, result-words, result-well, reads}
+use Rattle.theory.proofs.Laws.{laws}
+use Rattle.descriptions.proofs.Modes.{mode-readings-kept}
+use Rattle.descriptions.proofs.Table.{unified-given}
 use Rattle.call_text.specs.Token.{largest}
 use Rattle.call_text.specs.Call.{Asked, heard}
 use Rattle.answer_text.specs.Answer.{bad-text, Wrote}
@@ -118,7 +117,9 @@ record Short (room : ℕ) (r : Answer) : Type 0 where
   below : Below (r .result)
   inside : length (r .result) ≤ room
 
-module _ (mode : ℕ) (a b : List ℕ) (work : ℕ) (d e : Desc) (A : Accepted mode a b work d e) where
+module _ (asked : Call) (work : ℕ) (d e : Desc) (A : Accepted asked work d e) where
+  open Call asked using (mode)
+
   module _ (s : Desc) (f : mode-result mode d e ≡ some s) where
     extent-short : length (words s) ≤ 2045
     extent-short =
@@ -149,7 +150,7 @@ module _ (mode : ℕ) (a b : List ℕ) (work : ℕ) (d e : Desc) (A : Accepted m
         go none h q k = omega arith
         go (some j) h none k = absurd (c (inr (omega arith, k)))
         go (some j) h (some q) k =
-            let x = mode-readings-kept 1 d e (well-can d (A .first-well)) (well-can e (A .second-well)) j h q k in
+            let x = mode-readings-kept laws 1 d e (well-can d (A .first-well)) (well-can e (A .second-well)) j h q k in
             let y = readings-number q in
             let z : choice-limit < number q → ⊥ = λ l. t (m, q, k, l) in
             omega arith
@@ -165,29 +166,29 @@ module _ (mode : ℕ) (a b : List ℕ) (work : ℕ) (d e : Desc) (A : Accepted m
 refused : (room n : ℕ) → n ≤ largest → Short room (record { number = n; extent = 0; readings = 0; result = [] })
 refused room n h = record { few = h; short = omega arith; known = omega arith; below = tt; inside = omega arith }
 
-given-short : (mode : ℕ) (a b : List ℕ) (room work : ℕ) (r : Answer) → Given mode a b room work r → Short room r
-given-short mode a b room work r (one h) = refused room 1 (omega arith)
-given-short mode a b room work r (two m h) = refused room 2 (omega arith)
-given-short mode a b room work r (three m w h) = refused room 3 (omega arith)
-given-short mode a b room work r (four m w la lb n) = refused room 4 (omega arith)
-given-short mode a b room work r (five m w la lb i n) = refused room 5 (omega arith)
-given-short mode a b room work r (six d e A c) = refused room 6 (omega arith)
-given-short mode a b room work r (seven d e A c t) = refused room 7 (omega arith)
-given-short mode a b room work r (six-after d e A c t m n) = refused room 6 (omega arith)
-given-short mode a b room work r (eight d e s A c t f l) =
-    let h = extent-short mode a b work d e A s f in
+given-short : (asked : Call) (room work : ℕ) (r : Answer) → Given asked room work r → Short room r
+given-short asked room work r (one h) = refused room 1 (omega arith)
+given-short asked room work r (two m h) = refused room 2 (omega arith)
+given-short asked room work r (three m w h) = refused room 3 (omega arith)
+given-short asked room work r (four m w la lb n) = refused room 4 (omega arith)
+given-short asked room work r (five m w la lb i n) = refused room 5 (omega arith)
+given-short asked room work r (six d e A c) = refused room 6 (omega arith)
+given-short asked room work r (seven d e A c t) = refused room 7 (omega arith)
+given-short asked room work r (six-after d e A c t m n) = refused room 6 (omega arith)
+given-short asked room work r (eight d e s A c t f l) =
+    let h = extent-short asked work d e A s f in
     record { few = omega arith; short = omega arith; known = omega arith; below = tt; inside = omega arith }
-given-short mode a b room work r (done d e s A c t f l) =
-    let h = extent-short mode a b work d e A s f in
-    let k = readings-few mode a b work d e A c t in
-    record { few = omega arith; short = omega arith; known = omega arith; below = result-below mode a b work d e A s f; inside = l }
+given-short asked room work r (done d e s A c t f l) =
+    let h = extent-short asked work d e A s f in
+    let k = readings-few asked work d e A c t in
+    record { few = omega arith; short = omega arith; known = omega arith; below = result-below asked work d e A s f; inside = l }
 
 -- ---- the text
-spoken-small : (mode : ℕ) (a b : List ℕ) → length (spoken mode a b) ≤ 23000
+spoken-small : (asked : Call) → length (spoken asked) ≤ 23000
 unfolding spoken
-spoken-small mode a b =
-    let r : Answer = unified mode a b 2048 16384 in
-    let s = given-short mode a b 2048 16384 r (unified-given mode a b 2048 16384) in
+spoken-small asked =
+    let r : Answer = unified asked 2048 16384 in
+    let s = given-short asked 2048 16384 r (unified-given reads asked 2048 16384) in
     text-small (r .number) (r .extent) (r .readings) (s .few) (s .short) (s .known)
     (r .result) (below-at (r .result) (s .below)) (s .inside)
 
@@ -196,9 +197,9 @@ pub printed-small : (text : List ℕ) → length (printed text) ≤ 23000
 unfolding printed
 printed-small text = go (heard text)
   where
-    go : (o : Option Asked) → length {A = ℕ} (elim o [ none ↦ bad-text | some c ↦ spoken (c .mode) (c .first) (c .second) ]) ≤ 23000
+    go : (o : Option Asked) → length {A = ℕ} (elim o [ none ↦ bad-text | some c ↦ spoken (record { mode = c .mode; first = c .first; second = c .second }) ]) ≤ 23000
     go none = omega arith
-    go (some c) = spoken-small (c .mode) (c .first) (c .second)
+    go (some c) = spoken-small (record { mode = c .mode; first = c .first; second = c .second })
 
 -- in 32,768 bytes `reply` always has room, and what it writes there is what `meet` prints
 pub always-printed : (text out out′ : List ℕ) (r : Written) → 32768 ≤ length out → Wrote (printed text) out out′ r

@@ -9,8 +9,9 @@ use lib.Dec.{eqb}
 use lib.ListN.{length, take, drop, length-take, length-append}
 use lib.Seq.{take-append-seam}
 use borrow.Author.Tests.{ne-eqb}
+use Rattle.theory.specs.Answer as theory
 use Rattle.theory.specs.Unified.{unified}
-use Rattle.theory.specs.Outcome.{Outcome}
+use Rattle.theory.specs.Outcome.{Areas, Outcome, Row}
 use Rattle.theory.proofs.Areas.{given-writes}
 use Rattle.descriptions.proofs.Areas.{Writes, nothing, result}
 use Rattle.theory.proofs.Table.{outcome-answer}
@@ -27,52 +28,59 @@ no-words : (n l r : ℕ) (xs ys : List ℕ) → (n ≡ 0 → ⊥) → answer-tex
 unfolding answer-text second-line
 no-words n l r xs ys h = let e : eqb n 0 ≡ false = ne-eqb n 0 h in rw (e, second-line) refl
 
-module _ (mode : ℕ) (a b s w s′ w′ : List ℕ) (n l r : ℕ) (ls : length s ≡ 2048) (lw : length w ≡ 16384) (o : Outcome mode a b (record { result = s; working = w }) n l r (record { result = s′; working = w′ })) where
-  said : spoken mode a b ≡ in-words (o .answer)
+module _ (c : theory.Call) (before after : Areas) (r : Row) (ls : length (before .result) ≡ 2048) (lw : length (before .working) ≡ 16384)
+    (o : Outcome c before r after) where
+  said : spoken c ≡ in-words (o .answer)
   unfolding spoken
-  said =
-      ap₂ {C = List ℕ} (λ (x y : ℕ). in-words (unified mode a b x y)) (sym ls) (sym lw)
-      ∙ ap in-words (outcome-answer mode a b (record { result = s; working = w }) n l r (record { result = s′; working = w′ }) o)
+  said = ap₂ {C = List ℕ} (λ (x y : ℕ). in-words (unified c x y)) (sym ls) (sym lw) ∙ ap in-words (outcome-answer c before r after o)
 
-  wrote : Writes (length s) (o .answer)
-  wrote = given-writes mode a b (length s) (length w) (o .answer) (o .given)
+  wrote : Writes (length (before .result)) (o .answer)
+  wrote = given-writes c (length (before .result)) (length (before .working)) (o .answer) (o .given)
 
-  numbers : (xs : List ℕ) → answer-text n l r xs ≡ answer-text (o .answer .number) (o .answer .extent) (o .answer .readings) xs
+  abbrev text : List ℕ → List ℕ
+  text xs = answer-text (r .number) (r .extent) (r .readings) xs
+
+  numbers : (xs : List ℕ) → text xs ≡ answer-text (o .answer .number) (o .answer .extent) (o .answer .readings) xs
   numbers xs =
-      ap (λ (z : ℕ). answer-text z l r xs) (o .the-number)
-      ∙ ap (λ (z : ℕ). answer-text (o .answer .number) z r xs) (o .the-extent)
+      ap (λ (z : ℕ). answer-text z (r .extent) (r .readings) xs) (o .the-number)
+      ∙ ap (λ (z : ℕ). answer-text (o .answer .number) z (r .readings) xs) (o .the-extent)
       ∙ ap (λ (z : ℕ). answer-text (o .answer .number) (o .answer .extent) z xs) (o .the-readings)
 
-  pub said-other : (xs : List ℕ) → (n ≡ 0 → ⊥) → answer-text n l r xs ≡ spoken mode a b
-  said-other xs h = numbers xs ∙ no-words (o .answer .number) (o .answer .extent) (o .answer .readings) xs (o .answer .result) (λ e. h (o .the-number ∙ e)) ∙ sym said
+  pub said-other : (xs : List ℕ) → (r .number ≡ 0 → ⊥) → answer-text (r .number) (r .extent) (r .readings) xs ≡ spoken c
+  said-other xs h =
+      let s = o .answer in
+      numbers xs ∙ no-words (s .number) (s .extent) (s .readings) xs (s .result) (λ e. h (o .the-number ∙ e)) ∙ sym said
 
-  module _ (z : n ≡ 0) where
-    fits : (l ≡ length (o .answer .result)) × (l ≤ 2048)
+  module _ (z : r .number ≡ 0) where
+    fits : (r .extent ≡ length (o .answer .result)) × (r .extent ≤ 2048)
     fits = go wrote
       where
-        go : Writes (length s) (o .answer) → (l ≡ length (o .answer .result)) × (l ≤ 2048)
+        go : Writes (length (before .result)) (o .answer) → (r .extent ≡ length (o .answer .result)) × (r .extent ≤ 2048)
         go (nothing h e) = absurd (h (sym (o .the-number) ∙ z))
         go (result q e m) = let x = o .the-extent in (x ∙ e, omega arith)
 
-    pub said-room : l ≤ 2048
+    pub said-room : r .extent ≤ 2048
     said-room = fits .1
 
-    pub said-done : answer-text n l r (take l s′) ≡ spoken mode a b
+    pub said-done : answer-text (r .number) (r .extent) (r .readings) (take (r .extent) (after .result)) ≡ spoken c
     said-done =
-        ap (answer-text n l r) (ap₂ {C = List ℕ} take (fits .0) (o .the-result) ∙ take-append-seam (o .answer .result) (drop (length (o .answer .result)) s))
-        ∙ numbers (o .answer .result) ∙ sym said
+        let front = take-append-seam (o .answer .result) (drop (length (o .answer .result)) (before .result)) in
+        ap text (ap₂ {C = List ℕ} take (fits .0) (o .the-result) ∙ front) ∙ numbers (o .answer .result) ∙ sym said
 
 -- as many words as there are can be lent
 pub take-count : (k : ℕ) (l : List ℕ) → k ≤ length l → k ≡ length (take k l)
 take-count k l h = let e = length-take k l in omega arith
 
 -- ---- the text
+abbrev asked : ℕ → List ℕ → List ℕ → theory.Call
+asked mode a b = record { mode = mode; first = a; second = b }
+
 -- what is printed for a call, or for bad input
 abbrev replied : Option Asked → List ℕ
 replied none = bad-text
-replied (some c) = spoken (c .mode) (c .first) (c .second)
+replied (some c) = spoken (asked (c .mode) (c .first) (c .second))
 
-replied-is : (o : Option Asked) → replied o ≡ elim o [ none ↦ bad-text | some c ↦ spoken (c .mode) (c .first) (c .second) ]
+replied-is : (o : Option Asked) → replied o ≡ elim o [ none ↦ bad-text | some c ↦ spoken (asked (c .mode) (c .first) (c .second)) ]
 replied-is none = refl
 replied-is (some c) = refl
 
@@ -105,7 +113,7 @@ module _ (text first second first′ second′ : List ℕ) (r : Call) (lf : leng
   module _ (mode n m : ℕ) (q : r ≡ Good mode n m) where
     -- the inputs stand at the start of each list, and what they say is the text
     abbrev Says : List ℕ → Type 0
-    Says l = (n ≤ length first′) × (m ≤ length second′) × (spoken mode (take n first′) (take m second′) ≡ l)
+    Says l = (n ≤ length first′) × (m ≤ length second′) × (spoken (asked mode (take n first′) (take m second′)) ≡ l)
 
     good : Says (replied (heard text))
     good = go (heard text) is-heard
@@ -121,13 +129,14 @@ module _ (text first second first′ second′ : List ℕ) (r : Call) (lf : leng
             let g = front (c .second) second second′ m z (k .the-second) in (
               front-room (c .first) first first′ n y (k .the-first),
               front-room (c .second) second second′ m z (k .the-second),
-              ap (λ (v : ℕ). spoken v (take n first′) (take m second′)) x ∙ ap₂ {C = List ℕ} (spoken (c .mode)) f g,
+              ap (λ (v : ℕ). spoken (asked v (take n first′) (take m second′))) x
+                  ∙ ap₂ {C = List ℕ} (λ (a b : List ℕ). spoken (asked (c .mode) a b)) f g,
             )
 
     pub rooms : (n ≤ length first′) × (m ≤ length second′)
     rooms = (good .0, good .1)
 
-    pub printed-good : spoken mode (take n first′) (take m second′) ≡ printed text
+    pub printed-good : spoken (asked mode (take n first′) (take m second′)) ≡ printed text
     printed-good = good .2 ∙ printed-is text
 
 -- ---- a text by another name

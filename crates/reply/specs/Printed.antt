@@ -3,7 +3,7 @@
 use Prim.Native.Nat.{ℕ}
 use mathlib.Core.Option.{none, some}
 use mathlib.Core.List.{List}
-use Rattle.theory.specs.Answer.{Answer}
+use Rattle.theory.specs.Answer.{Answer, Call}
 use Rattle.theory.specs.Unified.{unified}
 use Rattle.call_text.specs.Call.{heard}
 use Rattle.answer_text.specs.Answer.{answer-text, bad-text}
@@ -13,9 +13,9 @@ abbrev pub in-words : Answer → List ℕ
 in-words r = answer-text (r .number) (r .extent) (r .readings) (r .result)
 
 -- "Its result area has 2,048 words, its working area 16,384."
-unfoldable pub spoken : ℕ → List ℕ → List ℕ → List ℕ
-spoken mode a b = in-words (unified mode a b 2048 16384)
+unfoldable pub spoken : Call → List ℕ
+spoken c = in-words (unified c 2048 16384)
 
 -- "… prints `bad input` alone"
 unfoldable pub printed : List ℕ → List ℕ
-printed text = elim (heard text) [ none ↦ bad-text | some c ↦ spoken (c .mode) (c .first) (c .second) ]
+printed text = elim (heard text) [ none ↦ bad-text | some c ↦ spoken (record { mode = c .mode; first = c .first; second = c .second }) ]

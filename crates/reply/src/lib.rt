@@ -8,6 +8,7 @@ use unify::told;
 use unify::unify;
 ghost use mathlib.Core.Path.{_≡_};
 ghost use lib.ListN.{length};
+ghost use Rattle.theory.specs.Answer.{Call};
 ghost use Rattle.answer_text.specs.Answer.{Wrote};
 ghost use Rattle.reply.specs.Printed.{spoken, printed};
 
@@ -35,7 +36,8 @@ fn answer_in(
     out: &mut [u8],
 ) -> Written
     requires { ⌜ (length (now result) ≡ 2048) × (length (now working) ≡ 16384) ⌝ }
-    ensures { λ r. ⌜ Wrote (spoken mode (now (first .entry)) (now (second .entry))) (now (out .entry)) (now (out .exit)) r ⌝ }
+    ensures { λ r. ⌜ Wrote (spoken (record { mode = mode; first = now (first .entry); second = now (second .entry) }))
+        (now (out .entry)) (now (out .exit)) r ⌝ }
 {
     let came = unify(mode, first, second, result, working);
     let row = told(came);
@@ -50,7 +52,8 @@ fn answer_in(
 
 // Unifies two inputs, and writes the answer to the start of out.
 fn answer(mode: u32, first: &[u32], second: &[u32], out: &mut [u8]) -> Written
-    ensures { λ r. ⌜ Wrote (spoken mode (now (first .entry)) (now (second .entry))) (now (out .entry)) (now (out .exit)) r ⌝ }
+    ensures { λ r. ⌜ Wrote (spoken (record { mode = mode; first = now (first .entry); second = now (second .entry) }))
+        (now (out .entry)) (now (out .exit)) r ⌝ }
 {
     let mut result = space();
     let mut working = working_space();

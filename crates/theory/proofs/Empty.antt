@@ -2,13 +2,13 @@
 -- Assumes nothing.
 use mathlib.Core.Path.{_≡_, refl, ap, sym, _∙_, subst}
 use mathlib.Core.Logic.{inl, inr}
-use mathlib.Core.Bool.{Bool, true, false}
+use mathlib.Core.Bool.{true, false}
 use mathlib.Core.Option.{Option, none, some}
 use mathlib.Core.List.{List, [], _∷_, _++_, List·Memᴰ·head}
 use Prim.Native.Nat.{ℕ, zero, suc, _<_}
 use native.Mathlib.Omega.{arith}
 use lib.ListN.{length, take, replicate, length-replicate}
-use lib.Dec.{eqb}
+use lib.Dec.{eqb, ltb}
 use Rattle.descriptions.proofs.Table.{given-unified}
 use Rattle.descriptions.proofs.Programs.{blank-in-words, program-writes}
 use Rattle.theory.specs.Net.{atom, arcs, Graph}
@@ -19,9 +19,9 @@ use Rattle.theory.specs.Modes.{joined, quick, full, round, finish, tidy,
 use Rattle.theory.specs.Satisfaction.{Sat}
 use Rattle.theory.specs.Layout.{words, WellFormed}
 use Rattle.theory.specs.Reading.{decode}
-use Rattle.theory.specs.Answer.{Answer, refuse, consistent}
+use Rattle.theory.specs.Answer.{Answer, Call, refuse, consistent}
 use Rattle.theory.specs.Unified.{unified, in-mode, complete, deliver}
-use Rattle.theory.specs.Demands.{Unifier, Demand2, Step, start, call, reached, ways, items, Demand3}
+use Rattle.theory.specs.Demands.{Unifier, Demand2, Step, start, with-words, call, reached, ways, items, Demand3}
 use Rattle.theory.specs.Rules.{Given}
 use Rattle.theory.specs.Outcome.{Areas}
 use Rattle.theory.specs.Programs.{Program, in-words, blank, Meets}
@@ -90,7 +90,7 @@ bare-not-A s = let h : Satisfies bare (one-arc 1 10) = s .0 in no-arc (h .to (0,
 
 -- "one that clashes always"
 pub always-clash : Unifier
-always-clash mode a b room work = refuse 6
+always-clash c room work = refuse 6
 
 pub clash-2 : Demand2 always-clash → ⊥
 unfolding always-clash
@@ -106,7 +106,7 @@ clash-3 D = let h : ways (dN ∷ []) ≡ 0 = D .clash [] start (step dN wN 0) re
 
 -- "one that answers `1 0 0` always", with any count of readings
 pub always-nothing : ℕ → Unifier
-always-nothing n mode a b room work = gives start n
+always-nothing n c room work = gives start n
 
 pub nothing-2 : (n : ℕ) → Demand2 (always-nothing n) → ⊥
 unfolding always-nothing
@@ -133,22 +133,24 @@ nothing-3 n D =
     omega (arith, r, k, h)
 
 -- "one that reports 0 and writes nothing", with any length and readings
-pub writes-nothing : (ℕ → List ℕ → List ℕ → ℕ × ℕ) → Unifier
-writes-nothing f mode a b room work = record { number = 0; extent = f mode a b .0; readings = f mode a b .1; result = [] }
+pub writes-nothing : (Call → ℕ × ℕ) → Unifier
+writes-nothing f c room work = record { number = 0; extent = f c .0; readings = f c .1; result = [] }
 
 words-some : (d : Desc) → [] ≡ words d → ⊥
 words-some (desc g ds) e = let h = ap length e in omega (arith, h)
 
-pub silent-2 : (f : ℕ → List ℕ → List ℕ → ℕ × ℕ) → Demand2 (writes-nothing f) → ⊥
+pub silent-2 : (f : Call → ℕ × ℕ) → Demand2 (writes-nothing f) → ⊥
 unfolding writes-nothing
 silent-2 f D = let (d, s) = D .success 0 dN dN wN wN 2048 16384 refl in words-some d (s .written)
 
 -- "one that … joins in every mode"
 pub joins-always : Unifier
-joins-always mode a b room work = unified 0 a b room work
+joins-always c room work = unified (record { mode = 0; first = c .first; second = c .second }) room work
 
 -- a program whose result in mode 1 has another length than the mode's is refuted
-wrong-length : (U : Unifier) (a b d : Desc) → WellFormed a 4 → WellFormed b 4 → U 1 (words a) (words b) 2048 16384 .number ≡ 0 → quick a b ≡ some d → (length (U 1 (words a) (words b) 2048 16384 .result) ≡ length (words d) → ⊥) → Demand2 U → ⊥
+wrong-length : (U : Unifier) (a b d : Desc) → WellFormed a 4 → WellFormed b 4 →
+    U (with-words 1 a b) 2048 16384 .number ≡ 0 → quick a b ≡ some d →
+    (length (U (with-words 1 a b) 2048 16384 .result) ≡ length (words d) → ⊥) → Demand2 U → ⊥
 wrong-length U a b d p q z k n D =
     let (e, s) = D .success 1 a b p q 2048 16384 z in
     let h : some e ≡ some d = sym (s .by-mode) ∙ k in
@@ -159,11 +161,11 @@ quick-P-A : quick dP dA ≡ some dA
 unfolding Rattle.descriptions.specs.Modes.quick size Rattle.descriptions.specs.Modes.tidy Rattle.descriptions.specs.Modes.finish Rattle.descriptions.specs.Modes.joined join
 quick-P-A = refl
 
-joins-P-A : joins-always 1 (words dP) (words dA) 2048 16384 ≡ unified 0 (words dP) (words dA) 2048 16384
+joins-P-A : joins-always (with-words 1 dP dA) 2048 16384 ≡ unified (with-words 0 dP dA) 2048 16384
 unfolding joins-always
 joins-P-A = refl
 
-joined-P-A : (unified 0 (words dP) (words dA) 2048 16384 .number ≡ 0) × (length (unified 0 (words dP) (words dA) 2048 16384 .result) ≡ 19)
+joined-P-A : (unified (with-words 0 dP dA) 2048 16384 .number ≡ 0) × (length (unified (with-words 0 dP dA) 2048 16384 .result) ≡ 19)
 unfolding Rattle.descriptions.specs.Unified.unified Rattle.descriptions.specs.Unified.in-mode Rattle.descriptions.specs.Unified.deliver decode Rattle.descriptions.specs.Modes.joined join
 joined-P-A = (refl, refl)
 
@@ -183,9 +185,13 @@ pub quick-once : Desc → Desc → Option Desc
 quick-once a b = elim (joined a b) [ none ↦ none | some d ↦ tidy-once (suc (size d)) nil d ]
 
 pub first-round : Unifier
-first-round zero a b room work = unified 0 a b room work
-first-round (suc zero) a b room work = elim (decode a) [ none ↦ refuse 4 | some d ↦ elim (decode b) [ none ↦ refuse 5 | some e ↦ deliver room 0 (quick-once d e) ] ]
-first-round (suc (suc m)) a b room work = unified (suc (suc m)) a b room work
+first-round c room work = elim (eqb (c .mode) 1) [
+  | true ↦ elim (decode (c .first)) [
+    | none ↦ refuse 4
+    | some d ↦ elim (decode (c .second)) [ none ↦ refuse 5 | some e ↦ deliver room 0 (quick-once d e) ]
+  ]
+  | false ↦ unified c room work
+]
 
 abbrev dF′ : Desc
 dF′ = plain (arcs ((1, 1) ∷ (2, 2) ∷ (3, 3) ∷ []) ∷ atom 10 ∷ atom 10 ∷ atom 10 ∷ [])
@@ -194,7 +200,7 @@ quick-F : quick dF dN ≡ some dF′
 unfolding Rattle.descriptions.specs.Modes.quick size Rattle.descriptions.specs.Modes.tidy Rattle.descriptions.specs.Modes.finish Rattle.descriptions.specs.Modes.joined join
 quick-F = refl
 
-once-F : (first-round 1 (words dF) (words dN) 2048 16384 .number ≡ 0) × (length (first-round 1 (words dF) (words dN) 2048 16384 .result) ≡ 22)
+once-F : (first-round (with-words 1 dF dN) 2048 16384 .number ≡ 0) × (length (first-round (with-words 1 dF dN) 2048 16384 .result) ≡ 22)
 unfolding first-round quick-once tidy-once size Rattle.descriptions.specs.Modes.finish Rattle.descriptions.specs.Modes.joined join Rattle.descriptions.specs.Unified.deliver decode
 once-F = (refl, refl)
 
@@ -203,13 +209,13 @@ once-2 = wrong-length first-round dF dN dF′ wF wN (once-F .0) quick-F (λ e. l
 
 -- "one that makes up readings": the same count always
 pub made-up : ℕ → Unifier
-made-up n mode a b room work = let r = unified mode a b room work in record { number = r .number; extent = r .extent; readings = n; result = r .result }
+made-up n c room work = let r = unified c room work in record { number = r .number; extent = r .extent; readings = n; result = r .result }
 
-zero-N : unified 2 start (words dN) 2048 16384 .number ≡ 0
+zero-N : unified (with-words 2 dN dN) 2048 16384 .number ≡ 0
 unfolding Rattle.descriptions.specs.Unified.unified Rattle.descriptions.specs.Unified.in-mode Rattle.descriptions.specs.Unified.complete Rattle.descriptions.specs.Answer.consistent Rattle.descriptions.specs.Unified.deliver decode Rattle.descriptions.specs.Modes.joined Rattle.descriptions.specs.Modes.quick Rattle.descriptions.specs.Modes.full size Rattle.descriptions.specs.Modes.tidy Rattle.descriptions.specs.Modes.finish Rattle.descriptions.specs.Modes.some-agree Rattle.descriptions.specs.Modes.prune Rattle.descriptions.specs.Modes.fold folded-in Rattle.descriptions.specs.Descr.agree Rattle.descriptions.specs.Descr.agreeing Rattle.descriptions.specs.Descr.readings number join
 zero-N = refl
 
-zero-P : unified 2 start (words dP) 2048 16384 .number ≡ 0
+zero-P : unified (with-words 2 dN dP) 2048 16384 .number ≡ 0
 unfolding Rattle.descriptions.specs.Unified.unified Rattle.descriptions.specs.Unified.in-mode Rattle.descriptions.specs.Unified.complete Rattle.descriptions.specs.Answer.consistent Rattle.descriptions.specs.Unified.deliver decode Rattle.descriptions.specs.Modes.joined Rattle.descriptions.specs.Modes.quick Rattle.descriptions.specs.Modes.full size Rattle.descriptions.specs.Modes.tidy Rattle.descriptions.specs.Modes.finish Rattle.descriptions.specs.Modes.some-agree Rattle.descriptions.specs.Modes.prune Rattle.descriptions.specs.Modes.fold folded-in Rattle.descriptions.specs.Descr.agree Rattle.descriptions.specs.Descr.agreeing Rattle.descriptions.specs.Descr.readings number join
 zero-P = refl
 
@@ -228,9 +234,11 @@ made-up-3 n D =
 
 -- or any other count than the true one, on a call that is tried
 pub miscounted : (ℕ → ℕ) → Unifier
-miscounted f mode a b room work = let r = unified mode a b room work in record { number = r .number; extent = r .extent; readings = f (r .readings); result = r .result }
+miscounted f c room work =
+    let r = unified c room work in
+    record { number = r .number; extent = r .extent; readings = f (r .readings); result = r .result }
 
-one-N : unified 2 start (words dN) 2048 16384 .readings ≡ 1
+one-N : unified (with-words 2 dN dN) 2048 16384 .readings ≡ 1
 unfolding Rattle.descriptions.specs.Unified.unified Rattle.descriptions.specs.Unified.in-mode Rattle.descriptions.specs.Unified.complete Rattle.descriptions.specs.Answer.consistent Rattle.descriptions.specs.Unified.deliver decode Rattle.descriptions.specs.Modes.joined Rattle.descriptions.specs.Modes.quick Rattle.descriptions.specs.Modes.full size Rattle.descriptions.specs.Modes.tidy Rattle.descriptions.specs.Modes.finish Rattle.descriptions.specs.Modes.some-agree Rattle.descriptions.specs.Modes.prune Rattle.descriptions.specs.Modes.fold folded-in Rattle.descriptions.specs.Descr.agree Rattle.descriptions.specs.Descr.agreeing Rattle.descriptions.specs.Descr.readings number join
 one-N = refl
 
@@ -240,41 +248,47 @@ miscounted-3 f n D = n (sym (ap f one-N) ∙ D .counted [] start (step dN wN 2) 
 
 -- readings made up in modes 0 and 1, of which the third demand says nothing: the table does not let them pass
 pub made-up-below : ℕ → Unifier
-made-up-below n zero a b room work = made-up n 0 a b room work
-made-up-below n (suc zero) a b room work = made-up n 1 a b room work
-made-up-below n (suc (suc m)) a b room work = unified (suc (suc m)) a b room work
+made-up-below n c room work = elim (ltb (c .mode) 2) [ true ↦ made-up n c room work | false ↦ unified c room work ]
 
-unread-N : (unified 0 start (words dN) 2048 16384 .readings ≡ 0) × (unified 1 start (words dN) 2048 16384 .readings ≡ 0)
+unread-N : (unified (with-words 0 dN dN) 2048 16384 .readings ≡ 0) × (unified (with-words 1 dN dN) 2048 16384 .readings ≡ 0)
 unfolding Rattle.descriptions.specs.Unified.unified Rattle.descriptions.specs.Unified.in-mode Rattle.descriptions.specs.Unified.deliver decode Rattle.descriptions.specs.Modes.joined Rattle.descriptions.specs.Modes.quick size Rattle.descriptions.specs.Modes.tidy Rattle.descriptions.specs.Modes.finish join
 unread-N = (refl, refl)
 
 -- in either of the two modes
-pub made-up-table : (n : ℕ) → (n ≡ 0 → ⊥) → (mode : ℕ) → mode < 2 → Given mode start (words dN) 2048 16384 (made-up-below n mode start (words dN) 2048 16384) → ⊥
+pub made-up-table : (n : ℕ) → (n ≡ 0 → ⊥) → (mode : ℕ) → mode < 2 →
+    Given (with-words mode dN dN) 2048 16384 (made-up-below n (with-words mode dN dN) 2048 16384) → ⊥
 unfolding made-up-below made-up
-made-up-table n h zero m g = h (sym (ap (λ (r : Answer). r .readings) (given-unified reads 0 start (words dN) 2048 16384 _ g)) ∙ unread-N .0)
-made-up-table n h (suc zero) m g = h (sym (ap (λ (r : Answer). r .readings) (given-unified reads 1 start (words dN) 2048 16384 _ g)) ∙ unread-N .1)
+made-up-table n h zero m g =
+    h (sym (ap (λ (r : Answer). r .readings) (given-unified reads (with-words 0 dN dN) 2048 16384 _ g)) ∙ unread-N .0)
+made-up-table n h (suc zero) m g =
+    h (sym (ap (λ (r : Answer). r .readings) (given-unified reads (with-words 1 dN dN) 2048 16384 _ g)) ∙ unread-N .1)
 made-up-table n h (suc (suc m)) k g = absurd (omega (arith, k))
 
 -- "one that reports 0 and writes nothing", of the areas: an answer as the table gives it, and the result area left as it was
 pub leaves-result : Program
-leaves-result mode a b before =
-    let r = unified mode a b (length (before .result)) (length (before .working)) in
-    record { number = r .number; extent = r .extent; readings = r .readings; after = record { result = before .result; working = before .working } }
+leaves-result c before =
+    let r = unified c (length (before .result)) (length (before .working)) in
+    record {
+      row = record { number = r .number; extent = r .extent; readings = r .readings };
+      after = record { result = before .result; working = before .working };
+    }
 
 -- any program that does so where other words stood before
-pub silent-areas : (P : Program) (mode : ℕ) (a b : List ℕ) (before : Areas) → in-words mode a b before ≡ true →
-    P mode a b before .number ≡ 0 → P mode a b before .after .result ≡ before .result →
-    (unified mode a b (length (before .result)) (length (before .working)) .result ≡ take (P mode a b before .extent) (before .result) → ⊥) → Meets P → ⊥
-silent-areas P mode a b before w z u n m = n (program-writes sense reads P m mode a b before w z u)
+pub silent-areas : (P : Program) (c : Call) (before : Areas) → in-words c before ≡ true →
+    P c before .row .number ≡ 0 → P c before .after .result ≡ before .result →
+    (unified c (length (before .result)) (length (before .working)) .result ≡ take (P c before .row .extent) (before .result) → ⊥) →
+    Meets P → ⊥
+silent-areas P c before w z u n m = n (program-writes sense reads P m c before w z u)
 
-written-N : (unified 0 start (words dN) 3 16384 .number ≡ 0) × (unified 0 start (words dN) 3 16384 .result ≡ 1 ∷ 0 ∷ 0 ∷ [])
+written-N : (unified (with-words 0 dN dN) 3 16384 .number ≡ 0) × (unified (with-words 0 dN dN) 3 16384 .result ≡ 1 ∷ 0 ∷ 0 ∷ [])
 unfolding Rattle.descriptions.specs.Unified.unified Rattle.descriptions.specs.Unified.in-mode Rattle.descriptions.specs.Unified.deliver decode Rattle.descriptions.specs.Modes.joined join
 written-N = (refl, refl)
 
 pub leaves-refused : Meets leaves-result → ⊥
 unfolding leaves-result
-leaves-refused = silent-areas leaves-result 0 start (words dN) (blank 3 16384) (blank-in-words 0 start (words dN) 3 16384 (omega arith) refl refl (omega arith) (omega arith))
-    (ap (λ (n : ℕ). unified 0 start (words dN) 3 n .number) sixteen ∙ written-N .0) refl differs
+leaves-refused = silent-areas leaves-result (with-words 0 dN dN) (blank 3 16384)
+    (blank-in-words (with-words 0 dN dN) 3 16384 (omega arith) refl refl (omega arith) (omega arith))
+    (ap (λ (n : ℕ). unified (with-words 0 dN dN) 3 n .number) sixteen ∙ written-N .0) refl differs
   where
     sixteen : length {A = ℕ} (replicate 16384 0) ≡ 16384
     sixteen = length-replicate {A = ℕ} 16384 0
@@ -284,10 +298,10 @@ leaves-refused = silent-areas leaves-result 0 start (words dN) (blank 3 16384) (
     zeros (suc n) e = let z : _≡_ {A = ℕ} 0 1 = cc in omega arith
 
     r : Answer
-    r = unified 0 start (words dN) 3 (length {A = ℕ} (replicate 16384 0))
+    r = unified (with-words 0 dN dN) 3 (length {A = ℕ} (replicate 16384 0))
 
     differs : r .result ≡ take (r .extent) (0 ∷ 0 ∷ 0 ∷ []) → ⊥
-    differs e = zeros (r .extent) (sym e ∙ ap (λ (n : ℕ). unified 0 start (words dN) 3 n .result) sixteen ∙ written-N .1)
+    differs e = zeros (r .extent) (sym e ∙ ap (λ (n : ℕ). unified (with-words 0 dN dN) 3 n .result) sixteen ∙ written-N .1)
 
 -- the third demand speaks of something: three calls in three modes that succeed, the words in hand once the second input, with two readings, and a fourth that clashes
 abbrev behind : (d : Desc) → WellFormed d 4 → ℕ → Step
@@ -306,7 +320,7 @@ trail-ways = (refl, refl)
 
 -- What the two demands leave to the table of numbers: a program that refuses always meets both.
 pub always-refuse : Unifier
-always-refuse mode a b room work = refuse 1
+always-refuse c room work = refuse 1
 
 ways-none : ways [] ≡ 1
 unfolding Rattle.descriptions.specs.Descr.agreeing Rattle.descriptions.specs.Descr.agree join
@@ -321,14 +335,7 @@ refuse-meets-2 = record {
 
 refused : (ws : List ℕ) (s : Step) → call always-refuse ws s .number ≡ 1
 unfolding always-refuse
-refused ws s = go (s .in-hand-first)
-  where
-    given : Bool → Answer
-    given t = elim t [ true ↦ refuse 1 | false ↦ refuse 1 ]
-
-    go : (t : Bool) → given t .number ≡ 1
-    go true = refl
-    go false = refl
+refused ws s = refl
 
 pub refuse-meets-3 : Demand3 always-refuse
 refuse-meets-3 = record {
@@ -348,6 +355,6 @@ refuse-meets-3 = record {
         go (suc n) k e = let z : _≡_ {A = ℕ} 0 1 = cc in absurd (omega arith)
 
 -- the table does not let it pass
-pub refuse-table : unified 0 start start 2048 16384 ≡ always-refuse 0 start start 2048 16384 → ⊥
+pub refuse-table : unified (with-words 0 dN dN) 2048 16384 ≡ always-refuse (with-words 0 dN dN) 2048 16384 → ⊥
 unfolding always-refuse Rattle.descriptions.specs.Unified.unified Rattle.descriptions.specs.Unified.in-mode Rattle.descriptions.specs.Unified.deliver decode Rattle.descriptions.specs.Modes.joined join
 refuse-table e = let h : _≡_ {A = ℕ} 0 1 = ap (λ (r : Answer). r .number) e in omega arith

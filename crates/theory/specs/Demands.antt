@@ -4,7 +4,7 @@ use mathlib.Core.Option.{Option}
 use mathlib.Core.List.{List}
 use Prim.Native.Nat.{ℕ}
 use Rattle.theory.specs.Descr.{Desc}
-use Rattle.theory.specs.Answer.{Answer}
+use Rattle.theory.specs.Answer.{Answer, Call}
 use Rattle.theory.specs.LayoutOne.{layout-one}
 use Rattle.theory.specs.JoiningOne.{joining-one}
 use Rattle.theory.specs.Structure.{structures}
@@ -18,6 +18,9 @@ Step = Rattle.descriptions.specs.Demands.Step layout-one
 
 abbrev pub start : List ℕ
 start = Rattle.descriptions.specs.Demands.start joining-one layout-one
+
+abbrev pub with-words : ℕ → Desc → Desc → Call
+with-words = Rattle.descriptions.specs.Demands.with-words layout-one
 
 abbrev pub call : Unifier → List ℕ → Step → Answer
 call = Rattle.descriptions.specs.Demands.call layout-one

@@ -1,10 +1,9 @@
 -- The table of numbers as a program, so that cases compute: `unified` gives exactly what the rules give (`table`).
 -- Assumes nothing: these are definitions.
 use mathlib.Core.Option.{Option}
-use mathlib.Core.List.{List}
 use Prim.Native.Nat.{ℕ}
 use Rattle.theory.specs.Descr.{Desc}
-use Rattle.theory.specs.Answer.{Answer}
+use Rattle.theory.specs.Answer.{Answer, Call}
 use Rattle.theory.specs.LayoutOne.{layout-one}
 use Rattle.theory.specs.JoiningOne.{joining-one}
 
@@ -17,5 +16,5 @@ complete = Rattle.descriptions.specs.Unified.complete joining-one layout-one
 abbrev pub in-mode : ℕ → Desc → Desc → ℕ → Answer
 in-mode = Rattle.descriptions.specs.Unified.in-mode joining-one layout-one
 
-abbrev pub unified : ℕ → List ℕ → List ℕ → ℕ → ℕ → Answer
+abbrev pub unified : Call → ℕ → ℕ → Answer
 unified = Rattle.descriptions.specs.Unified.unified joining-one layout-one

@@ -15,7 +15,7 @@ use Rattle.full.proofs.Whole.{over-whole, few-whole, nothing-whole, left-whole}
 use Rattle.showing.specs.Showing.{outcome, Showing, Shows}
 use Rattle.showing.proofs.Fitting.{showing}
 use Rattle.unify.specs.declared.making.Made.{Made}
-use Rattle.unify.specs.declared.making.Made.the-variants.{Ready, Clash, TooMany}
+use Rattle.unify.specs.declared.making.Made.the-variants.{Ready, TooMany, NoChoice}
 use Rattle.unify.specs.Making.{Meant, Completing, Completes}
 use Rattle.unify.proofs.Meaning.{left, quick-result, meant-many, meant-nothing, meant-full}
 
@@ -34,8 +34,11 @@ module _ (n k : ℕ) (w w₁ : List ℕ) (d : Doused w w₁) where
     pub completes-many : r ≡ Over → Completes n k w TooMany w₂
     completes-many e = same TooMany (λ t p s q. let c = asked t p s q in meant-many p (marking w₁) (c .left) w₂ (over-whole n k w₁ r w₂ f c (left p (marking w₁)) (quick-result p (marking w₁) (c .left)) e))
 
-    pub completes-nothing : r ≡ Nothing → Completes n k w Clash w₂
-    completes-nothing e = same Clash (λ t p s q. let c = asked t p s q in meant-nothing p (marking w₁) (c .left) (few-whole n k w₁ r w₂ f c (left p (marking w₁)) (quick-result p (marking w₁) (c .left)) (λ z. other (sym e ∙ z))) w₂ (nothing-whole n k w₁ r w₂ f c e))
+    pub completes-nothing : r ≡ Nothing → Completes n k w NoChoice w₂
+    completes-nothing e = same NoChoice (λ t p s q.
+        let c = asked t p s q in
+        let few = few-whole n k w₁ r w₂ f c (left p (marking w₁)) (quick-result p (marking w₁) (c .left)) (λ z. other (sym e ∙ z)) in
+        meant-nothing p (marking w₁) (c .left) few w₂ (nothing-whole n k w₁ r w₂ f c e))
       where
         other : Nothing ≡ Over → ⊥
         other z = let y : _≡_ {A = ℕ} 0 1 = cc in absurd (omega arith)

@@ -18,6 +18,12 @@ module _ (w s : List ℕ) where
   pub handed-clash : (m : Made) → m ≡ made.Clash → Handed w s m Clash s
   handed-clash m e = rw e (refl, refl)
 
+  pub handed-fails : (m : Made) → m ≡ made.QuickFails → Handed w s m Clash s
+  handed-fails m e = rw e (refl, refl)
+
+  pub handed-none : (m : Made) → m ≡ made.NoChoice → Handed w s m Clash s
+  handed-none m e = rw e (refl, refl)
+
   pub handed-many : (m : Made) → m ≡ made.TooMany → Handed w s m TooMany s
   handed-many m e = rw e (refl, refl)
 

@@ -1,6 +1,5 @@
 -- Each return of `make` is what the mode makes. Assumes nothing.
 use mathlib.Core.Path.{_≡_, sym, _∙_, subst}
-use mathlib.Core.Logic.{inl}
 use mathlib.Core.List.{List}
 use Prim.Native.Nat.{ℕ, _≤_}
 use native.Mathlib.Omega.{arith}
@@ -21,9 +20,9 @@ use Rattle.quick.specs.declared.step.Step.the-variants.{Stands, Fails}
 use Rattle.showing.specs.Showing.{Showing, Shows}
 use Rattle.showing.proofs.Fitting.{joined-showing, quick-showing}
 use Rattle.unify.specs.declared.making.Made.{Made}
-use Rattle.unify.specs.declared.making.Made.the-variants.{Ready, Clash}
+use Rattle.unify.specs.declared.making.Made.the-variants.{Ready, Clash, QuickFails}
 use Rattle.unify.specs.Making.{Meant, Begun, Begins, Makes, Completing, Completes}
-use Rattle.unify.proofs.Meaning.{meant-of, meant-join, meant-clash, meant-quick}
+use Rattle.unify.proofs.Meaning.{meant-of, meant-join, meant-fails, meant-quick}
 
 -- the descriptions that the inputs are
 abbrev pub one : {a b w : List ℕ} → Opening w a b → Desc
@@ -37,7 +36,7 @@ reads o = record { first-well = o .inputs .first .1; second-well = o .inputs .se
 
 module _ (mode : ℕ) (a b w : List ℕ) (r : Opened) (w₁ : List ℕ) (g : Begins w a b r w₁) where
   pub makes-clash : r ≡ Clashed → Makes mode w a b Clash w₁
-  makes-clash e = record { len = g .len; rest = λ j h. g .rest j (omega arith); told = λ d f q. inl (inl (subst (Begun d f w₁) e (g .told d f q))) }
+  makes-clash e = record { len = g .len; rest = λ j h. g .rest j (omega arith); told = λ d f q. subst (Begun d f w₁) e (g .told d f q) }
 
   module _ (n k : ℕ) (q : r ≡ Joined n k) where
     begun : (d e : Desc) → Read a b d e → Begun d e w₁ (Joined n k)
@@ -58,13 +57,16 @@ module _ (mode : ℕ) (a b w : List ℕ) (r : Opened) (w₁ : List ℕ) (g : Beg
     asks-quick o = let x = begun (one o) (two o) (reads o) in record { t = words w₁; p = x .0; stage = x .3; every = x .4 }
 
     module _ (s : Step) (w₂ : List ℕ) (f : Quickens n k w₁ s w₂) where
-      pub makes-quick-clash : 1 ≤ mode → s ≡ Fails → Makes mode w a b Clash w₂
-      makes-quick-clash h e =
+      pub makes-quick-fails : 1 ≤ mode → s ≡ Fails → Makes mode w a b QuickFails w₂
+      makes-quick-fails h e =
           let (m, c) = f .failing e in
           record { len = m .len ∙ g .len; rest = λ j l. m .rest j (omega arith) ∙ g .rest j (omega arith); told = λ d e z. told d e (begun d e z) c }
         where
-          told : (d e : Desc) → Begun d e w₁ (Joined n k) → ((t : List ℕ) (p : Pair n t) → Stage n t p k w₁ → marking w₁ ≡ all-kept → quick-at (p .j) ≡ none) → Meant mode d e w₂ Clash
-          told d e x c = meant-of (x .0) mode w₂ Clash d e (x .1) (x .2) (meant-clash (x .0) mode w₂ h (c (words w₁) (x .0) (x .3) (x .4)))
+          told : (d e : Desc) → Begun d e w₁ (Joined n k) →
+              ((t : List ℕ) (p : Pair n t) → Stage n t p k w₁ → marking w₁ ≡ all-kept → quick-at (p .j) ≡ none) →
+              Meant mode d e w₂ QuickFails
+          told d e x c =
+              meant-of (x .0) mode w₂ QuickFails d e (x .1) (x .2) (meant-fails (x .0) mode w₂ h (c (words w₁) (x .0) (x .3) (x .4)))
 
       module _ (k′ i : ℕ) (e : s ≡ Stands k′ i) where
         moved : Moved k w₁ k′ w₂

@@ -27,7 +27,7 @@ use Rattle.area.specs.Map.{RESULT}
 use Rattle.entering.specs.Stage.{Pair}
 use Rattle.entering.proofs.Conclusions.{joined-shown, quick-none, quick-shown}
 use Rattle.unify.specs.declared.making.Made.{Made}
-use Rattle.unify.specs.declared.making.Made.the-variants.{Ready, Clash, TooMany}
+use Rattle.unify.specs.declared.making.Made.the-variants.{Ready, QuickFails, TooMany, NoChoice}
 use Rattle.unify.specs.Making.{Meant}
 
 none-some : {A : Type 0} {o : Option A} {x : A} → o ≡ none → o ≡ some x → ⊥
@@ -62,8 +62,8 @@ module _ {n : ℕ} {t : List ℕ} (p : Pair n t) where
       no (inr c) = let k = c .0 in absurd (omega arith)
 
   -- ---- modes 1 and 2
-  pub meant-clash : (mode : ℕ) (w : List ℕ) → 1 ≤ mode → quick-at (p .j) ≡ none → Meant mode (p .d) (p .e) w Clash
-  meant-clash mode w h e = inl (inr (h, quick-none _ _ p e))
+  pub meant-fails : (mode : ℕ) (w : List ℕ) → 1 ≤ mode → quick-at (p .j) ≡ none → Meant mode (p .d) (p .e) w QuickFails
+  meant-fails mode w h e = (joins, h, quick-none _ _ p e)
 
   module _ (m : Marking) (q : Leaves (p .j) m) where
     pub quick-result : quick (p .d) (p .e) ≡ some (left m)
@@ -87,8 +87,8 @@ module _ {n : ℕ} {t : List ℕ} (p : Pair n t) where
     meant-many w e = (stands-quick 2, (refl, left m, quick-result, ltb-true choice-limit (number (left m)) e))
 
     module _ (e : ltb choice-limit (number (left m)) ≡ false) where
-      pub meant-nothing : (w : List ℕ) → full (p .d) (p .e) ≡ none → Meant 2 (p .d) (p .e) w Clash
-      meant-nothing w z = inr (stands-quick 2, few e, refl, zero (full (p .d) (p .e)) z (full-view (p .d) (p .e)))
+      pub meant-nothing : (w : List ℕ) → full (p .d) (p .e) ≡ none → Meant 2 (p .d) (p .e) w NoChoice
+      meant-nothing w z = (stands-quick 2, few e, refl, zero (full (p .d) (p .e)) z (full-view (p .d) (p .e)))
         where
           zero : (o : Option Desc) → o ≡ none → FullView (p .d) (p .e) o → consistent (p .d) (p .e) ≡ 0
           zero none q (full-none h) = h

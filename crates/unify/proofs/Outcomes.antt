@@ -10,10 +10,10 @@ use Rattle.theory.specs.Limits.{input-limit, working-size}
 use Rattle.theory.specs.Descr.{Desc}
 use Rattle.theory.specs.Layout.{words}
 use Rattle.theory.specs.LayoutOne.{Image}
-use Rattle.theory.specs.Answer.{refuse}
+use Rattle.theory.specs.Answer.{Call, refuse}
 use Rattle.theory.specs.Rules as rules
 use Rattle.theory.specs.Rules.{mode-readings, Accepted, Given, one, two, three, four, five, six, seven, six-after, eight, done}
-use Rattle.theory.specs.Outcome.{Areas, wiped, Outcome}
+use Rattle.theory.specs.Outcome.{Areas, Outcome, Row, wiped}
 use Rattle.descriptions.proofs.Areas.{worked-same, worked-zero, worked-more}
 use Rattle.layout.specs.Standing.{Stands}
 use Rattle.layout.specs.Judged.{Judged}
@@ -27,7 +27,7 @@ use Rattle.unify.specs.declared.making.Made.{Made}
 use Rattle.unify.specs.declared.making.Made.the-variants as made
 use Rattle.unify.specs.declared.Answer.{Answer as Reply}
 use Rattle.unify.specs.declared.Answer.the-variants.{Done, Clash, TooMany, NoRoom}
-use Rattle.unify.specs.Number.{number-of, extent-of, readings-of}
+use Rattle.unify.specs.Number.{row-of}
 use Rattle.unify.specs.Making.{Makes, Meant}
 use Rattle.unify.proofs.Made as inputs
 use Rattle.unify.specs.Handing.{Room, Handed}
@@ -50,30 +50,42 @@ wiped-alike n w w′ e h =
     let b = length-drop n w′ in
     ap (λ (l : List ℕ). replicate n 0 ++ l) (ext-getD 0 (drop n w′) (drop n w) (omega arith) (λ j l. getD-drop n w′ j 0 ∙ h (n + j) (omega arith) ∙ sym (getD-drop n w j 0)))
 
+-- the row of a refusal
+abbrev told : ℕ → Row
+told n = record { number = n; extent = 0; readings = 0 }
+
 -- ---- numbers 1 to 5
-module _ (mode : ℕ) (a b s w : List ℕ) where
+module _ (c : Call) (s w : List ℕ) where
   abbrev areas : Areas
   areas = record { result = s; working = w }
 
-  refused : (n : ℕ) → 1 ≤ n → n ≤ 5 → Given mode a b (length s) (length w) (refuse n) → Outcome mode a b areas n 0 0 areas
-  refused n l h g = record { answer = refuse n; given = g; the-number = refl; the-extent = refl; the-readings = refl; the-result = refl; the-working = sym (worked-same n w l h) }
+  refused : (n : ℕ) → 1 ≤ n → n ≤ 5 → Given c (length s) (length w) (refuse n) → Outcome c areas (told n) areas
+  refused n l h g = record {
+    answer = refuse n;
+    given = g;
+    the-number = refl;
+    the-extent = refl;
+    the-readings = refl;
+    the-result = refl;
+    the-working = sym (worked-same n w l h);
+  }
 
-  pub bad-mode : 2 < mode → Outcome mode a b areas 1 0 0 areas
+  pub bad-mode : 2 < c .mode → Outcome c areas (told 1) areas
   bad-mode h = refused 1 (omega arith) (omega arith) (one h)
 
-  module _ (m : mode ≤ 2) where
-    pub small-area : length w < working-size → Outcome mode a b areas 2 0 0 areas
+  module _ (m : c .mode ≤ 2) where
+    pub small-area : length w < working-size → Outcome c areas (told 2) areas
     small-area h = refused 2 (omega arith) (omega arith) (two m h)
 
     module _ (l : working-size ≤ length w) where
-      pub too-long : (input-limit < length a) ⊎ (input-limit < length b) → Outcome mode a b areas 3 0 0 areas
+      pub too-long : (input-limit < length (c .first)) ⊎ (input-limit < length (c .second)) → Outcome c areas (told 3) areas
       too-long h = refused 3 (omega arith) (omega arith) (three m l h)
 
-      module _ (fa : length a ≤ input-limit) (fb : length b ≤ input-limit) where
-        pub bad-first : ¬ (Image a) → Outcome mode a b areas 4 0 0 areas
+      module _ (fa : length (c .first) ≤ input-limit) (fb : length (c .second) ≤ input-limit) where
+        pub bad-first : ¬ (Image (c .first)) → Outcome c areas (told 4) areas
         bad-first h = refused 4 (omega arith) (omega arith) (four m l fa fb h)
 
-        pub bad-second : Image a → ¬ (Image b) → Outcome mode a b areas 5 0 0 areas
+        pub bad-second : Image (c .first) → ¬ (Image (c .second)) → Outcome c areas (told 5) areas
         bad-second i h = refused 5 (omega arith) (omega arith) (five m l fa fb i h)
 
 -- a judgement that is not "accepted"
@@ -94,7 +106,10 @@ module _ (mode : ℕ) (a b w : List ℕ) (m : mode ≤ 2) (o : Opening w a b) wh
   read : Read a b d e
   read = inputs.reads o
 
-  accepted : Accepted mode a b (length w) d e
+  abbrev asked : Call
+  asked = record { mode = mode; first = a; second = b }
+
+  accepted : Accepted asked (length w) d e
   accepted = record {
     mode-fine = m;
     area-fine = o .long;
@@ -115,7 +130,9 @@ module _ (mode : ℕ) (a b w : List ℕ) (m : mode ≤ 2) (o : Opening w a b) wh
       where
         go : (r : Made) → Meant mode d e w₁ r → Room w₁ r
         go made.Clash h = tt
+        go made.QuickFails h = tt
         go made.TooMany h = tt
+        go made.NoChoice h = tt
         go (made.Ready n j) (c, t, x, q, l, v, h) = stands-within w₁ (words x) RESULT (RESULT + n) within h
 
     module _ (s w₂ : List ℕ) (z : w₂ ≡ wiped working-size w₁) where
@@ -123,25 +140,35 @@ module _ (mode : ℕ) (a b w : List ℕ) (m : mode ≤ 2) (o : Opening w a b) wh
       zeros = z ∙ wiped-alike working-size w w₁ (k .len) (k .rest)
 
       abbrev Comes : Reply → List ℕ → Type 0
-      Comes y s₁ = Outcome mode a b (record { result = s; working = w }) (number-of y) (extent-of y) (readings-of y) (record { result = s₁; working = w₂ })
+      Comes y s₁ = Outcome asked (record { result = s; working = w }) (row-of y) (record { result = s₁; working = w₂ })
 
-      pub concluded : (y : Reply) (s₁ : List ℕ) → Handed w₁ s r y s₁
-          → Outcome mode a b (record { result = s; working = w }) (number-of y) (extent-of y) (readings-of y) (record { result = s₁; working = w₂ })
+      pub concluded : (y : Reply) (s₁ : List ℕ) → Handed w₁ s r y s₁ →
+          Outcome asked (record { result = s; working = w }) (row-of y) (record { result = s₁; working = w₂ })
       concluded y s₁ = go r (k .told d e read)
         where
           at : (y′ : Reply) (s′ : List ℕ) → Comes y′ s′ → y ≡ y′ → s₁ ≡ s′ → Comes y s₁
           at y′ s′ h p q = subst (λ (z : Reply). Comes z s₁) (sym p) (subst (Comes y′) (sym q) h)
 
-          refusal : (n : ℕ) → 6 ≤ n → Given mode a b (length s) (length w) (refuse n) → Outcome mode a b (record { result = s; working = w }) n 0 0 (record { result = s; working = w₂ })
-          refusal n h g = record { answer = refuse n; given = g; the-number = refl; the-extent = refl; the-readings = refl; the-result = refl; the-working = zeros ∙ sym (worked-more n w h) }
+          refusal : (n : ℕ) → 6 ≤ n → Given asked (length s) (length w) (refuse n) →
+              Outcome asked (record { result = s; working = w }) (told n) (record { result = s; working = w₂ })
+          refusal n h g = record {
+            answer = refuse n;
+            given = g;
+            the-number = refl;
+            the-extent = refl;
+            the-readings = refl;
+            the-result = refl;
+            the-working = zeros ∙ sym (worked-more n w h);
+          }
 
-          clash : Meant mode d e w₁ made.Clash → Comes Clash s
-          clash (inl h) = refusal 6 (omega arith) (six d e accepted h)
-          clash (inr (c, t, q, z)) = refusal 6 (omega arith) (six-after d e accepted c t q z)
+          clash : Given asked (length s) (length w) (refuse 6) → Comes Clash s
+          clash g = refusal 6 (omega arith) g
 
           go : (r : Made) → Meant mode d e w₁ r → Handed w₁ s r y s₁ → Comes y s₁
-          go made.Clash h (p, q) = at Clash s (clash h) p q
+          go made.Clash h (p, q) = at Clash s (clash (six d e accepted (inl h))) p q
+          go made.QuickFails (j, h, f) (p, q) = at Clash s (clash (six d e accepted (inr (h, f)))) p q
           go made.TooMany (c, t) (p, q) = at TooMany s (refusal 7 (omega arith) (seven d e accepted c t)) p q
+          go made.NoChoice (c, t, h, z) (p, q) = at Clash s (clash (six-after d e accepted c t h z)) p q
           go (made.Ready n j) (c, t, x, f, l, v, h) (inl (short, p, q)) =
               at (NoRoom n) s (record {
                 answer = record { number = 8; extent = length (words x); readings = 0; result = [] };
@@ -159,6 +186,8 @@ module _ (mode : ℕ) (a b w : List ℕ) (m : mode ≤ 2) (o : Opening w a b) wh
                 the-number = refl;
                 the-extent = l;
                 the-readings = v;
-                the-result = ap (λ (i : ℕ). region RESULT i w₁ ++ drop i s) l ∙ ap (λ (u : List ℕ). u ++ drop (length (words x)) s) (stands-region w₁ (words x) RESULT (RESULT + n) h);
+                the-result =
+                    ap (λ (i : ℕ). region RESULT i w₁ ++ drop i s) l
+                    ∙ ap (λ (u : List ℕ). u ++ drop (length (words x)) s) (stands-region w₁ (words x) RESULT (RESULT + n) h);
                 the-working = zeros ∙ sym (worked-zero w);
               }) p q

@@ -16,10 +16,15 @@ use Rattle.unify.specs.declared.Answer.the-variants.{Done, Clash, TooMan
 abbrev pub Room : List ℕ → Made → Type 0
 Room w (made.Ready n r) = RESULT + n ≤ length w
 Room w made.Clash = Unit {0}
+Room w made.QuickFails = Unit {0}
 Room w made.TooMany = Unit {0}
+Room w made.NoChoice = Unit {0}
 
--- "8 | result longer than the result area", "Result area: only number 0 writes, the first so many words; the rest stays."
+-- "6 | clash", whichever of the three; "8 | result longer than the result area"
+-- "Result area: only number 0 writes, the first so many words; the rest stays."
 abbrev pub Handed : List ℕ → List ℕ → Made → Answer → List ℕ → Type 0
 Handed w s made.Clash r s′ = (r ≡ Clash) × (s′ ≡ s)
+Handed w s made.QuickFails r s′ = (r ≡ Clash) × (s′ ≡ s)
 Handed w s made.TooMany r s′ = (r ≡ TooMany) × (s′ ≡ s)
+Handed w s made.NoChoice r s′ = (r ≡ Clash) × (s′ ≡ s)
 Handed w s (made.Ready n k) r s′ = ((length s < n) × (r ≡ NoRoom n) × (s′ ≡ s)) ⊎ ((n ≤ length s) × (r ≡ Done n k) × (s′ ≡ region RESULT n w ++ drop n s))

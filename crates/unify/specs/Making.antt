@@ -2,7 +2,6 @@
 -- Assumes nothing: these are definitions.
 use Prim.Native.Nat.{ℕ, _+_, _≤_}
 use mathlib.Core.Path.{_≡_}
-use mathlib.Core.Logic.{_⊎_}
 use mathlib.Core.Option.{none, some}
 use mathlib.Core.List.{List}
 use lib.ListN.{length, getD}
@@ -12,7 +11,7 @@ use Rattle.theory.specs.Answer.{consistent}
 use Rattle.theory.specs.Rules as rules
 use Rattle.theory.specs.Rules.{mode-result, mode-readings, Clashes}
 use Rattle.layout.specs.Standing.{Stands}
-use Rattle.theory.specs.Modes.{joined}
+use Rattle.theory.specs.Modes.{joined, quick}
 use Rattle.engine.specs.Marks.{all-kept}
 use Rattle.engine.specs.Quickly.{Leaves}
 use Rattle.area.specs.Map.{RESULT, SIZE}
@@ -23,7 +22,7 @@ use Rattle.opening.specs.declared.Opened.{Opened}
 use Rattle.opening.specs.declared.Opened.the-variants.{Joined, Clashed}
 use Rattle.entering.specs.Stage.{Pair, Stage}
 use Rattle.unify.specs.declared.making.Made.{Made}
-use Rattle.unify.specs.declared.making.Made.the-variants.{Ready, Clash, TooMany}
+use Rattle.unify.specs.declared.making.Made.the-variants.{Ready, Clash, QuickFails, TooMany, NoChoice}
 
 -- "0, join. The graph is the join of both definite graphs (a clash there is a clash in all modes).": both stand loaded with all alternatives kept, or they clash
 abbrev pub Begun : Desc → Desc → List ℕ → Opened → Type 0
@@ -35,11 +34,15 @@ pub record Begins (w a b : List ℕ) (r : Opened) (w′ : List ℕ) : Type 0 whe
   pub rest : (j : ℕ) → RESULT ≤ j → getD w′ j 0 ≡ getD w j 0
   pub told : (d e : Desc) → Read a b d e → Begun d e w′ r
 
--- "6 | clash: in the joining or, modes 1 and 2, the quick step; in mode 2, after check 7, also no consistent choice", "7 | mode 2, quick step did not fail, its result has over 4,096 choices", and else the mode's result, whose words stand in the area
+-- "6 | clash: in the joining or, modes 1 and 2, the quick step", "7 | mode 2, quick step did not fail, its result has over 4,096 choices",
+-- "in mode 2, after check 7, also no consistent choice": each told apart; and else the mode's result, whose words stand in the area
 abbrev pub Meant : ℕ → Desc → Desc → List ℕ → Made → Type 0
-Meant mode d e w Clash = Clashes mode d e ⊎ (¬ (Clashes mode d e) × ¬ (rules.TooMany mode d e) × (mode ≡ 2) × (consistent d e ≡ 0))
+Meant mode d e w Clash = joined d e ≡ none
+Meant mode d e w QuickFails = ¬ (joined d e ≡ none) × (1 ≤ mode) × (quick d e ≡ none)
 Meant mode d e w TooMany = ¬ (Clashes mode d e) × rules.TooMany mode d e
-Meant mode d e w (Ready n r) = ¬ (Clashes mode d e) × ¬ (rules.TooMany mode d e) × (s : Desc) × (mode-result mode d e ≡ some s) × (n ≡ length (words s)) × (r ≡ mode-readings mode d e) × Stands w RESULT (words s) (RESULT + n)
+Meant mode d e w NoChoice = ¬ (Clashes mode d e) × ¬ (rules.TooMany mode d e) × (mode ≡ 2) × (consistent d e ≡ 0)
+Meant mode d e w (Ready n r) = ¬ (Clashes mode d e) × ¬ (rules.TooMany mode d e) × (s : Desc) × (mode-result mode d e ≡ some s)
+    × (n ≡ length (words s)) × (r ≡ mode-readings mode d e) × Stands w RESULT (words s) (RESULT + n)
 
 -- the words from 16,384 on stay as they were
 pub record Makes (mode : ℕ) (w a b : List ℕ) (r : Made) (w′ : List ℕ) : Type 0 where

@@ -12,15 +12,16 @@ use layout::reading::judge;
 use limits::INPUT_LIMIT;
 ghost use mathlib.Core.Path.{_≡_};
 ghost use Prim.Native.Nat.{_≤_};
+ghost use Rattle.theory.specs.Answer.{Call};
 ghost use Rattle.theory.specs.Outcome.{Areas, Outcome};
 ghost use Rattle.opening.specs.Opening.{Opening};
-ghost use Rattle.unify.specs.Number.{number-of, extent-of, readings-of};
+ghost use Rattle.unify.specs.Number.{row-of};
 ghost use Rattle.unify.specs.Handing.{Room, Handed};
 
 // "mode above 2"
 const LAST_MODE: u32 = 2;
 
-// What comes of a call; `number-of`, `extent-of` and `readings-of` give document 01's number, length and readings of each.
+// What comes of a call; `row-of` gives document 01's number, length and readings of each.
 pub enum Answer {
     Done { length: usize, readings: u32 },
     BadMode,
@@ -42,7 +43,7 @@ pub struct Row {
 
 // What document 01 gives for an answer.
 pub fn told(answer: Answer) -> Row
-    ensures { λ r. ⌜ (r .number ≡ number-of answer) × ((r .length ≡ extent-of answer) × (r .readings ≡ readings-of answer)) ⌝ }
+    ensures { λ r. ⌜ (r .number ≡ row-of answer .number) × ((r .length ≡ row-of answer .extent) × (r .readings ≡ row-of answer .readings)) ⌝ }
 {
     match answer {
         Answer::Done { length, readings } => Row {
@@ -83,7 +84,9 @@ fn hand_over(made: Made, working: &[u32], result: &mut [u32]) -> Answer
 {
     match made {
         Made::Clash => Answer::Clash,
+        Made::QuickFails => Answer::Clash,
         Made::TooMany => Answer::TooMany,
+        Made::NoChoice => Answer::Clash,
         Made::Ready { length, readings } => {
             if result.len() < length {
                 return Answer::NoRoom { length };
@@ -103,7 +106,9 @@ fn conclude(
     working: &mut [u32],
 ) -> Answer
     requires { ⌜ (mode ≤ 2) × Opening (now working) (now first) (now second) ⌝ }
-    ensures { λ r. ⌜ Outcome mode (now (first .entry)) (now (second .entry)) (record { result = now (result .entry); working = now (working .entry) }) (number-of r) (extent-of r) (readings-of r) (record { result = now (result .exit); working = now (working .exit) }) ⌝ }
+    ensures { λ r. ⌜ Outcome (record { mode = mode; first = now (first .entry); second = now (second .entry) })
+        (record { result = now (result .entry); working = now (working .entry) }) (row-of r)
+        (record { result = now (result .exit); working = now (working .exit) }) ⌝ }
 {
     let made = make(mode, working, first, second);
     let answer = hand_over(made, working, result);
@@ -119,7 +124,9 @@ pub fn unify(
     result: &mut [u32],
     working: &mut [u32],
 ) -> Answer
-    ensures { λ r. ⌜ Outcome mode (now (first .entry)) (now (second .entry)) (record { result = now (result .entry); working = now (working .entry) }) (number-of r) (extent-of r) (readings-of r) (record { result = now (result .exit); working = now (working .exit) }) ⌝ }
+    ensures { λ r. ⌜ Outcome (record { mode = mode; first = now (first .entry); second = now (second .entry) })
+        (record { result = now (result .entry); working = now (working .entry) }) (row-of r)
+        (record { result = now (result .exit); working = now (working .exit) }) ⌝ }
 {
     if LAST_MODE < mode {
         return Answer::BadMode;

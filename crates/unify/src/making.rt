@@ -12,11 +12,14 @@ ghost use Prim.Native.Nat.{_≤_};
 ghost use Rattle.opening.specs.Opening.{Opening};
 ghost use Rattle.unify.specs.Making.{Begins, Makes, Completing, Completes};
 
-// What was made: a result of so many words, which stand in the working area, with so many readings; or a clash, or too many choices.
+// What was made: a result of so many words, which stand in the working area, with so many readings; or the definite graphs clash,
+// the quick step fails, there are too many choices, or no choice is consistent.
 pub enum Made {
     Ready { length: usize, readings: u32 },
     Clash,
+    QuickFails,
     TooMany,
+    NoChoice,
 }
 
 // Opens both inputs, and keeps all alternatives.
@@ -38,7 +41,7 @@ fn complete(w: &mut [u32], k: usize, n: usize) -> Made
     let left = full(w, k, n);
     match left {
         Fully::Over => Made::TooMany,
-        Fully::Nothing => Made::Clash,
+        Fully::Nothing => Made::NoChoice,
         Fully::Left(log, readings) => {
             let length = show(w, log, n);
             Made::Ready { length, readings }
@@ -64,7 +67,7 @@ pub fn make(mode: u32, w: &mut [u32], a: &[u32], b: &[u32]) -> Made
     }
     let step = quick(w, log, nodes);
     let Step::Stands(k, _) = step else {
-        return Made::Clash;
+        return Made::QuickFails;
     };
     if mode == 1 {
         let length = show(w, k, nodes);

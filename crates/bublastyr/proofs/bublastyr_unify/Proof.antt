@@ -12,7 +12,10 @@ told-requires : tie.Need-told-requires
 told-requires c κs = search needs
 
 cast-t13 : tie.Need-cast-t13
-cast-t13 c = let h = outcome-small _ _ _ _ _ _ _ _ (c .before .before .before .before .before .before .unify .ensures) in let e = c .before .told .ensures .1 .0 in omega arith
+cast-t13 c =
+    let call = c .before .before .before .before .before .before in
+    let h = outcome-small _ _ _ _ (outcome-told _ _ _ (call .unify .result) _ _ _ (call .unify .ensures) (c .before .told .ensures)) in
+    omega arith
 
 same-length : tie.Need-same-length
 same-length c = search needs
@@ -21,7 +24,9 @@ same-length-2 : tie.Need-same-length-2
 same-length-2 c = search needs
 
 returns : tie.Need-returns
-returns c = outcome-told _ _ _ _ _ (c .before .before .before .before .before .before .before .unify .result) _ _ _ (c .before .before .before .before .before .before .before .unify .ensures) (c .before .before .told .ensures)
+returns c =
+    let call = c .before .before .before .before .before .before .before in
+    outcome-told _ _ _ (call .unify .result) _ _ _ (call .unify .ensures) (c .before .before .told .ensures)
 
 pub bublastyr-unify-spec : {M : Type 1} → statement M
 bublastyr-unify-spec =

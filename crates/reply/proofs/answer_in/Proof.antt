@@ -13,10 +13,22 @@ told-requires : tie.Need-told-requires
 told-requires c κs = search needs
 
 slice-reshare-prefix-write-answer : tie.Need-slice-reshare-prefix-write-answer
-slice-reshare-prefix-write-answer c = let h = said-room _ _ _ _ _ _ _ _ _ _ (c .before .before .before .before .before .before .before .before .before .before .before .before .before .before .before .pre .0) (c .before .before .before .before .before .before .before .before .before .before .before .before .before .before .before .pre .1) (outcome-told _ _ _ _ _ (c .before .before .before .before .before .before .before .unify .result) _ _ _ (c .before .before .before .before .before .before .before .unify .ensures) (c .before .before .told .ensures)) (omega arith) in omega arith
+slice-reshare-prefix-write-answer c =
+    let told = c .before .before in
+    let call = told .before .before .before .before .before in
+    let asked = call .before .before .before .before .before .before .before .before .pre in
+    let o = outcome-told _ _ _ (call .unify .result) _ _ _ (call .unify .ensures) (told .told .ensures) in
+    let h = said-room _ _ _ _ (asked .0) (asked .1) o (omega arith) in
+    omega arith
 
 slice-aggregate-write-answer : tie.Need-slice-aggregate-write-answer
-slice-aggregate-write-answer c = let h = said-room _ _ _ _ _ _ _ _ _ _ (c .before .before .before .before .before .before .before .before .before .before .before .before .before .before .before .before .pre .0) (c .before .before .before .before .before .before .before .before .before .before .before .before .before .before .before .before .pre .1) (outcome-told _ _ _ _ _ (c .before .before .before .before .before .before .before .before .unify .result) _ _ _ (c .before .before .before .before .before .before .before .before .unify .ensures) (c .before .before .before .told .ensures)) (omega arith) in take-count _ _ (omega arith)
+slice-aggregate-write-answer c =
+    let told = c .before .before .before in
+    let call = told .before .before .before .before .before in
+    let asked = call .before .before .before .before .before .before .before .before .pre in
+    let o = outcome-told _ _ _ (call .unify .result) _ _ _ (call .unify .ensures) (told .told .ensures) in
+    let h = said-room _ _ _ _ (asked .0) (asked .1) o (omega arith) in
+    take-count _ _ (omega arith)
 
 write-answer-requires : tie.Need-write-answer-requires
 write-answer-requires c κs = search needs
@@ -31,7 +43,14 @@ same-length-3 : tie.Need-same-length-3
 same-length-3 c = search needs
 
 returns : tie.Need-returns
-returns c = wrote-same _ _ (c .before .before .before .before .before .before .before .before .before .before .before .before .before .before .before .before .before .before .before .args .out .now) (c .before .before .write-answer .last .0) (c .before .before .write-answer .result) (said-done _ _ _ _ _ _ _ _ _ _ (c .before .before .before .before .before .before .before .before .before .before .before .before .before .before .before .before .before .before .before .pre .0) (c .before .before .before .before .before .before .before .before .before .before .before .before .before .before .before .before .before .before .before .pre .1) (outcome-told _ _ _ _ _ (c .before .before .before .before .before .before .before .before .before .before .before .unify .result) _ _ _ (c .before .before .before .before .before .before .before .before .before .before .before .unify .ensures) (c .before .before .before .before .before .before .told .ensures)) (omega arith)) (c .before .before .write-answer .ensures)
+returns c =
+    let wrote = c .before .before .write-answer in
+    let told = c .before .before .before .before .before .before in
+    let call = told .before .before .before .before .before in
+    let asked = call .before .before .before .before .before .before .before .before .pre in
+    let o = outcome-told _ _ _ (call .unify .result) _ _ _ (call .unify .ensures) (told .told .ensures) in
+    let out = call .before .before .before .before .before .before .before .before .args .out .now in
+    wrote-same _ _ out (wrote .last .0) (wrote .result) (said-done _ _ _ _ (asked .0) (asked .1) o (omega arith)) (wrote .ensures)
 
 slice-reshare-prefix-write-answer-2 : tie.Need-slice-reshare-prefix-write-answer-2
 slice-reshare-prefix-write-answer-2 c = search needs
@@ -52,7 +71,14 @@ same-length-6 : tie.Need-same-length-6
 same-length-6 c = search needs
 
 returns-2 : tie.Need-returns-2
-returns-2 c = wrote-same _ _ (c .before .before .before .before .before .before .before .before .before .before .before .before .before .before .before .before .before .before .before .args .out .now) (c .before .before .write-answer2 .last .0) (c .before .before .write-answer2 .result) (said-other _ _ _ _ _ _ _ _ _ _ (c .before .before .before .before .before .before .before .before .before .before .before .before .before .before .before .before .before .before .before .pre .0) (c .before .before .before .before .before .before .before .before .before .before .before .before .before .before .before .before .before .before .before .pre .1) (outcome-told _ _ _ _ _ (c .before .before .before .before .before .before .before .before .before .before .before .unify .result) _ _ _ (c .before .before .before .before .before .before .before .before .before .before .before .unify .ensures) (c .before .before .before .before .before .before .told .ensures)) _ (λ e. omega arith)) (c .before .before .write-answer2 .ensures)
+returns-2 c =
+    let wrote = c .before .before .write-answer2 in
+    let told = c .before .before .before .before .before .before in
+    let call = told .before .before .before .before .before in
+    let asked = call .before .before .before .before .before .before .before .before .pre in
+    let o = outcome-told _ _ _ (call .unify .result) _ _ _ (call .unify .ensures) (told .told .ensures) in
+    let out = call .before .before .before .before .before .before .before .before .args .out .now in
+    wrote-same _ _ out (wrote .last .0) (wrote .result) (said-other _ _ _ _ (asked .0) (asked .1) o _ (λ e. omega arith)) (wrote .ensures)
 
 pub answer-in-spec : {M : Type 1} → statement M
 answer-in-spec =

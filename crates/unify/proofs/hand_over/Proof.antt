@@ -1,7 +1,7 @@
 -- `unify::hand_over` meets its contract. Assumes nothing.
 use borrow.Author.Needs.{needs}
 use native.Mathlib.Omega.{arith}
-use Rattle.unify.proofs.Handing.{handed-clash, handed-many, handed-short, handed-room, handed-done}
+use Rattle.unify.proofs.Handing.{handed-clash, handed-fails, handed-many, handed-none, handed-short, handed-room, handed-done}
 use Rattle.unify.proofs.hand_over.Statement.{statement}
 use Rattle.unify.proofs.hand_over.Tie as tie
 
@@ -11,6 +11,12 @@ enum-told c = search needs
 enum-told-2 : tie.Need-enum-told-2
 enum-told-2 c = search needs
 
+enum-told-3 : tie.Need-enum-told-3
+enum-told-3 c = search needs
+
+enum-told-4 : tie.Need-enum-told-4
+enum-told-4 c = search needs
+
 enum-known-made : tie.Need-enum-known-made
 enum-known-made c = search needs
 
@@ -18,19 +24,30 @@ returns : tie.Need-returns
 returns c = handed-short _ _ _ _ _ (c .before .before .made .given .1) (omega arith)
 
 copy-out-requires : tie.Need-copy-out-requires
-copy-out-requires c κs = let h = handed-room _ _ _ _ (c .before .before .before .made .given .1) (c .before .before .before .before .before .before .before .pre) in (omega arith, omega arith)
+copy-out-requires c κs =
+    let ready = c .before .before .before in
+    let h = handed-room _ _ _ _ (ready .made .given .1) (ready .before .before .before .before .pre) in
+    (omega arith, omega arith)
 
 returns-2 : tie.Need-returns-2
 returns-2 c = handed-clash _ _ (c .before .before .before .before .args .made) (cc)
 
 returns-3 : tie.Need-returns-3
-returns-3 c = handed-many _ _ (c .before .before .before .before .args .made) (cc)
+returns-3 c = handed-fails _ _ (c .before .before .before .before .args .made) (cc)
+
+returns-4 : tie.Need-returns-4
+returns-4 c = handed-many _ _ (c .before .before .before .before .args .made) (cc)
+
+returns-5 : tie.Need-returns-5
+returns-5 c = handed-none _ _ (c .before .before .before .before .args .made) (cc)
 
 same-length : tie.Need-same-length
 same-length c = search needs
 
-returns-4 : tie.Need-returns-4
-returns-4 c = handed-done _ _ _ _ _ (c .before .before .before .before .before .before .made .given .1) _ (omega arith) (c .before .before .copy-out .ensures)
+returns-6 : tie.Need-returns-6
+returns-6 c =
+    let ready = c .before .before .before .before .before .before in
+    handed-done _ _ _ _ _ (ready .made .given .1) _ (omega arith) (c .before .before .copy-out .ensures)
 
 pub hand-over-spec : {M : Type 1} → statement M
 hand-over-spec =
@@ -38,10 +55,14 @@ hand-over-spec =
     (tie.spec
     enum-told
     enum-told-2
+    enum-told-3
+    enum-told-4
     enum-known-made
     returns
     copy-out-requires
     returns-2
     returns-3
+    returns-4
+    returns-5
     same-length
-    returns-4)
+    returns-6)

@@ -7,16 +7,16 @@ use Rattle.unify.proofs.unify.Statement.{statement}
 use Rattle.unify.proofs.unify.Tie as tie
 
 returns : tie.Need-returns
-returns c = bad-mode _ _ _ _ _ (omega arith)
+returns c = bad-mode _ _ _ (omega arith)
 
 returns-2 : tie.Need-returns-2
-returns-2 c = small-area _ _ _ _ _ (omega arith) (omega arith)
+returns-2 c = small-area _ _ _ (omega arith) (omega arith)
 
 returns-3 : tie.Need-returns-3
-returns-3 c = too-long _ _ _ _ _ (omega arith) (omega arith) (inl (omega arith))
+returns-3 c = too-long _ _ _ (omega arith) (omega arith) (inl (omega arith))
 
 returns-4 : tie.Need-returns-4
-returns-4 c = too-long _ _ _ _ _ (omega arith) (omega arith) (inr (omega arith))
+returns-4 c = too-long _ _ _ (omega arith) (omega arith) (inr (omega arith))
 
 judge-requires : tie.Need-judge-requires
 judge-requires c κs = search needs
@@ -28,7 +28,9 @@ enum-told-2 : tie.Need-enum-told-2
 enum-told-2 c = search needs
 
 returns-5 : tie.Need-returns-5
-returns-5 c = bad-first _ _ _ _ _ (omega arith) (omega arith) (omega arith) (omega arith) (no-image _ (c .before .before .judge .result) (cc) (c .before .before .judge .ensures))
+returns-5 c =
+    let one = c .before .before .judge in
+    bad-first _ _ _ (omega arith) (omega arith) (omega arith) (omega arith) (no-image _ (one .result) (cc) (one .ensures))
 
 judge-requires-2 : tie.Need-judge-requires-2
 judge-requires-2 c κs = search needs
@@ -40,7 +42,10 @@ enum-told-4 : tie.Need-enum-told-4
 enum-told-4 c = search needs
 
 returns-6 : tie.Need-returns-6
-returns-6 c = bad-second _ _ _ _ _ (omega arith) (omega arith) (omega arith) (omega arith) (c .before .before .before .before .before .judge .ensures .sound (cc)) (no-image _ (c .before .before .judge2 .result) (cc) (c .before .before .judge2 .ensures))
+returns-6 c =
+    let two = c .before .before .judge2 in
+    let first = c .before .before .before .before .before .judge .ensures .sound (cc) in
+    bad-second _ _ _ (omega arith) (omega arith) (omega arith) (omega arith) first (no-image _ (two .result) (cc) (two .ensures))
 
 conclude-requires : tie.Need-conclude-requires
 conclude-requires c κs = (omega arith, opening _ _ _ (omega arith) (omega arith) (omega arith) (c .before .before .before .before .before .before .before .judge .ensures .sound (cc)) (c .before .before .before .before .judge2 .ensures .sound (cc)))

@@ -1,7 +1,8 @@
 -- `unify::making::make` meets its contract: each return is what the mode makes. Assumes nothing.
 use borrow.Author.Needs.{needs}
 use native.Mathlib.Omega.{arith}
-use Rattle.unify.proofs.Made.{makes-clash, asks-show, makes-join, asks-quick, makes-quick-clash, asks-show-quick, makes-quick, asks-complete, makes-full}
+use Rattle.unify.proofs.Made.{makes-clash, asks-show, makes-join, asks-quick, makes-quick-fails}
+use Rattle.unify.proofs.Made.{asks-show-quick, makes-quick, asks-complete, makes-full}
 use Rattle.unify.proofs.making.make.Statement.{statement}
 use Rattle.unify.proofs.making.make.Tie as tie
 
@@ -42,7 +43,11 @@ same-length-3 : tie.Need-same-length-3
 same-length-3 c = search needs
 
 returns-3 : tie.Need-returns-3
-returns-3 c = makes-quick-clash _ _ _ _ (c .before .before .before .before .before .before .before .before .before .before .before .before .begin .result) _ (c .before .before .before .before .before .before .before .before .before .before .before .before .begin .ensures) _ _ (c .before .before .before .before .before .before .before .before .opened .given .1) (c .before .before .before .before .quick .result) _ (c .before .before .before .before .quick .ensures) (omega arith) (cc)
+returns-3 c =
+    let quick = c .before .before .before .before .quick in
+    let begin = c .before .before .before .before .before .before .before .before .before .before .before .before .begin in
+    let joined = c .before .before .before .before .before .before .before .before .opened .given .1 in
+    makes-quick-fails _ _ _ _ (begin .result) _ (begin .ensures) _ _ joined (quick .result) _ (quick .ensures) (omega arith) (cc)
 
 show-requires-2 : tie.Need-show-requires-2
 show-requires-2 c κs = asks-show-quick (c .before .before .before .before .before .before .before .before .before .before .before .before .before .before .before .before .before .before .before .before .args .mode) _ _ _ (c .before .before .before .before .before .before .before .before .before .before .before .before .before .before .before .begin .result) _ (c .before .before .before .before .before .before .before .before .before .before .before .before .before .before .before .begin .ensures) _ _ (c .before .before .before .before .before .before .before .before .before .before .before .opened .given .1) (c .before .before .before .before .before .before .before .quick .result) _ (c .before .before .before .before .before .before .before .quick .ensures) _ _ (c .before .before .before .step .given .1) (c .before .before .before .before .before .before .before .before .before .before .before .before .before .before .before .before .before .before .before .before .pre .1)
