@@ -9,7 +9,6 @@ use unify::unify;
 ghost use mathlib.Core.Path.{_≡_};
 ghost use Prim.Native.Nat.{min};
 ghost use lib.ListN.{length};
-ghost use Rattle.theory.specs.Answer.{Call};
 ghost use Rattle.meet_text.specs.Answer.{Wrote};
 ghost use Rattle.reply.specs.Printed.{spoken, printed};
 
