@@ -1,8 +1,7 @@
 // The entry points for C, which include/bublastyr.h declares.
 ghost use lib.ListN.{getD};
 ghost use Rattle.theory.specs.FitTest.{FitGiven};
-ghost use Rattle.theory.specs.Answer.{Call};
-ghost use Rattle.theory.specs.Outcome.{Areas, Outcome, Row};
+ghost use Rattle.theory.specs.Outcome.{Outcome};
 
 // Unifies two descriptions. Answers document 01's number; length and readings go to `told`.
 #[no_mangle]

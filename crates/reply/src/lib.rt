@@ -8,7 +8,6 @@ use unify::told;
 use unify::unify;
 ghost use mathlib.Core.Path.{_≡_};
 ghost use lib.ListN.{length};
-ghost use Rattle.theory.specs.Answer.{Call};
 ghost use Rattle.answer_text.specs.Answer.{Wrote};
 ghost use Rattle.reply.specs.Printed.{spoken, printed};
 

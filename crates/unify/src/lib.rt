@@ -12,8 +12,7 @@ use layout::reading::judge;
 use limits::INPUT_LIMIT;
 ghost use mathlib.Core.Path.{_≡_};
 ghost use Prim.Native.Nat.{_≤_};
-ghost use Rattle.theory.specs.Answer.{Call};
-ghost use Rattle.theory.specs.Outcome.{Areas, Outcome};
+ghost use Rattle.theory.specs.Outcome.{Outcome};
 ghost use Rattle.opening.specs.Opening.{Opening};
 ghost use Rattle.unify.specs.Number.{row-of};
 ghost use Rattle.unify.specs.Handing.{Room, Handed};
@@ -43,7 +42,8 @@ pub struct Row {
 
 // What document 01 gives for an answer.
 pub fn told(answer: Answer) -> Row
-    ensures { λ r. ⌜ (r .number ≡ row-of answer .number) × ((r .length ≡ row-of answer .extent) × (r .readings ≡ row-of answer .readings)) ⌝ }
+    ensures { λ r. ⌜ (r .number ≡ row-of answer .number)
+        × ((r .length ≡ row-of answer .extent) × (r .readings ≡ row-of answer .readings)) ⌝ }
 {
     match answer {
         Answer::Done { length, readings } => Row {
