@@ -14,7 +14,7 @@ TOP = pathlib.Path(__file__).resolve().parent.parent
 LIMIT = 470
 ROOTS = [
     ("theory", "Outcome", "Outcome"),
-    ("unify", "Number", "row-of"),
+    ("answering", "Number", "row-of"),
     ("theory", "FitTest", "FitGiven"),
     ("fit", "Number", "number-of"),
     ("theory", "Demands", "Demand2"),

@@ -24,7 +24,7 @@ import re
 import sys
 
 TOP = pathlib.Path(__file__).resolve().parent.parent
-READ = ["descriptions", "theory", "unify", "fit", "call_text", "answer_text", "reply"]
+READ = ["descriptions", "theory", "answering", "unify", "fit", "call_text", "answer_text", "reply"]
 DOCS = sorted(TOP.glob("*.md")) + sorted(TOP.glob("docs/**/*.md"))
 CITED = re.compile(r"`(\w+)(?:(!)(\w+)|:(fn|proof of) ([\w, ]+)|:([A-Z]\w*)(?:\.([^`\s]+))?)`")
 PATH = re.compile(r"`((?:crates|second|docs|include|examples|bench|fuzz|mutation)/[^` ]+)`")

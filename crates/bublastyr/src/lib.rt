@@ -19,7 +19,7 @@ pub extern "C" fn bublastyr_unify(
         (record { result = now (result .exit); working = now (working .exit) }) ⌝ }
 {
     let answer = unify::unify(mode, first, second, result, working);
-    let row = unify::told(answer);
+    let row = answering::answer::told(answer);
     *told = [row.length as u32, row.readings];
     row.number
 }

@@ -2,9 +2,9 @@
 use answer_text::answer::write_answer;
 use answer_text::answer::write_bad;
 use answer_text::line::Written;
+use answering::answer::told;
 use call_text::call::Call;
 use call_text::call::read_call;
-use unify::told;
 use unify::unify;
 ghost use mathlib.Core.Path.{_≡_};
 ghost use lib.ListN.{length};

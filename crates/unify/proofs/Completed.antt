@@ -14,8 +14,8 @@ use Rattle.full.specs.declared.full.Fully.the-variants.{Over, Nothing, Left}
 use Rattle.full.proofs.Whole.{over-whole, few-whole, nothing-whole, left-whole}
 use Rattle.showing.specs.Showing.{outcome, Showing, Shows}
 use Rattle.showing.proofs.Fitting.{showing}
-use Rattle.unify.specs.declared.making.Made.{Made}
-use Rattle.unify.specs.declared.making.Made.the-variants.{Ready, TooMany, NoChoice}
+use Rattle.answering.specs.declared.hand.Made.{Made}
+use Rattle.answering.specs.declared.hand.Made.the-variants.{Ready, TooMany, NoChoice}
 use Rattle.unify.specs.Making.{Meant, Completing, Completes}
 use Rattle.unify.proofs.Meaning.{left, quick-result, meant-many, meant-nothing, meant-full}
 

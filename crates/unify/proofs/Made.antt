@@ -19,8 +19,8 @@ use Rattle.quick.specs.declared.step.Step.{Step}
 use Rattle.quick.specs.declared.step.Step.the-variants.{Stands, Fails}
 use Rattle.showing.specs.Showing.{Showing, Shows}
 use Rattle.showing.proofs.Fitting.{joined-showing, quick-showing}
-use Rattle.unify.specs.declared.making.Made.{Made}
-use Rattle.unify.specs.declared.making.Made.the-variants.{Ready, Clash, QuickFails}
+use Rattle.answering.specs.declared.hand.Made.{Made}
+use Rattle.answering.specs.declared.hand.Made.the-variants.{Ready, Clash, QuickFails}
 use Rattle.unify.specs.Making.{Meant, Begun, Begins, Makes, Completing, Completes}
 use Rattle.unify.proofs.Meaning.{meant-of, meant-join, meant-fails, meant-quick}
 

@@ -26,8 +26,8 @@ use Rattle.engine.specs.Shown.{shown}
 use Rattle.area.specs.Map.{RESULT}
 use Rattle.entering.specs.Stage.{Pair}
 use Rattle.entering.proofs.Conclusions.{joined-shown, quick-none, quick-shown}
-use Rattle.unify.specs.declared.making.Made.{Made}
-use Rattle.unify.specs.declared.making.Made.the-variants.{Ready, QuickFails, TooMany, NoChoice}
+use Rattle.answering.specs.declared.hand.Made.{Made}
+use Rattle.answering.specs.declared.hand.Made.the-variants.{Ready, QuickFails, TooMany, NoChoice}
 use Rattle.unify.specs.Making.{Meant}
 
 none-some : {A : Type 0} {o : Option A} {x : A} → o ≡ none → o ≡ some x → ⊥

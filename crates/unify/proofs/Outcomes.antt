@@ -11,7 +11,6 @@ use Rattle.theory.specs.Descr.{Desc}
 use Rattle.theory.specs.Layout.{words}
 use Rattle.theory.specs.LayoutOne.{Image}
 use Rattle.theory.specs.Answer.{Call, refuse}
-use Rattle.theory.specs.Rules as rules
 use Rattle.theory.specs.Rules.{mode-readings, Accepted, Given, one, two, three, four, five, six, seven, six-after, eight, done}
 use Rattle.theory.specs.Outcome.{Areas, Outcome, Row, wiped}
 use Rattle.descriptions.proofs.Areas.{worked-same, worked-zero, worked-more}
@@ -23,14 +22,14 @@ use Rattle.layout.proofs.Standing.{stands-cons, stands-within}
 use Rattle.area.specs.Map.{RESULT}
 use Rattle.area.specs.Region.{region}
 use Rattle.opening.specs.Opening.{Read, Opening}
-use Rattle.unify.specs.declared.making.Made.{Made}
-use Rattle.unify.specs.declared.making.Made.the-variants as made
-use Rattle.unify.specs.declared.Answer.{Answer as Reply}
-use Rattle.unify.specs.declared.Answer.the-variants.{Done, Clash, TooMany, NoRoom}
-use Rattle.unify.specs.Number.{row-of}
+use Rattle.answering.specs.declared.hand.Made.{Made}
+use Rattle.answering.specs.declared.hand.Made.the-variants as made
+use Rattle.answering.specs.declared.answer.Answer.{Answer as Reply}
+use Rattle.answering.specs.declared.answer.Answer.the-variants.{Done, Clash, TooMany, NoRoom}
+use Rattle.answering.specs.Number.{row-of}
 use Rattle.unify.specs.Making.{Makes, Meant}
 use Rattle.unify.proofs.Made as inputs
-use Rattle.unify.specs.Handing.{Room, Handed}
+use Rattle.answering.specs.Handing.{Room, Handed}
 
 -- words that stand at a place are the region there
 stands-region : (ws xs : List ℕ) (p q : ℕ) → Stands ws p xs q → region p (length xs) ws ≡ xs

@@ -11,8 +11,8 @@ use mathlib.Core.Option.{some}
 use Rattle.theory.specs.Outcome.{Areas, Outcome, Row}
 use Rattle.descriptions.specs.Outcome.{worked}
 use Rattle.theory.proofs.Reading.{result-words}
-use Rattle.unify.specs.declared.Answer.{Answer as Reply}
-use Rattle.unify.specs.Number.{row-of}
+use Rattle.answering.specs.declared.answer.Answer.{Answer as Reply}
+use Rattle.answering.specs.Number.{row-of}
 
 -- "A result has at most len(a) + len(b) - 3 words"
 module _ (c : Call) where

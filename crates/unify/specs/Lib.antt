@@ -1,4 +1,2 @@
--- `Number` says what document 01 gives for each answer, `Making` what a mode makes of two inputs in the working area, `Handing` how that is handed over.
-pub mod Number
+-- `Making` says what a mode makes of two inputs in the working area.
 pub mod Making
-pub mod Handing

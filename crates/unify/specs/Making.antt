@@ -21,8 +21,8 @@ use Rattle.opening.specs.Opening.{Read}
 use Rattle.opening.specs.declared.Opened.{Opened}
 use Rattle.opening.specs.declared.Opened.the-variants.{Joined, Clashed}
 use Rattle.entering.specs.Stage.{Pair, Stage}
-use Rattle.unify.specs.declared.making.Made.{Made}
-use Rattle.unify.specs.declared.making.Made.the-variants.{Ready, Clash, QuickFails, TooMany, NoChoice}
+use Rattle.answering.specs.declared.hand.Made.{Made}
+use Rattle.answering.specs.declared.hand.Made.the-variants.{Ready, Clash, QuickFails, TooMany, NoChoice}
 
 -- "0, join. The graph is the join of both definite graphs (a clash there is a clash in all modes).": both stand loaded with all alternatives kept, or they clash
 abbrev pub Begun : Desc → Desc → List ℕ → Opened → Type 0

@@ -1,4 +1,5 @@
 // What a mode makes of two inputs, in the working area.
+use answering::hand::Made;
 use full::full::Fully;
 use full::full::full;
 use marks::marking::clear_marks;
@@ -11,16 +12,6 @@ use showing::show::show;
 ghost use Prim.Native.Nat.{_≤_};
 ghost use Rattle.opening.specs.Opening.{Opening};
 ghost use Rattle.unify.specs.Making.{Begins, Makes, Completing, Completes};
-
-// What was made: a result of so many words, which stand in the working area, with so many readings; or the definite graphs clash,
-// the quick step fails, there are too many choices, or no choice is consistent.
-pub enum Made {
-    Ready { length: usize, readings: u32 },
-    Clash,
-    QuickFails,
-    TooMany,
-    NoChoice,
-}
 
 // Opens both inputs, and keeps all alternatives.
 fn begin(w: &mut [u32], a: &[u32], b: &[u32]) -> Opened

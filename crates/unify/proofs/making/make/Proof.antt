@@ -1,8 +1,7 @@
 -- `unify::making::make` meets its contract: each return is what the mode makes. Assumes nothing.
 use borrow.Author.Needs.{needs}
 use native.Mathlib.Omega.{arith}
-use Rattle.unify.proofs.Made.{makes-clash, asks-show, makes-join, asks-quick, makes-quick-fails}
-use Rattle.unify.proofs.Made.{asks-show-quick, makes-quick, asks-complete, makes-full}
+use Rattle.unify.proofs.Made.{makes-clash, asks-show, makes-join, asks-quick, makes-quick-fails, asks-show-quick, makes-quick, asks-complete, makes-full}
 use Rattle.unify.proofs.making.make.Statement.{statement}
 use Rattle.unify.proofs.making.make.Tie as tie
 

@@ -6,10 +6,10 @@ use Prim.Native.Nat.{ℕ, _+_, _≤_, _<_}
 use lib.ListN.{length, drop}
 use Rattle.area.specs.Map.{RESULT}
 use Rattle.area.specs.Region.{region}
-use Rattle.unify.specs.declared.making.Made.{Made}
-use Rattle.unify.specs.declared.making.Made.the-variants as made
-use Rattle.unify.specs.declared.Answer.the-variants.{Done, Clash, TooMany, NoRoom}
-use Rattle.unify.specs.Handing.{Room, Handed}
+use Rattle.answering.specs.declared.hand.Made.{Made}
+use Rattle.answering.specs.declared.hand.Made.the-variants as made
+use Rattle.answering.specs.declared.answer.Answer.the-variants.{Done, Clash, TooMany, NoRoom}
+use Rattle.answering.specs.Handing.{Room, Handed}
 
 pub handed-room : (w : List ℕ) (m : Made) (n k : ℕ) → m ≡ made.Ready n k → Room w m → RESULT + n ≤ length w
 handed-room w m n k e h = subst (Room w) e h

@@ -7,10 +7,10 @@ use mathlib.Core.List.{List, _++_}
 use lib.ListN.{length, drop}
 use Rattle.area.specs.Map.{RESULT}
 use Rattle.area.specs.Region.{region}
-use Rattle.unify.specs.declared.making.Made.{Made}
-use Rattle.unify.specs.declared.making.Made.the-variants as made
-use Rattle.unify.specs.declared.Answer.{Answer}
-use Rattle.unify.specs.declared.Answer.the-variants.{Done, Clash, TooMany, NoRoom}
+use Rattle.answering.specs.declared.hand.Made.{Made}
+use Rattle.answering.specs.declared.hand.Made.the-variants as made
+use Rattle.answering.specs.declared.answer.Answer.{Answer}
+use Rattle.answering.specs.declared.answer.Answer.the-variants.{Done, Clash, TooMany, NoRoom}
 
 -- the result lies inside the working area
 abbrev pub Room : List ℕ → Made → Type 0

@@ -1,11 +1,11 @@
--- `unify::areas::wipe` meets its contract. Assumes nothing.
+-- `answering::areas::wipe` meets its contract. Assumes nothing.
 use Prim.Native.Nat.{_-_, _≤_}
 use native.Mathlib.Omega.{arith}
 use lib.ListN.{replicate}
 use Rattle.theory.specs.Limits.{working-size}
-use Rattle.unify.proofs.Fronts.{Front, front-none, wipe-one, wiped-all}
-use Rattle.unify.proofs.areas.wipe.Statement.{statement}
-use Rattle.unify.proofs.areas.wipe.Tie as tie
+use Rattle.answering.proofs.Fronts.{Front, front-none, wipe-one, wiped-all}
+use Rattle.answering.proofs.areas.wipe.Statement.{statement}
+use Rattle.answering.proofs.areas.wipe.Tie as tie
 
 abbrev Inv-loop : tie.InvT-loop
 Inv-loop w₀ i₀ w i = (i ≤ working-size) × Front (replicate working-size 0) w₀ i w

@@ -1,11 +1,11 @@
--- `unify::areas::copy_out` meets its contract. Assumes nothing.
+-- `answering::areas::copy_out` meets its contract. Assumes nothing.
 use Prim.Native.Nat.{_-_, _≤_}
 use native.Mathlib.Omega.{arith}
 use Rattle.area.specs.Map.{RESULT}
 use Rattle.area.specs.Region.{region}
-use Rattle.unify.proofs.Fronts.{Front, front-none, copy-one, copied}
-use Rattle.unify.proofs.areas.copy_out.Statement.{statement}
-use Rattle.unify.proofs.areas.copy_out.Tie as tie
+use Rattle.answering.proofs.Fronts.{Front, front-none, copy-one, copied}
+use Rattle.answering.proofs.areas.copy_out.Statement.{statement}
+use Rattle.answering.proofs.areas.copy_out.Tie as tie
 
 abbrev Inv-loop : tie.InvT-loop
 Inv-loop w result₀ n i₀ result i = (i ≤ n) × Front (region RESULT n w) result₀ i result

@@ -1,8 +1,8 @@
 -- Document 01's number, length and readings of each answer.
 -- Assumes nothing: these are definitions.
 use Rattle.theory.specs.Outcome.{Row}
-use Rattle.unify.specs.declared.Answer.{Answer}
-use Rattle.unify.specs.declared.Answer.the-variants.{Done, BadMode, SmallArea, TooLong, BadFirst, BadSecond, Clash, TooMany, NoRoom}
+use Rattle.answering.specs.declared.answer.Answer.{Answer}
+use Rattle.answering.specs.declared.answer.Answer.the-variants.{Done, BadMode, SmallArea, TooLong, BadFirst, BadSecond, Clash, TooMany, NoRoom}
 
 -- the columns "No.", "Length" ("words needed" after 8, "words written" after 0) and "Readings" of the table of numbers
 abbrev pub row-of : Answer → Row

@@ -1,9 +1,9 @@
--- `unify::hand_over` meets its contract. Assumes nothing.
+-- `answering::hand::hand_over` meets its contract. Assumes nothing.
 use borrow.Author.Needs.{needs}
 use native.Mathlib.Omega.{arith}
-use Rattle.unify.proofs.Handing.{handed-clash, handed-fails, handed-many, handed-none, handed-short, handed-room, handed-done}
-use Rattle.unify.proofs.hand_over.Statement.{statement}
-use Rattle.unify.proofs.hand_over.Tie as tie
+use Rattle.answering.proofs.Handing.{handed-clash, handed-fails, handed-many, handed-none, handed-short, handed-room, handed-done}
+use Rattle.answering.proofs.hand.hand_over.Statement.{statement}
+use Rattle.answering.proofs.hand.hand_over.Tie as tie
 
 enum-told : tie.Need-enum-told
 enum-told c = search needs

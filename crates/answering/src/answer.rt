@@ -1,0 +1,60 @@
+// The answers of unification, and document 01's row for each.
+ghost use mathlib.Core.Path.{_≡_};
+ghost use Rattle.answering.specs.Number.{row-of};
+
+// What comes of a call; `row-of` gives document 01's number, length and readings of each.
+pub enum Answer {
+    Done { length: usize, readings: u32 },
+    BadMode,
+    SmallArea,
+    TooLong,
+    BadFirst,
+    BadSecond,
+    Clash,
+    TooMany,
+    NoRoom { length: usize },
+}
+
+// A row of document 01's table: number, length and readings.
+pub struct Row {
+    pub number: u32,
+    pub length: usize,
+    pub readings: u32,
+}
+
+// What document 01 gives for an answer.
+pub fn told(answer: Answer) -> Row
+    ensures { λ r. ⌜ (r .number ≡ row-of answer .number)
+        × ((r .length ≡ row-of answer .extent) × (r .readings ≡ row-of answer .readings)) ⌝ }
+{
+    match answer {
+        Answer::Done { length, readings } => Row {
+            number: 0,
+            length,
+            readings,
+        },
+        Answer::BadMode => refusal(1),
+        Answer::SmallArea => refusal(2),
+        Answer::TooLong => refusal(3),
+        Answer::BadFirst => refusal(4),
+        Answer::BadSecond => refusal(5),
+        Answer::Clash => refusal(6),
+        Answer::TooMany => refusal(7),
+        Answer::NoRoom { length } => Row {
+            number: 8,
+            length,
+            readings: 0,
+        },
+    }
+}
+
+// A refusal with this number.
+fn refusal(number: u32) -> Row
+    ensures { λ r. ⌜ (r .number ≡ number) × ((r .length ≡ 0) × (r .readings ≡ 0)) ⌝ }
+{
+    Row {
+        number,
+        length: 0,
+        readings: 0,
+    }
+}

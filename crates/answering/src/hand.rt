@@ -1,0 +1,34 @@
+// What a mode made is handed over.
+use crate::answer::Answer;
+use crate::areas::copy_out;
+ghost use Rattle.answering.specs.Handing.{Room, Handed};
+
+// What was made: a result of so many words, which stand in the working area, with so many readings; or the definite graphs clash,
+// the quick step fails, there are too many choices, or no choice is consistent.
+pub enum Made {
+    Ready { length: usize, readings: u32 },
+    Clash,
+    QuickFails,
+    TooMany,
+    NoChoice,
+}
+
+// Hands over what was made: its words go to the result area if they have room there.
+pub fn hand_over(made: Made, working: &[u32], result: &mut [u32]) -> Answer
+    requires { ⌜ Room (now working) made ⌝ }
+    ensures { λ r. ⌜ Handed (now (working .entry)) (now (result .entry)) made r (now (result .exit)) ⌝ }
+{
+    match made {
+        Made::Clash => Answer::Clash,
+        Made::QuickFails => Answer::Clash,
+        Made::TooMany => Answer::TooMany,
+        Made::NoChoice => Answer::Clash,
+        Made::Ready { length, readings } => {
+            if result.len() < length {
+                return Answer::NoRoom { length };
+            }
+            copy_out(working, result, length);
+            Answer::Done { length, readings }
+        }
+    }
+}
