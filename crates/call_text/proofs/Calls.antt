@@ -12,8 +12,8 @@ use borrow.Author.Tests.{lt-ltb, le-ltb, ltb-false}
 use Rattle.call_text.specs.Token.{Start, is, over, bad, token}
 use Rattle.call_text.specs.Call.{Taken, words-in, count-limit, counted, done, Asked, inputs, call, text-limit, heard, heard-in, Heard}
 use Rattle.call_text.specs.Finding.{beyond, Finds, Puts}
-use Rattle.call_text.specs.declared.call.Call.{Call}
-use Rattle.call_text.specs.declared.call.Call.the-variants.{Good, BadInput}
+use Rattle.call_text.specs.declared.call.Counts.{Counts}
+use Rattle.call_text.specs.declared.call.Counts.the-variants.{Good, BadInput}
 use Rattle.call_text.specs.declared.call.Words.{Words}
 use Rattle.call_text.specs.declared.call.Words.the-variants.{Run, Wrong}
 use Rattle.call_text.proofs.Runs.{words-length}
@@ -68,7 +68,7 @@ module _ (m : ℕ) (cs : List ℕ) where
       inputs-both x g = ap (last a b) g ∙ ap (second a) f ∙ ap first e ∙ parts
 
 -- ---- bad input changes nothing
-module _ (o : Option Asked) (first second : List ℕ) (r : Call) where
+module _ (o : Option Asked) (first second : List ℕ) (r : Counts) where
   pub unheard : o ≡ none → r ≡ BadInput → Heard o first second first second r
   unheard e f =
       subst (λ (o : Option Asked). Heard o first second first second r) (sym e)
@@ -111,7 +111,7 @@ module _ (m : ℕ) (text cs : List ℕ) where
       pub with-more : false ≡ done (drop z text) → inputs m cs ≡ none
       with-more h = sym (inputs-both m cs (ahead .0) (drop q text) (ahead .1) (after .0) (drop z text) (after .1) false h)
 
-      module _ (h : true ≡ done (drop z text)) (first second first′ second′ : List ℕ) (a : Call) (v : a ≡ Good m n k) where
+      module _ (h : true ≡ done (drop z text)) (first second first′ second′ : List ℕ) (a : Counts) (v : a ≡ Good m n k) where
         asked : some (record { mode = m; first = ahead .0; second = after .0 }) ≡ inputs m cs
         asked = inputs-both m cs (ahead .0) (drop q text) (ahead .1) (after .0) (drop z text) (after .1) true h
 
@@ -124,7 +124,7 @@ module _ (m : ℕ) (text cs : List ℕ) where
             let ys = words-length k (drop u text) (after .0, drop z text) y in
             subst (λ (o : Option Asked). Heard o first second first′ second′ a) asked
             (record {
-              answer = v ∙ ap₂ {C = Call} (Good m) (sym xs) (sym ys);
+              answer = v ∙ ap₂ {C = Counts} (Good m) (sym xs) (sym ys);
               the-first = i (ahead .0, drop q text) x;
               the-second = j (after .0, drop z text) y;
             })
@@ -176,14 +176,14 @@ module _ (n m : ℕ) (text : List ℕ) where
         pub bad-mode : bad ≡ token text → heard-in n m text ≡ none
         bad-mode e = short-text ∙ sym (call-start text bad e)
 
-        module _ (first second first′ second′ : List ℕ) (r : Call) (mode : ℕ) (rest : List ℕ) (e : is mode rest ≡ token text) where
+        module _ (first second first′ second′ : List ℕ) (r : Counts) (mode : ℕ) (rest : List ℕ) (e : is mode rest ≡ token text) where
           pub with-mode : Heard (inputs mode rest) first second first′ second′ r → Heard (heard-in n m text) first second first′ second′ r
           with-mode h =
               subst (λ (o : Option Asked). Heard o first second first′ second′ r) (call-start text (is mode rest) e ∙ sym short-text) h
 
 -- ---- what a call is
 -- one answer only is allowed, and one content of both lists
-pub one-call : (o : Option Asked) (first second : List ℕ) (a b c d : List ℕ) (r s : Call)
+pub one-call : (o : Option Asked) (first second : List ℕ) (a b c d : List ℕ) (r s : Counts)
     → Heard o first second a b r → Heard o first second c d s → (r ≡ s) × (a ≡ c) × (b ≡ d)
 one-call o first second a b c d r s p q =
     (p .answer ∙ sym (q .answer), p .the-first ∙ sym (q .the-first), p .the-second ∙ sym (q .the-second))

@@ -8,8 +8,8 @@ use mathlib.Core.List.{List, [], _∷_, _++_}
 use lib.ListN.{length, drop}
 use lib.Dec.{ltb}
 use Rattle.call_text.specs.Token.{is, over, bad, token}
-use Rattle.call_text.specs.declared.call.Call.{Call}
-use Rattle.call_text.specs.declared.call.Call.the-variants.{Good, BadInput}
+use Rattle.call_text.specs.declared.call.Counts.{Counts}
+use Rattle.call_text.specs.declared.call.Counts.the-variants.{Good, BadInput}
 
 -- words, and the text after them
 abbrev pub Taken : Type 0
@@ -64,7 +64,7 @@ unfoldable pub heard-in : ℕ → ℕ → List ℕ → Option Asked
 heard-in n m text = elim (ltb n count-limit) [ true ↦ none | false ↦ elim (ltb m count-limit) [ true ↦ none | false ↦ heard text ] ]
 
 -- the answer: the mode, and how many words each input has
-abbrev pub told : Option Asked → Call
+abbrev pub told : Option Asked → Counts
 told none = BadInput
 told (some c) = Good (c .mode) (length (c .first)) (length (c .second))
 
@@ -82,7 +82,7 @@ abbrev pub upon : List ℕ → List ℕ → List ℕ
 upon words l = words ++ drop (length words) l
 
 -- the answer to a call, and every word of both lists: the inputs stand at their starts, and bad input changes neither
-pub record Heard (o : Option Asked) (first second first′ second′ : List ℕ) (r : Call) : Type 0 where
+pub record Heard (o : Option Asked) (first second first′ second′ : List ℕ) (r : Counts) : Type 0 where
   pub answer : r ≡ told o
   pub the-first : first′ ≡ upon (first-words o) first
   pub the-second : second′ ≡ upon (second-words o) second

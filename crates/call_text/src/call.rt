@@ -85,7 +85,7 @@ fn read_words(text: &[u8], p: usize, count: usize, dst: &mut [u32])
 pub const TEXT_LIMIT: usize = 65536;
 
 // A call: its mode, and how many words each input has; or no call.
-pub enum Call {
+pub enum Counts {
     Good {
         mode: u32,
         first: usize,
@@ -107,14 +107,14 @@ fn is_over(text: &[u8], p: usize) -> bool
 }
 
 // The rest of a call after its mode, from p on. Nothing is written until the whole text is found good.
-fn read_inputs(text: &[u8], p: usize, mode: u32, first: &mut [u32], second: &mut [u32]) -> Call
+fn read_inputs(text: &[u8], p: usize, mode: u32, first: &mut [u32], second: &mut [u32]) -> Counts
     requires { ⌜ (count-limit ≤ length (now first)) × (count-limit ≤ length (now second)) ⌝ }
     ensures { λ r. ⌜ Heard (inputs mode (drop p (now (text .entry))))
         (now (first .entry)) (now (second .entry)) (now (first .exit)) (now (second .exit)) r ⌝ }
 {
     let one = find_counted(text, p);
     let Words::Run { count, start, next } = one else {
-        return Call::BadInput;
+        return Counts::BadInput;
     };
     let two = find_counted(text, next);
     let Words::Run {
@@ -123,38 +123,38 @@ fn read_inputs(text: &[u8], p: usize, mode: u32, first: &mut [u32], second: &mut
         next: after,
     } = two
     else {
-        return Call::BadInput;
+        return Counts::BadInput;
     };
     if is_over(text, after) {
         read_words(text, start, count, first);
         read_words(text, begin, other, second);
-        return Call::Good {
+        return Counts::Good {
             mode,
             first: count,
             second: other,
         };
     }
-    Call::BadInput
+    Counts::BadInput
 }
 
 // Reads a call: its words go to the start of first and of second, which need room for 2,048 each. Bad input changes neither.
-pub fn read_call(text: &[u8], first: &mut [u32], second: &mut [u32]) -> Call
+pub fn read_call(text: &[u8], first: &mut [u32], second: &mut [u32]) -> Counts
     ensures { λ r. ⌜ Heard (heard-in (length (now (first .entry))) (length (now (second .entry))) (now (text .entry)))
         (now (first .entry)) (now (second .entry)) (now (first .exit)) (now (second .exit)) r ⌝ }
 {
     if first.len() < COUNT_LIMIT {
-        return Call::BadInput;
+        return Counts::BadInput;
     }
     if second.len() < COUNT_LIMIT {
-        return Call::BadInput;
+        return Counts::BadInput;
     }
     if TEXT_LIMIT < text.len() {
-        return Call::BadInput;
+        return Counts::BadInput;
     }
     let start = read_token(text, 0);
     match start {
         Token::Is { value, next } => read_inputs(text, next, value, first, second),
-        Token::Over => Call::BadInput,
-        Token::Bad => Call::BadInput,
+        Token::Over => Counts::BadInput,
+        Token::Bad => Counts::BadInput,
     }
 }

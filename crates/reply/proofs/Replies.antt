@@ -16,8 +16,8 @@ use Rattle.theory.proofs.Areas.{given-writes}
 use Rattle.descriptions.proofs.Areas.{Writes, nothing, result}
 use Rattle.theory.proofs.Table.{outcome-answer}
 use Rattle.call_text.specs.Call.{Asked, heard, heard-in, upon, Heard}
-use Rattle.call_text.specs.declared.call.Call.{Call}
-use Rattle.call_text.specs.declared.call.Call.the-variants.{Good, BadInput}
+use Rattle.call_text.specs.declared.call.Counts.{Counts}
+use Rattle.call_text.specs.declared.call.Counts.the-variants.{Good, BadInput}
 use Rattle.answer_text.specs.Answer.{second-line, answer-text, bad-text, Wrote}
 use Rattle.answer_text.specs.declared.line.Written.{Written}
 use Rattle.call_text.proofs.Calls.{with-room}
@@ -95,7 +95,7 @@ front ws l l′ n e f = ap₂ {C = List ℕ} take e f ∙ take-append-seam ws (d
 front-room : (ws l l′ : List ℕ) (n : ℕ) → n ≡ length ws → l′ ≡ upon ws l → n ≤ length l′
 front-room ws l l′ n e f = let i = ap length f in let j = length-append ws (drop (length ws) l) in omega arith
 
-module _ (text first second first′ second′ : List ℕ) (r : Call) (lf : length first ≡ 2048) (ls : length second ≡ 2048)
+module _ (text first second first′ second′ : List ℕ) (r : Counts) (lf : length first ≡ 2048) (ls : length second ≡ 2048)
     (h : Heard (heard-in (length first) (length second) text) first second first′ second′ r) where
   -- there is room for every call
   is-heard : Heard (heard text) first second first′ second′ r

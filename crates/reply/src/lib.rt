@@ -3,7 +3,7 @@ use answer_text::answer::write_answer;
 use answer_text::answer::write_bad;
 use answer_text::line::Written;
 use answering::answer::told;
-use call_text::call::Call;
+use call_text::call::Counts;
 use call_text::call::read_call;
 use unify::unify;
 ghost use mathlib.Core.Path.{_≡_};
@@ -65,7 +65,7 @@ fn reply_in(text: &[u8], first: &mut [u32], second: &mut [u32], out: &mut [u8]) 
     ensures { λ r. ⌜ Wrote (printed (now (text .entry))) (now (out .entry)) (now (out .exit)) r ⌝ }
 {
     let call = read_call(text, first, second);
-    let Call::Good {
+    let Counts::Good {
         mode,
         first: n,
         second: m,

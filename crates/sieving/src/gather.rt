@@ -1,5 +1,4 @@
 // The sieve has a word for each feature modulo 256: the first arc of such a feature on the chain of the class of all roots, counted from 1, or 0 where there is none.
-use area::map::LAST_ARC;
 use forest::chain::loaded;
 use forest::chain::next;
 use limits::wide;
@@ -18,7 +17,7 @@ pub fn gather(w: &[u32], t: &mut [u32])
     ensures { λ _. ⌜ Sieved (now (w .entry)) (now (t .exit)) ⌝ }
 {
     let x = wide(w[0]);
-    if LAST_ARC < x {
+    if 2048 < x {
         return;
     }
     let mut y = x;

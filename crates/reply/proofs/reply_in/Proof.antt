@@ -2,7 +2,7 @@
 use mathlib.Core.Path.{_≡_}
 use borrow.Author.Needs.{needs}
 use native.Mathlib.Omega.{arith}
-use Rattle.call_text.specs.declared.call.Call.the-variants.{BadInput}
+use Rattle.call_text.specs.declared.call.Counts.the-variants.{BadInput}
 use Rattle.reply.proofs.Replies.{printed-bad, rooms, printed-good, take-count, wrote-same}
 use Rattle.reply.proofs.reply_in.Statement.{statement}
 use Rattle.reply.proofs.reply_in.Tie as tie
