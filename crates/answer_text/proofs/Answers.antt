@@ -15,7 +15,8 @@ use Rattle.answer_text.specs.declared.line.Written.{Written}
 use Rattle.answer_text.specs.declared.line.Written.the-variants.{Bytes, NoRoom}
 use Rattle.call_text.specs.Token.{blank, largest, token, is}
 use Rattle.call_text.specs.Call.{before, words-in}
-use Rattle.answer_text.specs.Answer.{decimal, after-spaces, spaced, newline, answer-label, words-label, readings-label, labelled, first-line, second-line, answer-text, Wrote}
+use Rattle.answer_text.specs.Answer.{decimal, after-spaces, spaced, newline, answer-label, words-label, readings-label, labelled}
+use Rattle.answer_text.specs.Answer.{first-line, second-line, answer-text, Wrote}
 use Rattle.answer_text.proofs.Decimals.{decimal-most, Parted, reads-back}
 use Rattle.call_text.proofs.Runs.{words-zero, words-is}
 
@@ -23,7 +24,8 @@ use Rattle.call_text.proofs.Runs.{words-zero, words-is}
 pub next : (l : List ℕ) (i : ℕ) → i < length l → drop i l ≡ getD l i 0 ∷ drop (i + 1) l
 next l i h = drop-cons l i 0 h ∙ ap (λ (k : ℕ). getD l i 0 ∷ drop k l) (sym (add-one i))
 
-pub spaces-next : (ws : List ℕ) (i : ℕ) → i < length ws → after-spaces (drop i ws) ≡ (32 ∷ decimal (getD ws i 0)) ++ after-spaces (drop (i + 1) ws)
+pub spaces-next : (ws : List ℕ) (i : ℕ) → i < length ws →
+    after-spaces (drop i ws) ≡ (32 ∷ decimal (getD ws i 0)) ++ after-spaces (drop (i + 1) ws)
 unfolding after-spaces
 spaces-next ws i h = ap after-spaces (next ws i h)
 
@@ -110,7 +112,8 @@ module _ (text dst : List ℕ) where
   wrote-text dst′ n w = ap (take n) (w .2) ∙ take-at text (drop n dst) n (sym (w .0))
 
   -- where there is room, the text is written
-  pub wrote-fits : (dst′ : List ℕ) (r : Written) → Wrote text dst dst′ r → length text ≤ length dst → (r ≡ Bytes (length text)) × (dst′ ≡ text ++ drop (length text) dst)
+  pub wrote-fits : (dst′ : List ℕ) (r : Written) → Wrote text dst dst′ r → length text ≤ length dst →
+      (r ≡ Bytes (length text)) × (dst′ ≡ text ++ drop (length text) dst)
   wrote-fits dst′ (Bytes n) w h = (ap Bytes (w .0), w .2 ∙ ap (λ (k : ℕ). text ++ drop k dst) (w .0))
   wrote-fits dst′ NoRoom w h = absurd (omega arith)
 
@@ -130,19 +133,25 @@ space-skipped : (cs : List ℕ) → token (32 ∷ cs) ≡ token cs
 unfolding token blank
 space-skipped cs = refl
 
-after-back : (ws rest : List ℕ) → ((i : ℕ) → i < length ws → getD ws i 0 ≤ largest) → Parted rest → words-in (length ws) (after-spaces ws ++ rest) ≡ some (ws, rest)
+after-back : (ws rest : List ℕ) → ((i : ℕ) → i < length ws → getD ws i 0 ≤ largest) → Parted rest →
+    words-in (length ws) (after-spaces ws ++ rest) ≡ some (ws, rest)
 unfolding after-spaces
 after-back [] rest h p = words-zero rest
 after-back (w ∷ ws) rest h p =
     let left : List ℕ = after-spaces ws ++ rest in
-    let e : token (32 ∷ ((decimal w ++ after-spaces ws) ++ rest)) ≡ is w left = space-skipped ((decimal w ++ after-spaces ws) ++ rest) ∙ ap token (append-assoc (decimal w) (after-spaces ws) rest) ∙ reads-back w left (h 0 (omega arith)) (after-parted ws rest p) in
-    words-is (length ws) (32 ∷ ((decimal w ++ after-spaces ws) ++ rest)) w left e ∙ ap (before (w ∷ [])) (after-back ws rest (λ i l. h (suc i) (omega arith)) p)
+    let e : token (32 ∷ ((decimal w ++ after-spaces ws) ++ rest)) ≡ is w left = space-skipped ((decimal w ++ after-spaces ws) ++ rest)
+    ∙ ap token (append-assoc (decimal w) (after-spaces ws) rest) ∙ reads-back w left (h 0 (omega arith)) (after-parted ws rest p) in
+    words-is (length ws) (32 ∷ ((decimal w ++ after-spaces ws) ++ rest)) w left e
+    ∙ ap (before (w ∷ [])) (after-back ws rest (λ i l. h (suc i) (omega arith)) p)
 
 -- words that are written read back as themselves
-pub words-back : (ws rest : List ℕ) → ((i : ℕ) → i < length ws → getD ws i 0 ≤ largest) → Parted rest → words-in (length ws) (spaced ws ++ rest) ≡ some (ws, rest)
+pub words-back : (ws rest : List ℕ) → ((i : ℕ) → i < length ws → getD ws i 0 ≤ largest) → Parted rest →
+    words-in (length ws) (spaced ws ++ rest) ≡ some (ws, rest)
 unfolding spaced
 words-back [] rest h p = words-zero rest
 words-back (w ∷ ws) rest h p =
     let left : List ℕ = after-spaces ws ++ rest in
-    let e : token ((decimal w ++ after-spaces ws) ++ rest) ≡ is w left = ap token (append-assoc (decimal w) (after-spaces ws) rest) ∙ reads-back w left (h 0 (omega arith)) (after-parted ws rest p) in
-    words-is (length ws) ((decimal w ++ after-spaces ws) ++ rest) w left e ∙ ap (before (w ∷ [])) (after-back ws rest (λ i l. h (suc i) (omega arith)) p)
+    let e : token ((decimal w ++ after-spaces ws) ++ rest) ≡ is w left = ap token (append-assoc (decimal w) (after-spaces ws) rest)
+    ∙ reads-back w left (h 0 (omega arith)) (after-parted ws rest p) in
+    words-is (length ws) ((decimal w ++ after-spaces ws) ++ rest) w left e
+    ∙ ap (before (w ∷ [])) (after-back ws rest (λ i l. h (suc i) (omega arith)) p)

@@ -15,11 +15,13 @@ use Rattle.answer_text.specs.Answer.{digits, decimal}
 -- ---- the digits of a number
 digits-one : (k v : ℕ) → v < 10 → digits (suc k) v ≡ (48 + v) ∷ []
 unfolding digits
-digits-one k v h = ap {B = List ℕ} (λ (t : Bool). elim t [ true ↦ (48 + v) ∷ [] | false ↦ digits k (v / 10) ++ ((48 + v % 10) ∷ []) ]) (lt-ltb v 10 h)
+digits-one k v h = ap {B = List ℕ} (λ (t : Bool). elim t [ true ↦ (48 + v) ∷ [] | false ↦ digits k (v / 10) ++ ((48 + v % 10) ∷ []) ])
+    (lt-ltb v 10 h)
 
 digits-more : (k v : ℕ) → 10 ≤ v → digits (suc k) v ≡ digits k (v / 10) ++ ((48 + v % 10) ∷ [])
 unfolding digits
-digits-more k v h = ap {B = List ℕ} (λ (t : Bool). elim t [ true ↦ (48 + v) ∷ [] | false ↦ digits k (v / 10) ++ ((48 + v % 10) ∷ []) ]) (le-ltb v 10 h)
+digits-more k v h = ap {B = List ℕ} (λ (t : Bool). elim t [ true ↦ (48 + v) ∷ [] | false ↦ digits k (v / 10) ++ ((48 + v % 10) ∷ []) ])
+    (le-ltb v 10 h)
 
 -- what is so below ten, and from ten on, is so
 by-ten : (P : Type 0) (v : ℕ) → (v < 10 → P) → (10 ≤ v → P) → P
@@ -32,7 +34,9 @@ by-ten P v f g = go (ltb v 10) refl
 digits-enough : (k j v : ℕ) → v < k → v < j → digits k v ≡ digits j v
 digits-enough zero j v h i = absurd (omega arith)
 digits-enough (suc k) zero v h i = absurd (omega arith)
-digits-enough (suc k) (suc j) v h i = by-ten (digits (suc k) v ≡ digits (suc j) v) v (λ s. digits-one k v s ∙ sym (digits-one j v s)) (λ b. digits-more k v b ∙ ap (λ (l : List ℕ). l ++ ((48 + v % 10) ∷ [])) (digits-enough k j (v / 10) (omega arith) (omega arith)) ∙ sym (digits-more j v b))
+digits-enough (suc k) (suc j) v h i =
+    by-ten (digits (suc k) v ≡ digits (suc j) v) v (λ s. digits-one k v s ∙ sym (digits-one j v s)) (λ b. digits-more k v b
+    ∙ ap (λ (l : List ℕ). l ++ ((48 + v % 10) ∷ [])) (digits-enough k j (v / 10) (omega arith) (omega arith)) ∙ sym (digits-more j v b))
 
 pub decimal-one : (v : ℕ) → v < 10 → (48 + v) ∷ [] ≡ decimal v
 unfolding decimal
@@ -40,7 +44,8 @@ decimal-one v h = sym (digits-one v v h)
 
 pub decimal-more : (v : ℕ) → 10 ≤ v → decimal (v / 10) ++ ((48 + v % 10) ∷ []) ≡ decimal v
 unfolding decimal
-decimal-more v h = ap (λ (l : List ℕ). l ++ ((48 + v % 10) ∷ [])) (digits-enough (suc (v / 10)) v (v / 10) (omega arith) (omega arith)) ∙ sym (digits-more v v h)
+decimal-more v h = ap (λ (l : List ℕ). l ++ ((48 + v % 10) ∷ [])) (digits-enough (suc (v / 10)) v (v / 10) (omega arith) (omega arith))
+    ∙ sym (digits-more v v h)
 
 -- what is so of a number of one digit, and of a number where it is so of the number without its last digit
 module _ (P : ℕ → Type 0) (one : (v : ℕ) → v < 10 → P v) (more-so : (v : ℕ) → 10 ≤ v → P (v / 10) → P v) where
@@ -60,17 +65,20 @@ decimal-most (suc k) v h =
     (λ b.
     let p : 10 ^ suc (suc k) ≡ 10 * 10 ^ suc k = pow-succ' 10 (suc k) in
     let i : length (decimal (v / 10)) ≤ suc k = decimal-most k (v / 10) (omega arith) in
-    let e : length (decimal v) ≡ length (decimal (v / 10)) + 1 = ap length (sym (decimal-more v b)) ∙ length-append (decimal (v / 10)) ((48 + v % 10) ∷ []) in
+    let e : length (decimal v) ≡ length (decimal (v / 10)) + 1 = ap length (sym (decimal-more v b))
+    ∙ length-append (decimal (v / 10)) ((48 + v % 10) ∷ []) in
     omega arith)
 
 -- ---- reading back
 digit-is : (d : ℕ) → d < 10 → digit (48 + d) ≡ true
 unfolding digit
-digit-is d h = ap {B = Bool} (λ (t : Bool). elim t [ true ↦ false | false ↦ ltb (48 + d) 58 ]) (le-ltb (48 + d) 48 (omega arith)) ∙ lt-ltb (48 + d) 58 (omega arith)
+digit-is d h = ap {B = Bool} (λ (t : Bool). elim t [ true ↦ false | false ↦ ltb (48 + d) 58 ]) (le-ltb (48 + d) 48 (omega arith))
+    ∙ lt-ltb (48 + d) 58 (omega arith)
 
 digit-filled : (d : ℕ) → d < 10 → blank (48 + d) ≡ false
 unfolding blank
-digit-filled d h = ap {B = Bool} (λ (t : Bool). elim t [ true ↦ true | false ↦ eqb (48 + d) 10 ]) (ne-eqb (48 + d) 32 (λ e. omega arith)) ∙ ne-eqb (48 + d) 10 (λ e. omega arith)
+digit-filled d h = ap {B = Bool} (λ (t : Bool). elim t [ true ↦ true | false ↦ eqb (48 + d) 10 ]) (ne-eqb (48 + d) 32 (λ e. omega arith))
+    ∙ ne-eqb (48 + d) 10 (λ e. omega arith)
 
 blank-other : (c : ℕ) → blank c ≡ true → digit c ≡ false
 unfolding blank digit
@@ -95,7 +103,10 @@ module _ (d : ℕ) (h : d < 10) (rest : List ℕ) where
   token-on : token ((48 + d) ∷ rest) ≡ more 0 ((48 + d) ∷ rest)
   unfolding token
   token-on =
-      ap {B = Start} (λ (t : Bool). elim t [ true ↦ token rest | false ↦ elim (digit (48 + d)) [ true ↦ more 0 ((48 + d) ∷ rest) | false ↦ bad ] ]) (digit-filled d h)
+      ap {B = Start} (λ (t : Bool). elim t [
+        | true ↦ token rest
+        | false ↦ elim (digit (48 + d)) [ true ↦ more 0 ((48 + d) ∷ rest) | false ↦ bad ]
+      ]) (digit-filled d h)
       ∙ ap {B = Start} (λ (t : Bool). elim t [ true ↦ more 0 ((48 + d) ∷ rest) | false ↦ bad ]) (digit-is d h)
 
 -- a number with a digit after it
@@ -111,11 +122,14 @@ decimal-token =
 decimal-read : (v : ℕ) → v ≤ largest → (rest : List ℕ) → more 0 (decimal v ++ rest) ≡ more v rest
 decimal-read =
     digit-by-digit (λ (v : ℕ). v ≤ largest → (rest : List ℕ) → more 0 (decimal v ++ rest) ≡ more v rest)
-    (λ v s f rest. let e : 0 * 10 + v ≡ v = omega arith in subst (λ (l : List ℕ). more 0 (l ++ rest) ≡ more v rest) (decimal-one v s) (more-on v s rest 0 (omega arith) ∙ ap (λ (n : ℕ). more n rest) e))
+    (λ v s f rest. let e : 0 * 10 + v ≡ v = omega arith in
+    subst (λ (l : List ℕ). more 0 (l ++ rest) ≡ more v rest) (decimal-one v s) (more-on v s rest 0 (omega arith)
+    ∙ ap (λ (n : ℕ). more n rest) e))
     (λ v b so f rest.
     let e : v / 10 * 10 + v % 10 ≡ v = omega arith in
     let m : v % 10 < 10 = omega arith in
-    ap (more 0) (last v rest b) ∙ so (omega arith) ((48 + v % 10) ∷ rest) ∙ more-on (v % 10) m rest (v / 10) (omega arith) ∙ ap (λ (n : ℕ). more n rest) e)
+    ap (more 0) (last v rest b) ∙ so (omega arith) ((48 + v % 10) ∷ rest) ∙ more-on (v % 10) m rest (v / 10) (omega arith)
+    ∙ ap (λ (n : ℕ). more n rest) e)
 
 -- no byte that could go on a number stands at the start
 abbrev pub Parted : List ℕ → Type 0

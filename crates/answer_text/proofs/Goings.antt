@@ -30,12 +30,15 @@ module _ (dst : List ℕ) (at b : ℕ) where
   put-fits h old whole left g =
       let s : length dst ≡ length old = same-size old whole dst at (b ∷ left) g in
       let here : at < length old = omega arith in
-      let rest : drop at old ≡ getD old at 0 ∷ drop (at + 1) old = drop-cons old at 0 here ∙ ap (λ (k : ℕ). getD old at 0 ∷ drop k old) (sym (add-one at)) in
+      let rest : drop at old ≡ getD old at 0 ∷ drop (at + 1) old = drop-cons old at 0 here
+      ∙ ap (λ (k : ℕ). getD old at 0 ∷ drop k old) (sym (add-one at)) in
       record {
         written = g .written ++ (b ∷ []);
         splits = g .splits ∙ sym (append-assoc (g .written) (b ∷ []) left);
         place = length-append (g .written) (b ∷ []) ∙ ap (λ (n : ℕ). n + 1) (g .place);
-        holds = ap (λ (l : List ℕ). set l at b) (g .holds ∙ ap (λ (l : List ℕ). g .written ++ l) rest) ∙ set-at (g .written) (getD old at 0) (drop (at + 1) old) b at (g .place) ∙ sym (append-assoc (g .written) (b ∷ []) (drop (at + 1) old));
+        holds = ap (λ (l : List ℕ). set l at b) (g .holds ∙ ap (λ (l : List ℕ). g .written ++ l) rest)
+            ∙ set-at (g .written) (getD old at 0) (drop (at + 1) old) b at (g .place)
+            ∙ sym (append-assoc (g .written) (b ∷ []) (drop (at + 1) old));
         room = omega arith;
       }
 
@@ -57,7 +60,8 @@ module _ (xs ys dst mid : List ℕ) (at : ℕ) (q : Written) (f : Appends xs dst
   parted old whole left g = f old whole (ys ++ left) (subst (λ (l : List ℕ). Going old whole dst at l) (append-assoc xs ys left) g)
 
   pub both : (n : ℕ) → q ≡ Bytes n → (end : List ℕ) (r : Written) → Appends ys mid n end r → Appends (xs ++ ys) dst at end r
-  both n e end r h old whole left g = h old whole left (subst (λ (w : Written). Gone old whole (ys ++ left) mid w) e (parted old whole left g))
+  both n e end r h old whole left g =
+      h old whole left (subst (λ (w : Written). Gone old whole (ys ++ left) mid w) e (parted old whole left g))
 
   pub first-stops : NoRoom ≡ q → Appends (xs ++ ys) dst at mid NoRoom
   first-stops e old whole left g = subst (λ (w : Written). Gone old whole (ys ++ left) mid w) (sym e) (parted old whole left g)
@@ -75,7 +79,9 @@ module _ (dst₀ : List ℕ) (at : ℕ) (xs dst : List ℕ) (end : ℕ) (ys : Li
 
   module _ (piece zs mid : List ℕ) (q : Written) (e : ys ≡ piece ++ zs) (f : Appends piece dst end mid q) where
     turned : (old whole left : List ℕ) → Going old whole dst₀ at (xs ++ left) → Gone old whole (zs ++ left) mid q
-    turned old whole left g = f old whole (zs ++ left) (subst (λ (l : List ℕ). Going old whole dst end l) (ap (λ (l : List ℕ). l ++ left) e ∙ append-assoc piece zs left) (t old whole left g))
+    turned old whole left g = f old whole (zs ++ left)
+        (subst (λ (l : List ℕ). Going old whole dst end l) (ap (λ (l : List ℕ). l ++ left) e
+        ∙ append-assoc piece zs left) (t old whole left g))
 
     pub turns-go : (n : ℕ) → q ≡ Bytes n → Turned dst₀ at xs mid n zs
     turns-go n b old whole left g = subst (λ (w : Written). Gone old whole (zs ++ left) mid w) b (turned old whole left g)

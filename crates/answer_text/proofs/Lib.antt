@@ -1,4 +1,5 @@
--- `Goings` has what writing piece by piece asks, `Decimals` what is so of numbers in decimal, `Answers` what is so of an answer's lines; `Cases` has worked texts.
+-- `Goings` has what writing piece by piece asks, `Decimals` what is so of numbers in decimal, `Answers` what is so of an answer's
+-- lines; `Cases` has worked texts.
 mod Goings
 pub mod Decimals
 pub mod Answers

@@ -1,4 +1,5 @@
--- What `meet` prints, as bytes: "It prints `answer` number `words` length `readings` count and, after 0 only, a second line of result words parted by single spaces".
+-- What `meet` prints, as bytes: "It prints `answer` number `words` length `readings` count and, after 0 only, a second line of result
+-- words parted by single spaces".
 -- Assumes nothing: these are definitions.
 use Prim.Native.Nat.{ℕ, zero, suc, _+_, _/_, _%_, _≤_, _<_}
 use mathlib.Core.Path.{_≡_}
@@ -47,7 +48,8 @@ labelled label v = label ++ decimal v
 
 -- "`answer` number `words` length `readings` count"
 unfoldable pub first-line : ℕ → ℕ → ℕ → List ℕ
-first-line number length readings = labelled answer-label number ++ (labelled words-label length ++ (labelled readings-label readings ++ newline))
+first-line number length readings =
+    labelled answer-label number ++ (labelled words-label length ++ (labelled readings-label readings ++ newline))
 
 -- "after 0 only, a second line of result words"
 unfoldable pub second-line : ℕ → List ℕ → List ℕ

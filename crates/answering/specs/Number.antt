@@ -2,7 +2,8 @@
 -- Assumes nothing: these are definitions.
 use Rattle.theory.specs.Outcome.{Row}
 use Rattle.answering.specs.declared.answer.Answer.{Answer}
-use Rattle.answering.specs.declared.answer.Answer.the-variants.{Done, BadMode, SmallArea, TooLong, BadFirst, BadSecond, Clash, TooMany, NoRoom}
+use Rattle.answering.specs.declared.answer.Answer.the-variants.{Done, BadMode, SmallArea, TooLong, BadFirst, BadSecond, Clash}
+use Rattle.answering.specs.declared.answer.Answer.the-variants.{TooMany, NoRoom}
 
 -- the columns "No.", "Length" ("words needed" after 8, "words written" after 0) and "Readings" of the table of numbers
 abbrev pub row-of : Answer → Row

@@ -29,11 +29,13 @@ region-take (suc a) n (suc base) [] h = refl
 region-take (suc a) n (suc base) (x ∷ w) h = region-take a n base w (omega arith)
 
 -- two areas that agree on a region, word by word
-pub region-ext : (a n : ℕ) (u w : List ℕ) → a + n ≤ length u → length u ≡ length w → ((j : ℕ) → j < n → getD u (a + j) 0 ≡ getD w (a + j) 0) → region a n u ≡ region a n w
+pub region-ext : (a n : ℕ) (u w : List ℕ) → a + n ≤ length u → length u ≡ length w →
+    ((j : ℕ) → j < n → getD u (a + j) 0 ≡ getD w (a + j) 0) → region a n u ≡ region a n w
 region-ext a n u w h e f =
     let p : length (region a n u) ≡ n = length-region a n u h in
     let q : length (region a n w) ≡ n = length-region a n w (omega arith) in
-    ext-getD 0 (region a n u) (region a n w) (p ∙ sym q) (λ j l. let m : j < n = omega arith in getD-region a n u j m ∙ f j m ∙ sym (getD-region a n w j m))
+    ext-getD 0 (region a n u) (region a n w) (p ∙ sym q) (λ j l. let m : j < n = omega arith in getD-region a n u j m ∙ f j m
+    ∙ sym (getD-region a n w j m))
 
 -- the loaded words
 pub word-at : (w : List ℕ) (j : ℕ) → j < 2048 → getD (words w) j 0 ≡ getD w (WORDS + j) 0
@@ -45,6 +47,7 @@ unfolding words
 words-many w h = length-region WORDS 2048 w (omega arith)
 
 -- they are the same where the area is
-pub words-same : (w w' : List ℕ) → 16384 ≤ length w → length w' ≡ length w → ((j : ℕ) → WORDS ≤ j → j < MARKS → getD w' j 0 ≡ getD w j 0) → words w' ≡ words w
+pub words-same : (w w' : List ℕ) → 16384 ≤ length w → length w' ≡ length w → ((j : ℕ) → WORDS ≤ j → j < MARKS → getD w' j 0 ≡ getD w j 0) →
+    words w' ≡ words w
 unfolding words
 words-same w w' h len same = region-ext WORDS 2048 w' w (omega arith) len (λ j l. same (WORDS + j) (omega arith) (omega arith))

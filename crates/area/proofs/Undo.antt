@@ -7,14 +7,16 @@ use native.Mathlib.Nat.{le-trans}
 use native.Mathlib.Omega.{arith}
 use native.Mathlib.Decide.{ℕ-discrete}
 use lib.ListN.{length, take, drop, set, getD, length-set, length-take, length-drop}
-use lib.Seq.{ext-getD, take-set-le, drop-set-lt, take-set-lt, drop-set-add, set-set, set-getD, getD-take, getD-drop, getD-set-same, getD-set-other, length-take-le}
+use lib.Seq.{ext-getD, take-set-le, drop-set-lt, take-set-lt, drop-set-add, set-set, set-getD, getD-take, getD-drop, getD-set-same}
+use lib.Seq.{getD-set-other, length-take-le}
 use Rattle.area.specs.Map.{LOG, STACK, WORDS, SIZE}
 use Rattle.area.specs.Region.{region}
 use Rattle.area.proofs.Region.{region-take, region-set-same}
 use Rattle.area.specs.Log.{body, entries, back, past, Logged, Later, Put, Undone}
 
 -- the last entry first
-back-last : (L : List ℕ) (m d : ℕ) (b : List ℕ) → back L m (suc d) b ≡ back L m d (set b (getD L (m + d) 0 % 4096) (getD L (m + d) 0 / 4096))
+back-last : (L : List ℕ) (m d : ℕ) (b : List ℕ) →
+    back L m (suc d) b ≡ back L m d (set b (getD L (m + d) 0 % 4096) (getD L (m + d) 0 / 4096))
 unfolding back
 back-last L m zero b = let e : m + 0 ≡ m = omega arith in rw e refl
 back-last L m (suc d) b =
@@ -61,7 +63,8 @@ module _ (n : ℕ) (w : List ℕ) (i v : ℕ) (g : Logged n w) (hi : i < LOG) (h
 
   stored-body : body stored ≡ set (body w) i v
   unfolding body
-  stored-body = take-set-lt LOG (set w (LOG + n) packed) i v hi ∙ ap (λ (t : List ℕ). set t i v) (take-set-le LOG w (LOG + n) packed (omega arith))
+  stored-body = take-set-lt LOG (set w (LOG + n) packed) i v hi
+      ∙ ap (λ (t : List ℕ). set t i v) (take-set-le LOG w (LOG + n) packed (omega arith))
 
   -- the new log
   abbrev log' : List ℕ
@@ -84,7 +87,8 @@ module _ (n : ℕ) (w : List ℕ) (i v : ℕ) (g : Logged n w) (hi : i < LOG) (h
   put-back =
       let p : packed % 4096 ≡ i = omega arith in
       let q : packed / 4096 ≡ getD w i 0 = omega arith in
-      rw (log-new, p, q) (set-set (take LOG w) i v (getD w i 0) ∙ ap (set (take LOG w) i) (sym (getD-take LOG w i 0 hi)) ∙ set-getD (take LOG w) i 0)
+      rw (log-new, p, q) (set-set (take LOG w) i v (getD w i 0) ∙ ap (set (take LOG w) i) (sym (getD-take LOG w i 0 hi))
+      ∙ set-getD (take LOG w) i 0)
 
   stored-keeps : (m : ℕ) → m ≤ n → past m (n + 1) stored ≡ past m n w
   unfolding past
@@ -111,7 +115,14 @@ module _ (n : ℕ) (w : List ℕ) (i v : ℕ) (g : Logged n w) (hi : i < LOG) (h
   pub put-law : Put n w i v (n + 1) stored
   put-law = record {
     next = refl;
-    later = record { len = length-stored; more = omega arith; logged = stored-logged; keeps = stored-keeps; rest = λ j h. off j (λ e. omega arith) (λ e. omega arith) };
+    later = record {
+      len = length-stored;
+      more = omega arith;
+      logged = stored-logged;
+      keeps = stored-keeps;
+      rest =
+          λ j h. off j (λ e. omega arith) (λ e. omega arith);
+    };
     now = stored-body;
     rest = off;
   }
@@ -127,7 +138,8 @@ pub going-start : (n : ℕ) (w : List ℕ) → Going n n w w
 unfolding past back
 going-start n w = let e : n - n ≡ 0 = omega arith in record { len = refl; now = rw e refl; log = refl }
 
-pub going-back : (k n : ℕ) (w₀ w : List ℕ) → Going k n w₀ w → 0 < k → k ≤ n → Going (k - 1) n w₀ (set w (getD w (LOG + (k - 1)) 0 % 4096) (getD w (LOG + (k - 1)) 0 / 4096))
+pub going-back : (k n : ℕ) (w₀ w : List ℕ) → Going k n w₀ w → 0 < k → k ≤ n →
+    Going (k - 1) n w₀ (set w (getD w (LOG + (k - 1)) 0 % 4096) (getD w (LOG + (k - 1)) 0 / 4096))
 unfolding past back body entries
 going-back k n w₀ w g h l =
     let j : suc (k - 1) ≡ k = omega arith in
@@ -136,7 +148,8 @@ going-back k n w₀ w g h l =
     let b : getD w (LOG + (k - 1)) 0 % 4096 < LOG = omega arith in
     record {
       len = simp length-set (g .len);
-      now = take-set-lt LOG w (getD w (LOG + (k - 1)) 0 % 4096) (getD w (LOG + (k - 1)) 0 / 4096) b ∙ rw (e, p, j) (ap (λ (t : List ℕ). set t (getD (drop LOG w₀) (k - 1) 0 % 4096) (getD (drop LOG w₀) (k - 1) 0 / 4096)) (g .now));
+      now = take-set-lt LOG w (getD w (LOG + (k - 1)) 0 % 4096) (getD w (LOG + (k - 1)) 0 / 4096) b
+          ∙ rw (e, p, j) (ap (λ (t : List ℕ). set t (getD (drop LOG w₀) (k - 1) 0 % 4096) (getD (drop LOG w₀) (k - 1) 0 / 4096)) (g .now));
       log = drop-set-lt LOG w (getD w (LOG + (k - 1)) 0 % 4096) (getD w (LOG + (k - 1)) 0 / 4096) b ∙ g .log;
     }
 
@@ -165,7 +178,8 @@ pub logged-same : (n : ℕ) (w w' : List ℕ) → Logged n w → length w' ≡ l
 logged-same n w w' g e f = record { room = rw e (g .room); small = λ i h. rw (f i h) (g .small i h) }
 
 -- k entries of w are those of w', which has more; w'' is w' with the others taken back
-module _ (k : ℕ) (w : List ℕ) (k' : ℕ) (w' w'' : List ℕ) (more : k ≤ k') (keeps : (m : ℕ) → m ≤ k → past m k' w' ≡ past m k w) (u : Undone k k' w' w'') where
+module _ (k : ℕ) (w : List ℕ) (k' : ℕ) (w' w'' : List ℕ) (more : k ≤ k') (keeps : (m : ℕ) → m ≤ k →
+    past m k' w' ≡ past m k w) (u : Undone k k' w' w'') where
   pub undone-is : body w'' ≡ body w
   undone-is = u .now ∙ keeps k (omega arith) ∙ past-now k w
 
@@ -177,7 +191,8 @@ module _ (k : ℕ) (w : List ℕ) (k' : ℕ) (w' w'' : List ℕ) (more : k ≤ k
   undone-keeps m l =
       let q : k' - m ≡ (k - m) + (k' - k) = omega arith in
       let r : m + (k - m) ≡ k = omega arith in
-      let t : back (entries w') m (k' - m) (body w') ≡ back (entries w') m (k - m) (back (entries w') k (k' - k) (body w')) = rw q (rw r at (back-on (entries w') m (k - m) (k' - k) (body w'))) in
+      let t : back (entries w') m (k' - m) (body w') ≡ back (entries w') m (k - m) (back (entries w') k (k' - k) (body w')) =
+      rw q (rw r at (back-on (entries w') m (k - m) (k' - k) (body w'))) in
       rw (u .log, u .now) (sym t ∙ keeps m l)
 
   pub undone-rest : (j : ℕ) → LOG ≤ j → getD w'' j 0 ≡ getD w' j 0
@@ -194,14 +209,18 @@ undone-later k w k' w' w'' g p u = record {
 }
 
 -- ---- stores above the log
-pub past-agree : (m n : ℕ) (w w' : List ℕ) → m ≤ n → length w' ≡ length w → LOG + n ≤ length w → ((j : ℕ) → j < LOG + n → getD w' j 0 ≡ getD w j 0) → past m n w' ≡ past m n w
+pub past-agree : (m n : ℕ) (w w' : List ℕ) → m ≤ n → length w' ≡ length w → LOG + n ≤ length w →
+    ((j : ℕ) → j < LOG + n → getD w' j 0 ≡ getD w j 0) → past m n w' ≡ past m n w
 unfolding past body entries
 past-agree m n w w' h e l f =
     let b : take LOG w' ≡ take LOG w = ext-getD 0 (take LOG w') (take LOG w) (simp length-take (rw e refl))
-    (λ i p. let z = simp length-take at p in let q : i < LOG = omega arith in getD-take LOG w' i 0 q ∙ f i (omega arith) ∙ sym (getD-take LOG w i 0 q)) in
-    rw b (back-agree (drop LOG w') (drop LOG w) m (n - m) (take LOG w) (λ k p. getD-drop LOG w' k 0 ∙ f (LOG + k) (omega arith) ∙ sym (getD-drop LOG w k 0)))
+    (λ i p. let z = simp length-take at p in let q : i < LOG = omega arith in getD-take LOG w' i 0 q ∙ f i (omega arith)
+    ∙ sym (getD-take LOG w i 0 q)) in
+    rw b (back-agree (drop LOG w') (drop LOG w) m (n - m) (take LOG w) (λ k p. getD-drop LOG w' k 0 ∙ f (LOG + k) (omega arith)
+    ∙ sym (getD-drop LOG w k 0)))
 
-pub later-scratch : (a : ℕ) (u : List ℕ) (n : ℕ) (w w' : List ℕ) → Later a u n w → length w' ≡ length w → ((j : ℕ) → (j < LOG + n) ⊎ (WORDS ≤ j) → getD w' j 0 ≡ getD w j 0) → Later a u n w'
+pub later-scratch : (a : ℕ) (u : List ℕ) (n : ℕ) (w w' : List ℕ) → Later a u n w → length w' ≡ length w →
+    ((j : ℕ) → (j < LOG + n) ⊎ (WORDS ≤ j) → getD w' j 0 ≡ getD w j 0) → Later a u n w'
 later-scratch a u n w w' p e f = record {
   len = e ∙ p .len;
   more = p .more;
@@ -218,11 +237,14 @@ put-at k w i v r w' p h l =
     sym (getD-take LOG w' i 0 h) ∙ ap (λ (t : List ℕ). getD t i 0) (p .now) ∙ getD-set-same (take LOG w) i v 0 (omega arith)
 
 -- outside the log
-pub put-off : (k : ℕ) (w : List ℕ) (i v r : ℕ) (w' : List ℕ) → Put k w i v r w' → k < 4096 → (j : ℕ) → (j ≡ i → ⊥) → (j < LOG) ⊎ (STACK ≤ j) → getD w' j 0 ≡ getD w j 0
+pub put-off : (k : ℕ) (w : List ℕ) (i v r : ℕ) (w' : List ℕ) → Put k w i v r w' → k < 4096 → (j : ℕ) → (j ≡ i → ⊥) →
+    (j < LOG) ⊎ (STACK ≤ j) → getD w' j 0 ≡ getD w j 0
 put-off k w i v r w' p h j n c = p .rest j n (λ e. ⊎-elim (λ l. omega arith) (λ l. omega arith) c)
 
 -- into a region of the body
-pub put-region : (k : ℕ) (w : List ℕ) (v r : ℕ) (w' : List ℕ) (a n i : ℕ) → Put k w (a + i) v r w' → i < n → a + n ≤ LOG → region a n w' ≡ set (region a n w) i v
+pub put-region : (k : ℕ) (w : List ℕ) (v r : ℕ) (w' : List ℕ) (a n i : ℕ) → Put k w (a + i) v r w' → i < n → a + n ≤ LOG →
+    region a n w' ≡ set (region a n w) i v
 unfolding body
 put-region k w v r w' a n i p h l =
-    sym (region-take a n LOG w' l) ∙ ap (region a n) (p .now) ∙ region-set-same a n i (take LOG w) v h ∙ ap (λ (t : List ℕ). set t i v) (region-take a n LOG w l)
+    sym (region-take a n LOG w' l) ∙ ap (region a n) (p .now) ∙ region-set-same a n i (take LOG w) v h
+    ∙ ap (λ (t : List ℕ). set t i v) (region-take a n LOG w l)

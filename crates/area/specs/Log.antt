@@ -1,4 +1,5 @@
--- An undo log: the words before LOG are the body, and each word from LOG on is an entry: an address in the body and 4,096 times what stood there. Assumes nothing.
+-- An undo log: the words before LOG are the body, and each word from LOG on is an entry: an address in the body and 4,096 times what
+-- stood there. Assumes nothing.
 use Prim.Native.Nat.{ℕ, zero, suc, _+_, _-_, _/_, _%_, _≤_, _<_}
 use mathlib.Core.Path.{_≡_}
 use mathlib.Core.List.{List}

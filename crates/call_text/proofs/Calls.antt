@@ -41,13 +41,20 @@ module _ (m : ℕ) (cs : List ℕ) where
   last-is a b true = refl
   last-is a b false = refl
 
-  second-is : (a : List ℕ) (o : Option Taken) → second a o ≡ elim o [ none ↦ none | some q ↦ elim (done (q .1)) [ true ↦ some (record { mode = m; first = a; second = q .0 }) | false ↦ none ] ]
+  second-is : (a : List ℕ) (o : Option Taken) →
+      second a o ≡ elim o [
+        | none ↦ none
+        | some q ↦ elim (done (q .1)) [ true ↦ some (record { mode = m; first = a; second = q .0 }) | false ↦ none ]
+      ]
   second-is a none = refl
   second-is a (some q) = last-is a (q .0) (done (q .1))
 
   first-is : (o : Option Taken) → first o ≡ elim o [
     | none ↦ none
-    | some p ↦ elim (counted (p .1)) [ none ↦ none | some q ↦ elim (done (q .1)) [ true ↦ some (record { mode = m; first = p .0; second = q .0 }) | false ↦ none ] ]
+    | some p ↦ elim (counted (p .1)) [
+      | none ↦ none
+      | some q ↦ elim (done (q .1)) [ true ↦ some (record { mode = m; first = p .0; second = q .0 }) | false ↦ none ]
+    ]
   ]
   first-is none = refl
   first-is (some p) = second-is (p .0) (counted (p .1))

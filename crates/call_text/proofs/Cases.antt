@@ -23,7 +23,8 @@ unfolding heard call inputs done counted words-in token more digit blank
 leading-zeros = refl
 
 -- `0<tab>0 0`, `0 0`, `0 0 0 0`: another character, a missing and a surplus number
-pub bad-inputs : (heard (48 ∷ 9 ∷ 48 ∷ 32 ∷ 48 ∷ []) ≡ none) × (heard (48 ∷ 32 ∷ 48 ∷ []) ≡ none) × (heard (48 ∷ 32 ∷ 48 ∷ 32 ∷ 48 ∷ 32 ∷ 48 ∷ []) ≡ none)
+pub bad-inputs : (heard (48 ∷ 9 ∷ 48 ∷ 32 ∷ 48 ∷ []) ≡ none) × (heard (48 ∷ 32 ∷ 48 ∷ []) ≡ none)
+    × (heard (48 ∷ 32 ∷ 48 ∷ 32 ∷ 48 ∷ 32 ∷ 48 ∷ []) ≡ none)
 unfolding heard call inputs done counted words-in token more digit blank
 bad-inputs = (refl, refl, refl)
 

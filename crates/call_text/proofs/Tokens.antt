@@ -41,7 +41,8 @@ module _ (text : List ℕ) (at : ℕ) where
     next = drop-cons text at 0 here ∙ ap (λ (k : ℕ). c ∷ drop k text) (sym (add-one at))
 
     module _ (v : ℕ) where
-      pub more-digit : digit c ≡ true → ltb largest (v * 10 + (c - 48)) ≡ false → more v (drop at text) ≡ more (v * 10 + (c - 48)) (drop (at + 1) text)
+      pub more-digit : digit c ≡ true → ltb largest (v * 10 + (c - 48)) ≡ false →
+          more v (drop at text) ≡ more (v * 10 + (c - 48)) (drop (at + 1) text)
       unfolding more
       more-digit d l = rw (next, d, l, more)
 

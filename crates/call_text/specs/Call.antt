@@ -46,7 +46,10 @@ pub record Asked : Type 0 where
 unfoldable pub inputs : ℕ → List ℕ → Option Asked
 inputs m cs = elim (counted cs) [
   | none ↦ none
-  | some p ↦ elim (counted (p .1)) [ none ↦ none | some q ↦ elim (done (q .1)) [ true ↦ some (record { mode = m; first = p .0; second = q .0 }) | false ↦ none ] ]
+  | some p ↦ elim (counted (p .1)) [
+    | none ↦ none
+    | some q ↦ elim (done (q .1)) [ true ↦ some (record { mode = m; first = p .0; second = q .0 }) | false ↦ none ]
+  ]
 ]
 
 unfoldable pub call : List ℕ → Option Asked

@@ -1,4 +1,5 @@
--- A number at the start of a text: "decimal digits parted by one or more spaces or newlines, which may also stand at both ends, leading zeros allowed".
+-- A number at the start of a text: "decimal digits parted by one or more spaces or newlines, which may also stand at both ends,
+-- leading zeros allowed".
 -- Assumes nothing: these are definitions.
 use Prim.Native.Nat.{ℕ, _+_, _*_, _-_}
 use mathlib.Core.Bool.{Bool, true, false}

@@ -23,14 +23,16 @@ module _ (n : ℕ) (w : List ℕ) (x : ℕ) (hx : x < n) (c : ℕ) (cl : Classed
     is = cl .is es k h
 
     holds : Content es (class h) w c
-    holds = let l = class-low n es k w h x hx in subst (Content es (class h) w) (sym is) (content n es k w h (class h x) (omega arith) (class-top n es k w h x hx))
+    holds = let l = class-low n es k w h x hx in
+        subst (Content es (class h) w) (sym is) (content n es k w h (class h x) (omega arith) (class-top n es k w h x hx))
 
   pub asked-low : Labelled n w → c < n
   asked-low g = let l = class-low n (g .es) (g .k) w (g .holds) x hx in let e = is (g .es) (g .k) (g .holds) in omega arith
 
   -- ---- the atom
   pub asked-head : Labelled n w → 2048 < getD w c 0 → 65536 ≤ getD w c 0
-  asked-head g l = let o = holds (g .es) (g .k) (g .holds) .atom-from l in let e : getD w c 0 ≡ code-limit + o .1 .1 .0 = o .1 .1 .1 .1 in omega arith
+  asked-head g l = let o = holds (g .es) (g .k) (g .holds) .atom-from l in let e : getD w c 0 ≡ code-limit + o .1 .1 .0 = o .1 .1 .1 .1 in
+      omega arith
 
   pub atom-there : 2048 < getD w c 0 → AtomOf n w x (Atom (getD w c 0 - 65536))
   atom-there l = record {
@@ -48,7 +50,8 @@ module _ (n : ℕ) (w : List ℕ) (x : ℕ) (hx : x < n) (c : ℕ) (cl : Classed
   pub atom-none : getD w c 0 ≤ 2048 → AtomOf n w x Nothing
   atom-none l = record {
     is = λ es k h a e. let y : _≡_ {A = ℕ} 0 1 = cc in absurd (omega arith);
-    told = λ es k h s a u e. let q : getD w c 0 ≡ code-limit + a = holds es k h .atom-in s a u (e ∙ sym (is es k h)) in absurd (omega arith);
+    told = λ es k h s a u e. let q : getD w c 0 ≡ code-limit + a = holds es k h .atom-in s a u (e ∙ sym (is es k h)) in
+        absurd (omega arith);
   }
 
   -- ---- the target under f
@@ -87,8 +90,22 @@ module _ (n : ℕ) (w : List ℕ) (x : ℕ) (hx : x < n) (c : ℕ) (cl : Classed
             let o = holds es k h in
             let p = m .hit i (omega arith) (o .chain) (o .linked l) in
             let r = o .arc-from i (first-mem (words w) f (o .chain) i p) in
-            let y : d ≡ d' = cc in
-            (r .1 .0, (r .1 .1 .0, (r .1 .1 .1 .0 ∙ is es k h, (ap (class h) (r .1 .1 .1 .1 .0) ∙ sym (v .is es k h) ∙ y, subst (λ (z : ℕ). beside (graphs es) .Arc (r .1 .0) z (r .1 .1 .0)) (first-feature (words w) f (o .chain) i p) (r .1 .1 .1 .1 .1)))));
+            let y : d ≡ d' = cc in (
+              r .1 .0,
+              (
+                r .1 .1 .0,
+                (
+                  r .1 .1 .1 .0
+                      ∙ is es k h,
+                  (
+                    ap (class h) (r .1 .1 .1 .1 .0) ∙ sym (v .is es k h)
+                        ∙ y,
+                    subst (λ (z : ℕ). beside (graphs es) .Arc (r .1 .0) z (r .1 .1 .0)) (first-feature (words w) f (o .chain) i p)
+                        (r .1 .1 .1 .1 .1),
+                  ),
+                ),
+              ),
+            );
         told = λ es k h s t a e.
             let o = holds es k h in
             let p = m .hit i (omega arith) (o .chain) (o .linked l) in

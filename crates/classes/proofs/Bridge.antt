@@ -18,7 +18,8 @@ use Rattle.classes.specs.Holds.{code, NodeIn, Tied, Apart}
 -- the node of a spot
 pub spot-node : (es : List Entry) (s : Spots es) → NodeIn es (number-of es s)
 spot-node (e ∷ es) (inl x) = record { e = e; one = List·Memᴰ·head refl; j = x .0; below = x .1; is = refl }
-spot-node (e ∷ es) (inr y) = let r = spot-node es y in record { e = r .e; one = List·Memᴰ·tail (r .one); j = r .j; below = r .below; is = r .is }
+spot-node (e ∷ es) (inr y) = let r = spot-node es y in
+    record { e = r .e; one = List·Memᴰ·tail (r .one); j = r .j; below = r .below; is = r .is }
 
 -- graphs that share no number have no two spots of one number
 pub spot-one : (es : List Entry) → Apart es → (s t : Spots es) → number-of es s ≡ number-of es t → s ≡ t
@@ -58,11 +59,15 @@ pub record Arched (es : List Entry) (e : Entry) (j f t : ℕ) : Type 0 where
   pub to-is : number-of es to ≡ e .number + t
   pub arc : beside (graphs es) .Arc from f to
 
-pub arched : (es : List Entry) (e : Entry) (j f t : ℕ) → List·Memᴰ e es → j < length (e .graph) → t < length (e .graph) → List·Memᴰ (f, t) (arcsOf (nodeAt (e .graph) j)) → Arched es e j f t
+pub arched : (es : List Entry) (e : Entry) (j f t : ℕ) → List·Memᴰ e es → j < length (e .graph) → t < length (e .graph) →
+    List·Memᴰ (f, t) (arcsOf (nodeAt (e .graph) j)) → Arched es e j f t
 arched [] e j f t m h i a = absurd (List·Memᴰ·not-nil m)
 arched (o ∷ es) e j f t m h i a = ⊎-elim
-    (λ q. subst (λ (z : Entry). Arched (o ∷ es) z j f t) (sym q) (here (subst (λ (z : Entry). j < length (z .graph)) q h) (subst (λ (z : Entry). t < length (z .graph)) q i) (subst (λ (z : Entry). List·Memᴰ (f, t) (arcsOf (nodeAt (z .graph) j))) q a)))
-    (λ d. let r = arched es e j f t d h i a in record { from = inr (r .from); to = inr (r .to); from-is = r .from-is; to-is = r .to-is; arc = r .arc })
+    (λ q. subst (λ (z : Entry). Arched (o ∷ es) z j f t) (sym q)
+    (here (subst (λ (z : Entry). j < length (z .graph)) q h) (subst (λ (z : Entry). t < length (z .graph)) q i)
+    (subst (λ (z : Entry). List·Memᴰ (f, t) (arcsOf (nodeAt (z .graph) j))) q a)))
+    (λ d. let r = arched es e j f t d h i a in
+    record { from = inr (r .from); to = inr (r .to); from-is = r .from-is; to-is = r .to-is; arc = r .arc })
     (List·Memᴰ·cases-cons m)
   where
     here : j < length (o .graph) → t < length (o .graph) → List·Memᴰ (f, t) (arcsOf (nodeAt (o .graph) j)) → Arched (o ∷ es) o j f t
@@ -70,15 +75,18 @@ arched (o ∷ es) e j f t m h i a = ⊎-elim
 
 module _ (F T : List ℕ) (all : List Entry) (G : Pile) (tied : Tied F T all G) where
   -- ---- from spots to numbers: what the graphs es say, which are among all
-  pub root-down : (es : List Entry) → ((e : Entry) → List·Memᴰ e es → List·Memᴰ e all) → (s : Spots es) → beside (graphs es) .Root s → List·Memᴰ (number-of es s) (G .R)
+  pub root-down : (es : List Entry) → ((e : Entry) → List·Memᴰ e es → List·Memᴰ e all) → (s : Spots es) → beside (graphs es) .Root s →
+      List·Memᴰ (number-of es s) (G .R)
   root-down (e ∷ es) i (inl x) r = let z : e .number + x .0 ≡ e .number = omega arith in rw z (tied .root e (i e (List·Memᴰ·head refl)))
   root-down (e ∷ es) i (inr y) r = root-down es (λ o m. i o (List·Memᴰ·tail m)) y r
 
-  pub atom-down : (es : List Entry) → ((e : Entry) → List·Memᴰ e es → List·Memᴰ e all) → (s : Spots es) (a : ℕ) → beside (graphs es) .Atom s a → List·Memᴰ (number-of es s) (G .N) × (G .A (number-of es s) ≡ code-limit + a)
+  pub atom-down : (es : List Entry) → ((e : Entry) → List·Memᴰ e es → List·Memᴰ e all) → (s : Spots es) (a : ℕ) →
+      beside (graphs es) .Atom s a → List·Memᴰ (number-of es s) (G .N) × (G .A (number-of es s) ≡ code-limit + a)
   atom-down (e ∷ es) i (inl x) a q = let r = tied .node e (i e (List·Memᴰ·head refl)) (x .0) (x .1) in (r .0, r .1 ∙ ap code q)
   atom-down (e ∷ es) i (inr y) a q = atom-down es (λ o m. i o (List·Memᴰ·tail m)) y a q
 
-  pub arc-down : (es : List Entry) → ((e : Entry) → List·Memᴰ e es → List·Memᴰ e all) → (s : Spots es) (f : ℕ) (t : Spots es) → beside (graphs es) .Arc s f t
+  pub arc-down : (es : List Entry) → ((e : Entry) → List·Memᴰ e es → List·Memᴰ e all) → (s : Spots es) (f : ℕ) (t : Spots es) →
+      beside (graphs es) .Arc s f t
       → (q : ℕ) × (List·Memᴰ q (G .B) × ((G .S q ≡ number-of es s) × ((getD F q 0 ≡ f) × (getD T q 0 ≡ number-of es t))))
   arc-down (e ∷ es) i (inl x) f (inl y) a = tied .arc e (i e (List·Memᴰ·head refl)) (x .0) f (y .0) (x .1) a
   arc-down (e ∷ es) i (inl x) f (inr y) a = absurd a
@@ -99,7 +107,8 @@ module _ (F T : List ℕ) (all : List Entry) (G : Pile) (tied : Tied F T all G) 
       subst (λ (z : ℕ). pile.Same G F T (num x′) z) (b .1 .1 .1 .1)
       (subst (λ (z : ℕ). pile.Same G F T z (getD T (b .0) 0)) (a .1 .1 .1 .1)
       (pile.Same.along (a .1 .0) (b .1 .0) (a .1 .1 .1 .0 ∙ sym (b .1 .1 .1 .0))
-      (subst (λ (z : ℕ). pile.Same G F T z (G .S (b .0))) (sym (a .1 .1 .0)) (subst (λ (z : ℕ). pile.Same G F T (num x) z) (sym (b .1 .1 .0)) (same-down p)))))
+      (subst (λ (z : ℕ). pile.Same G F T z (G .S (b .0))) (sym (a .1 .1 .0))
+      (subst (λ (z : ℕ). pile.Same G F T (num x) z) (sym (b .1 .1 .0)) (same-down p)))))
 
   pub clash-down : Clash (graphs all) → Clashes G F T
   clash-down (atoms {x} {y} p a b u v ne) =
@@ -119,7 +128,8 @@ module _ (F T : List ℕ) (all : List Entry) (G : Pile) (tied : Tied F T all G) 
   atom-of (atom a) n = (a, refl)
   atom-of (arcs l) n = absurd (n refl)
 
-  pub atom-up : (x : ℕ) → List·Memᴰ x (G .N) → (G .A x ≡ 0 → ⊥) → (s : Spots all) × ((num s ≡ x) × ((a : ℕ) × (beside (graphs all) .Atom s a × (G .A x ≡ code-limit + a))))
+  pub atom-up : (x : ℕ) → List·Memᴰ x (G .N) → (G .A x ≡ 0 → ⊥) →
+      (s : Spots all) × ((num s ≡ x) × ((a : ℕ) × (beside (graphs all) .Atom s a × (G .A x ≡ code-limit + a))))
   atom-up x m n =
       let o = tied .nodes x m in
       let t = spotted all (o .e) (o .j) (o .one) (o .below) in
@@ -128,7 +138,8 @@ module _ (F T : List ℕ) (all : List Entry) (G : Pile) (tied : Tied F T all G) 
       (t .spot, (t .is ∙ sym (o .is), (a .0, (t .atom-is (a .0) (a .1), c ∙ ap code (a .1)))))
 
   -- the ends of an arc
-  pub ends : (q : ℕ) (m : List·Memᴰ q (G .B)) → (a : Spots all) × ((b : Spots all) × ((num a ≡ G .S q) × ((num b ≡ getD T q 0) × beside (graphs all) .Arc a (getD F q 0) b)))
+  pub ends : (q : ℕ) (m : List·Memᴰ q (G .B)) →
+      (a : Spots all) × ((b : Spots all) × ((num a ≡ G .S q) × ((num b ≡ getD T q 0) × beside (graphs all) .Arc a (getD F q 0) b)))
   ends q m =
       let o = tied .arcs q m in
       let r = arched all (o .e) (o .j) (getD F q 0) (o .to) (o .one) (o .below) (o .inner) (o .arc) in
@@ -166,7 +177,8 @@ module _ (F T : List ℕ) (all : List Entry) (G : Pile) (tied : Tied F T all G) 
     root-good : (x : ℕ) → List·Memᴰ x (G .R) → Good x
     root-good x m = ⊎-elim
         (λ z. (r₀, inr (z, root₀)))
-        (λ z. let t = spotted all (z .0) 0 (z .1 .0) (tied .some (z .0) (z .1 .0)) in let n = t .is in let n' = z .1 .1 in (t .spot, inl (omega arith)))
+        (λ z. let t = spotted all (z .0) 0 (z .1 .0) (tied .some (z .0) (z .1 .0)) in let n = t .is in let n' = z .1 .1 in
+        (t .spot, inl (omega arith)))
         (tied .roots x m)
 
     good : {x y : ℕ} → pile.Same G F T x y → (x ≡ y) ⊎ (Good x × Good y)
@@ -177,7 +189,8 @@ module _ (F T : List ℕ) (all : List Entry) (G : Pile) (tied : Tied F T all G) 
         (λ e. ⊎-elim (λ d. inl (e ∙ d)) (λ g. inr (subst Good (sym e) (g .0), g .1)) (good q))
         (λ g. ⊎-elim (λ d. inr (g .0, subst Good d (g .1))) (λ h. inr (g .0, h .1)) (good q))
         (good p)
-    good (pile.Same.along {p} {q} a b e r) = let s = ends p a in let t = ends q b in inr ((s .1 .0, inl (s .1 .1 .1 .0)), (t .1 .0, inl (t .1 .1 .1 .0)))
+    good (pile.Same.along {p} {q} a b e r) = let s = ends p a in let t = ends q b in
+        inr ((s .1 .0, inl (s .1 .1 .1 .0)), (t .1 .0, inl (t .1 .1 .1 .0)))
 
     pub same-up : {x y : ℕ} → pile.Same G F T x y → (s t : Spots all) → Stands x s → Stands y t → SameSpots s t
     same-up (pile.Same.root {x} {y} a b) s t p q = seed (root-up x s a p, root-up y t b q)
@@ -191,7 +204,8 @@ module _ (F T : List ℕ) (all : List Entry) (G : Pile) (tied : Tied F T all G) 
         let c = ends p a in
         let d = ends q b in
         let m = same-up r (c .0) (d .0) (inl (c .1 .1 .0)) (inl (d .1 .1 .0)) in
-        let n : SameSpots (c .1 .0) (d .1 .0) = along m (getD F p 0) (c .1 .1 .1 .1) (subst (λ (f : ℕ). beside (graphs all) .Arc (d .0) f (d .1 .0)) (sym e) (d .1 .1 .1 .1)) in
+        let n : SameSpots (c .1 .0) (d .1 .0) =
+        along m (getD F p 0) (c .1 .1 .1 .1) (subst (λ (f : ℕ). beside (graphs all) .Arc (d .0) f (d .1 .0)) (sym e) (d .1 .1 .1 .1)) in
         on (one-spot (getD T p 0) s (c .1 .0) i (inl (c .1 .1 .1 .0))) (on n (one-spot (getD T q 0) (d .1 .0) t (inl (d .1 .1 .1 .0)) j))
 
     pub clash-up : Clashes G F T → Clash (graphs all)
@@ -203,4 +217,5 @@ module _ (F T : List ℕ) (all : List Entry) (G : Pile) (tied : Tied F T all G) 
     clash-up (Clashes.mixed {x} {q} mx nx mq p) =
         let a = atom-up x mx nx in
         let d = ends q mq in
-        atom-arc (same-up p (a .0) (d .0) (inl (a .1 .0)) (inl (d .1 .1 .0))) (a .1 .1 .0) (a .1 .1 .1 .0) (getD F q 0) (d .1 .0) (d .1 .1 .1 .1)
+        atom-arc (same-up p (a .0) (d .0) (inl (a .1 .0)) (inl (d .1 .1 .0))) (a .1 .1 .0) (a .1 .1 .1 .0) (getD F q 0) (d .1 .0)
+        (d .1 .1 .1 .1)

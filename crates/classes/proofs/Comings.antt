@@ -1,6 +1,7 @@
 -- A graph that may be pushed: what the code asks, and what its answers mean. Assumes nothing.
 use mathlib.Core.Path.{_≡_, refl, sym, ap, _∙_, subst}
-use mathlib.Core.List.{List, [], _∷_, _++_, List·Memᴰ, List·Memᴰ·cases-cons, List·Memᴰ·head, List·Memᴰ·tail, List·Memᴰ·not-nil, List·Memᴰ·append-cases, List·Memᴰ·eq-of-singleton, Memᴰ·append-left, Memᴰ·append-right}
+use mathlib.Core.List.{List, [], _∷_, _++_, List·Memᴰ, List·Memᴰ·cases-cons, List·Memᴰ·head, List·Memᴰ·tail, List·Memᴰ·not-nil}
+use mathlib.Core.List.{List·Memᴰ·append-cases, List·Memᴰ·eq-of-singleton, Memᴰ·append-left, Memᴰ·append-right}
 use mathlib.Core.Logic.{_⊎_, inl, inr, ⊎-elim}
 use Prim.Native.Nat.{ℕ, suc, _+_, _*_, _≤_, _<_}
 use native.Mathlib.Omega.{arith}
@@ -18,7 +19,8 @@ use Rattle.classes.specs.Entry.{Aside, Comes}
 use Rattle.classes.specs.Holds.{code, ArcOf, Tied, Apart, Sits, Holds}
 use Rattle.area.proofs.Region.{word-at, words-same}
 use Rattle.forest.proofs.Words.{target-at, targets-same}
-use Rattle.classes.proofs.Added.{weight-spans, NodesLie, nodes-lie, numbers-old, numbers-new, numbers-cases, codes-new, codes-old, positions-old, positions-cases, positions-new, sources-old, sources-new, NewArc, added, nodes-at}
+use Rattle.classes.proofs.Added.{weight-spans, NodesLie, nodes-lie, numbers-old, numbers-new, numbers-cases, codes-new, codes-old}
+use Rattle.classes.proofs.Added.{positions-old, positions-cases, positions-new, sources-old, sources-new, NewArc, added, nodes-at}
 use Rattle.classes.proofs.Grown.{Extends, state-extends, listed-pairs, listed-arcs, listed-atom, listed-atoms, listed-count}
 use Rattle.classes.proofs.Bridge.{spotted, clash-up}
 use Rattle.classes.proofs.Laws.{sits-frame}
@@ -34,7 +36,9 @@ aside-sym e o a = (⊎-elim (λ x. inr x) (λ x. inl x) (a .0), ⊎-elim (λ x. 
 pub apart-more : (es : List Entry) (e : Entry) → Apart es → ((o : Entry) → List·Memᴰ o es → Aside e o) → Apart (es ++ e ∷ [])
 apart-more [] e a f = ((λ o m. absurd (List·Memᴰ·not-nil m)), tt)
 apart-more (o ∷ es) e a f = (
-  (λ u m. ⊎-elim (λ i. a .0 u i) (λ i. subst (λ (z : Entry). Aside o z) (sym (List·Memᴰ·eq-of-singleton i)) (aside-sym e o (f o (List·Memᴰ·head refl)))) (List·Memᴰ·append-cases es m)),
+  (λ u m. ⊎-elim (λ i. a .0 u i)
+      (λ i. subst (λ (z : Entry). Aside o z) (sym (List·Memᴰ·eq-of-singleton i)) (aside-sym e o (f o (List·Memᴰ·head refl))))
+      (List·Memᴰ·append-cases es m)),
   apart-more es e (a .1) (λ u m. f u (List·Memᴰ·tail m)),
 )
 
@@ -84,10 +88,12 @@ module _ (n : ℕ) (es : List Entry) (k : ℕ) (w : List ℕ) (e : Entry) (h : H
 
   -- what is there does not meet what comes
   node-off : (i : ℕ) → List·Memᴰ i (G .N) → (i < x) ⊎ (x + length vs ≤ i)
-  node-off i m = let o = h .tied .nodes i m in let b = o .below in let d = o .is in ⊎-elim (λ a. inr (omega arith)) (λ a. inl (omega arith)) (c .aside (o .e) (o .one) .0)
+  node-off i m = let o = h .tied .nodes i m in let b = o .below in let d = o .is in
+      ⊎-elim (λ a. inr (omega arith)) (λ a. inl (omega arith)) (c .aside (o .e) (o .one) .0)
 
   arc-off : (q : ℕ) → List·Memᴰ q (G .B) → (q < p) ⊎ (p + spans vs ≤ q)
-  arc-off q m = let o = h .tied .arcs q m in let b = o .after in let d = o .before in let s = spans-is in ⊎-elim (λ a. inr (omega arith)) (λ a. inl (omega arith)) (c .aside (o .e) (o .one) .1)
+  arc-off q m = let o = h .tied .arcs q m in let b = o .after in let d = o .before in let s = spans-is in
+      ⊎-elim (λ a. inr (omega arith)) (λ a. inl (omega arith)) (c .aside (o .e) (o .one) .1)
 
   pub extends : Extends G pile
   extends = record {
@@ -129,14 +135,16 @@ module _ (n : ℕ) (es : List Entry) (k : ℕ) (w : List ℕ) (e : Entry) (h : H
   arcs' q m = ⊎-elim
       (λ o. let a = h .state .arcs q o in (a .0, (rw (extends .sources q o) (a .1 .0), a .1 .1)))
       (λ r.
-      let b = r .before in let l = low in let d = c .inside in let bj = r .below in let bt = inner q r in let s = source q r in let t = r .target in
+      let b = r .before in let l = low in let d = c .inside in let bj = r .below in let bt = inner q r in let s = source q r in
+      let t = r .target in
       (omega arith, (omega arith, omega arith)))
       (arc-cases q m)
 
   atoms' : (i : ℕ) → List·Memᴰ i (pile .N) → (pile .A i ≡ 0 → ⊥) → 2048 < pile .A i
   atoms' i m z = ⊎-elim
       (λ o. let q = extends .codes i o in rw q (h .state .atoms i o (λ y. z (q ∙ y))))
-      (λ (o : (j : ℕ) × ((j < length vs) × (i ≡ x + j))). let q : pile .A i ≡ code (nodeAt vs (o .0)) = ap (pile .A) (o .1 .1) ∙ codes-new (G .A) x vs (o .0) (o .1 .0) in rw q (code-large (nodeAt vs (o .0)) (λ y. z (q ∙ y))))
+      (λ (o : (j : ℕ) × ((j < length vs) × (i ≡ x + j))). let q : pile .A i ≡ code (nodeAt vs (o .0)) = ap (pile .A) (o .1 .1)
+      ∙ codes-new (G .A) x vs (o .0) (o .1 .0) in rw q (code-large (nodeAt vs (o .0)) (λ y. z (q ∙ y))))
       (numbers-cases (G .N) x vs i m)
 
   pub state' : State pile (h .H) F T n k 0 [] w
@@ -151,7 +159,8 @@ module _ (n : ℕ) (es : List Entry) (k : ℕ) (w : List ℕ) (e : Entry) (h : H
 
   -- ---- then the nodes
   pub nodes' : NodesAt F pile n x p vs
-  nodes' = nodes-at F T x n pile (G .N) (G .B) (G .S) (G .A) vs x p lie (c .fits) low (c .inside) (λ i m. m) (λ q m. m) (λ i a b. refl) (λ q a b. sources-new (G .S) x p vs q a)
+  nodes' = nodes-at F T x n pile (G .N) (G .B) (G .S) (G .A) vs x p lie (c .fits) low (c .inside) (λ i m. m) (λ q m. m) (λ i a b. refl)
+      (λ q a b. sources-new (G .S) x p vs q a)
 
   weigh : 2 * length (h .H .K) + length (h .H .U) + spans vs ≤ weights (graphs es ++ e .graph ∷ [])
   weigh = let a = weights-append (graphs es) (e .graph ∷ []) in let b = h .count in let s = spans-is in omega arith
@@ -171,12 +180,14 @@ module _ (n : ℕ) (es : List Entry) (k : ℕ) (w : List ℕ) (e : Entry) (h : H
     arcs = λ q m. listed-arcs (G .B) vs (withPair (h .H) 0 x) x p q (h .full .arcs) m;
     atoms = λ i m z. ⊎-elim
         (λ o. listed-atom vs (withPair (h .H) 0 x) x p i (h .full .atoms i o (λ y. z (extends .codes i o ∙ y))))
-        (λ (o : (j : ℕ) × ((j < length vs) × (i ≡ x + j))). let q : pile .A i ≡ code (nodeAt vs (o .0)) = ap (pile .A) (o .1 .1) ∙ codes-new (G .A) x vs (o .0) (o .1 .0) in
+        (λ (o : (j : ℕ) × ((j < length vs) × (i ≡ x + j))). let q : pile .A i ≡ code (nodeAt vs (o .0)) = ap (pile .A) (o .1 .1)
+        ∙ codes-new (G .A) x vs (o .0) (o .1 .0) in
         rw (o .1 .1) (listed-atoms vs (withPair (h .H) 0 x) x p (o .0) (o .1 .0) (λ y. z (q ∙ y))))
         (numbers-cases (G .N) x vs i m);
     root = 0;
     roots = λ i m. subst (λ (l : List (ℕ × ℕ)). List·Memᴰ (0, i) l) (sym (listed-pairs vs (withPair (h .H) 0 x) x p))
-        (⊎-elim (λ q. List·Memᴰ·head (ap (λ (z : ℕ). (0, z)) q)) (λ o. List·Memᴰ·tail (subst (λ (z : ℕ). List·Memᴰ (z, i) (h .H .E)) (h .top) (h .full .roots i o))) (List·Memᴰ·cases-cons m));
+        (⊎-elim (λ q. List·Memᴰ·head (ap (λ (z : ℕ). (0, z)) q))
+        (λ o. List·Memᴰ·tail (subst (λ (z : ℕ). List·Memᴰ (z, i) (h .H .E)) (h .top) (h .full .roots i o))) (List·Memᴰ·cases-cons m));
   }
 
   -- an entry of all is one of es, or the one that comes
@@ -199,8 +210,10 @@ module _ (n : ℕ) (es : List Entry) (k : ℕ) (w : List ℕ) (e : Entry) (h : H
         (λ b. ⊎-elim (λ z. inl z) (λ z. inr (z .0, (old (z .0) (z .1 .0), z .1 .1))) (h .tied .roots i b))
         (List·Memᴰ·cases-cons m);
     node = λ o m j l. ⊎-elim
-        (λ i. let r = h .tied .node o i j l in (numbers-old (G .N) x vs (o .number + j) (r .0), extends .codes (o .number + j) (r .0) ∙ r .1))
-        (λ q. subst (λ (z : Entry). j < length (z .graph) → List·Memᴰ (z .number + j) (pile .N) × (pile .A (z .number + j) ≡ code (nodeAt (z .graph) j))) (sym q)
+        (λ i. let r = h .tied .node o i j l in
+        (numbers-old (G .N) x vs (o .number + j) (r .0), extends .codes (o .number + j) (r .0) ∙ r .1))
+        (λ q. subst (λ (z : Entry). j < length (z .graph) →
+        List·Memᴰ (z .number + j) (pile .N) × (pile .A (z .number + j) ≡ code (nodeAt (z .graph) j))) (sym q)
         (λ b. (numbers-new (G .N) x vs j b, codes-new (G .A) x vs j b)) l)
         (which o m);
     nodes = λ i m. ⊎-elim
@@ -208,12 +221,29 @@ module _ (n : ℕ) (es : List Entry) (k : ℕ) (w : List ℕ) (e : Entry) (h : H
         (λ b. record { e = e; one = mine; j = b .0; below = b .1 .0; is = b .1 .1 })
         (numbers-cases (G .N) x vs i m);
     arc = λ o m j f t l a. ⊎-elim
-        (λ i. let r = h .tied .arc o i j f t l a in (r .0, (positions-old (G .B) p vs (r .0) (r .1 .0), (extends .sources (r .0) (r .1 .0) ∙ r .1 .1 .0, r .1 .1 .1))))
-        (λ q. subst (λ (z : Entry). j < length (z .graph) → List·Memᴰ (f, t) (arcsOf (nodeAt (z .graph) j)) → (q : ℕ) × (List·Memᴰ q (pile .B) × ((pile .S q ≡ z .number + j) × ((getD F q 0 ≡ f) × (getD T q 0 ≡ z .number + t))))) (sym q)
-        (λ b d. let r = positions-new F T (G .S) x (G .B) vs x p lie j f t b d in let g : p < r .0 = r .1 .1 .1 .1 in (r .0, (r .1 .0, (sources-new (G .S) x p vs (r .0) (omega arith) ∙ r .1 .1 .0, r .1 .1 .1 .0)))) l a)
+        (λ i. let r = h .tied .arc o i j f t l a in
+        (r .0, (positions-old (G .B) p vs (r .0) (r .1 .0), (extends .sources (r .0) (r .1 .0) ∙ r .1 .1 .0, r .1 .1 .1))))
+        (λ q. subst (λ (z : Entry). j < length (z .graph) → List·Memᴰ (f, t) (arcsOf (nodeAt (z .graph) j)) →
+        (q : ℕ) × (List·Memᴰ q (pile .B) × ((pile .S q ≡ z .number + j) × ((getD F q 0 ≡ f) × (getD T q 0 ≡ z .number + t))))) (sym q)
+        (λ b d. let r = positions-new F T (G .S) x (G .B) vs x p lie j f t b d in let g : p < r .0 = r .1 .1 .1 .1 in
+        (r .0, (r .1 .0, (sources-new (G .S) x p vs (r .0) (omega arith) ∙ r .1 .1 .0, r .1 .1 .1 .0)))) l a)
         (which o m);
     arcs = λ q m. ⊎-elim
-        (λ b. let o = h .tied .arcs q b in record { e = o .e; one = old (o .e) (o .one); j = o .j; below = o .below; to = o .to; inner = o .inner; arc = o .arc; source = extends .sources q b ∙ o .source; target = o .target; after = o .after; before = o .before })
+        (λ b. let o = h .tied .arcs q b in
+        record {
+          e = o .e;
+          one = old (o .e) (o .one);
+          j = o .j;
+          below = o .below;
+          to = o .to;
+          inner = o .inner;
+          arc = o .arc;
+          source =
+              extends .sources q b ∙ o .source;
+          target = o .target;
+          after = o .after;
+          before = o .before;
+        })
         (λ r. arc-new q r)
         (arc-cases q m);
   }
@@ -225,7 +255,8 @@ module _ (n : ℕ) (es : List Entry) (k : ℕ) (w : List ℕ) (e : Entry) (h : H
   graphs' = graphs-append es (e ∷ [])
 
   -- the state at the end stands for all
-  pub holds' : (k' : ℕ) (w' : List ℕ) → length w' ≡ length w → ((j : ℕ) → WORDS ≤ j → j < MARKS → getD w' j 0 ≡ getD w j 0) → State pile done' F T n k' 0 [] w' → Holds n all k' w'
+  pub holds' : (k' : ℕ) (w' : List ℕ) → length w' ≡ length w → ((j : ℕ) → WORDS ≤ j → j < MARKS → getD w' j 0 ≡ getD w j 0) →
+      State pile done' F T n k' 0 [] w' → Holds n all k' w'
   unfolding full'
   holds' k' w' len same u =
       let ew = words-same w w' (h .long) len same in
@@ -240,7 +271,8 @@ module _ (n : ℕ) (es : List Entry) (k : ℕ) (w : List ℕ) (e : Entry) (h : H
         top = refl;
         tied = rw (ew, et) tied';
         apart = apart';
-        each = λ o m. ⊎-elim (λ i. sits-frame w w' n o same (h .each o i)) (λ q. subst (λ (z : Entry). Sits n w' z) (sym q) (sits-frame w w' n e same sits')) (which o m);
+        each = λ o m. ⊎-elim (λ i. sits-frame w w' n o same (h .each o i))
+            (λ q. subst (λ (z : Entry). Sits n w' z) (sym q) (sits-frame w w' n e same sits')) (which o m);
         count = rw graphs' (let a = listed-count vs (withPair (h .H) 0 x) x p in let b = weigh in omega arith);
       }
     where

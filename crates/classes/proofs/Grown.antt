@@ -28,7 +28,8 @@ module _ (G G' : Pile) (F T : List ℕ) (x : Extends G G') where
   same-extends (Same.on r t) = Same.on (same-extends r) (same-extends t)
   same-extends (Same.along {p} {q} a b e r) =
       Same.along (x .arcs p a) (x .arcs q b) e
-      (subst (λ (z : ℕ). Same G' F T z (G' .S q)) (sym (x .sources p a)) (subst (λ (z : ℕ). Same G' F T (G .S p) z) (sym (x .sources q b)) (same-extends r)))
+      (subst (λ (z : ℕ). Same G' F T z (G' .S q)) (sym (x .sources p a))
+      (subst (λ (z : ℕ). Same G' F T (G .S p) z) (sym (x .sources q b)) (same-extends r)))
 
   pub state-extends : (H : Done) (n k : ℕ) (w : List ℕ) → ((q : ℕ) → List·Memᴰ q (G' .B) → (q < 2047) × ((G' .S q < n) × (getD T q 0 < n)))
       → ((i : ℕ) → List·Memᴰ i (G' .N) → (G' .A i ≡ 0 → ⊥) → 2048 < G' .A i) → State G H F T n k 0 [] w → State G' H F T n k 0 [] w
@@ -46,10 +47,27 @@ module _ (G G' : Pile) (F T : List ℕ) (x : Extends G G') where
     wide = u .wide;
     all = u .all;
     chain = u .chain;
-    bare = λ c h e l. let o = u .bare c h e l in let b = o .1 in (o .0, record { i = b .i; small = b .small; node = x .nodes (b .i) (b .node); is = x .codes (b .i) (b .node) ∙ b .is; class = b .class });
+    bare = λ c h e l. let o = u .bare c h e l in let b = o .1 in (
+      o .0,
+      record {
+        i = b .i;
+        small = b .small;
+        node = x .nodes (b .i) (b .node);
+        is = x .codes (b .i) (b .node)
+            ∙ b .is;
+        class = b .class;
+      },
+    );
     home = λ c q h m. let o = u .home c q h m in (o .0, ap (λ (z : ℕ). getD (u .M) z 0) (x .sources q (u .known q (o .0))) ∙ o .1);
     known = λ j m. x .arcs j (u .known j m);
-    cover = λ j m. let o = u .cover j m in (o .0, (subst (λ (z : ℕ). First F (getD F j 0) (getD (u .C) (getD (u .M) z 0) []) (o .0)) (sym (x .sources j (u .known j m))) (o .1 .0), o .1 .1));
+    cover = λ j m. let o = u .cover j m in (
+      o .0,
+      (
+        subst (λ (z : ℕ). First F (getD F j 0) (getD (u .C) (getD (u .M) z 0) []) (o .0)) (sym (x .sources j (u .known j m)))
+            (o .1 .0),
+        o .1 .1,
+      ),
+    );
     nodes = λ i m. let o = u .nodes i m in (o .0, x .nodes i (o .1));
     met = λ i m z. let y = x .codes i (u .nodes i m .1) in u .met i m (λ e. z (y ∙ e)) ∙ sym y;
     held = u .held;
@@ -66,29 +84,38 @@ listed-pairs (arcs l ∷ vs) H x p = listed-pairs vs (noded H x p (arcs l)) (suc
 listed-arc : (vs : Graph) (H : Done) (x p q : ℕ) → List·Memᴰ q (H .K) → List·Memᴰ q (listed H x p vs .K)
 listed-arc [] H x p q m = m
 listed-arc (atom a ∷ vs) H x p q m = listed-arc vs (noded H x p (atom a)) (suc x) (p + 1) q m
-listed-arc (arcs l ∷ vs) H x p q m = listed-arc vs (noded H x p (arcs l)) (suc x) (p + (1 + 2 * length l)) q (strung-old (H .K) (p + 1) (length l) q m)
+listed-arc (arcs l ∷ vs) H x p q m =
+    listed-arc vs (noded H x p (arcs l)) (suc x) (p + (1 + 2 * length l)) q (strung-old (H .K) (p + 1) (length l) q m)
 
 pub listed-atom : (vs : Graph) (H : Done) (x p i : ℕ) → List·Memᴰ i (H .U) → List·Memᴰ i (listed H x p vs .U)
 listed-atom [] H x p i m = m
 listed-atom (atom a ∷ vs) H x p i m = listed-atom vs (noded H x p (atom a)) (suc x) (p + 1) i (List·Memᴰ·tail m)
 listed-atom (arcs l ∷ vs) H x p i m = listed-atom vs (noded H x p (arcs l)) (suc x) (p + (1 + 2 * length l)) i m
 
-pub listed-arcs : (B : List ℕ) (vs : Graph) (H : Done) (x p q : ℕ) → ((q : ℕ) → List·Memᴰ q B → List·Memᴰ q (H .K)) → List·Memᴰ q (positions B p vs) → List·Memᴰ q (listed H x p vs .K)
+pub listed-arcs : (B : List ℕ) (vs : Graph) (H : Done) (x p q : ℕ) → ((q : ℕ) → List·Memᴰ q B → List·Memᴰ q (H .K)) →
+    List·Memᴰ q (positions B p vs) → List·Memᴰ q (listed H x p vs .K)
 listed-arcs B [] H x p q f m = f q m
 listed-arcs B (atom a ∷ vs) H x p q f m = listed-arcs B vs (noded H x p (atom a)) (suc x) (p + 1) q f m
 listed-arcs B (arcs l ∷ vs) H x p q f m = ⊎-elim
-    (λ z. listed-arcs B vs (noded H x p (arcs l)) (suc x) (p + (1 + 2 * length l)) q (λ i b. strung-old (H .K) (p + 1) (length l) i (f i b)) z)
-    (λ z. listed-arc vs (noded H x p (arcs l)) (suc x) (p + (1 + 2 * length l)) q (rw (z .1 .1) (strung-new (H .K) (p + 1) (length l) (z .0) (z .1 .0))))
+    (λ z. listed-arcs B vs (noded H x p (arcs l)) (suc x) (p + (1 + 2 * length l)) q
+    (λ i b. strung-old (H .K) (p + 1) (length l) i (f i b)) z)
+    (λ z. listed-arc vs (noded H x p (arcs l)) (suc x) (p + (1 + 2 * length l)) q
+    (rw (z .1 .1) (strung-new (H .K) (p + 1) (length l) (z .0) (z .1 .0))))
     (strung-cases (positions B (p + (1 + 2 * length l)) vs) (p + 1) (length l) q m)
 
-pub listed-atoms : (vs : Graph) (H : Done) (x p j : ℕ) → j < length vs → (code (nodeAt vs j) ≡ 0 → ⊥) → List·Memᴰ (x + j) (listed H x p vs .U)
+pub listed-atoms : (vs : Graph) (H : Done) (x p j : ℕ) → j < length vs → (code (nodeAt vs j) ≡ 0 → ⊥) →
+    List·Memᴰ (x + j) (listed H x p vs .U)
 listed-atoms [] H x p j h n = absurd (omega arith)
-listed-atoms (atom a ∷ vs) H x p zero h n = let e : x + 0 ≡ x = omega arith in rw e (listed-atom vs (noded H x p (atom a)) (suc x) (p + 1) x (List·Memᴰ·head refl))
+listed-atoms (atom a ∷ vs) H x p zero h n = let e : x + 0 ≡ x = omega arith in
+    rw e (listed-atom vs (noded H x p (atom a)) (suc x) (p + 1) x (List·Memᴰ·head refl))
 listed-atoms (arcs l ∷ vs) H x p zero h n = absurd (n refl)
-listed-atoms (atom a ∷ vs) H x p (suc j) h n = let e : x + suc j ≡ suc x + j = omega arith in rw e (listed-atoms vs (noded H x p (atom a)) (suc x) (p + 1) j (omega arith) n)
-listed-atoms (arcs l ∷ vs) H x p (suc j) h n = let e : x + suc j ≡ suc x + j = omega arith in rw e (listed-atoms vs (noded H x p (arcs l)) (suc x) (p + (1 + 2 * length l)) j (omega arith) n)
+listed-atoms (atom a ∷ vs) H x p (suc j) h n = let e : x + suc j ≡ suc x + j = omega arith in
+    rw e (listed-atoms vs (noded H x p (atom a)) (suc x) (p + 1) j (omega arith) n)
+listed-atoms (arcs l ∷ vs) H x p (suc j) h n = let e : x + suc j ≡ suc x + j = omega arith in
+    rw e (listed-atoms vs (noded H x p (arcs l)) (suc x) (p + (1 + 2 * length l)) j (omega arith) n)
 
-pub listed-count : (vs : Graph) (H : Done) (x p : ℕ) → 2 * length (listed H x p vs .K) + length (listed H x p vs .U) ≤ 2 * length (H .K) + length (H .U) + spans vs
+pub listed-count : (vs : Graph) (H : Done) (x p : ℕ) →
+    2 * length (listed H x p vs .K) + length (listed H x p vs .U) ≤ 2 * length (H .K) + length (H .U) + spans vs
 listed-count [] H x p = omega arith
 listed-count (atom a ∷ vs) H x p = let r = listed-count vs (noded H x p (atom a)) (suc x) (p + 1) in omega arith
 listed-count (arcs l ∷ vs) H x p =

@@ -23,7 +23,8 @@ use Rattle.classes.proofs.Result.{agree}
 use Rattle.classes.proofs.Bridge.{clash-down}
 
 -- the same words before the log: the same state
-pub state-again : (G : Pile) (H : Done) (F T : List ℕ) (n k : ℕ) (w w' : List ℕ) → n ≤ 1024 → SIZE ≤ length w → State G H F T n k 0 [] w → Logged k w' → ((j : ℕ) → j < LOG → getD w' j 0 ≡ getD w j 0) → length w' ≡ length w → State G H F T n k 0 [] w'
+pub state-again : (G : Pile) (H : Done) (F T : List ℕ) (n k : ℕ) (w w' : List ℕ) → n ≤ 1024 → SIZE ≤ length w → State G H F T n k 0 [] w →
+    Logged k w' → ((j : ℕ) → j < LOG → getD w' j 0 ≡ getD w j 0) → length w' ≡ length w → State G H F T n k 0 [] w'
 state-again G H F T n k w w' hn hw u g word l = record {
   logged = g;
   shape = rw par (u .shape);
@@ -39,7 +40,9 @@ state-again G H F T n k w w' hn hw u g word l = record {
   all = u .all;
   chain = λ c h m b.
       let o : getD w' c 0 ≡ getD w c 0 = word c (omega arith) in
-      subst (λ (z : ℕ). Chain w' z (getD (u .C) c [])) (sym o) (chain-same w w' (getD w c 0) (getD (u .C) c []) (λ q r. let b = u .arcs q (u .known q (u .home c q h r .0)) .0 in word (NEXT + q) (omega arith)) (u .chain c h m (omega arith)));
+      subst (λ (z : ℕ). Chain w' z (getD (u .C) c [])) (sym o)
+      (chain-same w w' (getD w c 0) (getD (u .C) c []) (λ q r. let b = u .arcs q (u .known q (u .home c q h r .0)) .0 in
+      word (NEXT + q) (omega arith)) (u .chain c h m (omega arith)));
   bare = λ c h m b.
       let o : getD w' c 0 ≡ getD w c 0 = word c (omega arith) in
       let r = u .bare c h m (omega arith) in
@@ -48,7 +51,8 @@ state-again G H F T n k w w' hn hw u g word l = record {
   known = u .known;
   cover = λ j m. let o = u .cover j m in (o .0, (o .1 .0, Near.old (near-none F T (u .M) w (o .1 .1))));
   nodes = u .nodes;
-  met = λ i m a. let b = low G H F T n k 0 [] w (omega arith) hw u i (u .nodes i m .0) in word (getD (u .M) i 0) (omega arith) ∙ u .met i m a;
+  met = λ i m a. let b = low G H F T n k 0 [] w (omega arith) hw u i (u .nodes i m .0) in word (getD (u .M) i 0) (omega arith)
+      ∙ u .met i m a;
   held = u .held;
   sound = u .sound;
   frame = λ a b m. absurd (List·Memᴰ·not-nil m);
@@ -58,28 +62,54 @@ state-again G H F T n k w w' hn hw u g word l = record {
     par = region-ext PARENT n w' w (omega arith) l (λ j h. word (PARENT + j) (omega arith))
 
 -- what lies in the loaded words
-pub lies-frame : (w w' : List ℕ) (g n : ℕ) (K : Graph) → ((j : ℕ) → WORDS ≤ j → j < MARKS → getD w' j 0 ≡ getD w j 0) → Lies w g n K → Lies w' g n K
+pub lies-frame : (w w' : List ℕ) (g n : ℕ) (K : Graph) → ((j : ℕ) → WORDS ≤ j → j < MARKS → getD w' j 0 ≡ getD w j 0) → Lies w g n K →
+    Lies w' g n K
 lies-frame w w' g n K f l =
     let a = l .fits in
-    record { fits = l .fits; few = l .few; low = l .low; head = f (WORDS + g) (omega arith) (omega arith) ∙ l .head; nodes = λ j h. f (WORDS + (suc g + j)) (omega arith) (omega arith) ∙ l .nodes j h }
+    record {
+      fits = l .fits;
+      few = l .few;
+      low = l .low;
+      head = f (WORDS + g) (omega arith) (omega arith)
+          ∙ l .head;
+      nodes = λ j h. f (WORDS + (suc g + j)) (omega arith) (omega arith) ∙ l .nodes j h;
+    }
 
-pub sits-frame : (w w' : List ℕ) (n : ℕ) (e : Entry) → ((j : ℕ) → WORDS ≤ j → j < MARKS → getD w' j 0 ≡ getD w j 0) → Sits n w e → Sits n w' e
-sits-frame w w' n e f s = record { lies = lies-frame w w' (e .at) (e .number) (e .graph) f (s .lies); canonical = s .canonical; fits = s .fits; inside = s .inside }
+pub sits-frame : (w w' : List ℕ) (n : ℕ) (e : Entry) → ((j : ℕ) → WORDS ≤ j → j < MARKS → getD w' j 0 ≡ getD w j 0) → Sits n w e →
+    Sits n w' e
+sits-frame w w' n e f s = record {
+  lies = lies-frame w w' (e .at) (e .number) (e .graph) f (s .lies);
+  canonical = s .canonical;
+  fits =
+      s .fits;
+  inside = s .inside;
+}
 
 module _ (n : ℕ) (es : List Entry) (k : ℕ) (w : List ℕ) (h : Holds n es k w) where
   -- ---- what the graphs that are pushed agree on
   pub holds-agree : Agree (graphs es)
-  holds-agree z = agree (h .G) (h .H) (words w) (targets w) n k 0 w (h .below) (h .long) (h .state) (h .full) (clash-down (words w) (targets w) es (h .G) (h .tied) z)
+  holds-agree z = agree (h .G) (h .H) (words w) (targets w) n k 0 w (h .below) (h .long) (h .state) (h .full)
+      (clash-down (words w) (targets w) es (h .G) (h .tied) z)
 
   -- the log has room
   pub holds-few : k ≤ 4096
   holds-few = let a = h .state .room in let b = h .state .few in omega arith
 
   pub since-refl : Since k w k w
-  since-refl = record { len = refl; more = omega arith; few = holds-few; began = h .state .logged; logged = h .state .logged; keeps = λ i l. refl; same = λ j a b. refl }
+  since-refl = record {
+    len = refl;
+    more = omega arith;
+    few = holds-few;
+    began = h .state .logged;
+    logged = h .state .logged;
+    keeps =
+        λ i l. refl;
+    same = λ j a b. refl;
+  }
 
   -- the same words before the log, and the same loaded words
-  pub holds-again : (w' : List ℕ) → length w' ≡ length w → ((j : ℕ) → j < LOG → getD w' j 0 ≡ getD w j 0) → ((j : ℕ) → WORDS ≤ j → j < MARKS → getD w' j 0 ≡ getD w j 0) → Holds n es k w'
+  pub holds-again : (w' : List ℕ) → length w' ≡ length w → ((j : ℕ) → j < LOG → getD w' j 0 ≡ getD w j 0) →
+      ((j : ℕ) → WORDS ≤ j → j < MARKS → getD w' j 0 ≡ getD w j 0) → Holds n es k w'
   holds-again w' len f g =
       let ew = words-same w w' (h .long) len g in
       let et = targets-same w w' (h .long) len g in
@@ -88,7 +118,8 @@ module _ (n : ℕ) (es : List Entry) (k : ℕ) (w : List ℕ) (h : Holds n es k 
         below = h .below;
         G = h .G;
         H = h .H;
-        state = rw (ew, et) (state-again (h .G) (h .H) (words w) (targets w) n k w w' (h .below) (h .long) (h .state) (logged-same k w w' (h .state .logged) len f) f len);
+        state = rw (ew, et) (state-again (h .G) (h .H) (words w) (targets w) n k w w' (h .below) (h .long) (h .state)
+            (logged-same k w w' (h .state .logged) len f) f len);
         full = h .full;
         top = h .top;
         tied = rw (ew, et) (h .tied);
@@ -103,7 +134,16 @@ module _ (n : ℕ) (es : List Entry) (k : ℕ) (w : List ℕ) (h : Holds n es k 
 
 -- ---- what is remembered
 pub since-later : (k : ℕ) (w : List ℕ) (k' : ℕ) (w' : List ℕ) → k' ≤ 4096 → Logged k w → Later k w k' w' → Since k w k' w'
-since-later k w k' w' l g p = record { len = p .len; more = p .more; few = l; began = g; logged = p .logged; keeps = p .keeps; same = λ j a b. p .rest j a }
+since-later k w k' w' l g p = record {
+  len = p .len;
+  more = p .more;
+  few = l;
+  began = g;
+  logged = p .logged;
+  keeps = p .keeps;
+  same =
+      λ j a b. p .rest j a;
+}
 
 pub since-trans : (a : ℕ) (u : List ℕ) (b : ℕ) (v : List ℕ) (c : ℕ) (w : List ℕ) → Since a u b v → Since b v c w → Since a u c w
 since-trans a u b v c w p q = record {
@@ -117,7 +157,9 @@ since-trans a u b v c w p q = record {
 }
 
 -- the same words before the free part of the log, and the same loaded words
-pub since-again : (m : ℕ) (w₀ : List ℕ) (k : ℕ) (w w' : List ℕ) → length w' ≡ length w → SIZE ≤ length w → ((j : ℕ) → j < LOG + k → getD w' j 0 ≡ getD w j 0) → ((j : ℕ) → WORDS ≤ j → j < MARKS → getD w' j 0 ≡ getD w j 0) → Since m w₀ k w → Since m w₀ k w'
+pub since-again : (m : ℕ) (w₀ : List ℕ) (k : ℕ) (w w' : List ℕ) → length w' ≡ length w → SIZE ≤ length w →
+    ((j : ℕ) → j < LOG + k → getD w' j 0 ≡ getD w j 0) → ((j : ℕ) → WORDS ≤ j → j < MARKS → getD w' j 0 ≡ getD w j 0) → Since m w₀ k w →
+    Since m w₀ k w'
 since-again m w₀ k w w' len hw f g p =
     let l = p .few in
     record {
@@ -130,7 +172,8 @@ since-again m w₀ k w w' len hw f g p =
       same = λ j a b. g j a b ∙ p .same j a b;
     }
 
-pub since-frame : (m : ℕ) (w₀ : List ℕ) (k : ℕ) (w w' : List ℕ) → length w' ≡ length w → SIZE ≤ length w → ((j : ℕ) → j < MARKS → getD w' j 0 ≡ getD w j 0) → Since m w₀ k w → Since m w₀ k w'
+pub since-frame : (m : ℕ) (w₀ : List ℕ) (k : ℕ) (w w' : List ℕ) → length w' ≡ length w → SIZE ≤ length w →
+    ((j : ℕ) → j < MARKS → getD w' j 0 ≡ getD w j 0) → Since m w₀ k w → Since m w₀ k w'
 since-frame m w₀ k w w' len hw f p = let l = p .few in since-again m w₀ k w w' len hw (λ j h. f j (omega arith)) (λ j a b. f j b) p
 
 -- ---- back at the mark
@@ -149,10 +192,16 @@ module _ (m k : ℕ) (w w' : List ℕ) (u : Undone m k w w') where
       }
 
   holds-back : (n : ℕ) (es : List Entry) (w₀ : List ℕ) → Holds n es m w₀ → Since m w₀ k w → Holds n es m w'
-  holds-back n es w₀ h p = let s = since-back w₀ p in holds-again n es m w₀ h w' (s .len) (word w₀ w' (undone-is m w₀ k w w' (p .more) (p .keeps) u)) (s .same)
+  holds-back n es w₀ h p = let s = since-back w₀ p in
+      holds-again n es m w₀ h w' (s .len) (word w₀ w' (undone-is m w₀ k w w' (p .more) (p .keeps) u)) (s .same)
 
   pub backs : (w₀ : List ℕ) → Since m w₀ k w → Backs m k w w'
-  backs w₀ p = record { len = u .len; rest = λ j h. undone-rest m w₀ k w w' (p .more) (p .keeps) u j (omega arith); since = since-back; holds = holds-back }
+  backs w₀ p = record {
+    len = u .len;
+    rest = λ j h. undone-rest m w₀ k w w' (p .more) (p .keeps) u j (omega arith);
+    since = since-back;
+    holds = holds-back;
+  }
 
 -- ---- back to nothing
 pub undoable-start : (n : ℕ) (w : List ℕ) → Holds n [] 0 w → Undoable n 0 w
@@ -164,7 +213,8 @@ module _ (n k : ℕ) (w : List ℕ) (u : Undoable n k w) where
 
   -- what stands from MARKS on is free
   pub undoable-frame : (w' : List ℕ) → length w' ≡ length w → ((j : ℕ) → j < MARKS → getD w' j 0 ≡ getD w j 0) → Undoable n k w'
-  undoable-frame w' len f = let a = u .empty .long in let l = u .since .len in record { w₀ = u .w₀; empty = u .empty; since = since-frame 0 (u .w₀) k w w' len (omega arith) f (u .since) }
+  undoable-frame w' len f = let a = u .empty .long in let l = u .since .len in
+      record { w₀ = u .w₀; empty = u .empty; since = since-frame 0 (u .w₀) k w w' len (omega arith) f (u .since) }
 
   pub undoable-asks : Remembers 0 k w
   undoable-asks = record { w₀ = u .w₀; since = u .since }

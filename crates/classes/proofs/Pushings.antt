@@ -22,12 +22,19 @@ use Rattle.classes.proofs.Laws.{holds-few, holds-again, since-later}
 module _ (n k : ℕ) (w : List ℕ) (g base c : ℕ) where
   pub add-asked : Adding n k w g base c → Asked (words w) (targets w) n k w 0 base
   add-asked a = subst (λ (z : ℕ). Asked (words w) (targets w) n k w 0 z) (a .number)
-      (record { G = pile n (a .es) k w (a .e) (a .holds) (a .comes); H = a .holds .H; state = state' n (a .es) k w (a .e) (a .holds) (a .comes); same = same' n (a .es) k w (a .e) (a .holds) (a .comes) })
+      (record {
+        G = pile n (a .es) k w (a .e) (a .holds) (a .comes);
+        H = a .holds .H;
+        state =
+            state' n (a .es) k w (a .e) (a .holds) (a .comes);
+        same = same' n (a .es) k w (a .e) (a .holds) (a .comes);
+      })
 
   -- the numbers are below n
   pub add-low : Adding n k w g base c → (base < n) × ((n ≤ 1024) × ((SIZE ≤ length w) × (g < 2048)))
   add-low a =
-      let x = a .comes .inside in let y = some' n (a .es) k w (a .e) (a .holds) (a .comes) in let z = a .number in let f = a .comes .lies .fits in let i = a .is in
+      let x = a .comes .inside in let y = some' n (a .es) k w (a .e) (a .holds) (a .comes) in let z = a .number in
+      let f = a .comes .lies .fits in let i = a .is in
       (omega arith, (a .holds .below, (a .holds .long, omega arith)))
 
   module _ (k1 : ℕ) (b1 : Bool) (w1 : List ℕ) (p1 : United (words w) (targets w) n k w 0 base k1 b1 w1) where
@@ -41,7 +48,8 @@ module _ (n k : ℕ) (w : List ℕ) (g base c : ℕ) where
     }
 
     module _ (z1 : b1 ≡ false) where
-      state1 : (es : List Entry) (e : Entry) → e .number ≡ base → (h : Holds n es k w) (d : Comes n es e w) → State (pile n es k w e h d) (withPair (h .H) 0 (e .number)) (words w) (targets w) n k1 0 [] w1
+      state1 : (es : List Entry) (e : Entry) → e .number ≡ base → (h : Holds n es k w) (d : Comes n es e w) →
+          State (pile n es k w e h d) (withPair (h .H) 0 (e .number)) (words w) (targets w) n k1 0 [] w1
       state1 es e j h d =
           let p : United (words w) (targets w) n k w 0 (e .number) k1 b1 w1 = rw j p1 in
           p .fine z1 (pile n es k w e h d) (h .H) (state' n es k w e h d) (same' n es k w e h d)
@@ -58,23 +66,28 @@ module _ (n k : ℕ) (w : List ℕ) (g base c : ℕ) where
             ahead = ahead' n (a .es) k w (a .e) (a .holds) (a .comes);
           })
 
-      pub adds : (k2 : ℕ) (b2 : Bool) (w2 : List ℕ) → Listed (words w) (targets w) n k1 w1 base (g + 1) c k2 b2 w2 → Adds n k w g base c k2 b2 w2
+      pub adds : (k2 : ℕ) (b2 : Bool) (w2 : List ℕ) → Listed (words w) (targets w) n k1 w1 base (g + 1) c k2 b2 w2 →
+          Adds n k w g base c k2 b2 w2
       adds k2 b2 w2 p2 =
           let l : Later k w k2 w2 = later-trans k w k1 w1 k2 w2 (p1 .later) (p2 .later) in
           record {
             later = l;
             fine = λ z es e i j m h d. holds' n es k w e h d k2 w2 (l .len) (λ j x y. l .rest j x)
-                (listed es e i j m .fine z (pile n es k w e h d) (withPair (h .H) 0 (e .number)) (e .graph) refl (state1 es e j h d) (nodes' n es k w e h d) (ahead' n es k w e h d));
+                (listed es e i j m .fine z (pile n es k w e h d) (withPair (h .H) 0 (e .number)) (e .graph) refl (state1 es e j h d)
+                (nodes' n es k w e h d) (ahead' n es k w e h d));
             clash = λ z es e i j m h d. clash' n es k w e h d
-                (listed es e i j m .clash z (pile n es k w e h d) (withPair (h .H) 0 (e .number)) (e .graph) refl (state1 es e j h d) (nodes' n es k w e h d) (ahead' n es k w e h d));
+                (listed es e i j m .clash z (pile n es k w e h d) (withPair (h .H) 0 (e .number)) (e .graph) refl (state1 es e j h d)
+                (nodes' n es k w e h d) (ahead' n es k w e h d));
           }
         where
-          listed : (es : List Entry) (e : Entry) → e .at ≡ g → e .number ≡ base → length (e .graph) ≡ c → Listed (words w) (targets w) n k1 w1 (e .number) (e .at + 1) (length (e .graph)) k2 b2 w2
+          listed : (es : List Entry) (e : Entry) → e .at ≡ g → e .number ≡ base → length (e .graph) ≡ c →
+              Listed (words w) (targets w) n k1 w1 (e .number) (e .at + 1) (length (e .graph)) k2 b2 w2
           listed es e i j m = rw (i, j, m) p2
 
 -- the parts of a header
 module _ (n k : ℕ) (w : List ℕ) (g head : ℕ) (is : head ≡ getD (words w) g 0) where
-  pub parts : (es : List Entry) (e : Entry) → e .at ≡ g → Comes n es e w → (e .number ≡ head / 1024 % 1024) × (length (e .graph) ≡ head % 1024)
+  pub parts : (es : List Entry) (e : Entry) → e .at ≡ g → Comes n es e w →
+      (e .number ≡ head / 1024 % 1024) × (length (e .graph) ≡ head % 1024)
   parts es e i d =
       let l = d .lies in
       let f = l .fits in let a = l .few in let b = l .low in
@@ -84,7 +97,8 @@ module _ (n k : ℕ) (w : List ℕ) (g head : ℕ) (is : head ≡ getD (words w)
       (omega arith, omega arith)
 
   pub push-adding : Pushing n k w g → Adding n k w g (head / 1024 % 1024) (head % 1024)
-  push-adding p = let q = parts (p .es) (p .e) (p .is) (p .comes) in record { es = p .es; e = p .e; is = p .is; number = q .0; many = q .1; holds = p .holds; comes = p .comes }
+  push-adding p = let q = parts (p .es) (p .e) (p .is) (p .comes) in
+      record { es = p .es; e = p .e; is = p .is; number = q .0; many = q .1; holds = p .holds; comes = p .comes }
 
   module _ (p : Pushing n k w g) (k' : ℕ) (bad : Bool) (w' : List ℕ) (a : Adds n k w g (head / 1024 % 1024) (head % 1024) k' bad w') where
     fine : bad ≡ false → (es : List Entry) (e : Entry) → e .at ≡ g → Holds n es k w → Comes n es e w → Holds n (es ++ e ∷ []) k' w'
@@ -96,8 +110,11 @@ module _ (n k : ℕ) (w : List ℕ) (g head : ℕ) (is : head ≡ getD (words w)
       rest = a .later .rest;
       inside = λ r q.
           let e : r ≡ k' = cc in
-          rw e
-          (since-later k w k' w' (holds-few n (p .es ++ p .e ∷ []) k' w' (fine z (p .es) (p .e) (p .is) (p .holds) (p .comes))) (p .holds .state .logged) (a .later), fine z);
+          rw e (
+            since-later k w k' w' (holds-few n (p .es ++ p .e ∷ []) k' w' (fine z (p .es) (p .e) (p .is) (p .holds) (p .comes)))
+                (p .holds .state .logged) (a .later),
+            fine z,
+          );
       clashed = λ q. let x : _≡_ {A = ℕ} 0 1 = cc in absurd (omega arith);
     }
 
@@ -111,6 +128,7 @@ module _ (n k : ℕ) (w : List ℕ) (g head : ℕ) (is : head ≡ getD (words w)
           inside = λ r q. let x : _≡_ {A = ℕ} 0 1 = cc in absurd (omega arith);
           clashed = λ q. (
             (since-later k w k w'' (holds-few n (p .es) k w (p .holds)) (p .holds .state .logged) l, b),
-            λ es e i h d. let q = parts es e i d in (a .clash z es e i (q .0) (q .1) h d, holds-again n es k w h w'' (l .len) (word w w'' b) (λ j x y. l .rest j x)),
+            λ es e i h d. let q = parts es e i d in
+                (a .clash z es e i (q .0) (q .1) h d, holds-again n es k w h w'' (l .len) (word w w'' b) (λ j x y. l .rest j x)),
           );
         }

@@ -11,7 +11,8 @@ use Rattle.forest.proofs.Fuse.{low, top}
 use Rattle.forest.proofs.Links.{first-det, first-mem}
 use Rattle.classes.proofs.Visits.{near-none}
 
-module _ (G : Pile) (H : Done) (F T : List ℕ) (n k s : ℕ) (w : List ℕ) (hn : n ≤ 1024) (hw : SIZE ≤ length w) (u : State G H F T n k s [] w) (f : Full G H) where
+module _ (G : Pile) (H : Done) (F T : List ℕ) (n k s : ℕ) (w : List ℕ) (hn : n ≤ 1024) (hw : SIZE ≤ length w) (u : State G H F T n k s [] w)
+    (f : Full G H) where
   pub complete : {x y : ℕ} → Same G F T x y → Eq (u .M) x y
   complete {x} {y} (Same.root a b) = sym (u .held (f .root) x (f .roots x a)) ∙ u .held (f .root) y (f .roots y b)
   complete (Same.self x) = refl
@@ -22,7 +23,8 @@ module _ (G : Pile) (H : Done) (F T : List ℕ) (n k s : ℕ) (w : List ℕ) (hn
       let o' = u .cover q (f .arcs q b) in
       let c : Eq (u .M) (G .S p) (G .S q) = complete r in
       let d : o .0 ≡ o' .0 = first-det F (getD F q 0) (getD (u .C) (getD (u .M) (G .S q) 0) []) (o .0) (o' .0)
-      (subst (λ (z : ℕ). First F z (getD (u .C) (getD (u .M) (G .S q) 0) []) (o .0)) e (subst (λ (z : ℕ). First F (getD F p 0) (getD (u .C) z []) (o .0)) c (o .1 .0))) (o' .1 .0) in
+      (subst (λ (z : ℕ). First F z (getD (u .C) (getD (u .M) (G .S q) 0) []) (o .0)) e
+      (subst (λ (z : ℕ). First F (getD F p 0) (getD (u .C) z []) (o .0)) c (o .1 .0))) (o' .1 .0) in
       sym (near-none F T (u .M) w (o .1 .1)) ∙ ap (λ (z : ℕ). getD (u .M) (getD T z 0) 0) d ∙ near-none F T (u .M) w (o' .1 .1)
 
   pub agree : Clashes G F T → ⊥
@@ -34,5 +36,8 @@ module _ (G : Pile) (H : Done) (F T : List ℕ) (n k s : ℕ) (w : List ℕ) (hn
       let hx = u .nodes x m .0 in
       let o = u .cover q (f .arcs q b) in
       let g : 2048 < getD w (getD (u .M) x 0) 0 = subst (λ (z : ℕ). 2048 < z) (sym (u .met x m nx)) (u .atoms x a nx) in
-      let nil = u .bare (getD (u .M) x 0) (low G H F T n k s [] w (omega arith) hw u x hx) (top G H F T n k s [] w (omega arith) hw u x hx) g .0 in
-      List·Memᴰ·not-nil (subst (List·Memᴰ (o .0)) nil (subst (λ (z : ℕ). List·Memᴰ (o .0) (getD (u .C) z [])) (sym e) (first-mem F (getD F q 0) (getD (u .C) (getD (u .M) (G .S q) 0) []) (o .0) (o .1 .0))))
+      let nil = u .bare (getD (u .M) x 0) (low G H F T n k s [] w (omega arith) hw u x hx)
+      (top G H F T n k s [] w (omega arith) hw u x hx) g .0 in
+      List·Memᴰ·not-nil (subst (List·Memᴰ (o .0)) nil
+      (subst (λ (z : ℕ). List·Memᴰ (o .0) (getD (u .C) z [])) (sym e)
+      (first-mem F (getD F q 0) (getD (u .C) (getD (u .M) (G .S q) 0) []) (o .0) (o .1 .0))))

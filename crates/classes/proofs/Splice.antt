@@ -24,7 +24,8 @@ grows-front F t xs = record { size = refl; cases = λ q m. List·Memᴰ·cases-c
 grows-after : (F : List ℕ) (t j : ℕ) (xs L : List ℕ) → getD F j 0 < getD F t 0 → Grows F t xs L → Grows F t (j ∷ xs) (j ∷ L)
 grows-after F t j xs L h g = record {
   size = ap suc (g .size);
-  cases = λ q m. ⊎-elim (λ e. inr (List·Memᴰ·head e)) (λ i. ⊎-elim (λ e. inl e) (λ o. inr (List·Memᴰ·tail o)) (g .cases q i)) (List·Memᴰ·cases-cons m);
+  cases = λ q m. ⊎-elim (λ e. inr (List·Memᴰ·head e)) (λ i. ⊎-elim (λ e. inl e) (λ o. inr (List·Memᴰ·tail o)) (g .cases q i))
+      (List·Memᴰ·cases-cons m);
   mine = inr ((λ e. omega arith), g .mine);
   old = λ f i n p. ⊎-elim (λ z. inl z) (λ z. inr (z .0, g .old f i n (z .1))) p;
 }
@@ -41,22 +42,34 @@ module _ (F : List ℕ) (t : ℕ) where
   lodge-grows b a (j ∷ xs) (inl u) = grows-front F t (j ∷ xs)
   lodge-grows b a (j ∷ xs) (inr u) = grows-after F t j xs (lodge (NEXT + j) a xs (u .1)) (u .0) (lodge-grows (NEXT + j) a xs (u .1))
 
-  pub lodge-rising : (b a low : ℕ) (xs : List ℕ) (u : Between F (getD F t 0) b a xs) → low ≤ getD F t 0 → Rising F low xs → Rising F low (lodge b a xs u)
+  pub lodge-rising : (b a low : ℕ) (xs : List ℕ) (u : Between F (getD F t 0) b a xs) → low ≤ getD F t 0 → Rising F low xs →
+      Rising F low (lodge b a xs u)
   lodge-rising b a low [] u h r = (h, tt)
   lodge-rising b a low (j ∷ xs) (inl u) h r = let l = u .1 in (h, (omega arith, r .1))
-  lodge-rising b a low (j ∷ xs) (inr u) h r = let l = u .0 in (r .0, lodge-rising (NEXT + j) a (suc (getD F j 0)) xs (u .1) (omega arith) (r .1))
+  lodge-rising b a low (j ∷ xs) (inr u) h r = let l = u .0 in
+      (r .0, lodge-rising (NEXT + j) a (suc (getD F j 0)) xs (u .1) (omega arith) (r .1))
 
   -- two stores make it a chain
   module _ (w w' : List ℕ) (a : ℕ) (at-a : getD w' a 0 ≡ suc t) (ht : t < 2048) (at-t : getD w' (NEXT + t) 0 ≡ getD w a 0) where
     pub lodge-chain : (b : ℕ) (xs : List ℕ) (u : Between F (getD F t 0) b a xs) → Chain w (getD w b 0) xs
-        → ((i : ℕ) → List·Memᴰ i xs → b ≡ NEXT + i → ⊥) → ((b ≡ a → ⊥) → getD w' b 0 ≡ getD w b 0) → ((i : ℕ) → List·Memᴰ i xs → (NEXT + i ≡ a → ⊥) → getD w' (NEXT + i) 0 ≡ getD w (NEXT + i) 0)
+        → ((i : ℕ) → List·Memᴰ i xs → b ≡ NEXT + i → ⊥) → ((b ≡ a → ⊥) → getD w' b 0 ≡ getD w b 0) →
+        ((i : ℕ) → List·Memᴰ i xs → (NEXT + i ≡ a → ⊥) → getD w' (NEXT + i) 0 ≡ getD w (NEXT + i) 0)
         → Chain w' (getD w' b 0) (lodge b a xs u)
     lodge-chain b [] u c away first keep = (ap (λ (z : ℕ). getD w' z 0) u ∙ at-a, (ht, at-t ∙ ap (λ (z : ℕ). getD w z 0) (sym u) ∙ c))
     lodge-chain b (j ∷ xs) (inl u) c away first keep =
-        let e : getD w b 0 ≡ getD w' (NEXT + t) 0 = ap (λ (z : ℕ). getD w z 0) (u .0) ∙ sym at-t in
-        (ap (λ (z : ℕ). getD w' z 0) (u .0) ∙ at-a, (ht, subst (λ (z : ℕ). Chain w' z (j ∷ xs)) e (chain-same w w' (getD w b 0) (j ∷ xs) (λ q m. keep q m (λ z. away q m (u .0 ∙ sym z))) c)))
+        let e : getD w b 0 ≡ getD w' (NEXT + t) 0 = ap (λ (z : ℕ). getD w z 0) (u .0) ∙ sym at-t in (
+          ap (λ (z : ℕ). getD w' z 0) (u .0)
+              ∙ at-a,
+          (
+            ht,
+            subst (λ (z : ℕ). Chain w' z (j ∷ xs)) e
+                (chain-same w w' (getD w b 0) (j ∷ xs) (λ q m. keep q m (λ z. away q m (u .0 ∙ sym z))) c),
+          ),
+        )
     lodge-chain b (j ∷ xs) (inr u) c away first keep =
-        let s : getD w' b 0 ≡ getD w b 0 = first (λ z. ⊎-elim (λ e. away j (List·Memᴰ·head refl) (z ∙ e)) (λ o. away (o .0) (List·Memᴰ·tail (o .1 .0)) (z ∙ o .1 .1)) (between-where F (getD F t 0) (NEXT + j) a xs (u .1))) in (
+        let s : getD w' b 0 ≡ getD w b 0 =
+        first (λ z. ⊎-elim (λ e. away j (List·Memᴰ·head refl) (z ∙ e)) (λ o. away (o .0) (List·Memᴰ·tail (o .1 .0)) (z ∙ o .1 .1))
+        (between-where F (getD F t 0) (NEXT + j) a xs (u .1))) in (
           s ∙ c .0,
           (
             c .1 .0,

@@ -71,7 +71,8 @@ module _ (w₀ w : List ℕ) (hw : SIZE ≤ length w₀) (s : Started w₀ 1024 
       go (yes a) b c = at j 0 refl (s .first j a) (omega arith)
       go (no a) (yes b) c = at (PARENT + (j - PARENT)) (j - PARENT) (omega arith) (s .parent (j - PARENT) (omega arith)) (omega arith)
       go (no a) (no b) (yes c) = at (NEXT + (j - NEXT)) 0 (omega arith) (s .next (j - NEXT) (omega arith) .0) (omega arith)
-      go (no a) (no b) (no c) = at (NEXT + 1024 + (j - (NEXT + 1024))) 0 (omega arith) (s .next (j - (NEXT + 1024)) (omega arith) .1) (omega arith)
+      go (no a) (no b) (no c) = at (NEXT + 1024 + (j - (NEXT + 1024))) 0 (omega arith) (s .next (j - (NEXT + 1024)) (omega arith) .1)
+          (omega arith)
 
   module _ (n : ℕ) (hn : n ≤ 1024) where
     abbrev P : List ℕ
@@ -107,7 +108,8 @@ module _ (w₀ w : List ℕ) (hw : SIZE ≤ length w₀) (s : Started w₀ 1024 
           cover = λ j m. absurd (List·Memᴰ·not-nil m);
           nodes = λ i m. absurd (List·Memᴰ·not-nil m);
           met = λ i m. absurd (List·Memᴰ·not-nil m);
-          held = λ x y m. let e = List·Memᴰ·eq-of-singleton m in ap (λ (v : ℕ × ℕ). getD P (v .0) 0) e ∙ ap (λ (v : ℕ × ℕ). getD P (v .1) 0) (sym e);
+          held = λ x y m. let e = List·Memᴰ·eq-of-singleton m in ap (λ (v : ℕ × ℕ). getD P (v .0) 0) e
+              ∙ ap (λ (v : ℕ × ℕ). getD P (v .1) 0) (sym e);
           sound = λ i j hi hj e. subst (λ (z : ℕ). Same unpushed F T i z) (sym (own i hi) ∙ e ∙ own j hj) (Same.self i);
           frame = λ a b m. absurd (List·Memᴰ·not-nil m);
         }
@@ -119,7 +121,13 @@ module _ (w₀ w : List ℕ) (hw : SIZE ≤ length w₀) (s : Started w₀ 1024 
       G = unpushed;
       H = undone;
       state = empty (words w) (targets w);
-      full = record { arcs = λ q m. absurd (List·Memᴰ·not-nil m); atoms = λ i m. absurd (List·Memᴰ·not-nil m); root = 0; roots = λ x m. List·Memᴰ·head (ap (λ (z : ℕ). (0, z)) (List·Memᴰ·eq-of-singleton m)) };
+      full = record {
+        arcs = λ q m. absurd (List·Memᴰ·not-nil m);
+        atoms = λ i m. absurd (List·Memᴰ·not-nil m);
+        root = 0;
+        roots =
+            λ x m. List·Memᴰ·head (ap (λ (z : ℕ). (0, z)) (List·Memᴰ·eq-of-singleton m));
+      };
       top = refl;
       tied = record {
         some = λ e m. absurd (List·Memᴰ·not-nil m);
@@ -141,7 +149,14 @@ module _ (w₀ w : List ℕ) (hw : SIZE ≤ length w₀) (s : Started w₀ 1024 
 
 -- ---- as `start` has it
 pub started-none : (w : List ℕ) → Started w 0 w
-started-none w = record { len = refl; first = λ j h. absurd (omega arith); parent = λ j h. absurd (omega arith); next = λ j h. absurd (omega arith); rest = λ j h. refl }
+started-none w = record {
+  len = refl;
+  first = λ j h. absurd (omega arith);
+  parent = λ j h. absurd (omega arith);
+  next =
+      λ j h. absurd (omega arith);
+  rest = λ j h. refl;
+}
 
 module _ (w₀ w : List ℕ) (i : ℕ) (h : i < 1024) (l : SIZE ≤ length w₀) (s : Started w₀ i w) where
   abbrev w1 : List ℕ
@@ -167,13 +182,16 @@ module _ (w₀ w : List ℕ) (i : ℕ) (h : i < 1024) (l : SIZE ≤ length w₀)
 
   -- elsewhere nothing changes
   off : (j : ℕ) → (j ≡ i → ⊥) → (j ≡ PARENT + i → ⊥) → (j ≡ NEXT + i → ⊥) → (j ≡ NEXT + 1024 + i → ⊥) → getD w4 j 0 ≡ getD w j 0
-  off j a b c d = getD-set-other w3 (NEXT + 1024 + i) j 0 0 d ∙ getD-set-other w2 (NEXT + i) j 0 0 c ∙ getD-set-other w1 (PARENT + i) j i 0 b ∙ getD-set-other w i j 0 0 a
+  off j a b c d = getD-set-other w3 (NEXT + 1024 + i) j 0 0 d ∙ getD-set-other w2 (NEXT + i) j 0 0 c
+      ∙ getD-set-other w1 (PARENT + i) j i 0 b ∙ getD-set-other w i j 0 0 a
 
   at-first : getD w4 i 0 ≡ 0
-  at-first = getD-set-other w3 (NEXT + 1024 + i) i 0 0 (λ z. omega arith) ∙ getD-set-other w2 (NEXT + i) i 0 0 (λ z. omega arith) ∙ getD-set-other w1 (PARENT + i) i i 0 (λ z. omega arith) ∙ getD-set-same w i 0 0 (omega (arith, s .len))
+  at-first = getD-set-other w3 (NEXT + 1024 + i) i 0 0 (λ z. omega arith) ∙ getD-set-other w2 (NEXT + i) i 0 0 (λ z. omega arith)
+      ∙ getD-set-other w1 (PARENT + i) i i 0 (λ z. omega arith) ∙ getD-set-same w i 0 0 (omega (arith, s .len))
 
   at-parent : getD w4 (PARENT + i) 0 ≡ i
-  at-parent = getD-set-other w3 (NEXT + 1024 + i) (PARENT + i) 0 0 (λ z. omega arith) ∙ getD-set-other w2 (NEXT + i) (PARENT + i) 0 0 (λ z. omega arith) ∙ getD-set-same w1 (PARENT + i) i 0 (omega (arith, len1))
+  at-parent = getD-set-other w3 (NEXT + 1024 + i) (PARENT + i) 0 0 (λ z. omega arith)
+      ∙ getD-set-other w2 (NEXT + i) (PARENT + i) 0 0 (λ z. omega arith) ∙ getD-set-same w1 (PARENT + i) i 0 (omega (arith, len1))
 
   at-next : getD w4 (NEXT + i) 0 ≡ 0
   at-next = getD-set-other w3 (NEXT + 1024 + i) (NEXT + i) 0 0 (λ z. omega arith) ∙ getD-set-same w2 (NEXT + i) 0 0 (omega (arith, len2))
@@ -203,10 +221,14 @@ module _ (w₀ w : List ℕ) (i : ℕ) (h : i < 1024) (l : SIZE ≤ length w₀)
 
       parent : (j : ℕ) → j < i + 1 → Dec (j ≡ i) → getD w4 (PARENT + j) 0 ≡ j
       parent j a (yes e) = rw e at-parent
-      parent j a (no e) = off (PARENT + j) (λ z. omega arith) (λ z. e (omega arith)) (λ z. omega arith) (λ z. omega arith) ∙ s .parent j (below j a e)
+      parent j a (no e) = off (PARENT + j) (λ z. omega arith) (λ z. e (omega arith)) (λ z. omega arith) (λ z. omega arith)
+          ∙ s .parent j (below j a e)
 
       next : (j : ℕ) → j < i + 1 → Dec (j ≡ i) → (getD w4 (NEXT + j) 0 ≡ 0) × (getD w4 (NEXT + 1024 + j) 0 ≡ 0)
       next j a (yes e) = rw e (at-next, at-last)
       next j a (no e) =
-          let o = s .next j (below j a e) in
-          (off (NEXT + j) (λ z. omega arith) (λ z. omega arith) (λ z. e (omega arith)) (λ z. omega arith) ∙ o .0, off (NEXT + 1024 + j) (λ z. omega arith) (λ z. omega arith) (λ z. omega arith) (λ z. e (omega arith)) ∙ o .1)
+          let o = s .next j (below j a e) in (
+            off (NEXT + j) (λ z. omega arith) (λ z. omega arith) (λ z. e (omega arith)) (λ z. omega arith)
+                ∙ o .0,
+            off (NEXT + 1024 + j) (λ z. omega arith) (λ z. omega arith) (λ z. omega arith) (λ z. e (omega arith)) ∙ o .1,
+          )

@@ -14,7 +14,8 @@ use Rattle.area.specs.Region.{region}
 use Rattle.forest.specs.Labels.{Eq}
 use Rattle.area.specs.Log.{Logged, Put}
 use Rattle.forest.specs.Forest.{Root, tops}
-use Rattle.forest.specs.State.{Pile, Done, Same, Clashes, Chain, First, None, Near, Bears, State, Runs, Calm, Looked, withPair, withArc, withNode, Fresh, Visited, United, Bearing, Headed}
+use Rattle.forest.specs.State.{Pile, Done, Same, Clashes, Chain, First, None, Near, Bears, State, Runs, Calm, Looked, withPair, withArc}
+use Rattle.forest.specs.State.{withNode, Fresh, Visited, United, Bearing, Headed}
 use Rattle.forest.specs.Order.{Rising, Risen, Between, Hint, Ordered, Located, Steady}
 use Rattle.area.proofs.Region.{length-region, region-ext}
 use Rattle.area.proofs.Undo.{later-refl, later-trans, put-at, put-off}
@@ -35,21 +36,26 @@ near-none F T M w (Near.trans r t) = near-none F T M w r ∙ near-none F T M w t
 pub ordered-none : (F : List ℕ) (n : ℕ) (w : List ℕ) (x : ℕ) → Ordered F n w x 0
 ordered-none F n w x = record { hint = λ z. absurd (omega arith) }
 
-pub ordered-hint : (F : List ℕ) (n k : ℕ) (w : List ℕ) (x c at : ℕ) → Steady n k w → Root (region PARENT n w) x c → Hint F w c at → Ordered F n w x at
+pub ordered-hint : (F : List ℕ) (n k : ℕ) (w : List ℕ) (x c at : ℕ) → Steady n k w → Root (region PARENT n w) x c → Hint F w c at →
+    Ordered F n w x at
 ordered-hint F n k w x c at g r t = record {
-  hint = λ z d q. subst (λ (v : ℕ). Hint F w v at) (sym (r .is (g .state .M) (g .state .forest)) ∙ q .is (g .state .M) (g .state .forest)) t;
+  hint = λ z d q. subst (λ (v : ℕ). Hint F w v at) (sym (r .is (g .state .M) (g .state .forest))
+      ∙ q .is (g .state .M) (g .state .forest)) t;
 }
 
 pub hint-first : (F w : List ℕ) (c : ℕ) (r : Bool) → Risen F w (getD w c 0) r → r ≡ true → Hint F w c 1
 hint-first F w c r u e = record { low = omega arith; up = u .up e; on = λ z. absurd (omega arith) }
 
 -- a union that leaves the chains as they are
-pub hint-calm : (F w w' : List ℕ) (f c at r : ℕ) → c < 1024 → 0 < r → r ≤ 2048 → Looked F w f (getD w c 0) r → Hint F w c at → Calm w w' → Hint F w' c (NEXT + (r - 1))
+pub hint-calm : (F w w' : List ℕ) (f c at r : ℕ) → c < 1024 → 0 < r → r ≤ 2048 → Looked F w f (getD w c 0) r → Hint F w c at → Calm w w' →
+    Hint F w' c (NEXT + (r - 1))
 hint-calm F w w' f c at r hc hr lr k t m =
     let ri : r ≡ suc (r - 1) = omega arith in
     let q : NEXT + (r - 1) - NEXT ≡ r - 1 = omega arith in
     let e : getD w' c 0 ≡ getD w c 0 = m .firsts c hc (λ z. k .hit (r - 1) ri [] z) in
-    let was : (xs : List ℕ) → Chain w' (getD w' c 0) xs → Chain w (getD w c 0) xs = λ xs d. subst (λ (z : ℕ). Chain w z xs) e (chain-same w' w (getD w' c 0) xs (λ i b. sym (m .nexts i (chain-low w' (getD w' c 0) xs i d b))) d) in
+    let was : (xs : List ℕ) → Chain w' (getD w' c 0) xs →
+    Chain w (getD w c 0) xs = λ xs d. subst (λ (z : ℕ). Chain w z xs) e
+    (chain-same w' w (getD w' c 0) xs (λ i b. sym (m .nexts i (chain-low w' (getD w' c 0) xs i d b))) d) in
     record {
       low = omega arith;
       up = λ xs d. t .up xs (was xs d);
@@ -57,7 +63,8 @@ hint-calm F w w' f c at r hc hr lr k t m =
     }
 
 -- ---- the class c of the node x
-module _ (F T : List ℕ) (n k : ℕ) (w : List ℕ) (hn : n ≤ 1024) (hw : SIZE ≤ length w) (x : ℕ) (hx : x < n) (c : ℕ) (root : Root (region PARENT n w) x c) where
+module _ (F T : List ℕ) (n k : ℕ) (w : List ℕ) (hn : n ≤ 1024) (hw : SIZE ≤ length w) (x : ℕ) (hx : x < n) (c : ℕ)
+    (root : Root (region PARENT n w) x c) where
   length-P : length (region PARENT n w) ≡ n
   length-P = length-region PARENT n w (omega arith)
 
@@ -100,7 +107,8 @@ module _ (F T : List ℕ) (n k : ℕ) (w : List ℕ) (hn : n ≤ 1024) (hw : SIZ
     fine = λ z. let y : _≡_ {A = ℕ} 0 1 = cc in absurd (omega arith);
     clash = λ z G H u f.
         let r = u .bare c c-in (Mc G H u) h .1 in
-        Clashes.mixed (r .node) (λ e. let d : (G .A) (r .i) ≡ getD w c 0 = r .is in omega arith) (f .arc) (subst (λ (v : ℕ). Same G F T (r .i) v) (sym (f .is)) (bearer G H u h));
+        Clashes.mixed (r .node) (λ e. let d : (G .A) (r .i) ≡ getD w c 0 = r .is in
+        omega arith) (f .arc) (subst (λ (v : ℕ). Same G F T (r .i) v) (sym (f .is)) (bearer G H u h));
   }
 
   -- ---- the feature is there: the targets are equal
@@ -115,9 +123,11 @@ module _ (F T : List ℕ) (n k : ℕ) (w : List ℕ) (hn : n ≤ 1024) (hw : SIZ
     found-same G H u f =
         let p = found G H u in
         let a = arc-of G H u i (first-mem F (getD F t 0) (getD (u .C) c []) i p) in
-        Same.along (f .arc) (a .0) (sym (first-feature F (getD F t 0) (getD (u .C) c []) i p)) (subst (λ (v : ℕ). Same G F T v (G .S i)) (sym (f .is)) (a .1 .0))
+        Same.along (f .arc) (a .0) (sym (first-feature F (getD F t 0) (getD (u .C) c []) i p))
+        (subst (λ (v : ℕ). Same G F T v (G .S i)) (sym (f .is)) (a .1 .0))
 
-    pub visit-found : (k' : ℕ) (bad : Bool) (w' : List ℕ) → United F T n k w (getD T t 0) (getD T i 0) k' bad w' → Visited F T n k w x t k' bad w'
+    pub visit-found : (k' : ℕ) (bad : Bool) (w' : List ℕ) → United F T n k w (getD T t 0) (getD T i 0) k' bad w' →
+        Visited F T n k w x t k' bad w'
     visit-found k' bad w' m = record {
       later = m .later;
       fine = λ z G H u f.
@@ -130,7 +140,9 @@ module _ (F T : List ℕ) (n k : ℕ) (w : List ℕ) (hn : n ≤ 1024) (hw : SIZ
       clash = λ z G H u f. m .clash z G H u (found-same G H u f);
     }
       where
-        covered : (G : Pile) (H : Done) → Fresh G H n x t → getD F i 0 ≡ getD F t 0 → List·Memᴰ i (H .K) → State G (withPair (withPair H (G .S i) (G .S t)) (getD T t 0) (getD T i 0)) F T n k' 0 [] w' → State G (withArc H t) F T n k' 0 [] w'
+        covered : (G : Pile) (H : Done) → Fresh G H n x t → getD F i 0 ≡ getD F t 0 → List·Memᴰ i (H .K) →
+            State G (withPair (withPair H (G .S i) (G .S t)) (getD T t 0) (getD T i 0)) F T n k' 0 [] w' →
+            State G (withArc H t) F T n k' 0 [] w'
         covered G H f ef mk v =
             let r1 = v .room in let r2 = v .all in let r3 = f .room in
             record {
@@ -149,8 +161,11 @@ module _ (F T : List ℕ) (n k : ℕ) (w : List ℕ) (hn : n ≤ 1024) (hw : SIZ
               chain = v .chain;
               bare = v .bare;
               home = λ d q h m. let o = v .home d q h m in (List·Memᴰ·tail (o .0), o .1);
-              known = λ j m. ⊎-elim (λ e. subst (λ (a : ℕ). List·Memᴰ a (G .B)) (sym e) (f .arc)) (λ a. v .known j a) (List·Memᴰ·cases-cons m);
-              cover = λ j m. ⊎-elim (λ e. subst (λ (a : ℕ). (b : ℕ) × (First F (getD F a 0) (getD (v .C) (getD (v .M) (G .S a) 0) []) b × Near F T (v .M) w' [] (getD T b 0) (getD T a 0))) (sym e) here) (λ a. v .cover j a) (List·Memᴰ·cases-cons m);
+              known = λ j m. ⊎-elim (λ e. subst (λ (a : ℕ). List·Memᴰ a (G .B)) (sym e) (f .arc)) (λ a. v .known j a)
+                  (List·Memᴰ·cases-cons m);
+              cover = λ j m. ⊎-elim (λ e. subst
+                  (λ (a : ℕ). (b : ℕ) × (First F (getD F a 0) (getD (v .C) (getD (v .M) (G .S a) 0) []) b
+                  × Near F T (v .M) w' [] (getD T b 0) (getD T a 0))) (sym e) here) (λ a. v .cover j a) (List·Memᴰ·cases-cons m);
               nodes = v .nodes;
               met = v .met;
               held = λ a b m. v .held a b (List·Memᴰ·tail (List·Memᴰ·tail m));
@@ -158,18 +173,27 @@ module _ (F T : List ℕ) (n k : ℕ) (w : List ℕ) (hn : n ≤ 1024) (hw : SIZ
               frame = v .frame;
             }
           where
-            here : (b : ℕ) × (First F (getD F t 0) (getD (v .C) (getD (v .M) (G .S t) 0) []) b × Near F T (v .M) w' [] (getD T b 0) (getD T t 0))
+            here : (b : ℕ) × (First F (getD F t 0) (getD (v .C) (getD (v .M) (G .S t) 0) []) b
+                × Near F T (v .M) w' [] (getD T b 0) (getD T t 0))
             here =
                 let o = v .cover i mk in
                 let e : Eq (v .M) (G .S i) (G .S t) = v .held (G .S i) (G .S t) (List·Memᴰ·tail (List·Memᴰ·head refl)) in
-                let d : Eq (v .M) (getD T t 0) (getD T i 0) = v .held (getD T t 0) (getD T i 0) (List·Memᴰ·head refl) in
-                (o .0, (subst (λ (a : ℕ). First F (getD F t 0) (getD (v .C) a []) (o .0)) e (subst (λ (a : ℕ). First F a (getD (v .C) (getD (v .M) (G .S i) 0) []) (o .0)) ef (o .1 .0)), Near.trans (o .1 .1) (Near.old (sym d))))
+                let d : Eq (v .M) (getD T t 0) (getD T i 0) = v .held (getD T t 0) (getD T i 0) (List·Memᴰ·head refl) in (
+                  o .0,
+                  (
+                    subst (λ (a : ℕ). First F (getD F t 0) (getD (v .C) a []) (o .0)) e
+                        (subst (λ (a : ℕ). First F a (getD (v .C) (getD (v .M) (G .S i) 0) []) (o .0)) ef (o .1 .0)),
+                    Near.trans (o .1 .1) (Near.old (sym d)),
+                  ),
+                )
 
   -- ---- the feature is not there: the arc goes onto the chain, after the link l
-  module _ (t : ℕ) (ht : t < 2048) (lc : getD w c 0 ≤ 2048) (at l : ℕ) (hint : 0 < at → Hint F w c at) (loc : Located F w (getD F t 0) c l 0) (h : ℕ) (eh : h ≡ getD w l 0) (hk : k + 2 ≤ 4096)
+  module _ (t : ℕ) (ht : t < 2048) (lc : getD w c 0 ≤ 2048) (at l : ℕ) (hint : 0 < at →
+      Hint F w c at) (loc : Located F w (getD F t 0) c l 0) (h : ℕ) (eh : h ≡ getD w l 0) (hk : k + 2 ≤ 4096)
       (k1 k2 : ℕ) (w1 w2 : List ℕ) (p1 : Put k w (NEXT + t) h k1 w1) (p2 : Put k1 w1 l (t + 1) k2 w2) where
     off : (j : ℕ) → (j ≡ NEXT + t → ⊥) → (j ≡ l → ⊥) → j < LOG → getD w2 j 0 ≡ getD w j 0
-    off j a b i = let e = p1 .next in put-off k1 w1 l (t + 1) k2 w2 p2 (omega arith) j b (inl i) ∙ put-off k w (NEXT + t) h k1 w1 p1 (omega arith) j a (inl i)
+    off j a b i = let e = p1 .next in put-off k1 w1 l (t + 1) k2 w2 p2 (omega arith) j b (inl i)
+        ∙ put-off k w (NEXT + t) h k1 w1 p1 (omega arith) j a (inl i)
 
     len : length w2 ≡ length w
     len = p2 .later .len ∙ p1 .later .len
@@ -196,23 +220,27 @@ module _ (F T : List ℕ) (n k : ℕ) (w : List ℕ) (hn : n ≤ 1024) (hw : SIZ
       other d q a m = let o = u .home d q a m .0 in (u .arcs q (u .known q o) .0, λ e. f .new (subst (λ (v : ℕ). List·Memᴰ v (H .K)) e o))
 
       apart : NEXT + t ≡ l → ⊥
-      apart e = let i = c-in in ⊎-elim (λ o. omega arith) (λ o. let g : l ≡ NEXT + o .0 = o .1 .1 in other c (o .0) c-in (o .1 .0) .1 (omega arith)) on
+      apart e = let i = c-in in ⊎-elim (λ o. omega arith) (λ o. let g : l ≡ NEXT + o .0 = o .1 .1 in
+          other c (o .0) c-in (o .1 .0) .1 (omega arith)) on
 
       -- a class, or a parent, is not the link of an arc
       aside : (j : ℕ) → j < NEXT → (j ≡ c → ⊥) → j ≡ l → ⊥
       aside j i d e = ⊎-elim (λ o. d (e ∙ o)) (λ o. let g : l ≡ NEXT + o .0 = o .1 .1 in omega arith) on
 
       at-t : getD w2 (NEXT + t) 0 ≡ getD w l 0
-      at-t = let e = p1 .next in put-off k1 w1 l (t + 1) k2 w2 p2 (omega arith) (NEXT + t) apart (inl (omega arith)) ∙ put-at k w (NEXT + t) h k1 w1 p1 (omega arith) (omega arith) ∙ eh
+      at-t = let e = p1 .next in put-off k1 w1 l (t + 1) k2 w2 p2 (omega arith) (NEXT + t) apart (inl (omega arith))
+          ∙ put-at k w (NEXT + t) h k1 w1 p1 (omega arith) (omega arith) ∙ eh
 
       par : region PARENT n w2 ≡ region PARENT n w
-      par = let i = c-in in region-ext PARENT n w2 w (omega (arith, len)) len (λ j b. off (PARENT + j) (λ e. omega arith) (aside (PARENT + j) (omega arith) (λ e. omega arith)) (omega arith))
+      par = let i = c-in in region-ext PARENT n w2 w (omega (arith, len)) len
+          (λ j b. off (PARENT + j) (λ e. omega arith) (aside (PARENT + j) (omega arith) (λ e. omega arith)) (omega arith))
 
       keep : (q : ℕ) → List·Memᴰ q xs → (NEXT + q ≡ l → ⊥) → getD w2 (NEXT + q) 0 ≡ getD w (NEXT + q) 0
       keep q m z = let o = other c q c-in m in let i = o .0 in off (NEXT + q) (λ e. o .1 (omega arith)) z (omega arith)
 
       lodged : Chain w2 (getD w2 c 0) (lodge F t c l xs gap)
-      lodged = let i = c-in in lodge-chain F t w w2 l at-l ht at-t c xs gap cx (λ j m e. omega arith) (λ e. off c (λ y. omega arith) e (omega arith)) keep
+      lodged = let i = c-in in lodge-chain F t w w2 l at-l ht at-t c xs gap cx (λ j m e. omega arith)
+          (λ e. off c (λ y. omega arith) e (omega arith)) keep
 
       spliced : (L : List ℕ) × (Grows F t xs L × Chain w2 (getD w2 c 0) L)
       spliced = (lodge F t c l xs gap, (lodge-grows F t c l xs gap, lodged))
@@ -236,26 +264,33 @@ module _ (F T : List ℕ) (n k : ℕ) (w : List ℕ) (hn : n ≤ 1024) (hw : SIZ
         keeps d q a z m =
             let o = other d q a m in let b = o .0 in let ci = c-in in
             off (NEXT + q) (λ e. o .1 (omega arith))
-            (λ e. ⊎-elim (λ i. omega arith) (λ i. let y : l ≡ NEXT + i .0 = i .1 .1 in let s : i .0 ≡ q = omega arith in z (sym (u .home d q a m .1) ∙ u .home c q c-in (subst (λ (v : ℕ). List·Memᴰ v xs) s (i .1 .0)) .1)) on)
+            (λ e. ⊎-elim (λ i. omega arith) (λ i. let y : l ≡ NEXT + i .0 = i .1 .1 in let s : i .0 ≡ q = omega arith in
+            z (sym (u .home d q a m .1) ∙ u .home c q c-in (subst (λ (v : ℕ). List·Memᴰ v xs) s (i .1 .0)) .1)) on)
             (omega arith)
 
         first : (d : ℕ) → d < n → (d ≡ c → ⊥) → getD w2 d 0 ≡ getD w d 0
         first d a z = off d (λ i. omega arith) (aside d (omega arith) z) (omega arith)
 
-        chains : (d : ℕ) → d < n → getD (u .M) d 0 ≡ d → getD w2 d 0 ≤ 2048 → Dec (d ≡ c) → Chain w2 (getD w2 d 0) (getD (set (u .C) c L) d [])
-        chains d a b e (yes z) = subst (λ (v : ℕ). Chain w2 (getD w2 v 0) (getD (set (u .C) c L) v [])) (sym z) (subst (Chain w2 (getD w2 c 0)) (sym C') cL)
+        chains : (d : ℕ) → d < n → getD (u .M) d 0 ≡ d → getD w2 d 0 ≤ 2048 → Dec (d ≡ c) →
+            Chain w2 (getD w2 d 0) (getD (set (u .C) c L) d [])
+        chains d a b e (yes z) = subst (λ (v : ℕ). Chain w2 (getD w2 v 0) (getD (set (u .C) c L) v [])) (sym z)
+            (subst (Chain w2 (getD w2 c 0)) (sym C') cL)
         chains d a b e (no z) =
             let o : getD w2 d 0 ≡ getD w d 0 = first d a z in
-            subst (Chain w2 (getD w2 d 0)) (sym (Co d z)) (subst (λ (v : ℕ). Chain w2 v (getD (u .C) d [])) (sym o) (chain-same w w2 (getD w d 0) (getD (u .C) d []) (λ q m. keeps d q a z m) (u .chain d a b (omega arith))))
+            subst (Chain w2 (getD w2 d 0)) (sym (Co d z))
+            (subst (λ (v : ℕ). Chain w2 v (getD (u .C) d [])) (sym o)
+            (chain-same w w2 (getD w d 0) (getD (u .C) d []) (λ q m. keeps d q a z m) (u .chain d a b (omega arith))))
 
-        bares : (d : ℕ) → d < n → getD (u .M) d 0 ≡ d → 2048 < getD w2 d 0 → Dec (d ≡ c) → (getD (set (u .C) c L) d [] ≡ []) × Bears G n (u .M) d (getD w2 d 0)
+        bares : (d : ℕ) → d < n → getD (u .M) d 0 ≡ d → 2048 < getD w2 d 0 → Dec (d ≡ c) →
+            (getD (set (u .C) c L) d [] ≡ []) × Bears G n (u .M) d (getD w2 d 0)
         bares d a b e (yes z) = let o : getD w2 d 0 ≡ getD w2 c 0 = ap (λ (v : ℕ). getD w2 v 0) z in let i = c-small in absurd (omega arith)
         bares d a b e (no z) =
             let o : getD w2 d 0 ≡ getD w d 0 = first d a z in
             let r = u .bare d a b (omega arith) in
             (Co d z ∙ r .0, subst (λ (v : ℕ). Bears G n (u .M) d v) (sym o) (r .1))
 
-        homes : (d q : ℕ) → d < n → List·Memᴰ q (getD (set (u .C) c L) d []) → Dec (d ≡ c) → List·Memᴰ q (t ∷ H .K) × (getD (u .M) (G .S q) 0 ≡ d)
+        homes : (d q : ℕ) → d < n → List·Memᴰ q (getD (set (u .C) c L) d []) → Dec (d ≡ c) →
+            List·Memᴰ q (t ∷ H .K) × (getD (u .M) (G .S q) 0 ≡ d)
         homes d q a m (yes z) = ⊎-elim
             (λ e. (List·Memᴰ·head e, ap (λ (v : ℕ). getD (u .M) (G .S v) 0) e ∙ ap (λ (v : ℕ). getD (u .M) v 0) (f .is) ∙ Mx G H u ∙ sym z))
             (λ b. let o = u .home c q c-in b in (List·Memᴰ·tail (o .0), o .1 ∙ sym z))
@@ -265,23 +300,41 @@ module _ (F T : List ℕ) (n k : ℕ) (w : List ℕ) (hn : n ≤ 1024) (hw : SIZ
         none : None F (getD F t 0) xs
         none = loc .looked .miss refl xs cx
 
-        here : (b : ℕ) × (First F (getD F t 0) (getD (set (u .C) c L) (getD (u .M) (G .S t) 0) []) b × Near F T (u .M) w2 [] (getD T b 0) (getD T t 0))
-        here = (t, (subst (λ (v : ℕ). First F (getD F t 0) (getD (set (u .C) c L) v []) t) (sym (ap (λ (v : ℕ). getD (u .M) v 0) (f .is) ∙ Mx G H u)) (subst (λ (y : List ℕ). First F (getD F t 0) y t) (sym C') (g .mine)), Near.old refl))
+        here : (b : ℕ) × (First F (getD F t 0) (getD (set (u .C) c L) (getD (u .M) (G .S t) 0) []) b
+            × Near F T (u .M) w2 [] (getD T b 0) (getD T t 0))
+        here = (
+          t,
+          (
+            subst (λ (v : ℕ). First F (getD F t 0) (getD (set (u .C) c L) v []) t)
+                (sym (ap (λ (v : ℕ). getD (u .M) v 0) (f .is) ∙ Mx G H u))
+                (subst (λ (y : List ℕ). First F (getD F t 0) y t) (sym C') (g .mine)),
+            Near.old refl,
+          ),
+        )
 
-        covers : (j : ℕ) → List·Memᴰ j (H .K) → Dec (getD (u .M) (G .S j) 0 ≡ c) → (b : ℕ) × (First F (getD F j 0) (getD (set (u .C) c L) (getD (u .M) (G .S j) 0) []) b × Near F T (u .M) w2 [] (getD T b 0) (getD T j 0))
+        covers : (j : ℕ) → List·Memᴰ j (H .K) → Dec (getD (u .M) (G .S j) 0 ≡ c) →
+            (b : ℕ) × (First F (getD F j 0) (getD (set (u .C) c L) (getD (u .M) (G .S j) 0) []) b
+            × Near F T (u .M) w2 [] (getD T b 0) (getD T j 0))
         covers j m (yes z) =
             let o = u .cover j m in
             let p : First F (getD F j 0) xs (o .0) = subst (λ (v : ℕ). First F (getD F j 0) (getD (u .C) v []) (o .0)) z (o .1 .0) in (
               o .0,
               (
-                subst (λ (v : ℕ). First F (getD F j 0) (getD (set (u .C) c L) v []) (o .0)) (sym z) (subst (λ (y : List ℕ). First F (getD F j 0) y (o .0)) (sym C')
-                    (g .old (getD F j 0) (o .0) (λ e. none-first F (getD F t 0) xs (o .0) none (subst (λ (v : ℕ). First F v xs (o .0)) (sym e) p)) p)),
+                subst (λ (v : ℕ). First F (getD F j 0) (getD (set (u .C) c L) v []) (o .0)) (sym z)
+                    (subst (λ (y : List ℕ). First F (getD F j 0) y (o .0)) (sym C')
+                    (g .old (getD F j 0) (o .0) (λ e. none-first F (getD F t 0) xs (o .0) none
+                    (subst (λ (v : ℕ). First F v xs (o .0)) (sym e) p)) p)),
                 Near.old (near-none F T (u .M) w (o .1 .1)),
               ),
             )
         covers j m (no z) =
-            let o = u .cover j m in
-            (o .0, (subst (λ (y : List ℕ). First F (getD F j 0) y (o .0)) (sym (Co (getD (u .M) (G .S j) 0) z)) (o .1 .0), Near.old (near-none F T (u .M) w (o .1 .1))))
+            let o = u .cover j m in (
+              o .0,
+              (
+                subst (λ (y : List ℕ). First F (getD F j 0) y (o .0)) (sym (Co (getD (u .M) (G .S j) 0) z)) (o .1 .0),
+                Near.old (near-none F T (u .M) w (o .1 .1)),
+              ),
+            )
 
         hung : State G (withArc H t) F T n k2 0 [] w2
         hung =
@@ -305,12 +358,18 @@ module _ (F T : List ℕ) (n k : ℕ) (w : List ℕ) (hn : n ≤ 1024) (hw : SIZ
               chain = λ d a b e. chains d a b e (ℕ-discrete d c);
               bare = λ d a b e. bares d a b e (ℕ-discrete d c);
               home = λ d q a m. homes d q a m (ℕ-discrete d c);
-              known = λ j m. ⊎-elim (λ e. subst (λ (a : ℕ). List·Memᴰ a (G .B)) (sym e) (f .arc)) (λ a. u .known j a) (List·Memᴰ·cases-cons m);
-              cover = λ j m. ⊎-elim (λ e. subst (λ (a : ℕ). (b : ℕ) × (First F (getD F a 0) (getD (set (u .C) c L) (getD (u .M) (G .S a) 0) []) b × Near F T (u .M) w2 [] (getD T b 0) (getD T a 0))) (sym e) here) (λ a. covers j a (ℕ-discrete (getD (u .M) (G .S j) 0) c)) (List·Memᴰ·cases-cons m);
+              known = λ j m. ⊎-elim (λ e. subst (λ (a : ℕ). List·Memᴰ a (G .B)) (sym e) (f .arc)) (λ a. u .known j a)
+                  (List·Memᴰ·cases-cons m);
+              cover = λ j m. ⊎-elim (λ e. subst
+                  (λ (a : ℕ). (b : ℕ) × (First F (getD F a 0) (getD (set (u .C) c L) (getD (u .M) (G .S a) 0) []) b
+                  × Near F T (u .M) w2 [] (getD T b 0) (getD T a 0))) (sym e) here)
+                  (λ a. covers j a (ℕ-discrete (getD (u .M) (G .S j) 0) c)) (List·Memᴰ·cases-cons m);
               nodes = u .nodes;
               met = λ i m a.
                   let b = low G H F T n k 0 [] w (omega arith) hw u i (u .nodes i m .0) in
-                  first (getD (u .M) i 0) (omega arith) (λ e. let b : getD w (getD (u .M) i 0) 0 ≡ G .A i = u .met i m a in let d : getD w (getD (u .M) i 0) 0 ≡ getD w c 0 = ap (λ (v : ℕ). getD w v 0) e in let g = u .atoms i (u .nodes i m .1) a in omega arith) ∙ u .met i m a;
+                  first (getD (u .M) i 0) (omega arith) (λ e. let b : getD w (getD (u .M) i 0) 0 ≡ G .A i = u .met i m a in
+                  let d : getD w (getD (u .M) i 0) 0 ≡ getD w c 0 = ap (λ (v : ℕ). getD w v 0) e in
+                  let g = u .atoms i (u .nodes i m .1) a in omega arith) ∙ u .met i m a;
               held = u .held;
               sound = u .sound;
               frame = λ a b m. absurd (List·Memᴰ·not-nil m);
@@ -321,16 +380,19 @@ module _ (F T : List ℕ) (n k : ℕ) (w : List ℕ) (hn : n ≤ 1024) (hw : SIZ
       hung-hint z =
           let q : NEXT + t - NEXT ≡ t = omega arith in
           let r = hint z .up xs cx in
-          let is : (ys : List ℕ) → Chain w2 (getD w2 c 0) ys → lodge F t c l xs gap ≡ ys = λ ys d. chain-det w2 (getD w2 c 0) (lodge F t c l xs gap) ys lodged d in
+          let is : (ys : List ℕ) → Chain w2 (getD w2 c 0) ys →
+          lodge F t c l xs gap ≡ ys = λ ys d. chain-det w2 (getD w2 c 0) (lodge F t c l xs gap) ys lodged d in
           record {
             low = omega arith;
             up = λ ys d. subst (Rising F 0) (is ys d) (lodge-rising F t c l 0 xs gap (omega arith) r);
-            on = λ e ys d. rw q (subst (List·Memᴰ t) (is ys d) (first-mem F (getD F t 0) (lodge F t c l xs gap) t (lodge-grows F t c l xs gap .mine)));
+            on = λ e ys d. rw q (subst (List·Memᴰ t) (is ys d)
+                (first-mem F (getD F t 0) (lodge F t c l xs gap) t (lodge-grows F t c l xs gap .mine)));
           }
 
       pub hung-ordered : 0 < at → Ordered F n w2 x (NEXT + t)
       hung-ordered z = record {
-        hint = λ y d r. let e : c ≡ d = sym (Mx G H u) ∙ (rw par at r) .is (u .M) (u .forest) in subst (λ (v : ℕ). Hint F w2 v (NEXT + t)) e (hung-hint z);
+        hint = λ y d r. let e : c ≡ d = sym (Mx G H u) ∙ (rw par at r) .is (u .M) (u .forest) in
+            subst (λ (v : ℕ). Hint F w2 v (NEXT + t)) e (hung-hint z);
       }
 
     pub visit-hung : Visited F T n k w x t k2 false w2
@@ -384,8 +446,10 @@ module _ (F T : List ℕ) (n k : ℕ) (w : List ℕ) (hn : n ≤ 1024) (hw : SIZ
             home = u .home;
             known = u .known;
             cover = u .cover;
-            nodes = λ i m. ⊎-elim (λ o. subst (λ (a : ℕ). (a < n) × List·Memᴰ a (G .N)) (sym o) (b .small, b .node)) (λ o. u .nodes i o) (List·Memᴰ·cases-cons m);
-            met = λ i m a. ⊎-elim (λ o. subst (λ (j : ℕ). getD w (getD (u .M) j 0) 0 ≡ G .A j) (sym o) (ap (λ (j : ℕ). getD w j 0) (Mx G H u) ∙ e ∙ sym (b .is))) (λ o. u .met i o a) (List·Memᴰ·cases-cons m);
+            nodes = λ i m. ⊎-elim (λ o. subst (λ (a : ℕ). (a < n) × List·Memᴰ a (G .N)) (sym o) (b .small, b .node)) (λ o. u .nodes i o)
+                (List·Memᴰ·cases-cons m);
+            met = λ i m a. ⊎-elim (λ o. subst (λ (j : ℕ). getD w (getD (u .M) j 0) 0 ≡ G .A j) (sym o)
+                (ap (λ (j : ℕ). getD w j 0) (Mx G H u) ∙ e ∙ sym (b .is))) (λ o. u .met i o a) (List·Memᴰ·cases-cons m);
             held = u .held;
             sound = u .sound;
             frame = u .frame;
@@ -401,7 +465,8 @@ module _ (F T : List ℕ) (n k : ℕ) (w : List ℕ) (hn : n ≤ 1024) (hw : SIZ
       at1 = let l = c-in in put-at k w c v k1 w1 p1 (omega arith) (omega arith)
 
       par1 : region PARENT n w1 ≡ region PARENT n w
-      par1 = let l = c-in in region-ext PARENT n w1 w (omega (arith, p1 .later .len)) (p1 .later .len) (λ j b. off1 (PARENT + j) (λ e. omega arith) (omega arith))
+      par1 = let l = c-in in region-ext PARENT n w1 w (omega (arith, p1 .later .len)) (p1 .later .len)
+          (λ j b. off1 (PARENT + j) (λ e. omega arith) (omega arith))
 
       next1 : (q : ℕ) → q < 2048 → getD w1 (NEXT + q) 0 ≡ getD w (NEXT + q) 0
       next1 q h = let l = c-in in off1 (NEXT + q) (λ e. omega arith) (omega arith)
@@ -427,8 +492,10 @@ module _ (F T : List ℕ) (n k : ℕ) (w : List ℕ) (hn : n ≤ 1024) (hw : SIZ
             home = u .home;
             known = u .known;
             cover = λ j m. let o = u .cover j m in (o .0, (o .1 .0, Near.old (near-none F T (u .M) w (o .1 .1))));
-            nodes = λ i m. ⊎-elim (λ o. subst (λ (a : ℕ). (a < n) × List·Memᴰ a (G .N)) (sym o) (b .small, b .node)) (λ o. u .nodes i o) (List·Memᴰ·cases-cons m);
-            met = λ i m a. ⊎-elim (λ o. subst (λ (j : ℕ). getD w1 (getD (u .M) j 0) 0 ≡ G .A j) (sym o) (ap (λ (j : ℕ). getD w1 j 0) (Mx G H u) ∙ at1 ∙ sym (b .is))) (λ o. old i o a) (List·Memᴰ·cases-cons m);
+            nodes = λ i m. ⊎-elim (λ o. subst (λ (a : ℕ). (a < n) × List·Memᴰ a (G .N)) (sym o) (b .small, b .node)) (λ o. u .nodes i o)
+                (List·Memᴰ·cases-cons m);
+            met = λ i m a. ⊎-elim (λ o. subst (λ (j : ℕ). getD w1 (getD (u .M) j 0) 0 ≡ G .A j) (sym o)
+                (ap (λ (j : ℕ). getD w1 j 0) (Mx G H u) ∙ at1 ∙ sym (b .is))) (λ o. old i o a) (List·Memᴰ·cases-cons m);
             held = u .held;
             sound = u .sound;
             frame = λ a d m. absurd (List·Memᴰ·not-nil m);
@@ -443,12 +510,17 @@ module _ (F T : List ℕ) (n k : ℕ) (w : List ℕ) (hn : n ≤ 1024) (hw : SIZ
           chains d a m l (yes z) = let o : getD w1 d 0 ≡ v = ap (λ (j : ℕ). getD w1 j 0) z ∙ at1 in absurd (omega arith)
           chains d a m l (no z) =
               let o : getD w1 d 0 ≡ getD w d 0 = off1 d z (omega arith) in
-              subst (λ (j : ℕ). Chain w1 j (getD (u .C) d [])) (sym o) (chain-same w w1 (getD w d 0) (getD (u .C) d []) (λ q r. let b = u .arcs q (u .known q (u .home d q a r .0)) .0 in next1 q (omega arith)) (u .chain d a m (omega arith)))
+              subst (λ (j : ℕ). Chain w1 j (getD (u .C) d [])) (sym o)
+              (chain-same w w1 (getD w d 0) (getD (u .C) d []) (λ q r. let b = u .arcs q (u .known q (u .home d q a r .0)) .0 in
+              next1 q (omega arith)) (u .chain d a m (omega arith)))
 
-          bares : (d : ℕ) → d < n → getD (u .M) d 0 ≡ d → 2048 < getD w1 d 0 → Dec (d ≡ c) → (getD (u .C) d [] ≡ []) × Bears G n (u .M) d (getD w1 d 0)
+          bares : (d : ℕ) → d < n → getD (u .M) d 0 ≡ d → 2048 < getD w1 d 0 → Dec (d ≡ c) →
+              (getD (u .C) d [] ≡ []) × Bears G n (u .M) d (getD w1 d 0)
           bares d a m l (yes z) =
-              subst (λ (j : ℕ). (getD (u .C) j [] ≡ []) × Bears G n (u .M) j (getD w1 j 0)) (sym z)
-              (chain-zero w (getD w c 0) (getD (u .C) c []) e0 (chain-c G H u (omega arith)), record { i = x; small = hx; node = b .node; is = b .is ∙ sym at1; class = Mx G H u })
+              subst (λ (j : ℕ). (getD (u .C) j [] ≡ []) × Bears G n (u .M) j (getD w1 j 0)) (sym z) (
+                chain-zero w (getD w c 0) (getD (u .C) c []) e0 (chain-c G H u (omega arith)),
+                record { i = x; small = hx; node = b .node; is = b .is ∙ sym at1; class = Mx G H u },
+              )
           bares d a m l (no z) =
               let o : getD w1 d 0 ≡ getD w d 0 = off1 d z (omega arith) in
               let r = u .bare d a m (omega arith) in

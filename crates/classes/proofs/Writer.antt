@@ -34,7 +34,8 @@ module _ (n : ℕ) (es : List Entry) (k : ℕ) (w : List ℕ) (h : Holds n es k 
 
   -- ---- classes
   pub class-low : (x : ℕ) → x < n → class h x ≤ x
-  class-low x l = let a = h .long in let b = h .below in let p = length-region PARENT n w (omega arith) in label-low (region PARENT n w) (h .state .M) (h .state .shape) (h .state .forest) x (omega arith)
+  class-low x l = let a = h .long in let b = h .below in let p = length-region PARENT n w (omega arith) in
+      label-low (region PARENT n w) (h .state .M) (h .state .shape) (h .state .forest) x (omega arith)
 
   pub class-top : (x : ℕ) → x < n → class h (class h x) ≡ class h x
   class-top x l = top (h .G) (h .H) (words w) (targets w) n k 0 [] w (h .below) (h .long) (h .state) x l
@@ -44,27 +45,37 @@ module _ (n : ℕ) (es : List Entry) (k : ℕ) (w : List ℕ) (h : Holds n es k 
       let m = h .full .roots (number-of es s) (root-down (words w) (targets w) es (h .G) (h .tied) es (λ e i. i) s r) in
       sym (h .state .held (h .full .root) (number-of es s) m) ∙ ap (class h) (h .top)
 
-  pub same-class : (s t : Spots es) → Same (beside (graphs es)) (roots (beside (graphs es))) s t → class h (number-of es s) ≡ class h (number-of es t)
-  same-class s t p = complete (h .G) (h .H) (words w) (targets w) n k 0 w (h .below) (h .long) (h .state) (h .full) (same-down (words w) (targets w) es (h .G) (h .tied) p)
+  pub same-class : (s t : Spots es) → Same (beside (graphs es)) (roots (beside (graphs es))) s t →
+      class h (number-of es s) ≡ class h (number-of es t)
+  same-class s t p = complete (h .G) (h .H) (words w) (targets w) n k 0 w (h .below) (h .long) (h .state) (h .full)
+      (same-down (words w) (targets w) es (h .G) (h .tied) p)
 
-  pub class-same : (s t : Spots es) → class h (number-of es s) ≡ class h (number-of es t) → Same (beside (graphs es)) (roots (beside (graphs es))) s t
+  pub class-same : (s t : Spots es) → class h (number-of es s) ≡ class h (number-of es t) →
+      Same (beside (graphs es)) (roots (beside (graphs es))) s t
   class-same s t e =
       let r = some-root (graphs es) s in
-      same-up (words w) (targets w) es (h .G) (h .tied) (h .apart) (r .0) (r .1) (h .state .sound (number-of es s) (number-of es t) (spot-low s) (spot-low t) e) s t (inl refl) (inl refl)
+      same-up (words w) (targets w) es (h .G) (h .tied) (h .apart) (r .0) (r .1)
+      (h .state .sound (number-of es s) (number-of es t) (spot-low s) (spot-low t) e) s t (inl refl) (inl refl)
 
   -- ---- what a class holds
   module _ (c : ℕ) (hc : c < n) (own : class h c ≡ c) where
     arc-in : (s : Spots es) (f : ℕ) (t : Spots es) → beside (graphs es) .Arc s f t → class h (number-of es s) ≡ c
-        → (getD w c 0 ≤ 2048) × ((q : ℕ) × (First (words w) f (getD (h .state .C) c []) q × (class h (getD (targets w) q 0) ≡ class h (number-of es t))))
+        → (getD w c 0 ≤ 2048) × ((q : ℕ)
+        × (First (words w) f (getD (h .state .C) c []) q × (class h (getD (targets w) q 0) ≡ class h (number-of es t))))
     arc-in s f t a e =
         let r = arc-down (words w) (targets w) es (h .G) (h .tied) es (λ e i. i) s f t a in
         let o = h .state .cover (r .0) (h .full .arcs (r .0) (r .1 .0)) in
         let z : class h (h .G .S (r .0)) ≡ c = ap (class h) (r .1 .1 .0) ∙ e in
-        let x : First (words w) f (getD (h .state .C) c []) (o .0) = subst (λ (i : ℕ). First (words w) f (getD (h .state .C) i []) (o .0)) z (subst (λ (i : ℕ). First (words w) i (getD (h .state .C) (class h (h .G .S (r .0))) []) (o .0)) (r .1 .1 .1 .0) (o .1 .0)) in
-        (small (o .0) x (decLt 2048 (getD w c 0)), (o .0, (x, near-none (words w) (targets w) (h .state .M) w (o .1 .1) ∙ ap (class h) (r .1 .1 .1 .1))))
+        let x : First (words w) f (getD (h .state .C) c []) (o .0) =
+        subst (λ (i : ℕ). First (words w) f (getD (h .state .C) i []) (o .0)) z
+        (subst (λ (i : ℕ). First (words w) i (getD (h .state .C) (class h (h .G .S (r .0))) []) (o .0)) (r .1 .1 .1 .0) (o .1 .0)) in (
+          small (o .0) x (decLt 2048 (getD w c 0)),
+          (o .0, (x, near-none (words w) (targets w) (h .state .M) w (o .1 .1) ∙ ap (class h) (r .1 .1 .1 .1))),
+        )
       where
         small : (q : ℕ) → First (words w) f (getD (h .state .C) c []) q → Dec (2048 < getD w c 0) → getD w c 0 ≤ 2048
-        small q x (yes l) = absurd (List·Memᴰ·not-nil (subst (List·Memᴰ q) (h .state .bare c hc own l .0) (first-mem (words w) f (getD (h .state .C) c []) q x)))
+        small q x (yes l) = absurd (List·Memᴰ·not-nil
+            (subst (List·Memᴰ q) (h .state .bare c hc own l .0) (first-mem (words w) f (getD (h .state .C) c []) q x)))
         small q x (no l) = omega arith
 
     pub content : Content es (class h) w c

@@ -56,7 +56,8 @@ fn outset(w: &[u32], k: usize, n: usize, x: usize, d: usize) -> usize
     afresh(w, k, n, x)
 }
 
-// The link to go on from after a union that took the log from k entries to e: where it took two at most, no chain has changed, and the arc r is still on that of the class c.
+// The link to go on from after a union that took the log from k entries to e: where it took two at most, no chain has changed, and the
+// arc r is still on that of the class c.
 fn onward(w: &[u32], k: usize, e: usize, n: usize, x: usize, c: usize, r: usize, at: usize) -> usize
     requires { ⌜ (x < n) × ((n ≤ 1024) × (SIZE ≤ length (now w))) ⌝ }
     requires { ⌜ (0 < r) × ((r ≤ 2048) × (k ≤ 4096)) ⌝ }
@@ -81,7 +82,8 @@ fn visit(w: &mut [u32], k: usize, n: usize, x: usize, t: usize, at: usize) -> Ca
     requires { ⌜ (x < n) × (t < 2047) ⌝ }
     requires { ⌜ Coming (words (now w)) (targets (now w)) n k (now w) x t ⌝ }
     requires { ⌜ Ordered (words (now w)) n (now w) x at ⌝ }
-    ensures { λ r. ⌜ Taken (words (now (w .entry))) (targets (now (w .entry))) n k (now (w .entry)) x t (r .k) (r .at) (r .bad) (now (w .exit)) ⌝ }
+    ensures { λ r. ⌜ Taken (words (now (w .entry))) (targets (now (w .entry))) n k (now (w .entry)) x t (r .k) (r .at) (r .bad)
+        (now (w .exit)) ⌝ }
 {
     let c = find(w, n, x);
     let h = w[c];
@@ -162,7 +164,8 @@ fn arcs(w: &mut [u32], k: usize, n: usize, x: usize, from: usize, d: usize) -> M
     requires { ⌜ (n ≤ 1024) × (SIZE ≤ length (now w)) ⌝ }
     requires { ⌜ (x < n) × (from + 2 * d ≤ 2048) ⌝ }
     requires { ⌜ Batched (words (now w)) (targets (now w)) n k (now w) x from d ⌝ }
-    ensures { λ r. ⌜ Run (words (now (w .entry))) (targets (now (w .entry))) n k (now (w .entry)) x from d (r .k) (r .bad) (now (w .exit)) ⌝ }
+    ensures { λ r. ⌜ Run (words (now (w .entry))) (targets (now (w .entry))) n k (now (w .entry)) x from d (r .k) (r .bad)
+        (now (w .exit)) ⌝ }
 {
     let mut e = k;
     let mut at = outset(w, k, n, x, d);
@@ -211,7 +214,8 @@ fn span(h: u32) -> usize
 pub fn nodes(w: &mut [u32], k: usize, n: usize, x: usize, p: usize, c: usize) -> Made
     requires { ⌜ (n ≤ 1024) × (SIZE ≤ length (now w)) ⌝ }
     requires { ⌜ Listing (words (now w)) (targets (now w)) n k (now w) x p c ⌝ }
-    ensures { λ r. ⌜ Listed (words (now (w .entry))) (targets (now (w .entry))) n k (now (w .entry)) x p c (r .k) (r .bad) (now (w .exit)) ⌝ }
+    ensures { λ r. ⌜ Listed (words (now (w .entry))) (targets (now (w .entry))) n k (now (w .entry)) x p c (r .k) (r .bad)
+        (now (w .exit)) ⌝ }
 {
     let mut e = k;
     let mut y = x;

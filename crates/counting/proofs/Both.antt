@@ -19,30 +19,39 @@ use Rattle.counting.specs.Counted.{Countable, Counted, CountedBoth, besi
 use Rattle.counting.proofs.Products.{cap-first}
 use Rattle.counting.proofs.Descent.{count-small}
 
-count-next : (m : Marking) (ds es : Places) → count-all-at choice-stop m (ds next es) ≡ min (count-all-at choice-stop m ds * count-all-at choice-stop m es) choice-stop
+count-next : (m : Marking) (ds es : Places) →
+    count-all-at choice-stop m (ds next es) ≡ min (count-all-at choice-stop m ds * count-all-at choice-stop m es) choice-stop
 unfolding count-at
 count-next m stop es = let small : count-all-at choice-stop m es ≤ choice-stop = count-small m (place [] es) in omega arith
 count-next m (a also ds) es =
     let first = count-any-at choice-stop m a in
     let here = count-all-at choice-stop m ds in
     let there = count-all-at choice-stop m es in
-    ap (λ (k : ℕ). min (first * k) choice-stop) (count-next m ds es) ∙ cap-one choice-stop first (here * there) ∙ cap-first choice-stop first here there
+    ap (λ (k : ℕ). min (first * k) choice-stop) (count-next m ds es) ∙ cap-one choice-stop first (here * there)
+    ∙ cap-first choice-stop first here there
 
-count-beside : (m : Marking) (d e : Placed) → count-all-at choice-stop m (beside d e) ≡ min (count-at choice-stop m d * count-at choice-stop m e) choice-stop
+count-beside : (m : Marking) (d e : Placed) →
+    count-all-at choice-stop m (beside d e) ≡ min (count-at choice-stop m d * count-at choice-stop m e) choice-stop
 unfolding count-at
 count-beside m (place g ds) (place h es) = count-next m ds es
 
-pub counted-both : (w : List ℕ) (left x y r : ℕ) → Counted w 0 left x → Counted w SECOND left y → r ≡ min (x * y) choice-stop → CountedBoth w left r
-counted-both w left x y r first second is c e = is ∙ ap₂ {C = ℕ} (λ (a b : ℕ). min (a * b) choice-stop) (first .is c) (second .is e) ∙ sym (count-beside _ (c .d) (e .d))
+pub counted-both : (w : List ℕ) (left x y r : ℕ) → Counted w 0 left x → Counted w SECOND left y → r ≡ min (x * y) choice-stop →
+    CountedBoth w left r
+counted-both w left x y r first second is c e = is ∙ ap₂ {C = ℕ} (λ (a b : ℕ). min (a * b) choice-stop) (first .is c) (second .is e)
+    ∙ sym (count-beside _ (c .d) (e .d))
 
-count-joined : (m : Marking) (d e j : Placed) → joined-placed d e ≡ some j → count-all-at choice-stop m (beside d e) ≡ count-at choice-stop m j
+count-joined : (m : Marking) (d e j : Placed) → joined-placed d e ≡ some j →
+    count-all-at choice-stop m (beside d e) ≡ count-at choice-stop m j
 unfolding count-at
 count-joined m (place g ds) (place h es) j is = go (join (g ∷ h ∷ [])) is
   where
-    go : (o : Option Graph) → _≡_ {A = Option Placed} (elim o [ none ↦ none | some k ↦ some (place k (ds next es)) ]) (some j) → count-all-at choice-stop m (ds next es) ≡ count-at choice-stop m j
+    go : (o : Option Graph) → _≡_ {A = Option Placed} (elim o [ none ↦ none | some k ↦ some (place k (ds next es)) ]) (some j) →
+        count-all-at choice-stop m (ds next es) ≡ count-at choice-stop m j
     go none e = let z : _≡_ {A = ℕ} 0 1 = cc in absurd (omega arith)
     go (some k) e = let same : place k (ds next es) ≡ j = cc in ap (count-at choice-stop m) same
 
 -- what both come to is counted over the description that joins them
-pub counted-joined : (w : List ℕ) (left r : ℕ) → CountedBoth w left r → (c : Countable w 0 left) (e : Countable w SECOND left) (j : Placed) → joined-placed (c .d) (e .d) ≡ some j → r ≡ count-at choice-stop (marking w) j
+pub counted-joined : (w : List ℕ) (left r : ℕ) → CountedBoth w left r →
+    (c : Countable w 0 left) (e : Countable w SECOND left) (j : Placed) → joined-placed (c .d) (e .d) ≡ some j →
+    r ≡ count-at choice-stop (marking w) j
 counted-joined w left r counted c e j is = counted c e ∙ count-joined (marking w) (c .d) (e .d) j is

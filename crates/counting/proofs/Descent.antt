@@ -25,13 +25,21 @@ use Rattle.counting.specs.Nesting.{Nests, NestsAll, NestsAny}
 use Rattle.counting.specs.Counted.{Countable, Counted}
 use Rattle.counting.proofs.Products.{cap-same, cap-first, cap-whole}
 
-any-kept : (m : Marking) (x : ℕ) (d : Placed) (a : Options) → m x ≡ true → count-any-at choice-stop m (option x d a) ≡ min (count-at choice-stop m d + count-any-at choice-stop m a) choice-stop
+any-kept : (m : Marking) (x : ℕ) (d : Placed) (a : Options) → m x ≡ true →
+    count-any-at choice-stop m (option x d a) ≡ min (count-at choice-stop m d + count-any-at choice-stop m a) choice-stop
 unfolding count-at
-any-kept m x d a e = ap (λ (t : Bool). elim t [ true ↦ min (count-at choice-stop m d + count-any-at choice-stop m a) choice-stop | false ↦ count-any-at choice-stop m a ]) e
+any-kept m x d a e = ap (λ (t : Bool). elim t [
+  | true ↦ min (count-at choice-stop m d + count-any-at choice-stop m a) choice-stop
+  | false ↦ count-any-at choice-stop m a
+]) e
 
-any-dropped : (m : Marking) (x : ℕ) (d : Placed) (a : Options) → m x ≡ false → count-any-at choice-stop m (option x d a) ≡ count-any-at choice-stop m a
+any-dropped : (m : Marking) (x : ℕ) (d : Placed) (a : Options) → m x ≡ false →
+    count-any-at choice-stop m (option x d a) ≡ count-any-at choice-stop m a
 unfolding count-at
-any-dropped m x d a e = ap (λ (t : Bool). elim t [ true ↦ min (count-at choice-stop m d + count-any-at choice-stop m a) choice-stop | false ↦ count-any-at choice-stop m a ]) e
+any-dropped m x d a e = ap (λ (t : Bool). elim t [
+  | true ↦ min (count-at choice-stop m d + count-any-at choice-stop m a) choice-stop
+  | false ↦ count-any-at choice-stop m a
+]) e
 
 pub count-small : (m : Marking) (d : Placed) → count-at choice-stop m d ≤ choice-stop
 count-small m d = omega (arith, count-left d choice-stop (omega arith) m)
@@ -61,7 +69,8 @@ module _ (w : List ℕ) (p left : ℕ) (c : Countable w p left) where
     pub deep : 0 < left
     pub inner : NestsAny a (left - 1)
     pub nests : NestsAll ds left
-    pub total : count-at choice-stop (marking w) (c .d) ≡ min (product * ((sum + count-any-at choice-stop (marking w) a) * count-all-at choice-stop (marking w) ds)) choice-stop
+    pub total : count-at choice-stop (marking w) (c .d)
+        ≡ min (product * ((sum + count-any-at choice-stop (marking w) a) * count-all-at choice-stop (marking w) ds)) choice-stop
 
   -- what a turn at `at` does to the sum
   pub data Turn (at sum sum' : ℕ) : Type 0 where
@@ -79,7 +88,8 @@ module _ (w : List ℕ) (p left : ℕ) (c : Countable w p left) where
       go : (d : Placed) → At (words w) p (c .n) d (c .q) (c .m) → Nests d left → c .d ≡ d → Multiplying more (e + 1) 1
       go (place g ds) at nests same =
           let tail = f ∙ tail-is w (c .room) g ds p (c .n) (c .q) (c .m) at (c .low) in
-          let all : count-at choice-stop (marking w) (c .d) ≡ count-all-at choice-stop (marking w) ds = ap (count-at choice-stop (marking w)) same in
+          let all : count-at choice-stop (marking w) (c .d) ≡ count-all-at choice-stop (marking w) ds =
+          ap (count-at choice-stop (marking w)) same in
           let small = count-small (marking w) (c .d) in
           record {
             ds = ds;
@@ -90,11 +100,14 @@ module _ (w : List ℕ) (p left : ℕ) (c : Countable w p left) where
             total = omega arith;
           }
 
-  pub multiply-all : (more at product : ℕ) → Multiplying more at product → more ≤ 0 → product ≤ choice-stop → product ≡ count-at choice-stop (marking w) (c .d)
+  pub multiply-all : (more at product : ℕ) → Multiplying more at product → more ≤ 0 → product ≤ choice-stop →
+      product ≡ count-at choice-stop (marking w) (c .d)
   unfolding count-at
   multiply-all more at product t h small = go (t .ds) (t .many) (t .total)
     where
-      go : (ds : Places) → places ds ≡ more → count-at choice-stop (marking w) (c .d) ≡ min (product * count-all-at choice-stop (marking w) ds) choice-stop → product ≡ count-at choice-stop (marking w) (c .d)
+      go : (ds : Places) → places ds ≡ more →
+          count-at choice-stop (marking w) (c .d) ≡ min (product * count-all-at choice-stop (marking w) ds) choice-stop →
+          product ≡ count-at choice-stop (marking w) (c .d)
       go stop many total = sym (total ∙ cap-whole choice-stop product small)
       go (a also ds) many total = absurd (omega arith)
 
@@ -105,11 +118,14 @@ module _ (w : List ℕ) (p left : ℕ) (c : Countable w p left) where
       go stop s many = absurd (omega arith)
       go (a also ds) s many = let there = s .2 in omega (arith, words-many w (c .room))
 
-  pub sum-none : (more at product rest : ℕ) → Multiplying more at product → 0 < more → rest ≡ alternatives-at w at → Summing more product (at + 1) rest 0
+  pub sum-none : (more at product rest : ℕ) → Multiplying more at product → 0 < more → rest ≡ alternatives-at w at →
+      Summing more product (at + 1) rest 0
   unfolding count-at
   sum-none more at product rest t h e = go (t .ds) (t .stand) (t .many) (t .nests) (t .total)
     where
-      go : (ds : Places) → AtAll (words w) at (t .n) ds (c .q) (c .m) → places ds ≡ more → NestsAll ds left → count-at choice-stop (marking w) (c .d) ≡ min (product * count-all-at choice-stop (marking w) ds) choice-stop → Summing more product (at + 1) rest 0
+      go : (ds : Places) → AtAll (words w) at (t .n) ds (c .q) (c .m) → places ds ≡ more → NestsAll ds left →
+          count-at choice-stop (marking w) (c .d) ≡ min (product * count-all-at choice-stop (marking w) ds) choice-stop →
+          Summing more product (at + 1) rest 0
       go stop s many nests total = absurd (omega arith)
       go (a also ds) s many nests total =
           let there = s .2 in
@@ -141,13 +157,25 @@ module _ (w : List ℕ) (p left : ℕ) (c : Countable w p left) where
     pub sum-here : 0 < rest → (at < 2048) × (number-at w at < 1024) × (tail-at w at < 2048)
     sum-here h = read-first w (c .room) (t .a) at (t .n) (t .r) (t .l) rest (t .stand) (t .low) (t .many) h
 
-    asks-one : (x : ℕ) (d : Placed) (a : Options) → AtAny (words w) at (t .n) (option x d a) (t .r) (t .l) → Nests d (left - 1) → Countable w at (left - 1)
-    asks-one x d a o inner = record { room = c .room; d = d; n = t .n; q = o .0; m = o .1; at = o .3; low = read-option w (c .room) x d a at (t .n) (t .r) (t .l) o (t .low) .1; nests = inner }
+    asks-one : (x : ℕ) (d : Placed) (a : Options) → AtAny (words w) at (t .n) (option x d a) (t .r) (t .l) → Nests d (left - 1) →
+        Countable w at (left - 1)
+    asks-one x d a o inner = record {
+      room = c .room;
+      d = d;
+      n = t .n;
+      q = o .0;
+      m = o .1;
+      at = o .3;
+      low =
+          read-option w (c .room) x d a at (t .n) (t .r) (t .l) o (t .low) .1;
+      nests = inner;
+    }
 
     pub sum-asks : 0 < rest → Countable w at (left - 1)
     sum-asks h = go (t .a) (t .stand) (t .many) (t .inner)
       where
-        go : (a : Options) → AtAny (words w) at (t .n) a (t .r) (t .l) → options a ≡ rest → NestsAny a (left - 1) → Countable w at (left - 1)
+        go : (a : Options) → AtAny (words w) at (t .n) a (t .r) (t .l) → options a ≡ rest → NestsAny a (left - 1) →
+            Countable w at (left - 1)
         go no-more o many inner = absurd (omega arith)
         go (option x d a) o many inner = asks-one x d a o (inner .0)
 
@@ -156,7 +184,9 @@ module _ (w : List ℕ) (p left : ℕ) (c : Countable w p left) where
     sum-on next sum' h e turn = go (t .a) (t .stand) (t .many) (t .inner) (t .total)
       where
         go : (a : Options) → AtAny (words w) at (t .n) a (t .r) (t .l) → options a ≡ rest → NestsAny a (left - 1) →
-            count-at choice-stop (marking w) (c .d) ≡ min (product * ((sum + count-any-at choice-stop (marking w) a) * count-all-at choice-stop (marking w) (t .ds))) choice-stop → Summing more product next (rest - 1) sum'
+            count-at choice-stop (marking w) (c .d)
+            ≡ min (product * ((sum + count-any-at choice-stop (marking w) a) * count-all-at choice-stop (marking w) (t .ds)))
+            choice-stop → Summing more product next (rest - 1) sum'
         go no-more o many inner total = absurd (omega arith)
         go (option x d a) o many inner total =
             let read = read-option w (c .room) x d a at (t .n) (t .r) (t .l) o (t .low) in
@@ -174,13 +204,15 @@ module _ (w : List ℕ) (p left : ℕ) (c : Countable w p left) where
               deep = t .deep;
               inner = inner .1;
               nests = t .nests;
-              total = total ∙ cap-same choice-stop (sum + count-any-at choice-stop (marking w) (option x d a)) (sum' + count-any-at choice-stop (marking w) a) product (count-all-at choice-stop (marking w) (t .ds)) (sums turn);
+              total = total ∙ cap-same choice-stop (sum + count-any-at choice-stop (marking w) (option x d a))
+                  (sum' + count-any-at choice-stop (marking w) a) product (count-all-at choice-stop (marking w) (t .ds)) (sums turn);
             }
           where
             own : (b : Bool) → marking w (number-at w at) ≡ b → marking w x ≡ b
             own b f = ap (marking w) (sym (read-option w (c .room) x d a at (t .n) (t .r) (t .l) o (t .low) .0 .number)) ∙ f
 
-            sums : Turn at sum sum' → min (sum + count-any-at choice-stop (marking w) (option x d a)) choice-stop ≡ min (sum' + count-any-at choice-stop (marking w) a) choice-stop
+            sums : Turn at sum sum' → min (sum + count-any-at choice-stop (marking w) (option x d a)) choice-stop
+                ≡ min (sum' + count-any-at choice-stop (marking w) a) choice-stop
             sums (one k f counted g) =
                 let is : k ≡ count-at choice-stop (marking w) d = counted .is (asks-one x d a o (inner .0)) in
                 omega (arith, any-kept (marking w) x d a (own true f))
@@ -191,7 +223,9 @@ module _ (w : List ℕ) (p left : ℕ) (c : Countable w p left) where
     sum-all product' h e = go (t .a) (t .stand) (t .many) (t .total)
       where
         go : (a : Options) → AtAny (words w) at (t .n) a (t .r) (t .l) → options a ≡ rest →
-            count-at choice-stop (marking w) (c .d) ≡ min (product * ((sum + count-any-at choice-stop (marking w) a) * count-all-at choice-stop (marking w) (t .ds))) choice-stop → Multiplying (more - 1) at product'
+            count-at choice-stop (marking w) (c .d)
+            ≡ min (product * ((sum + count-any-at choice-stop (marking w) a) * count-all-at choice-stop (marking w) (t .ds)))
+            choice-stop → Multiplying (more - 1) at product'
         go no-more o many total =
             let later = t .later in
             let products = count-all-at choice-stop (marking w) (t .ds) in
@@ -202,6 +236,7 @@ module _ (w : List ℕ) (p left : ℕ) (c : Countable w p left) where
               stand = subst (λ (k : ℕ). AtAll (words w) k (t .l) (t .ds) (c .q) (c .m)) (sym (o .0)) (t .others);
               many = omega arith;
               nests = t .nests;
-              total = total ∙ ap (λ (k : ℕ). min (product * (k * products)) choice-stop) same ∙ cap-first choice-stop product sum products ∙ ap (λ (k : ℕ). min (k * products) choice-stop) (sym e);
+              total = total ∙ ap (λ (k : ℕ). min (product * (k * products)) choice-stop) same ∙ cap-first choice-stop product sum products
+                  ∙ ap (λ (k : ℕ). min (k * products) choice-stop) (sym e);
             }
         go (option x d a) o many total = absurd (omega arith)

@@ -20,7 +20,8 @@ module _ (L : ℕ) where
 
   -- a product of two may stop first
   pub cap-first : (P x R : ℕ) → min (P * (x * R)) L ≡ min (min (P * x) L * R) L
-  cap-first P x R = ap (λ (k : ℕ). min k L) (sym (mul-assoc P x R) ∙ mul-comm (P * x) R) ∙ sym (cap-one L R (P * x)) ∙ ap (λ (k : ℕ). min k L) (mul-comm R (min (P * x) L))
+  cap-first P x R = ap (λ (k : ℕ). min k L) (sym (mul-assoc P x R) ∙ mul-comm (P * x) R) ∙ sym (cap-one L R (P * x))
+      ∙ ap (λ (k : ℕ). min k L) (mul-comm R (min (P * x) L))
 
   pub cap-whole : (P : ℕ) → P ≤ L → min (P * 1) L ≡ P
   cap-whole P h = let e = mul-one P in omega arith

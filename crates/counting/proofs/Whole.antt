@@ -32,7 +32,8 @@ mutual
   well-nests-all : (ds : Disjs) (n left : ℕ) → WellAll ds left → NestsAll (numbered-all n ds) left
   well-nests-all end n left f = tt
   well-nests-all (a and ds) n zero f = absurd f
-  well-nests-all (a and ds) n (suc left) f = let same : suc left - 1 ≡ left = omega arith in (omega arith, rw same (well-nests-any a n left (f .1)), well-nests-all ds (n + nodes-any a) (suc left) (f .2))
+  well-nests-all (a and ds) n (suc left) f = let same : suc left - 1 ≡ left = omega arith in
+      (omega arith, rw same (well-nests-any a n left (f .1)), well-nests-all ds (n + nodes-any a) (suc left) (f .2))
 
   well-nests-any : (a : Alts) (n left : ℕ) → WellAny a left → NestsAny (numbered-any n a) left
   well-nests-any fail n left f = tt
@@ -40,9 +41,11 @@ mutual
 
 -- where every alternative is kept, what is counted is the number of choices
 pub count-every : (d : Desc) (n : ℕ) → count-at choice-stop all-kept (numbered n d) ≡ capped d
-count-every d n = count-left (numbered n d) choice-stop (omega arith) all-kept ∙ ap (λ (e : Desc). min (number e) choice-stop) (ap strip (keep-all-marked (numbered n d)) ∙ numbered-strip n d) ∙ sym (capped-number d)
+count-every d n = count-left (numbered n d) choice-stop (omega arith) all-kept
+    ∙ ap (λ (e : Desc). min (number e) choice-stop) (ap strip (keep-all-marked (numbered n d)) ∙ numbered-strip n d) ∙ sym (capped-number d)
 
-module _ (w : List ℕ) (room : 16384 ≤ length w) (d : Desc) (p n q m left : ℕ) (fine : WellFormed d left) (at : At (words w) p n (numbered n d) q m) (low : m < number-step) where
+module _ (w : List ℕ) (room : 16384 ≤ length w) (d : Desc) (p n q m left : ℕ) (fine : WellFormed d left)
+    (at : At (words w) p n (numbered n d) q m) (low : m < number-step) where
   -- such an input may be counted
   abbrev pub loaded-countable : Countable w p left
   loaded-countable = record { room = room; d = numbered n d; n = n; q = q; m = m; at = at; low = low; nests = well-nests d n left fine }

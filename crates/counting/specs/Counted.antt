@@ -15,7 +15,8 @@ use Rattle.loading.specs.At.{At}
 use Rattle.marks.specs.Marked.{marking}
 use Rattle.counting.specs.Nesting.{Nests}
 
--- a description stands loaded at p, in an area that is large enough and with numbers that are small enough, and its alternatives nest at most `left` deep
+-- a description stands loaded at p, in an area that is large enough and with numbers that are small enough, and its alternatives nest
+-- at most `left` deep
 pub record Countable (w : List ℕ) (p left : ℕ) : Type 0 where
   pub room : 16384 ≤ length w
   pub d : Placed
@@ -26,7 +27,8 @@ pub record Countable (w : List ℕ) (p left : ℕ) : Type 0 where
   pub low : m < number-step
   pub nests : Nests d left
 
--- "The number of choices of a description is the product over its disjunctions of the sum over their alternatives; it is worked out by descent over the nesting, stopping at 4,097": the kept ones of whatever description stands at p
+-- "The number of choices of a description is the product over its disjunctions of the sum over their alternatives; it is worked out by
+-- descent over the nesting, stopping at 4,097": the kept ones of whatever description stands at p
 pub record Counted (w : List ℕ) (p left r : ℕ) : Type 0 where
   pub small : r ≤ choice-stop
   pub is : (c : Countable w p left) → r ≡ count-at choice-stop (marking w) (c .d)
@@ -37,4 +39,5 @@ beside d e = inner d next inner e
 
 -- the same, for the two inputs as loaded
 abbrev pub CountedBoth : List ℕ → ℕ → ℕ → Type 0
-CountedBoth w left r = (c : Countable w 0 left) (e : Countable w SECOND left) → r ≡ count-all-at choice-stop (marking w) (beside (c .d) (e .d))
+CountedBoth w left r = (c : Countable w 0 left) (e : Countable w SECOND left) →
+    r ≡ count-all-at choice-stop (marking w) (beside (c .d) (e .d))

@@ -20,7 +20,8 @@ pub fn capped(x: u32) -> u32
     if x < CHOICE_STOP { x } else { CHOICE_STOP }
 }
 
-// The number of choices of the description at p, under which alternatives nest at most `left` deep: the product over its disjunctions of the sum over their kept alternatives.
+// The number of choices of the description at p, under which alternatives nest at most `left` deep: the product over its disjunctions
+// of the sum over their kept alternatives.
 pub fn count_choices(w: &[u32], p: usize, left: u32) -> u32
     requires { ⌜ Countable (now w) p left ⌝ }
     ensures { λ r. ⌜ Counted (now (w .entry)) p left r ⌝ }

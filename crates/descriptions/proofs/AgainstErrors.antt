@@ -1,5 +1,6 @@
 -- Errors that the trade makes, each told from the definitions by a description that is computed.
--- Of 004's figure 4 both are definitions here: "Its nested call tests under the outer condition alone in the first round and under the alternative's own graph alone in later ones; here both count in every round."
+-- Of 004's figure 4 both are definitions here: "Its nested call tests under the outer condition alone in the first round and under the
+-- alternative's own graph alone in later ones; here both count in every round."
 -- Assumes nothing.
 use mathlib.Core.Path.{_≡_, refl}
 use mathlib.Core.Bool.{Bool, true, false, _&&_, _||_}
@@ -79,16 +80,19 @@ abbrev first-round : Desc Facts
 first-round = desc P ((desc Q ((says R or nothing or fail) and end) or nothing or fail) and end)
 
 -- R agrees with P, but not with P and Q: it goes, and what is left is folded
-pub own-graph-counts : (nesting three (tidy three) first-round ≡ some (desc P ((says Q or nothing or fail) and end))) × (nesting three (tidy-outer three) first-round ≡ some first-round)
+pub own-graph-counts : (nesting three (tidy three) first-round ≡ some (desc P ((says Q or nothing or fail) and end)))
+    × (nesting three (tidy-outer three) first-round ≡ some first-round)
 unfolding nesting tidy-outer size tidy finish
 own-graph-counts = (refl, refl)
 
 -- P; and Q or what clashes with P, with R or what clashes with P, or nothing
 abbrev later-round : Desc Facts
-later-round = desc P ((desc (three .nil) ((says Q or says Q-and-R or fail) and (says R or says Q-and-R or fail) and end) or nothing or fail) and end)
+later-round = desc P ((desc (three .nil) ((says Q or says Q-and-R or fail) and (says R or says Q-and-R or fail) and end) or nothing or fail)
+    and end)
 
 -- Q and R are folded in the first round, and agree; but not under P: the alternative goes, and what is left is folded
-pub condition-counts : (nesting three (tidy three) later-round ≡ some (says P)) × (nesting three (tidy-own three) later-round ≡ some (desc P ((says Q-and-R or nothing or fail) and end)))
+pub condition-counts : (nesting three (tidy three) later-round ≡ some (says P))
+    × (nesting three (tidy-own three) later-round ≡ some (desc P ((says Q-and-R or nothing or fail) and end)))
 unfolding nesting tidy-own size tidy finish
 condition-counts = (refl, refl)
 
@@ -99,6 +103,7 @@ whole-counts = refl
 
 -- "three disjunctions that agree two by two may not agree together"
 pub three-by-three : (full three (desc (three .nil) ((says P or says P or fail) and (says Q or says Q or fail) and end)) nothing ≡ none → ⊥)
-    × (full three (desc (three .nil) ((says P or says P or fail) and (says Q or says Q or fail) and (says R or says R or fail) and end)) nothing ≡ none)
+    × (full three (desc (three .nil) ((says P or says P or fail) and (says Q or says Q or fail) and (says R or says R or fail) and end))
+    nothing ≡ none)
 unfolding full joined some-agree prune fold folded-in agree
 three-by-three = (λ e. let z : _≡_ {A = ℕ} 0 1 = cc in omega arith, refl)

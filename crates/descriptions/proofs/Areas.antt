@@ -30,7 +30,8 @@ not-zero n h e = omega arith
 -- the first n words zero
 wiped-length : (n : ℕ) (w : List ℕ) → n ≤ length w → length (wiped n w) ≡ length w
 unfolding wiped
-wiped-length n w h = let e = length-append (replicate n 0) (drop n w) in let f = length-replicate {A = ℕ} n 0 in let g = length-drop n w in omega (arith, e, f, g)
+wiped-length n w h = let e = length-append (replicate n 0) (drop n w) in let f = length-replicate {A = ℕ} n 0 in let g = length-drop n w in
+    omega (arith, e, f, g)
 
 pub worked-same : (n : ℕ) (w : List ℕ) → 1 ≤ n → n ≤ 5 → worked n w ≡ w
 unfolding worked
@@ -127,7 +128,8 @@ module _ {Graph : Type 0} {J : Joining Graph} {𝓛 : Laws J} {𝓕 : Layout Gra
       result-length = go (given-writes J 𝓕 C room work s given)
         where
           long : length (s .result) ≤ room → length (after .result) ≡ length (before .result)
-          long h = let e = ap length (o .the-result) in let f = length-append (s .result) (drop (length (s .result)) (before .result)) in let g = length-drop (length (s .result)) (before .result) in omega (arith, e, f, g, h)
+          long h = let e = ap length (o .the-result) in let f = length-append (s .result) (drop (length (s .result)) (before .result)) in
+              let g = length-drop (length (s .result)) (before .result) in omega (arith, e, f, g, h)
 
           go : Writes room s → length (after .result) ≡ length (before .result)
           go (nothing k e) = let h = ap length e in long (omega (arith, h))
@@ -136,5 +138,7 @@ module _ {Graph : Type 0} {J : Joining Graph} {𝓛 : Laws J} {𝓕 : Layout Gra
       pub working-length : length (after .working) ≡ length (before .working)
       working-length = ap length (o .the-working) ∙ ⊎-elim
           (λ p. ap length (worked-same n (before .working) (rw (o .the-number) (p .0)) (rw (o .the-number) (p .1))))
-          (λ p. ap length (⊎-elim (λ z. ap (λ (k : ℕ). worked k (before .working)) (o .the-number ∙ z) ∙ worked-zero (before .working)) (λ k. worked-more n (before .working) (rw (o .the-number) k)) (p .0)) ∙ wiped-length working-size (before .working) (p .1))
+          (λ p. ap length (⊎-elim (λ z. ap (λ (k : ℕ). worked k (before .working)) (o .the-number ∙ z)
+          ∙ worked-zero (before .working)) (λ k. worked-more n (before .working) (rw (o .the-number) k)) (p .0))
+          ∙ wiped-length working-size (before .working) (p .1))
           (given-area J 𝓕 C room work s given)

@@ -11,7 +11,9 @@ use Rattle.descriptions.specs.Descr.{Desc, _then_, agree, agreeing, answ
 use Rattle.descriptions.specs.Modes.{fold, full, joined, prune, quick, size, some-agree, tidy}
 use Rattle.descriptions.specs.Answer.{consistent}
 use Rattle.descriptions.specs.Rules.{mode-result}
-use Rattle.descriptions.proofs.Mean.{AllFine, Can, Fine, Good, alike-flat, alike-sym, can-then, choices-all-fine, choices-fine, clash-stays, fine-append, good-run, join-canonical, run, run-cong, run-each, run-none, run-same, run-then, shuffle}
+use Rattle.descriptions.proofs.Mean.{AllFine, Can, Fine, Good, alike-flat, alike-sym, can-then, choices-all-fine, choices-fine}
+use Rattle.descriptions.proofs.Mean.{clash-stays, fine-append, good-run, join-canonical, run, run-cong, run-each, run-none, run-same}
+use Rattle.descriptions.proofs.Mean.{run-then, shuffle}
 use Rattle.descriptions.proofs.Quick.{all-none, good-leaf, leaf, meanings, one, readings-count, tidy-fails, tidy-means}
 use Rattle.descriptions.proofs.Full.{AllFull, SomeAgree, each-from, full-means, none-agrees, some-agree-view, whole}
 use Rattle.descriptions.specs.Joining.{Joining}
@@ -37,7 +39,8 @@ module _ {Graph : Type 0} (J : Joining Graph) where
   agreeing-run [] = refl
   agreeing-run (c ∷ l) = go (join c) (agreeing-run l)
     where
-      go : (o : Option Graph) → agreeing J l ≡ length (run l [] (leaf J)) → elim (answers o) [ true ↦ suc (agreeing J l) | false ↦ agreeing J l ] ≡ length (one o ++ run l [] (leaf J))
+      go : (o : Option Graph) → agreeing J l ≡ length (run l [] (leaf J)) →
+          elim (answers o) [ true ↦ suc (agreeing J l) | false ↦ agreeing J l ] ≡ length (one o ++ run l [] (leaf J))
       go none e = e
       go (some G) e = ap suc e
 
@@ -53,7 +56,8 @@ module _ {Graph : Type 0} {J : Joining Graph} (𝓛 : Laws J) where
   open Joining J using (join, nil)
 
   pub choices-full : (d : Desc Graph) → Can 𝓛 d → AllFull 𝓛 (choices d)
-  choices-full (desc g ds) p r m = let (s, j, e) = each-from (g ∷ []) (choices-all ds) r m in (rw e (omega arith), choices-fine 𝓛 (desc g ds) p r m)
+  choices-full (desc g ds) p r m = let (s, j, e) = each-from (g ∷ []) (choices-all ds) r m in
+      (rw e (omega arith), choices-fine 𝓛 (desc g ds) p r m)
 
   through-leaf : (k : List Graph → List Graph) → Good 𝓛 k → (c : List Graph) → Fine 𝓛 c → through (leaf J c) k ≡ k c
   unfolding through
@@ -63,12 +67,15 @@ module _ {Graph : Type 0} {J : Joining Graph} (𝓛 : Laws J) where
       go none e = sym (g .dead c f e)
       go (some G) e = append-nil (k (G ∷ [])) ∙ g .same (G ∷ []) c (omega arith, (join-canonical 𝓛 c f G e, tt)) f (alike-flat 𝓛 c f G e)
 
-  run-through : (k : List Graph → List Graph) → Good 𝓛 k → (l : List (List Graph)) → AllFull 𝓛 l → run l [] k ≡ through (run l [] (leaf J)) k
+  run-through : (k : List Graph → List Graph) → Good 𝓛 k → (l : List (List Graph)) → AllFull 𝓛 l →
+      run l [] k ≡ through (run l [] (leaf J)) k
   unfolding through
   run-through k g [] f = refl
-  run-through k g (c ∷ l) f = ap₂ {C = List Graph} _++_ (sym (through-leaf k g c (f c (List·Memᴰ·head refl)))) (run-through k g l (λ r m. f r (List·Memᴰ·tail m))) ∙ sym (through-append (leaf J c) (run l [] (leaf J)) k)
+  run-through k g (c ∷ l) f = ap₂ {C = List Graph} _++_ (sym (through-leaf k g c (f c (List·Memᴰ·head refl))))
+      (run-through k g l (λ r m. f r (List·Memᴰ·tail m))) ∙ sym (through-append (leaf J c) (run l [] (leaf J)) k)
 
-  pub same-run : (k : List Graph → List Graph) → Good 𝓛 k → (l m : List (List Graph)) → AllFull 𝓛 l → AllFull 𝓛 m → run l [] (leaf J) ≡ run m [] (leaf J) → run l [] k ≡ run m [] k
+  pub same-run : (k : List Graph → List Graph) → Good 𝓛 k → (l m : List (List Graph)) → AllFull 𝓛 l → AllFull 𝓛 m →
+      run l [] (leaf J) ≡ run m [] (leaf J) → run l [] k ≡ run m [] k
   same-run k g l m p q e = run-through k g l p ∙ ap (λ (z : List Graph). through z k) e ∙ sym (run-through k g m q)
 
   pub joined-means : (a b : Desc Graph) → Can 𝓛 a → Can 𝓛 b → Means J (both J a b) (joined J a b)
@@ -104,33 +111,43 @@ module _ {Graph : Type 0} {J : Joining Graph} (𝓛 : Laws J) where
       move r m =
           let a : List Graph = ((g ∷ []) ++ r) ++ h ∷ [] in
           let fa : Fine 𝓛 a = fine-append 𝓛 ((g ∷ []) ++ r) (h ∷ []) (fine-append 𝓛 (g ∷ []) r fg (fd r m)) (q .0, tt) in
-          goodK .same (gh ++ r) a (fine-append 𝓛 gh r fgh (fd r m)) fa (alike-sym 𝓛 a (gh ++ r) (shuffle 𝓛 (g ∷ []) r (h ∷ []) fg (fd r m) (q .0, tt))) ∙ sym (side ((g ∷ []) ++ r))
+          goodK .same (gh ++ r) a (fine-append 𝓛 gh r fgh (fd r m)) fa
+          (alike-sym 𝓛 a (gh ++ r) (shuffle 𝓛 (g ∷ []) r (h ∷ []) fg (fd r m) (q .0, tt))) ∙ sym (side ((g ∷ []) ++ r))
 
       total : run (choices-all ds) gh K ≡ both J (desc g ds) (desc h es)
-      total = run-cong (choices-all ds) gh (g ∷ []) K (λ c. run (choices (desc h es)) c (leaf J)) move ∙ sym (run-each (g ∷ []) (choices-all ds) [] (λ c. run (choices (desc h es)) c (leaf J)))
+      total = run-cong (choices-all ds) gh (g ∷ []) K (λ c. run (choices (desc h es)) c (leaf J)) move
+          ∙ sym (run-each (g ∷ []) (choices-all ds) [] (λ c. run (choices (desc h es)) c (leaf J)))
 
-      go : (o : Option Graph) → join gh ≡ o → Means J (both J (desc g ds) (desc h es)) (elim o [ none ↦ none | some k ↦ some (desc k (ds then es)) ])
-      go none e = sym total ∙ run-none (choices-all ds) gh K (λ r m. goodK .dead (gh ++ r) (fine-append 𝓛 gh r fgh (fd r m)) (clash-stays 𝓛 gh (gh ++ r) fgh (fine-append 𝓛 gh r fgh (fd r m)) (λ x i. Memᴰ·append-left r i) e))
+      go : (o : Option Graph) → join gh ≡ o →
+          Means J (both J (desc g ds) (desc h es)) (elim o [ none ↦ none | some k ↦ some (desc k (ds then es)) ])
+      go none e = sym total ∙ run-none (choices-all ds) gh K
+          (λ r m. goodK .dead (gh ++ r) (fine-append 𝓛 gh r fgh (fd r m))
+          (clash-stays 𝓛 gh (gh ++ r) fgh (fine-append 𝓛 gh r fgh (fd r m)) (λ x i. Memᴰ·append-left r i) e))
       go (some k) e = run-each (k ∷ []) (choices-all (ds then es)) [] (leaf J) ∙ run-then ds es (k ∷ []) (leaf J)
-          ∙ run-same 𝓛 (choices-all ds) (k ∷ []) gh K fd goodK (omega arith, (join-canonical 𝓛 gh fgh k e, tt)) fgh (alike-flat 𝓛 gh fgh k e) ∙ total
+          ∙ run-same 𝓛 (choices-all ds) (k ∷ []) gh K fd goodK (omega arith, (join-canonical 𝓛 gh fgh k e, tt)) fgh
+          (alike-flat 𝓛 gh fgh k e) ∙ total
 
   pub can-joined : (a b d : Desc Graph) → Can 𝓛 a → Can 𝓛 b → joined J a b ≡ some d → Can 𝓛 d
   unfolding joined
   can-joined (desc g ds) (desc h es) d p q e = go (join (g ∷ h ∷ [])) refl e
     where
-      go : (o : Option Graph) → join (g ∷ h ∷ []) ≡ o → _≡_ {A = Option (Desc Graph)} (elim o [ none ↦ none | some k ↦ some (desc k (ds then es)) ]) (some d) → Can 𝓛 d
+      go : (o : Option Graph) → join (g ∷ h ∷ []) ≡ o →
+          _≡_ {A = Option (Desc Graph)} (elim o [ none ↦ none | some k ↦ some (desc k (ds then es)) ]) (some d) → Can 𝓛 d
       go none f e = let z : _≡_ {A = ℕ} 0 1 = cc in absurd (omega arith)
-      go (some k) f e = let i : desc k (ds then es) ≡ d = cc in subst (Can 𝓛) i (join-canonical 𝓛 (g ∷ h ∷ []) (omega arith, (p .0, (q .0, tt))) k f, can-then 𝓛 ds es (p .1) (q .1))
+      go (some k) f e = let i : desc k (ds then es) ≡ d = cc in
+          subst (Can 𝓛) i (join-canonical 𝓛 (g ∷ h ∷ []) (omega arith, (p .0, (q .0, tt))) k f, can-then 𝓛 ds es (p .1) (q .1))
 
   pub quick-means : (a b : Desc Graph) → Can 𝓛 a → Can 𝓛 b → Means J (both J a b) (quick J a b)
   unfolding quick
   quick-means a b p q = go (joined J a b) refl (joined-means a b p q)
     where
-      two : (d : Desc Graph) → Can 𝓛 d → meanings J d ≡ both J a b → (o : Option (Desc Graph)) → tidy J (suc (size d)) nil d ≡ o → Means J (both J a b) o
+      two : (d : Desc Graph) → Can 𝓛 d → meanings J d ≡ both J a b → (o : Option (Desc Graph)) → tidy J (suc (size d)) nil d ≡ o →
+          Means J (both J a b) o
       two d c m none e = sym m ∙ tidy-fails 𝓛 (suc (size d)) d c e
       two d c m (some f) e = sym (tidy-means 𝓛 (suc (size d)) d f c e) ∙ m
 
-      go : (o : Option (Desc Graph)) → joined J a b ≡ o → Means J (both J a b) o → Means J (both J a b) (elim o [ none ↦ none | some d ↦ tidy J (suc (size d)) nil d ])
+      go : (o : Option (Desc Graph)) → joined J a b ≡ o → Means J (both J a b) o →
+          Means J (both J a b) (elim o [ none ↦ none | some d ↦ tidy J (suc (size d)) nil d ])
       go none e m = m
       go (some d) e m = two d (can-joined a b d p q e) m (tidy J (suc (size d)) nil d) refl
 
@@ -138,11 +155,16 @@ module _ {Graph : Type 0} {J : Joining Graph} (𝓛 : Laws J) where
   unfolding full
   full-result-means a b p q = go (joined J a b) refl (joined-means a b p q)
     where
-      two : (d : Desc Graph) → Can 𝓛 d → meanings J d ≡ both J a b → (t : Bool) → SomeAgree J (choices d) t → Means J (both J a b) (elim t [ true ↦ some (fold J (prune J whole d)) | false ↦ none ])
+      two : (d : Desc Graph) → Can 𝓛 d → meanings J d ≡ both J a b → (t : Bool) → SomeAgree J (choices d) t →
+          Means J (both J a b) (elim t [ true ↦ some (fold J (prune J whole d)) | false ↦ none ])
       two d c m true s = full-means 𝓛 d c ∙ m
       two d c m false (none-agrees n) = sym m ∙ all-none J d n
 
-      go : (o : Option (Desc Graph)) → joined J a b ≡ o → Means J (both J a b) o → Means J (both J a b) (elim o [ none ↦ none | some d ↦ elim (some-agree J (choices d)) [ true ↦ some (fold J (prune J whole d)) | false ↦ none ] ])
+      go : (o : Option (Desc Graph)) → joined J a b ≡ o → Means J (both J a b) o →
+          Means J (both J a b) (elim o [
+            | none ↦ none
+            | some d ↦ elim (some-agree J (choices d)) [ true ↦ some (fold J (prune J whole d)) | false ↦ none ]
+          ])
       go none e m = m
       go (some d) e m = two d (can-joined a b d p q e) m (some-agree J (choices d)) (some-agree-view J (choices d))
 

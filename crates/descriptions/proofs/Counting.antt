@@ -9,7 +9,8 @@ use native.Mathlib.Nat.{zero-mul, suc-mul, mul-comm, le-mul-of-pos-right, min-eq
 use lib.ListN.{length, length-append}
 use lib.Dec.{ltb}
 use Rattle.descriptions.specs.Limits.{choice-limit, choice-stop}
-use Rattle.descriptions.specs.Descr.{Alts, Desc, Disjs, _and_, _or_, agree, agreeing, capped, capped-all, capped-any, choices, choices-all, choices-any, desc, each, end, fail, number, number-all, number-any, pairs, readings}
+use Rattle.descriptions.specs.Descr.{Alts, Desc, Disjs, _and_, _or_, agree, agreeing, capped, capped-all, capped-any, choices}
+use Rattle.descriptions.specs.Descr.{choices-all, choices-any, desc, each, end, fail, number, number-all, number-any, pairs, readings}
 use Rattle.descriptions.proofs.Tests.{Tells, fails, holds, tells-lt}
 use Rattle.descriptions.specs.Joining.{Joining}
 
@@ -29,7 +30,8 @@ cap-one c x y = go (ltb y c) (tells-lt y c)
     go false (fails n) = let h : c ≤ y = omega arith in ap (λ (z : ℕ). min (x * z) c) (min-eq-right h) ∙ cap-left c x y h
 
 pub cap-mul : (c x y : ℕ) → min (min x c * min y c) c ≡ min (x * y) c
-cap-mul c x y = cap-one c (min x c) y ∙ ap (λ (z : ℕ). min z c) (mul-comm (min x c) y) ∙ cap-one c y x ∙ ap (λ (z : ℕ). min z c) (mul-comm y x)
+cap-mul c x y = cap-one c (min x c) y ∙ ap (λ (z : ℕ). min z c) (mul-comm (min x c) y) ∙ cap-one c y x
+    ∙ ap (λ (z : ℕ). min z c) (mul-comm y x)
 
 pub cap-add : (c x y : ℕ) → min (min x c + min y c) c ≡ min (x + y) c
 cap-add c x y = omega arith
@@ -56,11 +58,13 @@ module _ {Graph : Type 0} where
 
     pub number-all-choices : (ds : Disjs Graph) → number-all ds ≡ length (choices-all ds)
     number-all-choices end = refl
-    number-all-choices (a and ds) = ap₂ {C = ℕ} _*_ (number-any-choices a) (number-all-choices ds) ∙ sym (length-pairs (choices-any a) (choices-all ds))
+    number-all-choices (a and ds) = ap₂ {C = ℕ} _*_ (number-any-choices a) (number-all-choices ds)
+        ∙ sym (length-pairs (choices-any a) (choices-all ds))
 
     pub number-any-choices : (a : Alts Graph) → number-any a ≡ length (choices-any a)
     number-any-choices fail = refl
-    number-any-choices (d or a) = ap₂ {C = ℕ} _+_ (number-choices d) (number-any-choices a) ∙ sym (length-append (choices d) (choices-any a))
+    number-any-choices (d or a) = ap₂ {C = ℕ} _+_ (number-choices d) (number-any-choices a)
+        ∙ sym (length-append (choices d) (choices-any a))
 
   mutual
     unfolding number capped
@@ -70,15 +74,18 @@ module _ {Graph : Type 0} where
 
     pub capped-all-number : (ds : Disjs Graph) → capped-all ds ≡ min (number-all ds) choice-stop
     capped-all-number end = refl
-    capped-all-number (a and ds) = ap₂ {C = ℕ} (λ (x y : ℕ). min (x * y) choice-stop) (capped-any-number a) (capped-all-number ds) ∙ cap-mul choice-stop (number-any a) (number-all ds)
+    capped-all-number (a and ds) = ap₂ {C = ℕ} (λ (x y : ℕ). min (x * y) choice-stop) (capped-any-number a) (capped-all-number ds)
+        ∙ cap-mul choice-stop (number-any a) (number-all ds)
 
     pub capped-any-number : (a : Alts Graph) → capped-any a ≡ min (number-any a) choice-stop
     capped-any-number fail = refl
-    capped-any-number (d or a) = ap₂ {C = ℕ} (λ (x y : ℕ). min (x + y) choice-stop) (capped-number d) (capped-any-number a) ∙ cap-add choice-stop (number d) (number-any a)
+    capped-any-number (d or a) = ap₂ {C = ℕ} (λ (x y : ℕ). min (x + y) choice-stop) (capped-number d) (capped-any-number a)
+        ∙ cap-add choice-stop (number d) (number-any a)
 
   -- the test of number 7, on the capped count
   pub over-limit : (d : Desc Graph) → ltb choice-limit (capped d) ≡ ltb choice-limit (number d)
-  over-limit d = go (ltb choice-limit (capped d)) (tells-lt choice-limit (capped d)) (ltb choice-limit (number d)) (tells-lt choice-limit (number d))
+  over-limit d = go (ltb choice-limit (capped d)) (tells-lt choice-limit (capped d)) (ltb choice-limit (number d))
+      (tells-lt choice-limit (number d))
     where
       go : (s : Bool) → Tells (choice-limit < capped d) s → (t : Bool) → Tells (choice-limit < number d) t → s ≡ t
       go true (holds h) true (holds k) = refl

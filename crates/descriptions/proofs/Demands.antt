@@ -23,7 +23,8 @@ use Rattle.descriptions.proofs.Mean.{Can}
 use Rattle.descriptions.proofs.Modes.{mode-satisfied}
 use Rattle.descriptions.proofs.Chain.{both, consistent-means}
 use Rattle.descriptions.proofs.Table.{full-is, unified-given}
-use Rattle.descriptions.proofs.Lists.{AllCan, Stands-for, both-swap, next-ways, no-more, nothing-said, one-more, one-more-behind, regroup, sofar, stands-ways}
+use Rattle.descriptions.proofs.Lists.{AllCan, Stands-for, both-swap, next-ways, no-more, nothing-said, one-more, one-more-behind}
+use Rattle.descriptions.proofs.Lists.{regroup, sofar, stands-ways}
 use Rattle.descriptions.proofs.Kept.{Good, None, none-means, none-sat, on-six, on-zero, which}
 use Rattle.descriptions.specs.Joining.{Joining}
 use Rattle.descriptions.specs.Structures.{Structures}
@@ -97,7 +98,8 @@ module _ {Graph : Type 0} {J : Joining Graph} {𝓛 : Laws J} {𝓕 : Layout Gra
       first : ways J (items 𝓕 l ++ s .item ∷ []) ≡ length (both J d (s .item))
       first = next-ways 𝓛 (items 𝓕 l) (items-can l) d cd m (s .item) cs
 
-      go : (t : Bool) → ways J (items 𝓕 l ++ s .item ∷ []) ≡ length (both J (elim t [ true ↦ d | false ↦ s .item ]) (elim t [ true ↦ s .item | false ↦ d ]))
+      go : (t : Bool) → ways J (items 𝓕 l ++ s .item ∷ [])
+          ≡ length (both J (elim t [ true ↦ d | false ↦ s .item ]) (elim t [ true ↦ s .item | false ↦ d ]))
       go true = first
       go false = first ∙ both-swap 𝓛 d (s .item) cd cs
 
@@ -159,7 +161,8 @@ module _ {Graph : Type 0} {J : Joining Graph} {𝓛 : Laws J} {𝓜 : Structures
 
   pub demand2 : Demand2 J 𝓜 𝓕 (unified J 𝓕)
   demand2 = record {
-    success = λ mode a b p q room work z. let (s, g) = zero-result mode a b p q room work z in (s, zero-succeeds mode a b p q room work s g);
+    success = λ mode a b p q room work z. let (s, g) = zero-result mode a b p q room work z in
+        (s, zero-succeeds mode a b p q room work s g);
     clash = λ mode a b p q room work z S. none-sat 𝓢 S a b (well-can a p) (well-can b q) (six-result mode a b p q room work z);
   }
 
@@ -192,9 +195,11 @@ module _ {Graph : Type 0} {J : Joining Graph} {𝓛 : Laws J} {𝓜 : Structures
 
     call-six : call 𝓕 (unified J 𝓕) ws s .number ≡ 6 → None J before behind
     call-six z =
-        six-result (s .mode) before behind (front-well 𝓕 s d p) (back-well 𝓕 s d p) (s .room) (s .work) (sym (ap (λ (r : Answer). r .number) answered) ∙ z)
+        six-result (s .mode) before behind (front-well 𝓕 s d p) (back-well 𝓕 s d p) (s .room) (s .work)
+        (sym (ap (λ (r : Answer). r .number) answered) ∙ z)
 
-    call-which : (call 𝓕 (unified J 𝓕) ws s .number ≡ 0) ⊎ ((call 𝓕 (unified J 𝓕) ws s .number ≡ 6) ⊎ Refused (call 𝓕 (unified J 𝓕) ws s .number))
+    call-which : (call 𝓕 (unified J 𝓕) ws s .number ≡ 0)
+        ⊎ ((call 𝓕 (unified J 𝓕) ws s .number ≡ 6) ⊎ Refused (call 𝓕 (unified J 𝓕) ws s .number))
     call-which = subst (λ (r : Answer). (r .number ≡ 0) ⊎ ((r .number ≡ 6) ⊎ Refused (r .number))) (sym answered)
         (which J 𝓕 between (s .room) (s .work) (unified J 𝓕 between (s .room) (s .work))
         (unified-given 𝓡 between (s .room) (s .work)))
@@ -205,15 +210,18 @@ module _ {Graph : Type 0} {J : Joining Graph} {𝓛 : Laws J} {𝓜 : Structures
       let (t, g) = call-zero ws s d p e z in
       let first-well = front-well 𝓕 s d p in
       let second-well = back-well 𝓕 s d p in
-      let well = result-well (s .mode) (front 𝓕 s d) (back 𝓕 s d) t first-well second-well (g .by) (g .accepted .first-short) (g .accepted .second-short) in
+      let well = result-well (s .mode) (front 𝓕 s d) (back 𝓕 s d) t first-well second-well (g .by) (g .accepted .first-short)
+      (g .accepted .second-short) in
       (t, well, g .wrote, call-more 𝓡 L s d p m t (g .by))
 
-  calls : (l : List (Step 𝓕)) (L : List (List Graph)) (ws : List ℕ) → State 𝓡 L ws → (out : List ℕ) → reached 𝓕 (unified J 𝓕) ws l ≡ some out →
+  calls : (l : List (Step 𝓕)) (L : List (List Graph)) (ws : List ℕ) → State 𝓡 L ws → (out : List ℕ) →
+      reached 𝓕 (unified J 𝓕) ws l ≡ some out →
       State 𝓡 (pairs L (chosen (items 𝓕 l))) out
   calls [] L ws (d, p, e, m) out h =
       let k : ws ≡ out = cc in
       (d, p, sym k ∙ e, no-more 𝓛 L d m)
-  calls (s ∷ l) L ws st out h = go (eqb (call 𝓕 (unified J 𝓕) ws s .number) 0) (tells-eq (call 𝓕 (unified J 𝓕) ws s .number) 0) (λ L ws st. calls l L ws st out) h
+  calls (s ∷ l) L ws st out h = go (eqb (call 𝓕 (unified J 𝓕) ws s .number) 0) (tells-eq (call 𝓕 (unified J 𝓕) ws s .number) 0)
+      (λ L ws st. calls l L ws st out) h
     where
       b : Desc Graph
       b = s .item
@@ -222,8 +230,10 @@ module _ {Graph : Type 0} {J : Joining Graph} {𝓛 : Laws J} {𝓜 : Structures
       last (d, p, e, m) = (d, p, e, regroup 𝓛 L b d (items 𝓕 l) m)
 
       go : (t : Bool) → Tells (call 𝓕 (unified J 𝓕) ws s .number ≡ 0) t →
-          ((L : List (List Graph)) (ws : List ℕ) → State 𝓡 L ws → reached 𝓕 (unified J 𝓕) ws l ≡ some out → State 𝓡 (pairs L (chosen (items 𝓕 l))) out) →
-          _≡_ {A = Option (List ℕ)} (elim t [ true ↦ reached 𝓕 (unified J 𝓕) (call 𝓕 (unified J 𝓕) ws s .result) l | false ↦ none ]) (some out) → State 𝓡 (pairs L (chosen (items 𝓕 (s ∷ l)))) out
+          ((L : List (List Graph)) (ws : List ℕ) → State 𝓡 L ws → reached 𝓕 (unified J 𝓕) ws l ≡ some out →
+          State 𝓡 (pairs L (chosen (items 𝓕 l))) out) →
+          _≡_ {A = Option (List ℕ)} (elim t [ true ↦ reached 𝓕 (unified J 𝓕) (call 𝓕 (unified J 𝓕) ws s .result) l | false ↦ none ])
+          (some out) → State 𝓡 (pairs L (chosen (items 𝓕 (s ∷ l)))) out
       go true (holds z) ih h = last (ih (pairs L (choices b)) (call 𝓕 (unified J 𝓕) ws s .result) (one-call L ws st s z) h)
       go false n ih h = let z : _≡_ {A = ℕ} 0 1 = cc in absurd (omega arith)
 
@@ -241,12 +251,15 @@ module _ {Graph : Type 0} {J : Joining Graph} {𝓛 : Laws J} {𝓜 : Structures
           call 𝓕 (unified J 𝓕) ws s .number ≡ 6 → ways J (items 𝓕 l ++ s .item ∷ []) ≡ 0
       clash l ws s h z =
           let (d, p, e, m) = after-calls l ws h in
-          next-step 𝓡 l s d p m ∙ ap length (none-means 𝓛 (front 𝓕 s d) (back 𝓕 s d) (before-can ws s d p e) (behind-can ws s d p e) (call-six ws s d p e z))
+          next-step 𝓡 l s d p m ∙ ap length
+          (none-means 𝓛 (front 𝓕 s d) (back 𝓕 s d) (before-can ws s d p e) (behind-can ws s d p e) (call-six ws s d p e z))
 
       -- the consistent choices of both inputs are the ways
-      consistent-ways : (l : List (Step 𝓕)) (ws : List ℕ) (s : Step 𝓕) (d : Desc Graph) (p : WellFormed d depth-limit) (e : ws ≡ words d) → Stands-for 𝓛 (sofar J (items 𝓕 l)) d →
+      consistent-ways : (l : List (Step 𝓕)) (ws : List ℕ) (s : Step 𝓕) (d : Desc Graph) (p : WellFormed d depth-limit) (e : ws ≡ words d) →
+          Stands-for 𝓛 (sofar J (items 𝓕 l)) d →
           consistent J (front 𝓕 s d) (back 𝓕 s d) ≡ ways J (items 𝓕 l ++ s .item ∷ [])
-      consistent-ways l ws s d p e m = consistent-means 𝓛 (front 𝓕 s d) (back 𝓕 s d) (before-can ws s d p e) (behind-can ws s d p e) ∙ sym (next-step 𝓡 l s d p m)
+      consistent-ways l ws s d p e m = consistent-means 𝓛 (front 𝓕 s d) (back 𝓕 s d) (before-can ws s d p e) (behind-can ws s d p e)
+          ∙ sym (next-step 𝓡 l s d p m)
 
       counted : (l : List (Step 𝓕)) (ws : List ℕ) (s : Step 𝓕) → reached 𝓕 (unified J 𝓕) (start J 𝓕) l ≡ some ws → s .mode ≡ 2 →
           call 𝓕 (unified J 𝓕) ws s .number ≡ 0 → call 𝓕 (unified J 𝓕) ws s .readings ≡ ways J (items 𝓕 l ++ s .item ∷ [])
@@ -263,7 +276,8 @@ module _ {Graph : Type 0} {J : Joining Graph} {𝓛 : Laws J} {𝓜 : Structures
           (λ z.
           let (t, g) = call-zero ws s d p e z in
           let none-left : consistent J (front 𝓕 s d) (back 𝓕 s d) ≡ 0 = consistent-ways l ws s d p e m ∙ w in
-          let there : mode-result J 2 (front 𝓕 s d) (back 𝓕 s d) ≡ some t = subst (λ (n : ℕ). mode-result J n (front 𝓕 s d) (back 𝓕 s d) ≡ some t) k (g .by) in
+          let there : mode-result J 2 (front 𝓕 s d) (back 𝓕 s d) ≡ some t =
+          subst (λ (n : ℕ). mode-result J n (front 𝓕 s d) (back 𝓕 s d) ≡ some t) k (g .by) in
           absurd (no-full (front 𝓕 s d) (back 𝓕 s d) t none-left there))
           (λ x. x)
           (call-which ws s d p e)

@@ -12,7 +12,8 @@ use Rattle.descriptions.specs.Satisfaction.{Sat}
 use Rattle.descriptions.specs.Modes.{full, joined, quick}
 use Rattle.descriptions.specs.Call.{Call}
 use Rattle.descriptions.specs.Answer.{Answer}
-use Rattle.descriptions.specs.Rules.{Accepted, Clashes, Given, done, eight, five, four, mode-readings, mode-result, one, seven, six, six-after, three, two}
+use Rattle.descriptions.specs.Rules.{Accepted, Clashes, Given, done, eight, five, four, mode-readings, mode-result, one, seven, six}
+use Rattle.descriptions.specs.Rules.{six-after, three, two}
 use Rattle.descriptions.proofs.Mean.{Can}
 use Rattle.descriptions.proofs.Sense.{Both, full-sat, joined-sat, quick-sat}
 use Rattle.descriptions.proofs.Chain.{Means, both, full-result-means, joined-means, quick-means}

@@ -22,10 +22,13 @@ pub record Laws {Graph : Type 0} (J : Joining Graph) : Type 1 where
   -- a join is canonical
   pub fits : (gs : List Graph) → 0 < length gs → All Canonical gs → (K : Graph) → J .join gs ≡ some K → Canonical K
   -- order and repetition do not count
-  pub order : (c d : List Graph) → 0 < length c → 0 < length d → All Canonical c → All Canonical d → Within c d → Within d c → J .join c ≡ J .join d
+  pub order : (c d : List Graph) → 0 < length c → 0 < length d → All Canonical c → All Canonical d → Within c d → Within d c →
+      J .join c ≡ J .join d
   -- a clash stays
-  pub stays : (c d : List Graph) → 0 < length c → 0 < length d → All Canonical c → All Canonical d → Within c d → J .join c ≡ none → J .join d ≡ none
+  pub stays : (c d : List Graph) → 0 < length c → 0 < length d → All Canonical c → All Canonical d → Within c d → J .join c ≡ none →
+      J .join d ≡ none
   -- a join stands for what it joins
-  pub stands : (gs : List Graph) → 0 < length gs → All Canonical gs → (K : Graph) → J .join gs ≡ some K → (hs : List Graph) → All Canonical hs → J .join (K ∷ hs) ≡ J .join (gs ++ hs)
+  pub stands : (gs : List Graph) → 0 < length gs → All Canonical gs → (K : Graph) → J .join gs ≡ some K → (hs : List Graph) →
+      All Canonical hs → J .join (K ∷ hs) ≡ J .join (gs ++ hs)
   -- "the graph that says nothing"
   pub silent : (hs : List Graph) → All Canonical hs → J .join (J .nil ∷ hs) ≡ J .join hs

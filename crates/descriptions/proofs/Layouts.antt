@@ -25,7 +25,8 @@ pub record Reads {Graph : Type 0} {J : Joining Graph} (𝓛 : Laws J) (𝓕 : La
   pub well-can : (d : Desc Graph) → 𝓕 .WellFormed d depth-limit → Can 𝓛 d
   pub nothing-well : 𝓕 .WellFormed (desc (J .nil) end) depth-limit
   -- a result is well formed
-  pub result-well : (mode : ℕ) (a b d : Desc Graph) → 𝓕 .WellFormed a depth-limit → 𝓕 .WellFormed b depth-limit → mode-result J mode a b ≡ some d → length (𝓕 .words a) ≤ input-limit → length (𝓕 .words b) ≤ input-limit → 𝓕 .WellFormed d depth-limit
+  pub result-well : (mode : ℕ) (a b d : Desc Graph) → 𝓕 .WellFormed a depth-limit → 𝓕 .WellFormed b depth-limit →
+      mode-result J mode a b ≡ some d → length (𝓕 .words a) ≤ input-limit → length (𝓕 .words b) ≤ input-limit → 𝓕 .WellFormed d depth-limit
 
 module _ {Graph : Type 0} {J : Joining Graph} {𝓛 : Laws J} {𝓕 : Layout Graph} (𝓡 : Reads 𝓛 𝓕) where
   -- words are the image of one description only

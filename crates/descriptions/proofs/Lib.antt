@@ -1,5 +1,7 @@
--- `Laws`, `Weights`, `Senses` and `Layouts` are what is asked of a kind of graph, its structures and its words; `AgainstErrors` has the errors of the trade.
--- `Mean`, `Quick`, `Full`, `Satisfy`, `Sense`, `Chain` and `Modes` say what the modes keep; `Fuel` and `Rounds` have the rounds, `Live`, `Places`, `Picks`, `Ties` and `Counting` the choices, `Soft` the lengths.
+-- `Laws`, `Weights`, `Senses` and `Layouts` are what is asked of a kind of graph, its structures and its words; `AgainstErrors` has
+-- the errors of the trade.
+-- `Mean`, `Quick`, `Full`, `Satisfy`, `Sense`, `Chain` and `Modes` say what the modes keep; `Fuel` and `Rounds` have the rounds,
+-- `Live`, `Places`, `Picks`, `Ties` and `Counting` the choices, `Soft` the lengths.
 -- `Table`, `Kept` and `Areas` have the table of numbers; `Lists`, `Demands`, `Programs` and `Model` the demands.
 pub mod AgainstErrors
 pub mod Tests

@@ -12,7 +12,8 @@ use Rattle.descriptions.specs.Answer.{consistent}
 use Rattle.descriptions.specs.Rules.{mode-result}
 use Rattle.descriptions.specs.Demands.{chosen, descriptions, gathered, ways}
 use Rattle.descriptions.proofs.Laws.{All, Laws}
-use Rattle.descriptions.proofs.Mean.{AllFine, Can, Fine, Good, alike-set, choices-fine, fine-append, good-run, pairs-fine, run, run-cong, run-none, run-pairs, swap-within}
+use Rattle.descriptions.proofs.Mean.{AllFine, Can, Fine, Good, alike-set, choices-fine, fine-append, good-run, pairs-fine, run}
+use Rattle.descriptions.proofs.Mean.{run-cong, run-none, run-pairs, swap-within}
 use Rattle.descriptions.proofs.Quick.{good-leaf, leaf, meanings, one, readings-count}
 use Rattle.descriptions.proofs.Full.{AllFull, full-pairs}
 use Rattle.descriptions.proofs.Chain.{Means, agreeing-run, both, choices-full, consistent-means, result-means, same-run}
@@ -22,15 +23,18 @@ use Rattle.descriptions.specs.Joining.{Joining}
 use Rattle.descriptions.specs.Layout.{Layout}
 
 module _ {Graph : Type 0} where
-  chosen-append : (l m : List (Desc Graph)) (c : List Graph) (k : List Graph → List Graph) → run (chosen (l ++ m)) c k ≡ run (chosen l) c (λ d. run (chosen m) d k)
+  chosen-append : (l m : List (Desc Graph)) (c : List Graph) (k : List Graph → List Graph) →
+      run (chosen (l ++ m)) c k ≡ run (chosen l) c (λ d. run (chosen m) d k)
   chosen-append [] m c k = ap (λ (z : List Graph). run (chosen m) z k) (sym (append-nil c)) ∙ sym (append-nil (run (chosen m) (c ++ []) k))
   chosen-append (d ∷ l) m c k =
       run-pairs (choices d) (chosen (l ++ m)) c k
-      ∙ run-cong (choices d) c c (λ d. run (chosen (l ++ m)) d k) (λ d. run (chosen l) d (λ e. run (chosen m) e k)) (λ r i. chosen-append l m (c ++ r) k)
+      ∙ run-cong (choices d) c c (λ d. run (chosen (l ++ m)) d k) (λ d. run (chosen l) d (λ e. run (chosen m) e k))
+      (λ r i. chosen-append l m (c ++ r) k)
       ∙ sym (run-pairs (choices d) (chosen l) c (λ d. run (chosen m) d k))
 
   -- what two continuations find together
-  run-sum : (l : List (List Graph)) (c : List Graph) (j k : List Graph → List Graph) → length (run l c (λ d. j d ++ k d)) ≡ length (run l c j) + length (run l c k)
+  run-sum : (l : List (List Graph)) (c : List Graph) (j k : List Graph → List Graph) →
+      length (run l c (λ d. j d ++ k d)) ≡ length (run l c j) + length (run l c k)
   run-sum [] c j k = refl
   run-sum (r ∷ l) c j k =
       let e = run-sum l c j k in
@@ -83,7 +87,8 @@ module _ {Graph : Type 0} {J : Joining Graph} (𝓛 : Laws J) where
       let fr : Fine 𝓛 r = f r (List·Memᴰ·head refl) in
       let rest = swap-runs l m (λ c i. f c (List·Memᴰ·tail i)) h k g in
       let here : run m r k ≡ run m [] (λ c. k (c ++ r)) = run-cong m r [] k (λ c. k (c ++ r)) (λ c i. turned c (h c i)) in
-      length-append (run m r k) (run l [] (λ c. run m c k)) ∙ ap₂ _+_ (ap length here) rest ∙ sym (run-sum m [] (λ c. k (c ++ r)) (λ c. run l c k))
+      length-append (run m r k) (run l [] (λ c. run m c k)) ∙ ap₂ _+_ (ap length here) rest
+      ∙ sym (run-sum m [] (λ c. k (c ++ r)) (λ c. run l c k))
     where
       turned : (c : List Graph) → Fine 𝓛 c → k (r ++ c) ≡ k (c ++ r)
       turned c fc =
@@ -111,7 +116,8 @@ module _ {Graph : Type 0} {J : Joining Graph} (𝓛 : Laws J) where
   nil-leaf r f = ap one (𝓛 .silent r f)
 
   prefixed : (l : List (List Graph)) → AllFine 𝓛 l → run (pairs (choices (nothing-said J)) l) [] (leaf J) ≡ run l [] (leaf J)
-  prefixed l f = run-pairs (choices (nothing-said J)) l [] (leaf J) ∙ append-nil (run l (nil ∷ []) (leaf J)) ∙ run-cong l (nil ∷ []) [] (leaf J) (leaf J) (λ r m. nil-leaf r (f r m))
+  prefixed l f = run-pairs (choices (nothing-said J)) l [] (leaf J) ∙ append-nil (run l (nil ∷ []) (leaf J))
+      ∙ run-cong l (nil ∷ []) [] (leaf J) (leaf J) (λ r m. nil-leaf r (f r m))
 
   -- what a mode makes of two descriptions stands for the choices of the first, each with those of the second
   result-run : (mode : ℕ) (a b : Desc Graph) → Can 𝓛 a → Can 𝓛 b → (t : Desc Graph) → mode-result J mode a b ≡ some t →
@@ -121,12 +127,15 @@ module _ {Graph : Type 0} {J : Joining Graph} (𝓛 : Laws J) where
       let means : meanings J t ≡ both J a b = subst (Means J (both J a b)) e (result-means 𝓛 mode a b p q) in
       let full-t = choices-full 𝓛 t (mode-can 𝓛 mode a b p q t e) in
       let full-ab = full-pairs 𝓛 (choices a) (choices b) (choices-full 𝓛 a p) (choices-fine 𝓛 b q) in
-      same-run 𝓛 k g (choices t) (pairs (choices a) (choices b)) full-t full-ab (means ∙ sym (run-pairs (choices a) (choices b) [] (leaf J)))
+      same-run 𝓛 k g (choices t) (pairs (choices a) (choices b)) full-t full-ab (means
+      ∙ sym (run-pairs (choices a) (choices b) [] (leaf J)))
       ∙ run-pairs (choices a) (choices b) [] k
 
   module _ (L : List (List Graph)) (d : Desc Graph) (p : Can 𝓛 d) (m : Stands-for L d) (b : Desc Graph) (q : Can 𝓛 b) where
-    with-more : (k : List Graph → List Graph) → Good 𝓛 k → length (run (choices d) [] (λ c. run (choices b) c k)) ≡ length (run (pairs L (choices b)) [] k)
-    with-more k g = m (λ c. run (choices b) c k) (good-run 𝓛 (choices b) k (choices-fine 𝓛 b q) g) ∙ ap length (sym (run-pairs L (choices b) [] k))
+    with-more : (k : List Graph → List Graph) → Good 𝓛 k →
+        length (run (choices d) [] (λ c. run (choices b) c k)) ≡ length (run (pairs L (choices b)) [] k)
+    with-more k g = m (λ c. run (choices b) c k) (good-run 𝓛 (choices b) k (choices-fine 𝓛 b q) g)
+        ∙ ap length (sym (run-pairs L (choices b) [] k))
 
     -- one call, whichever input it is in: the result stands for the choices of both
     pub one-more : (mode : ℕ) (t : Desc Graph) → mode-result J mode d b ≡ some t → Stands-for (pairs L (choices b)) t
@@ -150,32 +159,42 @@ module _ {Graph : Type 0} {J : Joining Graph} (𝓛 : Laws J) where
   all-more (d ∷ l) b c q = (c .0, all-more l b (c .1) q)
 
   -- one more description on the list
-  more-run : (l : List (Desc Graph)) (b : Desc Graph) → AllCan l → Can 𝓛 b → run (pairs (sofar J l) (choices b)) [] (leaf J) ≡ run (chosen (l ++ b ∷ [])) [] (leaf J)
+  more-run : (l : List (Desc Graph)) (b : Desc Graph) → AllCan l → Can 𝓛 b →
+      run (pairs (sofar J l) (choices b)) [] (leaf J) ≡ run (chosen (l ++ b ∷ [])) [] (leaf J)
   more-run l b ca q =
       let K : List Graph → List Graph = λ c. run (choices b) c (leaf J) in
       run-pairs (sofar J l) (choices b) [] (leaf J)
       ∙ run-pairs (choices (nothing-said J)) (chosen l) [] K
-      ∙ run-cong (choices (nothing-said J)) [] [] (λ c. run (chosen l) c K) (λ c. run (chosen (l ++ b ∷ [])) c (leaf J)) (λ r i. run-cong (chosen l) r r K (λ c. run (chosen (b ∷ [])) c (leaf J)) (λ x j. single (r ++ x)) ∙ sym (chosen-append l (b ∷ []) r (leaf J)))
+      ∙ run-cong (choices (nothing-said J)) [] [] (λ c. run (chosen l) c K) (λ c. run (chosen (l ++ b ∷ [])) c (leaf J))
+      (λ r i. run-cong (chosen l) r r K (λ c. run (chosen (b ∷ [])) c (leaf J)) (λ x j. single (r ++ x))
+      ∙ sym (chosen-append l (b ∷ []) r (leaf J)))
       ∙ sym (run-pairs (choices (nothing-said J)) (chosen (l ++ b ∷ [])) [] (leaf J))
       ∙ prefixed (chosen (l ++ b ∷ [])) (chosen-fine (l ++ b ∷ []) (all-more l b ca q))
     where
       single : (c : List Graph) → run (choices b) c (leaf J) ≡ run (pairs (choices b) ([] ∷ [])) c (leaf J)
-      single c = run-cong (choices b) c c (leaf J) (λ d. run ([] ∷ []) d (leaf J)) (λ r i. ap (leaf J) (sym (append-nil (c ++ r))) ∙ sym (append-nil (leaf J ((c ++ r) ++ [])))) ∙ sym (run-pairs (choices b) ([] ∷ []) c (leaf J))
+      single c = run-cong (choices b) c c (leaf J) (λ d. run ([] ∷ []) d (leaf J)) (λ r i. ap (leaf J) (sym (append-nil (c ++ r)))
+          ∙ sym (append-nil (leaf J ((c ++ r) ++ [])))) ∙ sym (run-pairs (choices b) ([] ∷ []) c (leaf J))
 
-  pub next-ways : (l : List (Desc Graph)) → AllCan l → (d : Desc Graph) → Can 𝓛 d → Stands-for (sofar J l) d → (b : Desc Graph) → Can 𝓛 b → ways J (l ++ b ∷ []) ≡ length (both J d b)
-  next-ways l c d p m b q = agreeing-run J (chosen (l ++ b ∷ [])) ∙ ap length (sym (more-run l b c q)) ∙ sym (with-more (sofar J l) d p m b q (leaf J) (good-leaf 𝓛))
+  pub next-ways : (l : List (Desc Graph)) → AllCan l → (d : Desc Graph) → Can 𝓛 d → Stands-for (sofar J l) d → (b : Desc Graph) → Can 𝓛 b →
+      ways J (l ++ b ∷ []) ≡ length (both J d b)
+  next-ways l c d p m b q = agreeing-run J (chosen (l ++ b ∷ [])) ∙ ap length (sym (more-run l b c q))
+      ∙ sym (with-more (sofar J l) d p m b q (leaf J) (good-leaf 𝓛))
 
   gathers : (l : List (ℕ × Desc Graph)) → AllCan (descriptions l) → (L : List (List Graph)) (d : Desc Graph) → Can 𝓛 d → Stands-for L d →
       (t : Desc Graph) → gathered J d l ≡ some t → Can 𝓛 t × Stands-for (pairs L (chosen (descriptions l))) t
-  gathers [] c L d p m t e = let k : d ≡ t = cc in subst (λ (z : Desc Graph). Can 𝓛 z × Stands-for (pairs L ([] ∷ [])) z) k (p, no-more L d m)
-  gathers (s ∷ l) c L d p m t e = go (mode-result J (s .0) d (s .1)) refl (λ r cr mr. gathers l (c .1) (pairs L (choices (s .1))) r cr mr t) e
+  gathers [] c L d p m t e = let k : d ≡ t = cc in
+      subst (λ (z : Desc Graph). Can 𝓛 z × Stands-for (pairs L ([] ∷ [])) z) k (p, no-more L d m)
+  gathers (s ∷ l) c L d p m t e =
+      go (mode-result J (s .0) d (s .1)) refl (λ r cr mr. gathers l (c .1) (pairs L (choices (s .1))) r cr mr t) e
     where
       More : List (List Graph)
       More = pairs L (choices (s .1))
 
       go : (o : Option (Desc Graph)) → mode-result J (s .0) d (s .1) ≡ o →
-          ((r : Desc Graph) → Can 𝓛 r → Stands-for More r → gathered J r l ≡ some t → Can 𝓛 t × Stands-for (pairs More (chosen (descriptions l))) t) →
-          _≡_ {A = Option (Desc Graph)} (elim o [ none ↦ none | some e ↦ gathered J e l ]) (some t) → Can 𝓛 t × Stands-for (pairs L (chosen (descriptions (s ∷ l)))) t
+          ((r : Desc Graph) → Can 𝓛 r → Stands-for More r → gathered J r l ≡ some t →
+          Can 𝓛 t × Stands-for (pairs More (chosen (descriptions l))) t) →
+          _≡_ {A = Option (Desc Graph)} (elim o [ none ↦ none | some e ↦ gathered J e l ]) (some t) →
+          Can 𝓛 t × Stands-for (pairs L (chosen (descriptions (s ∷ l)))) t
       go none h ih e = let z : _≡_ {A = ℕ} 0 1 = cc in absurd (omega arith)
       go (some r) h ih e =
           let (ct, mt) = ih r (mode-can 𝓛 (s .0) d (s .1) p (c .0) r h) (one-more L d p m (s .1) (c .0) (s .0) r h) e in
@@ -193,11 +212,13 @@ module _ {Graph : Type 0} {J : Joining Graph} (𝓛 : Laws J) (𝓕 : Layout Gra
     module _ (b : Desc Graph) (q : Can 𝓛 b) where
       -- a mode fails only when the number is zero
       pub gathered-clash : (mode : ℕ) → mode-result J mode d b ≡ none → ways J (descriptions l ++ b ∷ []) ≡ 0
-      gathered-clash mode e = next-ways 𝓛 (descriptions l) c d (gathered-stands .0) (gathered-stands .1) b q ∙ ap length (subst (Means J (both J d b)) e (result-means 𝓛 mode d b (gathered-stands .0) q))
+      gathered-clash mode e = next-ways 𝓛 (descriptions l) c d (gathered-stands .0) (gathered-stands .1) b q
+          ∙ ap length (subst (Means J (both J d b)) e (result-means 𝓛 mode d b (gathered-stands .0) q))
 
       -- the complete mode counts the ways, and fails whenever there is none
       pub gathered-counted : consistent J d b ≡ ways J (descriptions l ++ b ∷ [])
-      gathered-counted = consistent-means 𝓛 d b (gathered-stands .0) q ∙ sym (next-ways 𝓛 (descriptions l) c d (gathered-stands .0) (gathered-stands .1) b q)
+      gathered-counted = consistent-means 𝓛 d b (gathered-stands .0) q
+          ∙ sym (next-ways 𝓛 (descriptions l) c d (gathered-stands .0) (gathered-stands .1) b q)
 
       pub gathered-told : ways J (descriptions l ++ b ∷ []) ≡ 0 → mode-result J 2 d b ≡ none
       gathered-told z = full-is J 𝓕 d b (gathered-counted ∙ z)

@@ -33,7 +33,8 @@ module _ {Graph : Type 0} {J : Joining Graph} {𝓛 : Laws J} {𝓜 : Structures
   pub graphs-model : (r : List Graph) → Fine 𝓛 r → (G : Graph) → join r ≡ some G → (S : Structure) × Proper S × SatisfiesAll 𝓜 S r
   graphs-model r f G e = let (S, p, s) = 𝓢 .model r (f .0) (f .1) G e in (S, p, 𝓢 .joined-satisfied r (f .0) (f .1) G e S .0 s)
 
-  pub consistent-satisfied : (d : Desc Graph) → Can 𝓛 d → (r : List Graph) → List·Memᴰ r (choices d) → agree J r ≡ true → (S : Structure) × Proper S × SatisfiesAll 𝓜 S r × Sat 𝓜 S d
+  pub consistent-satisfied : (d : Desc Graph) → Can 𝓛 d → (r : List Graph) → List·Memᴰ r (choices d) → agree J r ≡ true →
+      (S : Structure) × Proper S × SatisfiesAll 𝓜 S r × Sat 𝓜 S d
   consistent-satisfied d c r i h =
       let (G, e) = agree-view J r (join r) refl h in
       let (S, p, s) = graphs-model r (choices-full 𝓛 d c r i) G e in

@@ -1,4 +1,5 @@
--- What each mode keeps, mode by mode in one theorem each: satisfaction, the number of readings, and when it fails; and that order and repetition of graphs do not matter.
+-- What each mode keeps, mode by mode in one theorem each: satisfaction, the number of readings, and when it fails; and that order and
+-- repetition of graphs do not matter.
 -- Assumes nothing.
 use mathlib.Core.Path.{_≡_, ap, sym, _∙_, subst, refl}
 use mathlib.Core.Logic.{_↔_}
@@ -47,7 +48,8 @@ module _ {Graph : Type 0} {J : Joining Graph} (𝓛 : Laws J) where
       two j none t h = let z : _≡_ {A = ℕ} 0 1 = cc in absurd (omega arith)
       two j (some f) t h = let k : f ≡ d = cc in subst (Can 𝓛) k (t .0)
 
-      go : (o : Option (Desc Graph)) → joined J a b ≡ o → _≡_ {A = Option (Desc Graph)} (elim o [ none ↦ none | some j ↦ tidy J (suc (size j)) nil j ]) (some d) → Can 𝓛 d
+      go : (o : Option (Desc Graph)) → joined J a b ≡ o →
+          _≡_ {A = Option (Desc Graph)} (elim o [ none ↦ none | some j ↦ tidy J (suc (size j)) nil j ]) (some d) → Can 𝓛 d
       go none h e = let z : _≡_ {A = ℕ} 0 1 = cc in absurd (omega arith)
       go (some j) h e = two j (tidy J (suc (size j)) nil j) (tidy-ok 𝓛 (suc (size j)) nil nil-canonical j (can-joined 𝓛 a b j p q h)) e
 
@@ -55,11 +57,16 @@ module _ {Graph : Type 0} {J : Joining Graph} (𝓛 : Laws J) where
   unfolding full
   full-can a b d p q e = go (joined J a b) refl e
     where
-      two : (j : Desc Graph) → Can 𝓛 j → (t : Bool) → _≡_ {A = Option (Desc Graph)} (elim t [ true ↦ some (fold J (prune J whole j)) | false ↦ none ]) (some d) → Can 𝓛 d
+      two : (j : Desc Graph) → Can 𝓛 j → (t : Bool) →
+          _≡_ {A = Option (Desc Graph)} (elim t [ true ↦ some (fold J (prune J whole j)) | false ↦ none ]) (some d) → Can 𝓛 d
       two j c true h = let k : fold J (prune J whole j) ≡ d = cc in subst (Can 𝓛) k (fold-ok 𝓛 (prune J whole j) (prune-can 𝓛 j c whole) .0)
       two j c false h = let z : _≡_ {A = ℕ} 0 1 = cc in absurd (omega arith)
 
-      go : (o : Option (Desc Graph)) → joined J a b ≡ o → _≡_ {A = Option (Desc Graph)} (elim o [ none ↦ none | some j ↦ elim (some-agree J (choices j)) [ true ↦ some (fold J (prune J whole j)) | false ↦ none ] ]) (some d) → Can 𝓛 d
+      go : (o : Option (Desc Graph)) → joined J a b ≡ o →
+          _≡_ {A = Option (Desc Graph)} (elim o [
+            | none ↦ none
+            | some j ↦ elim (some-agree J (choices j)) [ true ↦ some (fold J (prune J whole j)) | false ↦ none ]
+          ]) (some d) → Can 𝓛 d
       go none h e = let z : _≡_ {A = ℕ} 0 1 = cc in absurd (omega arith)
       go (some j) h e = two j (can-joined 𝓛 a b j p q h) (some-agree J (choices j)) e
 
@@ -76,7 +83,8 @@ module _ {Graph : Type 0} {J : Joining Graph} (𝓛 : Laws J) where
 
       -- the result has as many readings as the joined description
       pub mode-readings-kept : (d : Desc Graph) → mode-result J mode a b ≡ some d → readings J d ≡ readings J j
-      mode-readings-kept d e = readings-count J d ∙ ap length (subst (Means J (both J a b)) e (result-means 𝓛 mode a b p q)) ∙ sym joined-number
+      mode-readings-kept d e = readings-count J d ∙ ap length (subst (Means J (both J a b)) e (result-means 𝓛 mode a b p q))
+          ∙ sym joined-number
 
       -- a mode fails only where the joined description has no reading
       pub mode-fails : mode-result J mode a b ≡ none → readings J j ≡ 0

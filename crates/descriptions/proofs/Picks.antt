@@ -2,7 +2,8 @@
 -- Assumes nothing.
 use mathlib.Core.Path.{_≡_, refl, ap, ap₂, sym, _∙_, subst}
 use mathlib.Core.Logic.{_⊎_, inl, inr, ⊎-elim}
-use mathlib.Core.List.{List, [], _∷_, _++_, map, List·Memᴰ, List·Memᴰ·head, List·Memᴰ·tail, List·Memᴰ·cases-cons, List·Memᴰ·not-nil, List·Memᴰ·append-cases, Memᴰ·append-left, Memᴰ·append-right}
+use mathlib.Core.List.{List, [], _∷_, _++_, map, List·Memᴰ, List·Memᴰ·head, List·Memᴰ·tail, List·Memᴰ·cases-cons, List·Memᴰ·not-nil}
+use mathlib.Core.List.{List·Memᴰ·append-cases, Memᴰ·append-left, Memᴰ·append-right}
 use Prim.Native.Nat.{ℕ}
 use native.Mathlib.Omega.{arith}
 use Rattle.descriptions.specs.Descr.{Alts, Desc, Disjs, _and_, _or_, choices, choices-all, choices-any, desc, each, end, fail, pairs}
@@ -25,7 +26,8 @@ map-map {A} {B} {C} f g (x ∷ l) = ap (λ (z : List C). g (f x) ∷ z) (map-map
 beside-in : {A B : Type 0} (k : List A) (l : List B) (x : A) (y : B) → List·Memᴰ x k → List·Memᴰ y l → List·Memᴰ (x, y) (beside-all k l)
 beside-in [] l x y i j = absurd (List·Memᴰ·not-nil i)
 beside-in {A} {B} (z ∷ k) l x y i j = ⊎-elim
-    (λ e. Memᴰ·append-left (beside-all k l) (subst (λ (w : A). List·Memᴰ {A = A × B} (w, y) (map (λ (v : B). (z, v)) l)) (sym e) (map-in (λ (v : B). (z, v)) l y j)))
+    (λ e. Memᴰ·append-left (beside-all k l)
+    (subst (λ (w : A). List·Memᴰ {A = A × B} (w, y) (map (λ (v : B). (z, v)) l)) (sym e) (map-in (λ (v : B). (z, v)) l y j)))
     (λ h. Memᴰ·append-right (map (λ (v : B). (z, v)) l) (beside-in k l x y h j)) (List·Memᴰ·cases-cons i)
 
 -- and once
@@ -33,13 +35,15 @@ map-from : {A B : Type 0} (f : A → B) (l : List A) (y : B) → List·Memᴰ y 
 map-from f [] y i = absurd (List·Memᴰ·not-nil i)
 map-from {A} {B} f (z ∷ l) y i = go (List·Memᴰ·cases-cons i) (map-from f l y)
   where
-    go : (y ≡ f z) ⊎ List·Memᴰ y (map f l) → (List·Memᴰ y (map f l) → (x : A) × List·Memᴰ x l × (y ≡ f x)) → (x : A) × List·Memᴰ x (z ∷ l) × (y ≡ f x)
+    go : (y ≡ f z) ⊎ List·Memᴰ y (map f l) → (List·Memᴰ y (map f l) → (x : A) × List·Memᴰ x l × (y ≡ f x)) →
+        (x : A) × List·Memᴰ x (z ∷ l) × (y ≡ f x)
     go (inl e) s = (z, List·Memᴰ·head refl, e)
     go (inr j) s = let (x, k, e) = s j in (x, List·Memᴰ·tail k, e)
 
 map-distinct : {A B : Type 0} (f : A → B) → ((x y : A) → f x ≡ f y → x ≡ y) → (l : List A) → Distinct l → Distinct (map f l)
 map-distinct f h [] d = tt
-map-distinct {A} f h (x ∷ l) d = (λ i. let (y, j, e) = map-from f l (f x) i in d .0 (subst (λ (z : A). List·Memᴰ z l) (sym (h x y e)) j), map-distinct f h l (d .1))
+map-distinct {A} f h (x ∷ l) d =
+    (λ i. let (y, j, e) = map-from f l (f x) i in d .0 (subst (λ (z : A). List·Memᴰ z l) (sym (h x y e)) j), map-distinct f h l (d .1))
 
 beside-first : {A B : Type 0} (k : List A) (l : List B) (p : A × B) → List·Memᴰ p (beside-all k l) → List·Memᴰ (p .0) k
 beside-first [] l p i = absurd (List·Memᴰ·not-nil i)
@@ -51,7 +55,8 @@ beside-distinct : {A B : Type 0} (k : List A) (l : List B) → Distinct k → Di
 beside-distinct [] l p q = tt
 beside-distinct {A} {B} (x ∷ k) l p q = distinct-append (map (λ (v : B). (x, v)) l) (beside-all k l)
     (map-distinct (λ (v : B). (x, v)) (λ u v e. ap (λ (z : A × B). z .1) e) l q) (beside-distinct k l (p .1) q)
-    (λ z i j. let (y, m, e) = map-from (λ (v : B). (x, v)) l z i in p .0 (subst (λ (w : A). List·Memᴰ w k) (ap (λ (z : A × B). z .0) e) (beside-first k l z j)))
+    (λ z i j. let (y, m, e) = map-from (λ (v : B). (x, v)) l z i in
+    p .0 (subst (λ (w : A). List·Memᴰ w k) (ap (λ (z : A × B). z .0) e) (beside-first k l z j)))
 
 module _ {Graph : Type 0} where
   abbrev mutual
@@ -70,10 +75,12 @@ module _ {Graph : Type 0} where
   each-map c g [] = refl
   each-map c g (y ∷ l) = ap (λ (z : List (List Graph)). (c ++ g y) ∷ z) (each-map c g l)
 
-  pairs-map : {A B : Type 0} (f : A → List Graph) (g : B → List Graph) (k : List A) (l : List B) → pairs (map f k) (map g l) ≡ map (λ (p : A × B). f (p .0) ++ g (p .1)) (beside-all k l)
+  pairs-map : {A B : Type 0} (f : A → List Graph) (g : B → List Graph) (k : List A) (l : List B) →
+      pairs (map f k) (map g l) ≡ map (λ (p : A × B). f (p .0) ++ g (p .1)) (beside-all k l)
   pairs-map f g [] l = refl
   pairs-map {A} {B} f g (x ∷ k) l =
-      ap₂ {C = List (List Graph)} _++_ (each-map (f x) g l ∙ sym (map-map (λ (y : B). (x, y)) (λ (p : A × B). f (p .0) ++ g (p .1)) l)) (pairs-map f g k l)
+      ap₂ {C = List (List Graph)} _++_ (each-map (f x) g l ∙ sym (map-map (λ (y : B). (x, y)) (λ (p : A × B). f (p .0) ++ g (p .1)) l))
+      (pairs-map f g k l)
       ∙ sym (map-append (λ (p : A × B). f (p .0) ++ g (p .1)) (map (λ (y : B). (x, y)) l) (beside-all k l))
 
   mutual
@@ -82,7 +89,8 @@ module _ {Graph : Type 0} where
 
     choices-all-picks : (ds : Disjs Graph) → choices-all ds ≡ map (taken-all ds) (picks-all ds)
     choices-all-picks end = refl
-    choices-all-picks (a and ds) = ap₂ {C = List (List Graph)} pairs (choices-any-picks a) (choices-all-picks ds) ∙ pairs-map (taken-any a) (taken-all ds) (picks-any a) (picks-all ds)
+    choices-all-picks (a and ds) = ap₂ {C = List (List Graph)} pairs (choices-any-picks a) (choices-all-picks ds)
+        ∙ pairs-map (taken-any a) (taken-all ds) (picks-any a) (picks-all ds)
 
     choices-any-picks : (a : Alts Graph) → choices-any a ≡ map (taken-any a) (picks-any a)
     choices-any-picks fail = refl
@@ -116,4 +124,5 @@ module _ {Graph : Type 0} where
     picks-any-distinct fail = tt
     picks-any-distinct (d or a) = distinct-append (map inl (picks d)) (map inr (picks-any a))
         (map-distinct inl (λ x y e. cc) (picks d) (picks-distinct d)) (map-distinct inr (λ x y e. cc) (picks-any a) (picks-any-distinct a))
-        (λ z i j. let (x, m, e) = map-from inl (picks d) z i in let (y, n, f) = map-from inr (picks-any a) z j in let w : _≡_ {A = ℕ} 0 1 = cc in omega arith)
+        (λ z i j. let (x, m, e) = map-from inl (picks d) z i in let (y, n, f) = map-from inr (picks-any a) z j in
+        let w : _≡_ {A = ℕ} 0 1 = cc in omega arith)

@@ -42,7 +42,8 @@ small-zeros (suc n) = small-zeros n
 
 zeros-words : (n : ℕ) → n < length-limit → are-words (replicate n 0) ≡ true
 zeros-words n h =
-    let e : ltb (length {A = ℕ} (replicate n 0)) length-limit ≡ true = ap (λ (k : ℕ). ltb k length-limit) (length-replicate {A = ℕ} n 0) ∙ lt-ltb n length-limit h in
+    let e : ltb (length {A = ℕ} (replicate n 0)) length-limit ≡ true = ap (λ (k : ℕ). ltb k length-limit) (length-replicate {A = ℕ} n 0)
+    ∙ lt-ltb n length-limit h in
     ap₂ _&&_ e (small-zeros n)
 
 -- blank areas of any size that a machine has can come in
@@ -100,7 +101,8 @@ module _ {Graph : Type 0} {J : Joining Graph} {𝓛 : Laws J} {𝓜 : Structures
 
     reached-same : (l : List (Step 𝓕)) (ws : List ℕ) → reached 𝓕 U ws l ≡ reached 𝓕 (unified J 𝓕) ws l
     reached-same [] ws = refl
-    reached-same (s ∷ l) ws = ap (next (eqb (call 𝓕 U ws s .number) 0)) (reached-same l (call 𝓕 U ws s .result)) ∙ ap (after l) (sym (called ws s))
+    reached-same (s ∷ l) ws = ap (next (eqb (call 𝓕 U ws s .number) 0)) (reached-same l (call 𝓕 U ws s .result))
+        ∙ ap (after l) (sym (called ws s))
       where
         next : Bool → Option (List ℕ) → Option (List ℕ)
         next t o = elim t [ true ↦ o | false ↦ none ]
@@ -114,9 +116,12 @@ module _ {Graph : Type 0} {J : Joining Graph} {𝓛 : Laws J} {𝓜 : Structures
     pub table-demand3 : Demand3 J 𝓕 U
     table-demand3 = record {
       number = λ l ws e. demand3 𝓢 𝓡 .number l ws (came l ws e);
-      clash = λ l ws s e. subst (λ (r : Answer). r .number ≡ 6 → ways J (items 𝓕 l ++ s .item ∷ []) ≡ 0) (called ws s) (demand3 𝓢 𝓡 .clash l ws s (came l ws e));
-      told = λ l ws s e m z. subst (λ (r : Answer). (r .number ≡ 6) ⊎ Refused (r .number)) (called ws s) (demand3 𝓢 𝓡 .told l ws s (came l ws e) m z);
-      counted = λ l ws s e m. subst (λ (r : Answer). r .number ≡ 0 → r .readings ≡ ways J (items 𝓕 l ++ s .item ∷ [])) (called ws s) (demand3 𝓢 𝓡 .counted l ws s (came l ws e) m);
+      clash = λ l ws s e. subst (λ (r : Answer). r .number ≡ 6 →
+          ways J (items 𝓕 l ++ s .item ∷ []) ≡ 0) (called ws s) (demand3 𝓢 𝓡 .clash l ws s (came l ws e));
+      told = λ l ws s e m z. subst (λ (r : Answer). (r .number ≡ 6) ⊎ Refused (r .number)) (called ws s)
+          (demand3 𝓢 𝓡 .told l ws s (came l ws e) m z);
+      counted = λ l ws s e m. subst (λ (r : Answer). r .number ≡ 0 → r .readings ≡ ways J (items 𝓕 l ++ s .item ∷ [])) (called ws s)
+          (demand3 𝓢 𝓡 .counted l ws s (came l ws e) m);
     }
 
   module _ (P : Program) (m : Meets J 𝓕 P) where

@@ -42,7 +42,8 @@ module _ {Graph : Type 0} (J : Joining Graph) where
       go [] = refl
       go (c ∷ l) = step (join c) (go l)
         where
-          step : (o : Option Graph) → agreeing J l ≡ length (run l [] leaf) → elim (answers o) [ true ↦ suc (agreeing J l) | false ↦ agreeing J l ] ≡ length (one o ++ run l [] leaf)
+          step : (o : Option Graph) → agreeing J l ≡ length (run l [] leaf) →
+              elim (answers o) [ true ↦ suc (agreeing J l) | false ↦ agreeing J l ] ≡ length (one o ++ run l [] leaf)
           step none e = e
           step (some G) e = ap suc e
 

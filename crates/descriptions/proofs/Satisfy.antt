@@ -3,7 +3,8 @@
 use mathlib.Core.Path.{_≡_, refl, subst}
 use mathlib.Core.Logic.{_⊎_, inl, inr, ⊎-elim, _↔_}
 use mathlib.Core.Option.{Option, none, some}
-use mathlib.Core.List.{List, [], _∷_, _++_, List·Memᴰ, List·Memᴰ·head, List·Memᴰ·tail, List·Memᴰ·cases-cons, List·Memᴰ·not-nil, List·Memᴰ·eq-of-singleton, List·Memᴰ·append-cases, Memᴰ·append-left, Memᴰ·append-right}
+use mathlib.Core.List.{List, [], _∷_, _++_, List·Memᴰ, List·Memᴰ·head, List·Memᴰ·tail, List·Memᴰ·cases-cons, List·Memᴰ·not-nil}
+use mathlib.Core.List.{List·Memᴰ·eq-of-singleton, List·Memᴰ·append-cases, Memᴰ·append-left, Memᴰ·append-right}
 use Prim.Native.Nat.{_<_}
 use native.Mathlib.Omega.{arith}
 use lib.ListN.{length}
@@ -92,7 +93,8 @@ module _ {Graph : Type 0} {J : Joining Graph} {𝓛 : Laws J} {𝓜 : Structures
     meant-of (r ∷ l) f (t, i, s) = go (List·Memᴰ·cases-cons i) (λ j. meant-of l (λ u m. f u (List·Memᴰ·tail m)) (t, j, s))
       where
         go : (t ≡ r) ⊎ List·Memᴰ t l → (List·Memᴰ t l → Meant (run l [] (leaf J))) → Meant (leaf J r ++ run l [] (leaf J))
-        go (inl e) k = let (G, m, u) = one-of r (f r (List·Memᴰ·head refl)) .0 (subst (SatisfiesAll 𝓜 S) e s) in (G, Memᴰ·append-left (run l [] (leaf J)) m, u)
+        go (inl e) k = let (G, m, u) = one-of r (f r (List·Memᴰ·head refl)) .0 (subst (SatisfiesAll 𝓜 S) e s) in
+            (G, Memᴰ·append-left (run l [] (leaf J)) m, u)
         go (inr j) k = let (G, m, u) = k j in (G, Memᴰ·append-right (leaf J r) m, u)
 
     of-meant : (l : List (List Graph)) → ((r : List Graph) → List·Memᴰ r l → Fine 𝓛 r) → Meant (run l [] (leaf J)) → Chosen l

@@ -50,11 +50,18 @@ module _ {Graph : Type 0} {J : Joining Graph} {𝓛 : Laws J} {𝓜 : Structures
     unfolding joined
     joined-sat (desc g ds) (desc h es) p q = go (join (g ∷ h ∷ [])) refl
       where
-        go : (o : Option Graph) → join (g ∷ h ∷ []) ≡ o → Both (desc g ds) (desc h es) (elim o [ none ↦ none | some k ↦ some (desc k (ds then es)) ])
+        go : (o : Option Graph) → join (g ∷ h ∷ []) ≡ o →
+            Both (desc g ds) (desc h es) (elim o [ none ↦ none | some k ↦ some (desc k (ds then es)) ])
         go none e = λ s t. 𝓢 .clash-unsatisfied (g ∷ h ∷ []) (omega arith) (p .0, (q .0, tt)) e S (s .0, (t .0, tt))
         go (some k) e =
-            let i = 𝓢 .joined-satisfied (g ∷ h ∷ []) (omega arith) (p .0, (q .0, tt)) k e S in
-            ((𝓛 .fits (g ∷ h ∷ []) (omega arith) (p .0, (q .0, tt)) k e, can-then 𝓛 ds es (p .1) (q .1)), (λ s. let u = i .0 (s .0) in let v = then-sat ds es (s .1) in ((u .0, v .0), (u .1 .0, v .1)), λ (s, t). (i .1 (s .0, (t .0, tt)), sat-then ds es (s .1) (t .1))))
+            let i = 𝓢 .joined-satisfied (g ∷ h ∷ []) (omega arith) (p .0, (q .0, tt)) k e S in (
+              (𝓛 .fits (g ∷ h ∷ []) (omega arith) (p .0, (q .0, tt)) k e, can-then 𝓛 ds es (p .1) (q .1)),
+              (
+                λ s. let u = i .0 (s .0) in let v = then-sat ds es (s .1) in
+                    ((u .0, v .0), (u .1 .0, v .1)),
+                λ (s, t). (i .1 (s .0, (t .0, tt)), sat-then ds es (s .1) (t .1)),
+              ),
+            )
 
     no-meaning : (d : Desc Graph) → Can 𝓛 d → meanings J d ≡ [] → Sat 𝓜 S d → ⊥
     no-meaning d c e s = let (G, m, u) = sat-meaning 𝓢 S d c .0 s in List·Memᴰ·not-nil (subst (List·Memᴰ G) e m)
@@ -81,13 +88,23 @@ module _ {Graph : Type 0} {J : Joining Graph} {𝓛 : Laws J} {𝓜 : Structures
     unfolding full
     full-sat a b p q = go (joined J a b) (joined-sat a b p q)
       where
-        two : (d : Desc Graph) → Can 𝓛 d → (Sat 𝓜 S d ↔ (Sat 𝓜 S a × Sat 𝓜 S b)) → (t : Bool) → SomeAgree J (choices d) t → Both a b (elim t [ true ↦ some (fold J (prune J whole d)) | false ↦ none ])
+        two : (d : Desc Graph) → Can 𝓛 d → (Sat 𝓜 S d ↔ (Sat 𝓜 S a × Sat 𝓜 S b)) → (t : Bool) → SomeAgree J (choices d) t →
+            Both a b (elim t [ true ↦ some (fold J (prune J whole d)) | false ↦ none ])
         two d c i true agrees =
             let f = fold-ok 𝓛 (prune J whole d) (prune-can 𝓛 d c whole) in
-            let m : meanings J (fold J (prune J whole d)) ≡ meanings J d = full-means 𝓛 d c in
-            (f .0, (λ s. i .0 (same-meaning 𝓢 S (fold J (prune J whole d)) d (f .0) c m s), λ s. same-meaning 𝓢 S d (fold J (prune J whole d)) c (f .0) (sym m) (i .1 s)))
+            let m : meanings J (fold J (prune J whole d)) ≡ meanings J d = full-means 𝓛 d c in (
+              f .0,
+              (
+                λ s. i .0 (same-meaning 𝓢 S (fold J (prune J whole d)) d (f .0) c m s),
+                λ s. same-meaning 𝓢 S d (fold J (prune J whole d)) c (f .0) (sym m) (i .1 s),
+              ),
+            )
         two d c i false (none-agrees n) = λ s u. no-meaning d c (all-none J d n) (i .1 (s, u))
 
-        go : (o : Option (Desc Graph)) → Both a b o → Both a b (elim o [ none ↦ none | some d ↦ elim (some-agree J (choices d)) [ true ↦ some (fold J (prune J whole d)) | false ↦ none ] ])
+        go : (o : Option (Desc Graph)) → Both a b o →
+            Both a b (elim o [
+              | none ↦ none
+              | some d ↦ elim (some-agree J (choices d)) [ true ↦ some (fold J (prune J whole d)) | false ↦ none ]
+            ])
         go none s = s
         go (some d) s = two d (s .0) (s .1) (some-agree J (choices d)) (some-agree-view J (choices d))

@@ -12,9 +12,12 @@ use Rattle.descriptions.proofs.Laws.{All, Laws}
 
 pub record Sense {Graph : Type 0} {J : Joining Graph} (𝓛 : Laws J) (𝓜 : Structures Graph) : Type 2 where
   -- a join is satisfied exactly when all that it joins is
-  pub joined-satisfied : (gs : List Graph) → 0 < length gs → All (𝓛 .Canonical) gs → (K : Graph) → J .join gs ≡ some K → (S : 𝓜 .Structure) → 𝓜 .Satisfies S K ↔ SatisfiesAll 𝓜 S gs
-  pub clash-unsatisfied : (gs : List Graph) → 0 < length gs → All (𝓛 .Canonical) gs → J .join gs ≡ none → (S : 𝓜 .Structure) → SatisfiesAll 𝓜 S gs → ⊥
+  pub joined-satisfied : (gs : List Graph) → 0 < length gs → All (𝓛 .Canonical) gs → (K : Graph) → J .join gs ≡ some K →
+      (S : 𝓜 .Structure) → 𝓜 .Satisfies S K ↔ SatisfiesAll 𝓜 S gs
+  pub clash-unsatisfied : (gs : List Graph) → 0 < length gs → All (𝓛 .Canonical) gs → J .join gs ≡ none → (S : 𝓜 .Structure) →
+      SatisfiesAll 𝓜 S gs → ⊥
   -- "finite"; "All nodes are reached from the root."
   pub Proper : 𝓜 .Structure → Type 1
   -- a join is satisfied by some structure
-  pub model : (gs : List Graph) → 0 < length gs → All (𝓛 .Canonical) gs → (K : Graph) → J .join gs ≡ some K → (S : 𝓜 .Structure) × Proper S × 𝓜 .Satisfies S K
+  pub model : (gs : List Graph) → 0 < length gs → All (𝓛 .Canonical) gs → (K : Graph) → J .join gs ≡ some K →
+      (S : 𝓜 .Structure) × Proper S × 𝓜 .Satisfies S K

@@ -1,4 +1,5 @@
--- The limits of a well-formed description, but for the number of arcs of a node, and the number of its words: joining and tidying keep them.
+-- The limits of a well-formed description, but for the number of arcs of a node, and the number of its words: joining and tidying keep
+-- them.
 -- Assumes nothing.
 use mathlib.Core.Path.{_≡_, refl, subst}
 use mathlib.Core.Option.{Option, none, some}
@@ -19,8 +20,10 @@ module _ {Graph : Type 0} {J : Joining Graph} {𝓛 : Laws J} (𝓦 : Weights �
   open Weights 𝓦 using (SoftGraph, weight)
 
   -- so does what is folded in
-  pub glue-kept : (g : Graph) (hs : List Graph) → Canonical g → All Canonical hs → SoftGraph g → All SoftGraph hs → (k : Graph) → glue J g hs ≡ some k → Canonical k × SoftGraph k × (weight k + length (g ∷ hs) ≤ suc (total weight (g ∷ hs)))
-  glue-kept g [] c f s t k e = let i : g ≡ k = cc in subst (λ (z : Graph). Canonical z × SoftGraph z × (weight z + length (g ∷ []) ≤ suc (total weight (g ∷ [])))) i (c, s, omega arith)
+  pub glue-kept : (g : Graph) (hs : List Graph) → Canonical g → All Canonical hs → SoftGraph g → All SoftGraph hs → (k : Graph) →
+      glue J g hs ≡ some k → Canonical k × SoftGraph k × (weight k + length (g ∷ hs) ≤ suc (total weight (g ∷ hs)))
+  glue-kept g [] c f s t k e = let i : g ≡ k = cc in
+      subst (λ (z : Graph). Canonical z × SoftGraph z × (weight z + length (g ∷ []) ≤ suc (total weight (g ∷ [])))) i (c, s, omega arith)
   glue-kept g (h ∷ hs) c f s t k e =
       let gs : List Graph = g ∷ h ∷ hs in
       let cs : All Canonical gs = (c, f) in
@@ -99,13 +102,20 @@ module _ {Graph : Type 0} {J : Joining Graph} {𝓛 : Laws J} (𝓦 : Weights �
   unfolding joined len
   joined-kept (desc g ds) (desc h es) n p q = go (join (g ∷ h ∷ [])) refl
     where
-      go : (o : Option Graph) → join (g ∷ h ∷ []) ≡ o → JoinKept (desc g ds) (desc h es) n (elim o [ none ↦ none | some k ↦ some (desc k (ds then es)) ])
+      go : (o : Option Graph) → join (g ∷ h ∷ []) ≡ o →
+          JoinKept (desc g ds) (desc h es) n (elim o [ none ↦ none | some k ↦ some (desc k (ds then es)) ])
       go none e = tt
       go (some k) e =
           let c : All Canonical (g ∷ h ∷ []) = (p .0, (q .0, tt)) in
           let w = 𝓦 .weight-join (g ∷ h ∷ []) (omega arith) c k e in
-          let l = len-then ds es in
-          ((𝓛 .fits (g ∷ h ∷ []) (omega arith) c k e, 𝓦 .soft-join (g ∷ h ∷ []) (omega arith) c (p .1, (q .1, tt)) k e, soft-then 2 ds es n (p .2) (q .2)), omega (arith, w, l))
+          let l = len-then ds es in (
+            (
+              𝓛 .fits (g ∷ h ∷ []) (omega arith) c k e,
+              𝓦 .soft-join (g ∷ h ∷ []) (omega arith) c (p .1, (q .1, tt)) k e,
+              soft-then 2 ds es n (p .2) (q .2),
+            ),
+            omega (arith, w, l),
+          )
 
   -- mode 1
   abbrev pub Kept : ℕ → Desc Graph → Option (Desc Graph) → Type 0
@@ -114,7 +124,8 @@ module _ {Graph : Type 0} {J : Joining Graph} {𝓛 : Laws J} (𝓦 : Weights �
 
   abbrev pub RoundKept : ℕ → Disjs Graph → Option (Round Graph) → Type 0
   RoundKept n ds none = Unit {0}
-  RoundKept n ds (some r) = All Canonical (r .folded) × All SoftGraph (r .folded) × SoftAll 2 (r .left) n × (len-all (r .left) + (total weight (r .folded) + length (r .folded)) ≤ len-all ds)
+  RoundKept n ds (some r) = All Canonical (r .folded) × All SoftGraph (r .folded) × SoftAll 2 (r .left) n
+      × (len-all (r .left) + (total weight (r .folded) + length (r .folded)) ≤ len-all ds)
 
   module _ (t : Desc Graph → Option (Desc Graph)) (T : (n : ℕ) (d : Desc Graph) → Soft 2 d n → Kept n d (t d)) where
     any-kept : (n : ℕ) (a : Alts Graph) → SoftAny 2 a n → SoftAny 2 (kept t a) n × (len-any (kept t a) ≤ len-any a)
@@ -123,11 +134,13 @@ module _ {Graph : Type 0} {J : Joining Graph} {𝓛 : Laws J} (𝓦 : Weights �
     any-kept n (d or a) p = go (t d) (T n d (p .0)) (any-kept n a (p .1))
       where
         go : (o : Option (Desc Graph)) → Kept n d o → SoftAny 2 (kept t a) n × (len-any (kept t a) ≤ len-any a) →
-            SoftAny 2 (elim o [ none ↦ kept t a | some e ↦ e or kept t a ]) n × (len-any (elim o [ none ↦ kept t a | some e ↦ e or kept t a ]) ≤ len d + len-any a)
+            SoftAny 2 (elim o [ none ↦ kept t a | some e ↦ e or kept t a ]) n
+            × (len-any (elim o [ none ↦ kept t a | some e ↦ e or kept t a ]) ≤ len d + len-any a)
         go none s r = let l = r .1 in (r .0, omega (arith, l))
         go (some e) s r = let l = r .1 in let k = s .1 in ((s .0, r .0), omega (arith, l, k))
 
-    after-kept : (n : ℕ) (b a : Alts Graph) (ds : Disjs Graph) (r : Round Graph) → SoftAny 2 a n → len-any a ≤ len-any b → RoundKept (suc n) ds (some r) → RoundKept (suc n) (b and ds) (after J a r)
+    after-kept : (n : ℕ) (b a : Alts Graph) (ds : Disjs Graph) (r : Round Graph) → SoftAny 2 a n → len-any a ≤ len-any b →
+        RoundKept (suc n) ds (some r) → RoundKept (suc n) (b and ds) (after J a r)
     unfolding len
     after-kept n b fail ds r p h R = tt
     after-kept n b (desc g es or fail) ds r p h R =
@@ -142,7 +155,8 @@ module _ {Graph : Type 0} {J : Joining Graph} {𝓛 : Laws J} (𝓦 : Weights �
     round-kept zero (a and ds) p = absurd p
     round-kept (suc n) (a and ds) p = go (round J t ds) (round-kept (suc n) ds (p .2)) (any-kept n a (p .1))
       where
-        go : (o : Option (Round Graph)) → RoundKept (suc n) ds o → SoftAny 2 (kept t a) n × (len-any (kept t a) ≤ len-any a) → RoundKept (suc n) (a and ds) (elim o [ none ↦ none | some r ↦ after J (kept t a) r ])
+        go : (o : Option (Round Graph)) → RoundKept (suc n) ds o → SoftAny 2 (kept t a) n × (len-any (kept t a) ≤ len-any a) →
+            RoundKept (suc n) (a and ds) (elim o [ none ↦ none | some r ↦ after J (kept t a) r ])
         go none R k = tt
         go (some r) R k = after-kept n a (kept t a) ds r (k .0) (k .1) R
 
@@ -150,7 +164,9 @@ module _ {Graph : Type 0} {J : Joining Graph} {𝓛 : Laws J} (𝓦 : Weights �
   kept-le n d e h none k = tt
   kept-le n d e h (some f) k = let l = k .1 in (k .0, omega (arith, l, h))
 
-  finish-kept : (again : Desc Graph → Option (Desc Graph)) → ((n : ℕ) (d : Desc Graph) → Soft 2 d n → Kept n d (again d)) → (n : ℕ) (g : Graph) → Canonical g → SoftGraph g → (ds left : Disjs Graph) (folded : List Graph) → All Canonical folded → All SoftGraph folded → SoftAll 2 left n →
+  finish-kept : (again : Desc Graph → Option (Desc Graph)) → ((n : ℕ) (d : Desc Graph) → Soft 2 d n → Kept n d (again d)) →
+      (n : ℕ) (g : Graph) → Canonical g → SoftGraph g → (ds left : Disjs Graph) (folded : List Graph) → All Canonical folded →
+      All SoftGraph folded → SoftAll 2 left n →
       len-all left + (total weight folded + length folded) ≤ len-all ds → Kept n (desc g ds) (finish J again g left folded)
   unfolding finish len
   finish-kept again A n g c s ds left [] cf sf sl h = ((c, s, sl), omega arith)
@@ -164,19 +180,26 @@ module _ {Graph : Type 0} {J : Joining Graph} {𝓛 : Laws J} (𝓦 : Weights �
       go (some g′) e =
           let cs : All Canonical gs = (c, cf) in
           let w = 𝓦 .weight-join gs (omega arith) cs g′ e in
-          kept-le n (desc g′ left) (desc g ds) (omega (arith, w, h)) (again (desc g′ left)) (A n (desc g′ left) (𝓛 .fits gs (omega arith) cs g′ e, 𝓦 .soft-join gs (omega arith) cs (s, sf) g′ e, sl))
+          kept-le n (desc g′ left) (desc g ds) (omega (arith, w, h)) (again (desc g′ left))
+          (A n (desc g′ left) (𝓛 .fits gs (omega arith) cs g′ e, 𝓦 .soft-join gs (omega arith) cs (s, sf) g′ e, sl))
 
   pub tidy-kept : (k : ℕ) (C : Graph) → Canonical C → (n : ℕ) (d : Desc Graph) → Soft 2 d n → Kept n d (tidy J k C d)
   unfolding tidy
   tidy-kept zero C cC n d p = (p, omega arith)
   tidy-kept (suc k) C cC n (desc g ds) p = go (join (C ∷ g ∷ [])) refl (λ K cK. tidy-kept k K cK)
     where
-      go : (o : Option Graph) → join (C ∷ g ∷ []) ≡ o → ((K : Graph) → Canonical K → (n : ℕ) (d : Desc Graph) → Soft 2 d n → Kept n d (tidy J k K d)) →
-          Kept n (desc g ds) (elim o [ none ↦ none | some K ↦ elim (round J (tidy J k K) ds) [ none ↦ none | some r ↦ finish J (tidy J k C) g (r .left) (r .folded) ] ])
+      go : (o : Option Graph) → join (C ∷ g ∷ []) ≡ o →
+          ((K : Graph) → Canonical K → (n : ℕ) (d : Desc Graph) → Soft 2 d n → Kept n d (tidy J k K d)) →
+          Kept n (desc g ds) (elim o [
+            | none ↦ none
+            | some K ↦ elim (round J (tidy J k K) ds) [ none ↦ none | some r ↦ finish J (tidy J k C) g (r .left) (r .folded) ]
+          ])
       go none e T = tt
-      go (some K) e T = two (round J (tidy J k K) ds) (round-kept (tidy J k K) (T K (𝓛 .fits (C ∷ g ∷ []) (omega arith) (cC, (p .0, tt)) K e)) n ds (p .2))
+      go (some K) e T = two (round J (tidy J k K) ds)
+          (round-kept (tidy J k K) (T K (𝓛 .fits (C ∷ g ∷ []) (omega arith) (cC, (p .0, tt)) K e)) n ds (p .2))
         where
-          two : (o : Option (Round Graph)) → RoundKept n ds o → Kept n (desc g ds) (elim o [ none ↦ none | some r ↦ finish J (tidy J k C) g (r .left) (r .folded) ])
+          two : (o : Option (Round Graph)) → RoundKept n ds o →
+              Kept n (desc g ds) (elim o [ none ↦ none | some r ↦ finish J (tidy J k C) g (r .left) (r .folded) ])
           two none R = tt
           two (some r) R = finish-kept (tidy J k C) (T C cC) n g (p .0) (p .1) ds (r .left) (r .folded) (R .0) (R .1) (R .2) (R .3)
 

@@ -17,7 +17,8 @@ use Rattle.descriptions.specs.Call.{Call}
 use Rattle.descriptions.specs.Answer.{Answer, consistent, refuse}
 use Rattle.descriptions.specs.Outcome.{Areas, Outcome, Row, worked}
 use Rattle.descriptions.specs.Unified.{complete, deliver, in-mode, unified}
-use Rattle.descriptions.specs.Rules.{Accepted, Clashes, Given, TooMany, done, eight, five, four, mode-readings, mode-result, one, seven, six, six-after, three, two}
+use Rattle.descriptions.specs.Rules.{Accepted, Clashes, Given, TooMany, done, eight, five, four, mode-readings, mode-result, one}
+use Rattle.descriptions.specs.Rules.{seven, six, six-after, three, two}
 use Rattle.descriptions.proofs.Tests.{Tells, fails, holds, none-is, tells-lt}
 use Rattle.descriptions.proofs.Layouts.{Decoded, Reads, is, malformed}
 use Rattle.descriptions.proofs.Full.{whole}
@@ -38,11 +39,13 @@ module _ {Graph : Type 0} (𝓕 : Layout Graph) where
   unfolding deliver
   deliver-none room n = refl
 
-  deliver-eight : (room n : ℕ) (r : Desc Graph) → room < length (words r) → deliver 𝓕 room n (some r) ≡ record { number = 8; extent = length (words r); readings = 0; result = [] }
+  deliver-eight : (room n : ℕ) (r : Desc Graph) → room < length (words r) →
+      deliver 𝓕 room n (some r) ≡ record { number = 8; extent = length (words r); readings = 0; result = [] }
   unfolding deliver
   deliver-eight room n r h = rw (lt-ltb room (length (words r)) h, deliver)
 
-  deliver-done : (room n : ℕ) (r : Desc Graph) → length (words r) ≤ room → deliver 𝓕 room n (some r) ≡ record { number = 0; extent = length (words r); readings = n; result = words r }
+  deliver-done : (room n : ℕ) (r : Desc Graph) → length (words r) ≤ room →
+      deliver 𝓕 room n (some r) ≡ record { number = 0; extent = length (words r); readings = n; result = words r }
   unfolding deliver
   deliver-done room n r h = rw (le-ltb room (length (words r)) h, deliver)
 
@@ -60,7 +63,9 @@ module _ {Graph : Type 0} (J : Joining Graph) where
   agreeing-none [] h = refl
   agreeing-none (c ∷ l) h = go (agree J c) (agreeing-none l) h
     where
-      go : (t : Bool) → (some-agree J l ≡ false → agreeing J l ≡ 0) → _≡_ {A = Bool} (elim t [ true ↦ true | false ↦ some-agree J l ]) false → _≡_ {A = ℕ} (elim t [ true ↦ suc (agreeing J l) | false ↦ agreeing J l ]) 0
+      go : (t : Bool) → (some-agree J l ≡ false → agreeing J l ≡ 0) →
+          _≡_ {A = Bool} (elim t [ true ↦ true | false ↦ some-agree J l ]) false →
+          _≡_ {A = ℕ} (elim t [ true ↦ suc (agreeing J l) | false ↦ agreeing J l ]) 0
       go true s h = let z : _≡_ {A = ℕ} 0 1 = cc in absurd (omega arith)
       go false s h = s h
 
@@ -69,7 +74,8 @@ module _ {Graph : Type 0} (J : Joining Graph) where
   agreeing-some [] h = let z : _≡_ {A = ℕ} 0 1 = cc in absurd (omega arith)
   agreeing-some (c ∷ l) h = go (agree J c) (agreeing-some l) h
     where
-      go : (t : Bool) → (some-agree J l ≡ true → 0 < agreeing J l) → _≡_ {A = Bool} (elim t [ true ↦ true | false ↦ some-agree J l ]) true → 0 < elim t [ true ↦ suc (agreeing J l) | false ↦ agreeing J l ]
+      go : (t : Bool) → (some-agree J l ≡ true → 0 < agreeing J l) → _≡_ {A = Bool} (elim t [ true ↦ true | false ↦ some-agree J l ]) true →
+          0 < elim t [ true ↦ suc (agreeing J l) | false ↦ agreeing J l ]
       go true s h = omega arith
       go false s h = s h
 
@@ -89,7 +95,8 @@ module _ {Graph : Type 0} (J : Joining Graph) where
   few mode d e h p = let l = p .0 in omega (arith, l)
 
   few-two : (mode : ℕ) (d e q : Desc Graph) → quick J d e ≡ some q → ¬ (choice-limit < number q) → ¬ (TooMany J mode d e)
-  few-two mode d e q h n (l, p, s, m) = let k : some p ≡ some q = sym s ∙ h in let i : p ≡ q = cc in n (subst (λ (z : Desc Graph). choice-limit < number z) i m)
+  few-two mode d e q h n (l, p, s, m) = let k : some p ≡ some q = sym s ∙ h in let i : p ≡ q = cc in
+      n (subst (λ (z : Desc Graph). choice-limit < number z) i m)
 
 module _ {Graph : Type 0} (J : Joining Graph) (𝓕 : Layout Graph) where
   open Layout 𝓕 using (words)
@@ -98,11 +105,16 @@ module _ {Graph : Type 0} (J : Joining Graph) (𝓕 : Layout Graph) where
   unfolding full consistent readings
   full-view d e = go (joined J d e) refl
     where
-      two : (j : Desc Graph) → joined J d e ≡ some j → (t : Bool) → some-agree J (choices j) ≡ t → FullView J d e (elim t [ true ↦ some (fold J (prune J whole j)) | false ↦ none ])
+      two : (j : Desc Graph) → joined J d e ≡ some j → (t : Bool) → some-agree J (choices j) ≡ t →
+          FullView J d e (elim t [ true ↦ some (fold J (prune J whole j)) | false ↦ none ])
       two j h true s = full-some (fold J (prune J whole j)) (rw (h, consistent) (agreeing-some J (choices j) s))
       two j h false s = full-none (rw (h, consistent) (agreeing-none J (choices j) s))
 
-      go : (o : Option (Desc Graph)) → joined J d e ≡ o → FullView J d e (elim o [ none ↦ none | some j ↦ elim (some-agree J (choices j)) [ true ↦ some (fold J (prune J whole j)) | false ↦ none ] ])
+      go : (o : Option (Desc Graph)) → joined J d e ≡ o →
+          FullView J d e (elim o [
+            | none ↦ none
+            | some j ↦ elim (some-agree J (choices j)) [ true ↦ some (fold J (prune J whole j)) | false ↦ none ]
+          ])
       go none h = full-none (rw (h, consistent))
       go (some j) h = two j h (some-agree J (choices j)) refl
 
@@ -180,23 +192,33 @@ module _ {Graph : Type 0} (J : Joining Graph) (𝓕 : Layout Graph) where
       go (some q) h = limit q h (ltb choice-limit (number q)) (tells-lt choice-limit (number q))
 
   -- mode 2, the quick step done and the choices few
-  complete-full : (room : ℕ) (d e : Desc Graph) → ¬ (Clashes J 2 d e) → ¬ (TooMany J 2 d e) → complete J 𝓕 room d e ≡ deliver 𝓕 room (consistent J d e) (full J d e)
+  complete-full : (room : ℕ) (d e : Desc Graph) → ¬ (Clashes J 2 d e) → ¬ (TooMany J 2 d e) →
+      complete J 𝓕 room d e ≡ deliver 𝓕 room (consistent J d e) (full J d e)
   unfolding complete
   complete-full room d e c t = go (quick J d e) refl
     where
-      go : (o : Option (Desc Graph)) → quick J d e ≡ o → _≡_ {A = Answer} (elim o [ none ↦ refuse 6 | some q ↦ elim (ltb choice-limit (number q)) [ true ↦ refuse 7 | false ↦ deliver 𝓕 room (consistent J d e) (full J d e) ] ]) (deliver 𝓕 room (consistent J d e) (full J d e))
+      go : (o : Option (Desc Graph)) → quick J d e ≡ o →
+          _≡_ {A = Answer} (elim o [
+            | none ↦ refuse 6
+            | some q ↦ elim (ltb choice-limit (number q)) [ true ↦ refuse 7 | false ↦ deliver 𝓕 room (consistent J d e) (full J d e) ]
+          ])
+          (deliver 𝓕 room (consistent J d e) (full J d e))
       go none h = absurd (c (inr (omega arith, h)))
       go (some q) h = two (ltb choice-limit (number q)) (tells-lt choice-limit (number q))
         where
-          two : (s : Bool) → Tells (choice-limit < number q) s → _≡_ {A = Answer} (elim s [ true ↦ refuse 7 | false ↦ deliver 𝓕 room (consistent J d e) (full J d e) ]) (deliver 𝓕 room (consistent J d e) (full J d e))
+          two : (s : Bool) → Tells (choice-limit < number q) s →
+              _≡_ {A = Answer} (elim s [ true ↦ refuse 7 | false ↦ deliver 𝓕 room (consistent J d e) (full J d e) ])
+              (deliver 𝓕 room (consistent J d e) (full J d e))
           two true (holds l) = absurd (t (refl, q, h, l))
           two false n = refl
 
-  in-mode-result : (mode : ℕ) (d e : Desc Graph) (room : ℕ) → mode ≤ 2 → ¬ (Clashes J mode d e) → ¬ (TooMany J mode d e) → in-mode J 𝓕 mode d e room ≡ deliver 𝓕 room (mode-readings J mode d e) (mode-result J mode d e)
+  in-mode-result : (mode : ℕ) (d e : Desc Graph) (room : ℕ) → mode ≤ 2 → ¬ (Clashes J mode d e) → ¬ (TooMany J mode d e) →
+      in-mode J 𝓕 mode d e room ≡ deliver 𝓕 room (mode-readings J mode d e) (mode-result J mode d e)
   unfolding in-mode
   in-mode-result zero d e room m c t = refl
   in-mode-result (suc zero) d e room m c t = refl
-  in-mode-result (suc (suc k)) d e room m c t = let z : suc (suc k) ≡ 2 = omega arith in complete-full room d e (subst (λ (n : ℕ). ¬ (Clashes J n d e)) z c) (subst (λ (n : ℕ). ¬ (TooMany J n d e)) z t)
+  in-mode-result (suc (suc k)) d e room m c t = let z : suc (suc k) ≡ 2 = omega arith in
+      complete-full room d e (subst (λ (n : ℕ). ¬ (Clashes J n d e)) z c) (subst (λ (n : ℕ). ¬ (TooMany J n d e)) z t)
 
   in-mode-clash : (mode : ℕ) (d e : Desc Graph) (room : ℕ) → Clashes J mode d e → in-mode J 𝓕 mode d e room ≡ refuse 6
   unfolding in-mode complete
@@ -209,7 +231,8 @@ module _ {Graph : Type 0} (J : Joining Graph) (𝓕 : Layout Graph) where
 
   in-mode-many : (mode : ℕ) (d e : Desc Graph) (room : ℕ) → TooMany J mode d e → in-mode J 𝓕 mode d e room ≡ refuse 7
   unfolding in-mode complete
-  in-mode-many mode d e room (z, q, h, l) = let k : in-mode J 𝓕 2 d e room ≡ refuse 7 = rw (h, lt-ltb choice-limit (number q) l, complete) in rw z k
+  in-mode-many mode d e room (z, q, h, l) = let k : in-mode J 𝓕 2 d e room ≡ refuse 7 =
+      rw (h, lt-ltb choice-limit (number q) l, complete) in rw z k
 
   pub full-is : (d e : Desc Graph) → consistent J d e ≡ 0 → full J d e ≡ none
   full-is d e c = go (full J d e) (full-view d e)

@@ -22,7 +22,8 @@ module _ {Graph : Type 0} (J : Joining Graph) where
   -- folding joins its graphs, here and in every alternative
   abbrev mutual
     pub Folds : Desc Graph → Type 0
-    Folds (desc g ds) = ((G : Graph) × (glue J g (fold-all J ds .folded) ≡ some G) × (fold J (desc g ds) ≡ desc G (fold-all J ds .left))) × FoldsAll ds
+    Folds (desc g ds) = ((G : Graph) × (glue J g (fold-all J ds .folded) ≡ some G) × (fold J (desc g ds) ≡ desc G (fold-all J ds .left)))
+        × FoldsAll ds
 
     pub FoldsAll : Disjs Graph → Type 0
     FoldsAll end = Unit {0}
@@ -32,7 +33,8 @@ module _ {Graph : Type 0} (J : Joining Graph) where
     FoldsAny fail = Unit {0}
     FoldsAny (d or a) = Folds d × FoldsAny a
 
-  fold-is : (g : Graph) (ds : Disjs Graph) (G : Graph) → glue J g (fold-all J ds .folded) ≡ some G → fold J (desc g ds) ≡ desc G (fold-all J ds .left)
+  fold-is : (g : Graph) (ds : Disjs Graph) (G : Graph) → glue J g (fold-all J ds .folded) ≡ some G →
+      fold J (desc g ds) ≡ desc G (fold-all J ds .left)
   unfolding fold folded-in
   fold-is g ds G e = ap (folded-in g (fold-all J ds)) e
 
@@ -40,8 +42,14 @@ module _ {Graph : Type 0} (J : Joining Graph) where
   pub full-clash : (a b j : Desc Graph) → joined J a b ≡ some j → full J a b ≡ none → (p : Pick j) → Consistent J j p → ⊥
   unfolding full
   full-clash a b j h f p s =
-      let t : some-agree J (choices j) ≡ true = some-agree-in J (choices j) (taken j p) (pick-in j p) (agree-view J (taken j p) (join (taken j p)) refl s) in
-      let k : full J a b ≡ some (fold J (prune J whole j)) = ap {B = Option (Desc Graph)} (λ (z : Option (Desc Graph)). elim z [ none ↦ none | some d ↦ elim (some-agree J (choices d)) [ true ↦ some (fold J (prune J whole d)) | false ↦ none ] ]) h
+      let t : some-agree J (choices j) ≡ true =
+      some-agree-in J (choices j) (taken j p) (pick-in j p) (agree-view J (taken j p) (join (taken j p)) refl s) in
+      let k : full J a b ≡ some (fold J (prune J whole j)) =
+      ap {B = Option (Desc Graph)} (λ
+      (z : Option (Desc Graph)). elim z [
+        | none ↦ none
+        | some d ↦ elim (some-agree J (choices d)) [ true ↦ some (fold J (prune J whole d)) | false ↦ none ]
+      ]) h
       ∙ ap {B = Option (Desc Graph)} (λ (z : Bool). elim z [ true ↦ some (fold J (prune J whole j)) | false ↦ none ]) t in
       let q : none ≡ some (fold J (prune J whole j)) = sym f ∙ k in
       let z : _≡_ {A = ℕ} 0 1 = cc in omega arith
@@ -60,5 +68,6 @@ module _ {Graph : Type 0} {J : Joining Graph} (𝓛 : Laws J) where
     live-folds-any (d or a) c l = (live-folds d (c .0) (l .0), live-folds-any a (c .1) (l .1))
 
   -- mode 2: drop what stands in no consistent choice, then fold, which joins at every depth
-  pub full-folds : (a b j r : Desc Graph) → Can 𝓛 j → joined J a b ≡ some j → full J a b ≡ some r → (e : Desc Graph) × Pruned J j e × Folds J e × (r ≡ fold J e)
+  pub full-folds : (a b j r : Desc Graph) → Can 𝓛 j → joined J a b ≡ some j → full J a b ≡ some r →
+      (e : Desc Graph) × Pruned J j e × Folds J e × (r ≡ fold J e)
   full-folds a b j r c h f = let (e, p, q, l, k) = full-is-pruned 𝓛 a b j r c h f in (e, p, live-folds e q l, k)

@@ -17,6 +17,8 @@ pub record Weights {Graph : Type 0} {J : Joining Graph} (𝓛 : Laws J) : Type 1
   pub SoftGraph : Graph → Type 0
   -- the words of a graph
   pub weight : Graph → ℕ
-  pub soft-join : (gs : List Graph) → 0 < length gs → All (𝓛 .Canonical) gs → All SoftGraph gs → (K : Graph) → J .join gs ≡ some K → SoftGraph K
+  pub soft-join : (gs : List Graph) → 0 < length gs → All (𝓛 .Canonical) gs → All SoftGraph gs → (K : Graph) → J .join gs ≡ some K →
+      SoftGraph K
   -- the join is no heavier: one word less for each graph but one
-  pub weight-join : (gs : List Graph) → 0 < length gs → All (𝓛 .Canonical) gs → (K : Graph) → J .join gs ≡ some K → weight K + length gs ≤ suc (total weight gs)
+  pub weight-join : (gs : List Graph) → 0 < length gs → All (𝓛 .Canonical) gs → (K : Graph) → J .join gs ≡ some K →
+      weight K + length gs ≤ suc (total weight gs)

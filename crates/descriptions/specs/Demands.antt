@@ -44,7 +44,8 @@ module _ {Graph : Type 0} (𝓕 : Layout Graph) where
   abbrev pub with-words : ℕ → Desc Graph → Desc Graph → Call
   with-words mode a b = record { mode = mode; first = words a; second = words b }
 
-  -- Demand 3. A description on the list, with the mode and the areas of its call, and whether the words in hand are the first input of it or the second
+  -- Demand 3. A description on the list, with the mode and the areas of its call, and whether the words in hand are the first input of
+  -- it or the second
   pub record Step : Type 0 where
     pub item : Desc Graph
     pub fine : WellFormed item depth-limit
@@ -90,19 +91,24 @@ module _ {Graph : Type 0} (J : Joining Graph) (𝓕 : Layout Graph) where
 
   pub record Demand3 (U : Unifier) : Type 0 where
     -- "While every call succeeds, the consistent readings of the result number as many as the ways"
-    pub number : (l : List (Step 𝓕)) (ws : List ℕ) → reached 𝓕 U start l ≡ some ws → (d : Desc Graph) × WellFormed d depth-limit × (ws ≡ words d) × (readings J d ≡ ways J (items 𝓕 l))
+    pub number : (l : List (Step 𝓕)) (ws : List ℕ) → reached 𝓕 U start l ≡ some ws →
+        (d : Desc Graph) × WellFormed d depth-limit × (ws ≡ words d) × (readings J d ≡ ways J (items 𝓕 l))
     -- "A clash is reported only when that number is zero"
-    pub clash : (l : List (Step 𝓕)) (ws : List ℕ) (s : Step 𝓕) → reached 𝓕 U start l ≡ some ws → call 𝓕 U ws s .number ≡ 6 → ways J (items 𝓕 l ++ s .item ∷ []) ≡ 0
+    pub clash : (l : List (Step 𝓕)) (ws : List ℕ) (s : Step 𝓕) → reached 𝓕 U start l ≡ some ws → call 𝓕 U ws s .number ≡ 6 →
+        ways J (items 𝓕 l ++ s .item ∷ []) ≡ 0
     -- "the complete mode, unless it refuses on another ground, reports a clash whenever it is zero"
-    pub told : (l : List (Step 𝓕)) (ws : List ℕ) (s : Step 𝓕) → reached 𝓕 U start l ≡ some ws → s .mode ≡ 2 → ways J (items 𝓕 l ++ s .item ∷ []) ≡ 0 → (call 𝓕 U ws s .number ≡ 6) ⊎ Refused (call 𝓕 U ws s .number)
+    pub told : (l : List (Step 𝓕)) (ws : List ℕ) (s : Step 𝓕) → reached 𝓕 U start l ≡ some ws → s .mode ≡ 2 →
+        ways J (items 𝓕 l ++ s .item ∷ []) ≡ 0 → (call 𝓕 U ws s .number ≡ 6) ⊎ Refused (call 𝓕 U ws s .number)
     -- "and on success it reports that number"
-    pub counted : (l : List (Step 𝓕)) (ws : List ℕ) (s : Step 𝓕) → reached 𝓕 U start l ≡ some ws → s .mode ≡ 2 → call 𝓕 U ws s .number ≡ 0 → call 𝓕 U ws s .readings ≡ ways J (items 𝓕 l ++ s .item ∷ [])
+    pub counted : (l : List (Step 𝓕)) (ws : List ℕ) (s : Step 𝓕) → reached 𝓕 U start l ≡ some ws → s .mode ≡ 2 → call 𝓕 U ws s .number ≡ 0 →
+        call 𝓕 U ws s .readings ≡ ways J (items 𝓕 l ++ s .item ∷ [])
 
 module _ {Graph : Type 0} (J : Joining Graph) (𝓜 : Structures Graph) (𝓕 : Layout Graph) where
   open Structures 𝓜 using (Structure)
   open Layout 𝓕 using (words, WellFormed)
 
-  -- Demand 2. On 0 the result is the mode's, it is a description, and a structure satisfies it exactly when it satisfies both inputs; on 6 no structure satisfies both.
+  -- Demand 2. On 0 the result is the mode's, it is a description, and a structure satisfies it exactly when it satisfies both inputs;
+  -- on 6 no structure satisfies both.
   pub record Succeeds (mode : ℕ) (a b : Desc Graph) (r : Answer) (d : Desc Graph) : Type 1 where
     pub written : r .result ≡ words d
     pub measured : r .extent ≡ length (words d)

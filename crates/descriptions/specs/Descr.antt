@@ -7,7 +7,8 @@ use Prim.Native.Nat.{ℕ, suc, _+_, _*_, min}
 use Rattle.descriptions.specs.Limits.{choice-stop}
 use Rattle.descriptions.specs.Joining.{Joining}
 
--- "A description is a definite graph and a list of disjunctions; a disjunction is a list of two or more alternatives, each a description." That they are two or more is asked in `WellFormed`.
+-- "A description is a definite graph and a list of disjunctions; a disjunction is a list of two or more alternatives, each a
+-- description." That they are two or more is asked in `WellFormed`.
 mutual
   pub data Desc (Graph : Type 0) : Type 0 where
     desc : Graph → Disjs Graph → Desc Graph
@@ -31,7 +32,9 @@ module _ {Graph : Type 0} where
   alts fail = 0
   alts (d or a) = suc (alts a)
 
-  -- "A choice (also: a reading) of a description takes one alternative of each disjunction and, within it, a choice of that alternative. With no disjunctions there is exactly one choice." A choice stands here as the list of the graphs that it takes, the definite graph first; the list of choices holds one entry for each.
+  -- "A choice (also: a reading) of a description takes one alternative of each disjunction and, within it, a choice of that
+  -- alternative. With no disjunctions there is exactly one choice." A choice stands here as the list of the graphs that it takes, the
+  -- definite graph first; the list of choices holds one entry for each.
   abbrev pub each : List Graph → List (List Graph) → List (List Graph)
   each c [] = []
   each c (r ∷ l) = (c ++ r) ∷ each c l

@@ -4,7 +4,8 @@ use mathlib.Core.Bool.{Bool, true, false}
 use mathlib.Core.Option.{Option, none, some}
 use mathlib.Core.List.{List, [], _∷_}
 use Prim.Native.Nat.{ℕ, zero, suc, _+_}
-use Rattle.descriptions.specs.Descr.{Alts, Desc, Disjs, _and_, _or_, _then_, agree, choices, choices-all, choices-any, desc, end, fail, pairs}
+use Rattle.descriptions.specs.Descr.{Alts, Desc, Disjs, _and_, _or_, _then_, agree, choices, choices-all, choices-any, desc, end}
+use Rattle.descriptions.specs.Descr.{fail, pairs}
 use Rattle.descriptions.specs.Joining.{Joining}
 
 -- what a round leaves: the graphs folded in, and the disjunctions
@@ -13,7 +14,8 @@ pub record Round (Graph : Type 0) : Type 0 where
   pub left : Disjs Graph
 
 module _ {Graph : Type 0} where
-  -- "tidy each alternative under that join as it stood at the start of the round, drop those that fail, and keep the others in their tidied form": t tidies an alternative
+  -- "tidy each alternative under that join as it stood at the start of the round, drop those that fail, and keep the others in their
+  -- tidied form": t tidies an alternative
   abbrev pub kept : (Desc Graph → Option (Desc Graph)) → Alts Graph → Alts Graph
   kept t fail = fail
   kept t (d or a) = let r = kept t a in elim (t d) [ none ↦ r | some e ↦ e or r ]
@@ -38,11 +40,13 @@ module _ {Graph : Type 0} where
 module _ {Graph : Type 0} (J : Joining Graph) where
   open Joining J using (join, nil)
 
-  -- "0, join. The graph is the join of both definite graphs (a clash there is a clash in all modes). The disjunctions are those of the first input, then those of the second, in order."
+  -- "0, join. The graph is the join of both definite graphs (a clash there is a clash in all modes). The disjunctions are those of the
+  -- first input, then those of the second, in order."
   unfoldable pub joined : Desc Graph → Desc Graph → Option (Desc Graph)
   joined (desc g ds) (desc h es) = elim (join (g ∷ h ∷ [])) [ none ↦ none | some k ↦ some (desc k (ds then es)) ]
 
-  -- "A disjunction with none left fails the description. One with exactly one left is folded: its graph is joined to the definite graph and its disjunctions take its place in the list."
+  -- "A disjunction with none left fails the description. One with exactly one left is folded: its graph is joined to the definite
+  -- graph and its disjunctions take its place in the list."
   abbrev pub after : Alts Graph → Round Graph → Option (Round Graph)
   after fail r = none
   after (d or fail) r = elim d [ desc g ds ↦ some (record { folded = g ∷ r .folded; left = ds then r .left }) ]
@@ -52,12 +56,14 @@ module _ {Graph : Type 0} (J : Joining Graph) where
   round t end = some (record { folded = []; left = end })
   round t (a and ds) = elim (round t ds) [ none ↦ none | some r ↦ after (kept t a) r ]
 
-  -- "After a round that folded anything, the condition and the new definite graph are joined again (a clash fails the description) and a new round begins; a round that folded nothing is the last."
+  -- "After a round that folded anything, the condition and the new definite graph are joined again (a clash fails the description) and
+  -- a new round begins; a round that folded nothing is the last."
   unfoldable pub finish : (Desc Graph → Option (Desc Graph)) → Graph → Disjs Graph → List Graph → Option (Desc Graph)
   finish again g ds [] = some (desc g ds)
   finish again g ds (h ∷ hs) = elim (join (g ∷ h ∷ hs)) [ none ↦ none | some g′ ↦ again (desc g′ ds) ]
 
-  -- "To tidy a description under a condition: join condition and definite graph; a clash means it fails." The first argument bounds the depth of calls; from the size of the description on it makes no difference.
+  -- "To tidy a description under a condition: join condition and definite graph; a clash means it fails." The first argument bounds
+  -- the depth of calls; from the size of the description on it makes no difference.
   unfoldable pub tidy : ℕ → Graph → Desc Graph → Option (Desc Graph)
   tidy zero c d = some d
   tidy (suc n) c (desc g ds) = elim (join (c ∷ g ∷ [])) [
@@ -69,7 +75,8 @@ module _ {Graph : Type 0} (J : Joining Graph) where
   unfoldable pub quick : Desc Graph → Desc Graph → Option (Desc Graph)
   quick a b = elim (joined a b) [ none ↦ none | some d ↦ tidy (suc (size d)) nil d ]
 
-  -- "2, full. From the joined description drop every alternative that stands in no consistent choice of the whole; if there is no consistent choice, clash." `others` are the choices of all that stands beside
+  -- "2, full. From the joined description drop every alternative that stands in no consistent choice of the whole; if there is no
+  -- consistent choice, clash." `others` are the choices of all that stands beside
   unfoldable pub some-agree : List (List Graph) → Bool
   some-agree [] = false
   some-agree (c ∷ l) = elim (agree J c) [ true ↦ true | false ↦ some-agree l ]
@@ -84,7 +91,8 @@ module _ {Graph : Type 0} (J : Joining Graph) where
 
     pub prune-any : List (List Graph) → Alts Graph → Alts Graph
     prune-any others fail = fail
-    prune-any others (d or a) = let r = prune-any others a in let e = prune others d in elim (some-agree (pairs others (choices d))) [ true ↦ e or r | false ↦ r ]
+    prune-any others (d or a) = let r = prune-any others a in let e = prune others d in
+        elim (some-agree (pairs others (choices d))) [ true ↦ e or r | false ↦ r ]
 
   -- "Then fold all disjunctions with one alternative left, at every depth, in place."
   abbrev pub in-place : Alts Graph → Round Graph → Round Graph
@@ -110,4 +118,7 @@ module _ {Graph : Type 0} (J : Joining Graph) where
     fold-any (d or a) = fold d or fold-any a
 
   unfoldable pub full : Desc Graph → Desc Graph → Option (Desc Graph)
-  full a b = elim (joined a b) [ none ↦ none | some d ↦ elim (some-agree (choices d)) [ true ↦ some (fold (prune ([] ∷ []) d)) | false ↦ none ] ]
+  full a b = elim (joined a b) [
+    | none ↦ none
+    | some d ↦ elim (some-agree (choices d)) [ true ↦ some (fold (prune ([] ∷ []) d)) | false ↦ none ]
+  ]

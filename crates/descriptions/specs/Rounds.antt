@@ -19,12 +19,15 @@ module _ {Graph : Type 0} (J : Joining Graph) where
       -- "A disjunction with none left fails the description."
       emptied : (c g : Graph) (ds : Disjs Graph) (k : Graph) → join (c ∷ g ∷ []) ≡ some k → Rounds k ds none → Tidies c (desc g ds) none
       -- "a round that folded nothing is the last"
-      last : (c g : Graph) (ds : Disjs Graph) (k : Graph) → join (c ∷ g ∷ []) ≡ some k → (left : Disjs Graph) → Rounds k ds (some (record { folded = []; left = left })) → Tidies c (desc g ds) (some (desc g left))
+      last : (c g : Graph) (ds : Disjs Graph) (k : Graph) → join (c ∷ g ∷ []) ≡ some k → (left : Disjs Graph) →
+          Rounds k ds (some (record { folded = []; left = left })) → Tidies c (desc g ds) (some (desc g left))
       -- "its graph is joined to the definite graph": a clash there fails the description
-      folds-clash : (c g : Graph) (ds : Disjs Graph) (k : Graph) → join (c ∷ g ∷ []) ≡ some k → (h : Graph) (hs : List Graph) (left : Disjs Graph) → Rounds k ds (some (record { folded = h ∷ hs; left = left })) →
+      folds-clash : (c g : Graph) (ds : Disjs Graph) (k : Graph) → join (c ∷ g ∷ []) ≡ some k →
+          (h : Graph) (hs : List Graph) (left : Disjs Graph) → Rounds k ds (some (record { folded = h ∷ hs; left = left })) →
           join (g ∷ h ∷ hs) ≡ none → Tidies c (desc g ds) none
       -- "After a round that folded anything, the condition and the new definite graph are joined again and a new round begins"
-      again : (c g : Graph) (ds : Disjs Graph) (k : Graph) → join (c ∷ g ∷ []) ≡ some k → (h : Graph) (hs : List Graph) (left : Disjs Graph) → Rounds k ds (some (record { folded = h ∷ hs; left = left })) →
+      again : (c g : Graph) (ds : Disjs Graph) (k : Graph) → join (c ∷ g ∷ []) ≡ some k →
+          (h : Graph) (hs : List Graph) (left : Disjs Graph) → Rounds k ds (some (record { folded = h ∷ hs; left = left })) →
           (g′ : Graph) → join (g ∷ h ∷ hs) ≡ some g′ → (o : Option (Desc Graph)) → Tidies c (desc g′ left) o → Tidies c (desc g ds) o
 
     -- "tidy each alternative under that join …, drop those that fail, and keep the others in their tidied form"
@@ -37,4 +40,5 @@ module _ {Graph : Type 0} (J : Joining Graph) where
     pub data Rounds : Graph → Disjs Graph → Option (Round Graph) → Type 0 where
       over : (k : Graph) (r : Round Graph) → r ≡ record { folded = []; left = end } → Rounds k end (some r)
       fails : (k : Graph) (a : Alts Graph) (ds : Disjs Graph) → Rounds k ds none → Rounds k (a and ds) none
-      one : (k : Graph) (a b : Alts Graph) (ds : Disjs Graph) (r : Round Graph) → Keeps k a b → Rounds k ds (some r) → (o : Option (Round Graph)) → after J b r ≡ o → Rounds k (a and ds) o
+      one : (k : Graph) (a b : Alts Graph) (ds : Disjs Graph) (r : Round Graph) → Keeps k a b → Rounds k ds (some r) →
+          (o : Option (Round Graph)) → after J b r ≡ o → Rounds k (a and ds) o

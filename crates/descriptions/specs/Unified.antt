@@ -28,7 +28,10 @@ module _ {Graph : Type 0} (𝓕 : Layout Graph) where
 module _ {Graph : Type 0} (J : Joining Graph) (𝓕 : Layout Graph) where
   -- "7 | mode 2, quick step did not fail, its result has over 4,096 choices"
   unfoldable pub complete : ℕ → Desc Graph → Desc Graph → Answer
-  complete room d e = elim (quick J d e) [ none ↦ refuse 6 | some q ↦ elim (ltb choice-limit (number q)) [ true ↦ refuse 7 | false ↦ deliver 𝓕 room (consistent J d e) (full J d e) ] ]
+  complete room d e = elim (quick J d e) [
+    | none ↦ refuse 6
+    | some q ↦ elim (ltb choice-limit (number q)) [ true ↦ refuse 7 | false ↦ deliver 𝓕 room (consistent J d e) (full J d e) ]
+  ]
 
   unfoldable pub in-mode : ℕ → Desc Graph → Desc Graph → ℕ → Answer
   in-mode zero d e room = deliver 𝓕 room 0 (joined J d e)

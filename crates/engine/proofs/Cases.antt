@@ -43,11 +43,15 @@ PS =
     also stop)
 
 full-case : full-words PS ≡ 2 ∷ 1 ∷ 1 ∷ 1 ∷ 65546 ∷ 1 ∷ 2 ∷ 2 ∷ 1 ∷ 1 ∷ 1 ∷ 65546 ∷ 0 ∷ 3 ∷ 2 ∷ 1 ∷ 1 ∷ 2 ∷ 2 ∷ 65546 ∷ 65546 ∷ 0 ∷ []
-unfolding Rattle.modes_by_marks.specs.Quickly.quick-at Rattle.modes_by_marks.specs.Quickly.passes-at Rattle.modes_by_marks.specs.Quickly.try-at size Rattle.descriptions.specs.Descr.agree join Rattle.modes_by_marks.specs.Shown.shown Rattle.modes_by_marks.specs.Search.full-left Rattle.modes_by_marks.specs.Search.search Rattle.modes_by_marks.specs.Search.dive
+unfolding Rattle.modes_by_marks.specs.Quickly.quick-at Rattle.modes_by_marks.specs.Quickly.passes-at
+    Rattle.modes_by_marks.specs.Quickly.try-at size Rattle.descriptions.specs.Descr.agree join Rattle.modes_by_marks.specs.Shown.shown
+    Rattle.modes_by_marks.specs.Search.full-left Rattle.modes_by_marks.specs.Search.search Rattle.modes_by_marks.specs.Search.dive
 full-case = refl
 
 full-case-readings : full-count PS ≡ 2
-unfolding Rattle.modes_by_marks.specs.Quickly.quick-at Rattle.modes_by_marks.specs.Quickly.passes-at Rattle.modes_by_marks.specs.Quickly.try-at size Rattle.descriptions.specs.Descr.agree join Rattle.modes_by_marks.specs.Search.full-readings-by Rattle.modes_by_marks.specs.Search.search Rattle.modes_by_marks.specs.Search.dive
+unfolding Rattle.modes_by_marks.specs.Quickly.quick-at Rattle.modes_by_marks.specs.Quickly.passes-at
+    Rattle.modes_by_marks.specs.Quickly.try-at size Rattle.descriptions.specs.Descr.agree join
+    Rattle.modes_by_marks.specs.Search.full-readings-by Rattle.modes_by_marks.specs.Search.search Rattle.modes_by_marks.specs.Search.dive
 full-case-readings = refl
 
 full-case-choices : count-at choice-stop all-kept PS ≡ 4
@@ -57,7 +61,9 @@ full-case-choices = refl
 -- the later disjunction is folded in the first pass, and the earlier one by it in the second
 quick-case :
     quick-words
-    (place (one-arc 2 10) (option 1 (leaf (one-arc 1 10)) (option 2 (leaf (one-arc 1 11)) no-more) also option 3 (leaf (one-arc 1 11)) (option 4 (leaf (one-arc 2 11)) no-more) also stop))
+    (place (one-arc 2 10) (option 1 (leaf (one-arc 1 10)) (option 2 (leaf (one-arc 1 11)) no-more) also option 3 (leaf (one-arc 1 11))
+    (option 4 (leaf (one-arc 2 11)) no-more) also stop))
     ≡ 3 ∷ 2 ∷ 1 ∷ 1 ∷ 2 ∷ 2 ∷ 65547 ∷ 65546 ∷ 0 ∷ []
-unfolding Rattle.modes_by_marks.specs.Quickly.quick-at Rattle.modes_by_marks.specs.Quickly.passes-at Rattle.modes_by_marks.specs.Quickly.try-at size Rattle.descriptions.specs.Descr.agree join Rattle.modes_by_marks.specs.Shown.shown
+unfolding Rattle.modes_by_marks.specs.Quickly.quick-at Rattle.modes_by_marks.specs.Quickly.passes-at
+    Rattle.modes_by_marks.specs.Quickly.try-at size Rattle.descriptions.specs.Descr.agree join Rattle.modes_by_marks.specs.Shown.shown
 quick-case = refl

@@ -1,4 +1,5 @@
--- What a list of graphs says: a graph that may be joined to it with no effect. Order and repetition do not count, and a join stands for what it joins.
+-- What a list of graphs says: a graph that may be joined to it with no effect. Order and repetition do not count, and a join stands
+-- for what it joins.
 -- Assumes nothing.
 use mathlib.Core.Path.{_≡_}
 use mathlib.Core.List.{_∷_}

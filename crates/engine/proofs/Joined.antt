@@ -24,11 +24,14 @@ Joins = Rattle.modes_by_marks.proofs.Joined.Joins joining-one
 pub joined-is : (a b j : Placed) → joined-placed a b ≡ some j → Joins a b j
 joined-is = Rattle.modes_by_marks.proofs.Joined.joined-is joining-one
 
-pub joined-same : (g h k : Graph) (X Y : Ctx) → Canonical g → Canonical h → AllCanonical X → AllCanonical Y → join (g ∷ h ∷ []) ≡ some k → Same ((g ∷ X) ++ h ∷ Y) (k ∷ (X ++ Y))
+pub joined-same : (g h k : Graph) (X Y : Ctx) → Canonical g → Canonical h → AllCanonical X → AllCanonical Y → join (g ∷ h ∷ []) ≡ some k →
+    Same ((g ∷ X) ++ h ∷ Y) (k ∷ (X ++ Y))
 joined-same = Rattle.modes_by_marks.proofs.Joined.joined-same laws
 
-pub resume-at-after : (m : Marking) → (ds : Places) (fs gs : List Places) (S : Ctx) → ((T : Ctx) → resume-at m fs T ≡ resume-at m gs T) → resume-at m (ds ∷ fs) S ≡ resume-at m (ds ∷ gs) S
+pub resume-at-after : (m : Marking) → (ds : Places) (fs gs : List Places) (S : Ctx) → ((T : Ctx) → resume-at m fs T ≡ resume-at m gs T) →
+    resume-at m (ds ∷ fs) S ≡ resume-at m (ds ∷ gs) S
 resume-at-after = Rattle.modes_by_marks.proofs.Joined.resume-at-after joining-one
 
-pub resume-at-next : (m : Marking) → (ds es : Places) (fs : List Places) (S : Ctx) → resume-at m ((ds next es) ∷ fs) S ≡ resume-at m (ds ∷ es ∷ fs) S
+pub resume-at-next : (m : Marking) → (ds es : Places) (fs : List Places) (S : Ctx) →
+    resume-at m ((ds next es) ∷ fs) S ≡ resume-at m (ds ∷ es ∷ fs) S
 resume-at-next = Rattle.modes_by_marks.proofs.Joined.resume-at-next joining-one

@@ -1,4 +1,5 @@
--- Descriptions as they come in have two or more alternatives everywhere, so they are folded already, and mode 1 is the greatest stable part of the joined description, folded.
+-- Descriptions as they come in have two or more alternatives everywhere, so they are folded already, and mode 1 is the greatest stable
+-- part of the joined description, folded.
 -- Assumes nothing.
 use mathlib.Core.Path.{_≡_}
 use mathlib.Core.Option.{Option}

@@ -1,4 +1,5 @@
--- The search sees a stack only by what it joins to. So an engine may push in another order, and may begin with the stack that the quick step leaves standing.
+-- The search sees a stack only by what it joins to. So an engine may push in another order, and may begin with the stack that the
+-- quick step leaves standing.
 -- Assumes nothing.
 use mathlib.Core.Path.{_≡_}
 use mathlib.Core.List.{[], _∷_}
@@ -13,5 +14,6 @@ use Rattle.engine.specs.Agenda.{resume-at}
 use Rattle.engine.proofs.Stack.{Same}
 use Rattle.theory.proofs.Laws.{laws}
 
-pub search-standing : (g : Graph) (ds : Places) (m : Marking) → Can (strip (keep m (place g ds))) → (T : Ctx) → Same T (g ∷ certain m ds) → Agrees T → search (keep m (place g ds)) ≡ resume-at m (ds ∷ []) T
+pub search-standing : (g : Graph) (ds : Places) (m : Marking) → Can (strip (keep m (place g ds))) → (T : Ctx) → Same T (g ∷ certain m ds) →
+    Agrees T → search (keep m (place g ds)) ≡ resume-at m (ds ∷ []) T
 search-standing = Rattle.modes_by_marks.proofs.SearchStack.search-standing laws

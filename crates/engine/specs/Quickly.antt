@@ -1,4 +1,5 @@
--- The quick step by marks: "1, quick" with alternatives dropped and none folded. Of a stack of graphs one thing is asked, whether they agree.
+-- The quick step by marks: "1, quick" with alternatives dropped and none folded. Of a stack of graphs one thing is asked, whether they
+-- agree.
 -- Assumes nothing: these are definitions.
 use mathlib.Core.Option.{Option}
 use mathlib.Core.List.{List}

@@ -1,4 +1,5 @@
--- What is left, as a writer puts it out: all that is certain is joined at once, and the disjunctions of an alternative that stands alone come in its place.
+-- What is left, as a writer puts it out: all that is certain is joined at once, and the disjunctions of an alternative that stands
+-- alone come in its place.
 -- Assumes nothing: these are definitions.
 use Rattle.theory.specs.Descr.{Desc, Disjs, Alts}
 use Rattle.theory.specs.JoiningOne.{joining-one}

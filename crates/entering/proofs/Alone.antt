@@ -28,7 +28,8 @@ module _ (n k : ℕ) (w : List ℕ) (p count left : ℕ) (c : Alternating n k w 
 
   module _ (kept first after : ℕ) (tally : Tallied w counted kept first after) (one : kept ≡ 1) where
     lone : Lone (c .U) (c .t) (marking w) left p (c .from) (c .a) (c .end) (c .to) (c .at) first
-    lone = lone-at (c .U) (c .t) (words w) (marking w) left (c .a) p (c .from) (c .end) (c .to) (c .within) (c .at) (c .among) (c .nests) (sym (tally .kept-are) ∙ one) first (tally .first-is .0) (tally .first-is .1)
+    lone = lone-at (c .U) (c .t) (words w) (marking w) left (c .a) p (c .from) (c .end) (c .to) (c .within) (c .at) (c .among) (c .nests)
+        (sym (tally .kept-are) ∙ one) first (tally .first-is .0) (tally .first-is .1)
 
     pub inner : Entering n k w first left
     inner =

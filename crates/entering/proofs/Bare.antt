@@ -43,20 +43,27 @@ module _ (n k : ℕ) (w : List ℕ) (g left : ℕ) (c : Entering n k w g left) w
   module _ (none : disjunctions-at w (tail-at w g) ≡ 0) where
     -- the description is its graph
     pub bare-one : (K : Graph) × ((c .d ≡ place K stop) × (Guesses n k w g Agrees → Agree (graphs (c .es) ++ K ∷ [])))
-    bare-one = go (c .d) (c .at) (subst (λ (t : List ℕ). At t g (c .from) (c .d) (c .end) (c .to)) (sym (c .loaded)) (c .at)) (c .among) refl
+    bare-one = go (c .d) (c .at) (subst (λ (t : List ℕ). At t g (c .from) (c .d) (c .end) (c .to)) (sym (c .loaded)) (c .at))
+        (c .among) refl
       where
         low : c .to < number-step
         low = omega (arith, c .low, c .ground .few)
 
-        go : (d : Placed) (at : At (c .t) g (c .from) d (c .end) (c .to)) → At (words w) g (c .from) d (c .end) (c .to) → Among (c .U) (c .t) g (c .from) d (c .end) (c .to) at → c .d ≡ d → (K : Graph) × ((c .d ≡ place K stop) × (Guesses n k w g Agrees → Agree (graphs (c .es) ++ K ∷ [])))
-        go (place K stop) at here u e = (K, (e, λ s. s .agrees refl (c .es) (entry g (c .from) K) refl (c .holds) (own-comes n k w g left c K stop at u)))
+        go : (d : Placed) (at : At (c .t) g (c .from) d (c .end) (c .to)) → At (words w) g (c .from) d (c .end) (c .to) →
+            Among (c .U) (c .t) g (c .from) d (c .end) (c .to) at → c .d ≡ d →
+            (K : Graph) × ((c .d ≡ place K stop) × (Guesses n k w g Agrees → Agree (graphs (c .es) ++ K ∷ [])))
+        go (place K stop) at here u e =
+            (K, (e, λ s. s .agrees refl (c .es) (entry g (c .from) K) refl (c .holds) (own-comes n k w g left c K stop at u)))
         go (place K (a also ds)) at here u e =
             let t = tail-is w (c .holds .long) K (a also ds) g (c .from) (c .end) (c .to) here low in
-            let m : disjunctions-at w (g + extent K) ≡ places (a also ds) = disjunctions-is w (c .holds .long) K (a also ds) g (c .from) (c .end) (c .to) here low in
+            let m : disjunctions-at w (g + extent K) ≡ places (a also ds) =
+            disjunctions-is w (c .holds .long) K (a also ds) g (c .from) (c .end) (c .to) here low in
             let z : disjunctions-at w (g + extent K) ≡ 0 = ap (disjunctions-at w) (sym t) ∙ none in
             absurd (omega arith)
 
     -- it agrees
     module _ (s : Guesses n k w g Agrees) where
       pub bare-good : agree (graphs (c .es) ++ bare-one .0 ∷ []) ≡ true
-      bare-good = agrees-true (graphs (c .es) ++ bare-one .0 ∷ []) (subst (λ (d : Placed). Fine (graphs (c .es) ++ flat (strip (keep (marking w) d)))) (bare-one .1 .0) (fine n k w g left c)) (bare-one .1 .1 s)
+      bare-good = agrees-true (graphs (c .es) ++ bare-one .0 ∷ [])
+          (subst (λ (d : Placed). Fine (graphs (c .es) ++ flat (strip (keep (marking w) d)))) (bare-one .1 .0) (fine n k w g left c))
+          (bare-one .1 .1 s)

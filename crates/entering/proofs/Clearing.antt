@@ -23,38 +23,60 @@ abbrev pub Holding : ℕ → ℕ → List Entry → List Entry → Type 0
 Holding n m xs E = (o : Entry) → List·Memᴰ o E → Outside n m (o .number) ⊎ List·Memᴰ o xs
 
 -- the part of a list of which the rest lies outside
-part : (n m : ℕ) (xs ys E : List Entry) (n′ m′ : ℕ) → n ≤ n′ → m′ ≤ m → ((o : Entry) → List·Memᴰ o ys → Outside n′ m′ (o .number)) → Holding n m (xs ++ ys) E → Holding n′ m′ xs E
-part n m xs ys E n′ m′ h h′ off hold o i = ⊎-elim (⊎-elim (λ b. inl (inl (omega arith))) (λ b. inl (inr (omega arith)))) (λ j. ⊎-elim (λ b. inr b) (λ b. inl (off o b)) (List·Memᴰ·append-cases xs j)) (hold o i)
+part : (n m : ℕ) (xs ys E : List Entry) (n′ m′ : ℕ) → n ≤ n′ → m′ ≤ m → ((o : Entry) → List·Memᴰ o ys → Outside n′ m′ (o .number)) →
+    Holding n m (xs ++ ys) E → Holding n′ m′ xs E
+part n m xs ys E n′ m′ h h′ off hold o i =
+    ⊎-elim (⊎-elim (λ b. inl (inl (omega arith))) (λ b. inl (inr (omega arith))))
+    (λ j. ⊎-elim (λ b. inr b) (λ b. inl (off o b)) (List·Memᴰ·append-cases xs j)) (hold o i)
 
-part′ : (n m : ℕ) (xs ys E : List Entry) (n′ m′ : ℕ) → n ≤ n′ → m′ ≤ m → ((o : Entry) → List·Memᴰ o xs → Outside n′ m′ (o .number)) → Holding n m (xs ++ ys) E → Holding n′ m′ ys E
-part′ n m xs ys E n′ m′ h h′ off hold o i = ⊎-elim (⊎-elim (λ b. inl (inl (omega arith))) (λ b. inl (inr (omega arith)))) (λ j. ⊎-elim (λ b. inl (off o b)) (λ b. inr b) (List·Memᴰ·append-cases xs j)) (hold o i)
+part′ : (n m : ℕ) (xs ys E : List Entry) (n′ m′ : ℕ) → n ≤ n′ → m′ ≤ m → ((o : Entry) → List·Memᴰ o xs → Outside n′ m′ (o .number)) →
+    Holding n m (xs ++ ys) E → Holding n′ m′ ys E
+part′ n m xs ys E n′ m′ h h′ off hold o i =
+    ⊎-elim (⊎-elim (λ b. inl (inl (omega arith))) (λ b. inl (inr (omega arith))))
+    (λ j. ⊎-elim (λ b. inl (off o b)) (λ b. inr b) (List·Memᴰ·append-cases xs j)) (hold o i)
 
 module _ (t : List ℕ) (k : Marking) (E : List Entry) where
   -- ---- where of these numbers only what is certain is on the stack
-  lone-clear : (c : ℕ) (n m : ℕ) (C : Type 0) (xs : List Entry) → Holding n m xs E → ((c ≡ 1 → ⊥) → xs ≡ []) → (c ≡ 1 → C) → ByCount c C (Free n m E)
+  lone-clear : (c : ℕ) (n m : ℕ) (C : Type 0) (xs : List Entry) → Holding n m xs E → ((c ≡ 1 → ⊥) → xs ≡ []) → (c ≡ 1 → C) →
+      ByCount c C (Free n m E)
   lone-clear zero n m C xs hold none one = tt
   lone-clear (suc zero) n m C xs hold none one = one refl
-  lone-clear (suc (suc l)) n m C xs hold none one = λ o i. ⊎-elim (λ b. b) (λ j. absurd (List·Memᴰ·not-nil (subst (λ (x : List Entry). List·Memᴰ o x) (none (λ e. omega arith)) j))) (hold o i)
+  lone-clear (suc (suc l)) n m C xs hold none one =
+      λ o i. ⊎-elim (λ b. b) (λ j. absurd (List·Memᴰ·not-nil (subst (λ (x : List Entry). List·Memᴰ o x) (none (λ e. omega arith)) j)))
+      (hold o i)
 
-  lone-go : (p n x : ℕ) (d : Placed) (a : Options) (q m : ℕ) (at : AtAny t p n (option x d a) q m) → n < at .1 → at .1 ≤ m → (b : Bool) → _≡_ {A = ℕ} (elim b [ true ↦ suc (kept-of k a) | false ↦ kept-of k a ]) 1 →
-      Holding n m (elim b [ true ↦ elim (kept-of k a) [ zero ↦ taken t k p n d (at .0) (at .1) (at .3) | suc l ↦ [] ] | false ↦ taken-any t k (at .0) (at .1) a q m (at .4) ]) E →
-      (Holding n (at .1) (taken t k p n d (at .0) (at .1) (at .3)) E → Clear E t k p n d (at .0) (at .1) (at .3)) → (kept-of k a ≡ 1 → Holding (at .1) m (taken-any t k (at .0) (at .1) a q m (at .4)) E → ClearLone E t k (at .0) (at .1) a q m (at .4)) →
+  lone-go : (p n x : ℕ) (d : Placed) (a : Options) (q m : ℕ) (at : AtAny t p n (option x d a) q m) → n < at .1 → at .1 ≤ m → (b : Bool) →
+      _≡_ {A = ℕ} (elim b [ true ↦ suc (kept-of k a) | false ↦ kept-of k a ]) 1 →
+      Holding n m (elim b [
+        | true ↦ elim (kept-of k a) [ zero ↦ taken t k p n d (at .0) (at .1) (at .3) | suc l ↦ [] ]
+        | false ↦ taken-any t k (at .0) (at .1) a q m (at .4)
+      ]) E →
+      (Holding n (at .1) (taken t k p n d (at .0) (at .1) (at .3)) E → Clear E t k p n d (at .0) (at .1) (at .3)) →
+      (kept-of k a ≡ 1 → Holding (at .1) m (taken-any t k (at .0) (at .1) a q m (at .4)) E →
+      ClearLone E t k (at .0) (at .1) a q m (at .4)) →
       ByMark b (Clear E t k p n d (at .0) (at .1) (at .3)) (ClearLone E t k (at .0) (at .1) a q m (at .4))
   lone-go p n x d a q m at near far true one hold f h = f (go (kept-of k a) (omega arith) hold)
     where
-      go : (c : ℕ) → c ≡ 0 → Holding n m (elim c [ zero ↦ taken t k p n d (at .0) (at .1) (at .3) | suc l ↦ [] ]) E → Holding n (at .1) (taken t k p n d (at .0) (at .1) (at .3)) E
+      go : (c : ℕ) → c ≡ 0 → Holding n m (elim c [ zero ↦ taken t k p n d (at .0) (at .1) (at .3) | suc l ↦ [] ]) E →
+          Holding n (at .1) (taken t k p n d (at .0) (at .1) (at .3)) E
       go zero e u = λ o i. ⊎-elim (⊎-elim (λ b. inl (inl b)) (λ b. inl (inr (omega arith)))) (λ j. inr j) (u o i)
       go (suc l) e u = absurd (omega arith)
-  lone-go p n x d a q m at near far false one hold f h = h one (λ o i. ⊎-elim (⊎-elim (λ b. inl (inl (omega arith))) (λ b. inl (inr b))) (λ j. inr j) (hold o i))
+  lone-go p n x d a q m at near far false one hold f h =
+      h one (λ o i. ⊎-elim (⊎-elim (λ b. inl (inl (omega arith))) (λ b. inl (inr b))) (λ j. inr j) (hold o i))
 
   mutual
-    pub clear-taken : (p n : ℕ) (d : Placed) (q m : ℕ) (at : At t p n d q m) → Holding n m (taken t k p n d q m at) E → Clear E t k p n d q m at
+    pub clear-taken : (p n : ℕ) (d : Placed) (q m : ℕ) (at : At t p n d q m) → Holding n m (taken t k p n d q m at) E →
+        Clear E t k p n d q m at
     clear-taken p n (place g ds) q m at hold =
         let some = at .0 in
         let room = at .4 in
-        clear-all (p + extent g + 1) (n + length g) ds q m (omega arith) (at .6) (λ o i. ⊎-elim (⊎-elim (λ b. inl (inl (omega arith))) (λ b. inl (inr b))) (λ j. ⊎-elim (λ e. let f : o .number ≡ n = ap (λ (x : Entry). x .number) e in inl (inl (omega arith))) (λ l. inr l) (List·Memᴰ·cases-cons j)) (hold o i))
+        clear-all (p + extent g + 1) (n + length g) ds q m (omega arith) (at .6)
+        (λ o i. ⊎-elim (⊎-elim (λ b. inl (inl (omega arith))) (λ b. inl (inr b)))
+        (λ j. ⊎-elim (λ e. let f : o .number ≡ n = ap (λ (x : Entry). x .number) e in
+        inl (inl (omega arith))) (λ l. inr l) (List·Memᴰ·cases-cons j)) (hold o i))
 
-    clear-all : (p n : ℕ) (ds : Places) (q m : ℕ) → p ≤ length t → (at : AtAll t p n ds q m) → Holding n m (taken-all t k p n ds q m at) E → ClearAll E t k p n ds q m at
+    clear-all : (p n : ℕ) (ds : Places) (q m : ℕ) → p ≤ length t → (at : AtAll t p n ds q m) → Holding n m (taken-all t k p n ds q m at) E →
+        ClearAll E t k p n ds q m at
     clear-all p n stop q m h at hold = tt
     clear-all p n (a also ds) q m h at hold =
         let there = at .2 in
@@ -63,23 +85,34 @@ module _ (t : List ℕ) (k : Marking) (E : List Entry) where
         let high = all-bounds t ds (at .0) (at .1) q m (first .1) (at .5) .2 in
         let xs = taken-any t k (p + 1) n a (at .0) (at .1) (at .4) in
         let ys = taken-all t k (at .0) (at .1) ds q m (at .5) in
-        let here : Holding n (at .1) xs E = part n m xs ys E n (at .1) (omega arith) (omega arith) (λ o i. let b = taken-all-between t k (at .0) (at .1) ds q m (first .1) (at .5) o i .0 in inr b) hold in
-        let there : Holding (at .1) m ys E = part′ n m xs ys E (at .1) m (omega arith) (omega arith) (λ o i. let b = taken-any-between t k (p + 1) n a (at .0) (at .1) (omega arith) (at .4) o i .1 in inl b) hold in (
-          lone-clear (kept-of k a) n (at .1) (ClearLone E t k (p + 1) n a (at .0) (at .1) (at .4)) xs here (taken-none t k a (p + 1) n (at .0) (at .1) (at .4)) (λ e. clear-lone (p + 1) n a (at .0) (at .1) (omega arith) (at .4) e here),
+        let here : Holding n (at .1) xs E =
+        part n m xs ys E n (at .1) (omega arith) (omega arith) (λ o i. let b =
+        taken-all-between t k (at .0) (at .1) ds q m (first .1) (at .5) o i .0 in inr b) hold in
+        let there : Holding (at .1) m ys E =
+        part′ n m xs ys E (at .1) m (omega arith) (omega arith) (λ o i. let b =
+        taken-any-between t k (p + 1) n a (at .0) (at .1) (omega arith) (at .4) o i .1 in inl b) hold in (
+          lone-clear (kept-of k a) n (at .1) (ClearLone E t k (p + 1) n a (at .0) (at .1) (at .4)) xs here
+              (taken-none t k a (p + 1) n (at .0) (at .1) (at .4))
+              (λ e. clear-lone (p + 1) n a (at .0) (at .1) (omega arith) (at .4) e here),
           clear-all (at .0) (at .1) ds q m (first .1) (at .5) there,
         )
 
-    clear-lone : (p n : ℕ) (a : Options) (q m : ℕ) → p ≤ length t → (at : AtAny t p n a q m) → kept-of k a ≡ 1 → Holding n m (taken-any t k p n a q m at) E → ClearLone E t k p n a q m at
+    clear-lone : (p n : ℕ) (a : Options) (q m : ℕ) → p ≤ length t → (at : AtAny t p n a q m) → kept-of k a ≡ 1 →
+        Holding n m (taken-any t k p n a q m at) E → ClearLone E t k p n a q m at
     clear-lone p n no-more q m h at one hold = tt
     clear-lone p n (option x d a) q m h at one hold =
         let first = at-bounds t d p n (at .0) (at .1) (at .3) in
         let near = first .2 in
         let far = any-bounds t a (at .0) (at .1) q m (first .1) (at .4) .2 in
-        lone-go p n x d a q m at near far (k x) one hold (λ u. clear-taken p n d (at .0) (at .1) (at .3) u) (λ e u. clear-lone (at .0) (at .1) a q m (first .1) (at .4) e u)
+        lone-go p n x d a q m at near far (k x) one hold (λ u. clear-taken p n d (at .0) (at .1) (at .3) u)
+        (λ e u. clear-lone (at .0) (at .1) a q m (first .1) (at .4) e u)
 
 -- one disjunction
-pub clear-any : (t : List ℕ) (k : Marking) (E : List Entry) (p n : ℕ) (a : Options) (q m : ℕ) → p ≤ length t → (at : AtAny t p n a q m) → Holding n m (taken-any t k p n a q m at) E → ClearAny E t k p n a q m at
-clear-any t k E p n a q m h at hold = lone-clear t k E (kept-of k a) n m (ClearLone E t k p n a q m at) (taken-any t k p n a q m at) hold (taken-none t k a p n q m at) (λ e. clear-lone t k E p n a q m h at e hold)
+pub clear-any : (t : List ℕ) (k : Marking) (E : List Entry) (p n : ℕ) (a : Options) (q m : ℕ) → p ≤ length t → (at : AtAny t p n a q m) →
+    Holding n m (taken-any t k p n a q m at) E → ClearAny E t k p n a q m at
+clear-any t k E p n a q m h at hold =
+    lone-clear t k E (kept-of k a) n m (ClearLone E t k p n a q m at) (taken-any t k p n a q m at) hold (taken-none t k a p n q m at)
+    (λ e. clear-lone t k E p n a q m h at e hold)
 
 -- ---- it stays where marks and stack change only at other numbers
 module _ (t : List ℕ) (k k′ : Marking) where
@@ -91,7 +124,8 @@ module _ (t : List ℕ) (k k′ : Marking) where
     nothing-narrow : (n m n′ m′ : ℕ) → n ≤ n′ → m′ ≤ m → Nothing n m → Nothing n′ m′
     nothing-narrow n m n′ m′ h h′ u o i = ⊎-elim (λ j. inl j) (⊎-elim (λ b. inr (inl (omega arith))) (λ b. inr (inr (omega arith)))) (u o i)
 
-    by-count : (c c′ : ℕ) → c′ ≡ c → (n m : ℕ) (C C′ : Type 0) → Nothing n m → (C → C′) → ByCount c C (Free n m E) → ByCount c′ C′ (Free n m E′)
+    by-count : (c c′ : ℕ) → c′ ≡ c → (n m : ℕ) (C C′ : Type 0) → Nothing n m → (C → C′) → ByCount c C (Free n m E) →
+        ByCount c′ C′ (Free n m E′)
     by-count c c′ e n m C C′ u f x = subst (λ (z : ℕ). ByCount z C′ (Free n m E′)) (sym e) (go c x)
       where
         go : (c : ℕ) → ByCount c C (Free n m E) → ByCount c C′ (Free n m E′)
@@ -107,13 +141,16 @@ module _ (t : List ℕ) (k k′ : Marking) where
         go false y = g y
 
     mutual
-      pub clear-alike : (p n : ℕ) (d : Placed) (q m : ℕ) (at : At t p n d q m) → Alike k k′ (n + 1) m → Nothing n m → Clear E t k p n d q m at → Clear E′ t k′ p n d q m at
+      pub clear-alike : (p n : ℕ) (d : Placed) (q m : ℕ) (at : At t p n d q m) → Alike k k′ (n + 1) m → Nothing n m →
+          Clear E t k p n d q m at → Clear E′ t k′ p n d q m at
       clear-alike p n (place g ds) q m at s u x =
           let some = at .0 in
           let room = at .4 in
-          all-alike (p + extent g + 1) (n + length g) ds q m (omega arith) (at .6) (λ y l h. s y (omega arith) h) (nothing-narrow n m (n + length g) m (omega arith) (omega arith) u) x
+          all-alike (p + extent g + 1) (n + length g) ds q m (omega arith) (at .6) (λ y l h. s y (omega arith) h)
+          (nothing-narrow n m (n + length g) m (omega arith) (omega arith) u) x
 
-      pub all-alike : (p n : ℕ) (ds : Places) (q m : ℕ) → p ≤ length t → (at : AtAll t p n ds q m) → Alike k k′ n m → Nothing n m → ClearAll E t k p n ds q m at → ClearAll E′ t k′ p n ds q m at
+      pub all-alike : (p n : ℕ) (ds : Places) (q m : ℕ) → p ≤ length t → (at : AtAll t p n ds q m) → Alike k k′ n m → Nothing n m →
+          ClearAll E t k p n ds q m at → ClearAll E′ t k′ p n ds q m at
       all-alike p n stop q m h at s u x = tt
       all-alike p n (a also ds) q m h at s u x =
           let there = at .2 in
@@ -122,22 +159,32 @@ module _ (t : List ℕ) (k k′ : Marking) where
           let high = all-bounds t ds (at .0) (at .1) q m (first .1) (at .5) .2 in
           let near : Alike k k′ n (at .1) = λ y l h. s y l (omega arith) in
           let here : Nothing n (at .1) = nothing-narrow n m n (at .1) (omega arith) (omega arith) u in (
-            by-count (kept-of k a) (kept-of k′ a) (kept-alike t k k′ a (p + 1) n (at .0) (at .1) (omega arith) (at .4) near) n (at .1) (ClearLone E t k (p + 1) n a (at .0) (at .1) (at .4)) (ClearLone E′ t k′ (p + 1) n a (at .0) (at .1) (at .4)) here (λ y. lone-alike (p + 1) n a (at .0) (at .1) (omega arith) (at .4) near here y) (x .0),
-            all-alike (at .0) (at .1) ds q m (first .1) (at .5) (λ y l h. s y (omega arith) h) (nothing-narrow n m (at .1) m (omega arith) (omega arith) u) (x .1),
+            by-count (kept-of k a) (kept-of k′ a) (kept-alike t k k′ a (p + 1) n (at .0) (at .1) (omega arith) (at .4) near) n (at .1)
+                (ClearLone E t k (p + 1) n a (at .0) (at .1) (at .4)) (ClearLone E′ t k′ (p + 1) n a (at .0) (at .1) (at .4)) here
+                (λ y. lone-alike (p + 1) n a (at .0) (at .1) (omega arith) (at .4) near here y) (x .0),
+            all-alike (at .0) (at .1) ds q m (first .1) (at .5) (λ y l h. s y (omega arith) h)
+                (nothing-narrow n m (at .1) m (omega arith) (omega arith) u) (x .1),
           )
 
-      lone-alike : (p n : ℕ) (a : Options) (q m : ℕ) → p ≤ length t → (at : AtAny t p n a q m) → Alike k k′ n m → Nothing n m → ClearLone E t k p n a q m at → ClearLone E′ t k′ p n a q m at
+      lone-alike : (p n : ℕ) (a : Options) (q m : ℕ) → p ≤ length t → (at : AtAny t p n a q m) → Alike k k′ n m → Nothing n m →
+          ClearLone E t k p n a q m at → ClearLone E′ t k′ p n a q m at
       lone-alike p n no-more q m h at s u x = tt
       lone-alike p n (option x d a) q m h at s u y =
           let own = at .2 in
           let first = at-bounds t d p n (at .0) (at .1) (at .3) in
           let near = first .2 in
           let far = any-bounds t a (at .0) (at .1) q m (first .1) (at .4) .2 in
-          by-mark (k x) (k′ x) (s x (omega arith) (omega arith)) (Clear E t k p n d (at .0) (at .1) (at .3)) (Clear E′ t k′ p n d (at .0) (at .1) (at .3)) (ClearLone E t k (at .0) (at .1) a q m (at .4)) (ClearLone E′ t k′ (at .0) (at .1) a q m (at .4))
-          (λ z. clear-alike p n d (at .0) (at .1) (at .3) (λ y l h. s y (omega arith) (omega arith)) (nothing-narrow n m n (at .1) (omega arith) (omega arith) u) z)
-          (λ z. lone-alike (at .0) (at .1) a q m (first .1) (at .4) (λ y l h. s y (omega arith) h) (nothing-narrow n m (at .1) m (omega arith) (omega arith) u) z) y
+          by-mark (k x) (k′ x) (s x (omega arith) (omega arith)) (Clear E t k p n d (at .0) (at .1) (at .3))
+          (Clear E′ t k′ p n d (at .0) (at .1) (at .3)) (ClearLone E t k (at .0) (at .1) a q m (at .4))
+          (ClearLone E′ t k′ (at .0) (at .1) a q m (at .4))
+          (λ z. clear-alike p n d (at .0) (at .1) (at .3) (λ y l h. s y (omega arith) (omega arith))
+          (nothing-narrow n m n (at .1) (omega arith) (omega arith) u) z)
+          (λ z. lone-alike (at .0) (at .1) a q m (first .1) (at .4) (λ y l h. s y (omega arith) h)
+          (nothing-narrow n m (at .1) m (omega arith) (omega arith) u) z) y
 
 -- one disjunction
-pub any-alike : (t : List ℕ) (k k′ : Marking) (E E′ : List Entry) (p n : ℕ) (a : Options) (q m : ℕ) → p ≤ length t → (at : AtAny t p n a q m) → Alike k k′ n m → Nothing t k k′ E E′ n m → ClearAny E t k p n a q m at → ClearAny E′ t k′ p n a q m at
+pub any-alike : (t : List ℕ) (k k′ : Marking) (E E′ : List Entry) (p n : ℕ) (a : Options) (q m : ℕ) → p ≤ length t →
+    (at : AtAny t p n a q m) → Alike k k′ n m → Nothing t k k′ E E′ n m → ClearAny E t k p n a q m at → ClearAny E′ t k′ p n a q m at
 any-alike t k k′ E E′ p n a q m h at s u x =
-    by-count t k k′ E E′ (kept-of k a) (kept-of k′ a) (kept-alike t k k′ a p n q m h at s) n m (ClearLone E t k p n a q m at) (ClearLone E′ t k′ p n a q m at) u (λ y. lone-alike t k k′ E E′ p n a q m h at s u y) x
+    by-count t k k′ E E′ (kept-of k a) (kept-of k′ a) (kept-alike t k k′ a p n q m h at s) n m (ClearLone E t k p n a q m at)
+    (ClearLone E′ t k′ p n a q m at) u (λ y. lone-alike t k k′ E E′ p n a q m h at s u y) x

@@ -18,7 +18,8 @@ use Rattle.modes_by_marks.proofs.Proper.{Proper}
 use Rattle.engine.proofs.Shown.{shown-ok}
 use Rattle.engine.proofs.Whole as whole
 use Rattle.entering.specs.Stage.{Pair}
-use Rattle.entering.proofs.Pairs.{strip-first, strip-second, first-can, second-can, first-proper, second-proper, first-distinct, second-distinct, both-apart, joined-is, whole-comes}
+use Rattle.entering.proofs.Pairs.{strip-first, strip-second, first-can, second-can, first-proper, second-proper, first-distinct}
+use Rattle.entering.proofs.Pairs.{second-distinct, both-apart, joined-is, whole-comes}
 
 -- a description with two or more alternatives everywhere is written as it is
 pub proper-shown : (d : Desc) → Can d → Proper d → shown d ≡ d
@@ -40,22 +41,30 @@ module _ (n : ℕ) (t : List ℕ) (p : Pair n t) where
   every-sane = proper-sane (strip (keep all-kept (p .j))) every-can every-proper
 
   pub joined-shown : joined (p .d) (p .e) ≡ some (shown (strip (keep all-kept (p .j))))
-  joined-shown = inputs-are joined ∙ joined-is n t p ∙ ap (λ (z : Placed). some (strip z)) (sym (keep-all-marked (p .j))) ∙ ap some (sym (proper-shown (strip (keep all-kept (p .j))) every-can every-proper))
+  joined-shown = inputs-are joined ∙ joined-is n t p ∙ ap (λ (z : Placed). some (strip z)) (sym (keep-all-marked (p .j)))
+      ∙ ap some (sym (proper-shown (strip (keep all-kept (p .j))) every-can every-proper))
 
   -- ---- mode 1 fails, and mode 2 with it
   pub quick-none : quick-at (p .j) ≡ none → quick (p .d) (p .e) ≡ none
-  quick-none q = inputs-are quick ∙ whole.quick-none (p .inputs .a) (p .inputs .b) (first-can n t p) (second-can n t p) (first-proper n t p) (second-proper n t p) (first-distinct n t p) (second-distinct n t p) (both-apart n t p) (p .j) (p .joined) q
+  quick-none q = inputs-are quick
+      ∙ whole.quick-none (p .inputs .a) (p .inputs .b) (first-can n t p) (second-can n t p) (first-proper n t p) (second-proper n t p)
+      (first-distinct n t p) (second-distinct n t p) (both-apart n t p) (p .j) (p .joined) q
 
   pub full-none : quick-at (p .j) ≡ none → full (p .d) (p .e) ≡ none
-  full-none q = inputs-are full ∙ whole.full-none (p .inputs .a) (p .inputs .b) (first-can n t p) (second-can n t p) (first-proper n t p) (second-proper n t p) (first-distinct n t p) (second-distinct n t p) (both-apart n t p) (p .j) (p .joined) q
+  full-none q = inputs-are full ∙ whole.full-none (p .inputs .a) (p .inputs .b) (first-can n t p) (second-can n t p) (first-proper n t p)
+      (second-proper n t p) (first-distinct n t p) (second-distinct n t p) (both-apart n t p) (p .j) (p .joined) q
 
   -- ---- mode 1 leaves these marks
   module _ (m : Marking) (q : Leaves (p .j) m) where
     pub left-can : Can (strip (keep m (p .j)))
-    left-can = whole.left-can (p .inputs .a) (p .inputs .b) (first-can n t p) (second-can n t p) (first-proper n t p) (second-proper n t p) (first-distinct n t p) (second-distinct n t p) (both-apart n t p) (p .j) (p .joined) m q
+    left-can = whole.left-can (p .inputs .a) (p .inputs .b) (first-can n t p) (second-can n t p) (first-proper n t p) (second-proper n t p)
+        (first-distinct n t p) (second-distinct n t p) (both-apart n t p) (p .j) (p .joined) m q
 
     pub left-sane : Sane (strip (keep m (p .j)))
-    left-sane = whole.left-sane (p .inputs .a) (p .inputs .b) (first-can n t p) (second-can n t p) (first-proper n t p) (second-proper n t p) (first-distinct n t p) (second-distinct n t p) (both-apart n t p) (p .j) (p .joined) m q
+    left-sane = whole.left-sane (p .inputs .a) (p .inputs .b) (first-can n t p) (second-can n t p) (first-proper n t p)
+        (second-proper n t p) (first-distinct n t p) (second-distinct n t p) (both-apart n t p) (p .j) (p .joined) m q
 
     pub quick-shown : quick (p .d) (p .e) ≡ some (shown (strip (keep m (p .j))))
-    quick-shown = inputs-are quick ∙ whole.quick-shown (p .inputs .a) (p .inputs .b) (first-can n t p) (second-can n t p) (first-proper n t p) (second-proper n t p) (first-distinct n t p) (second-distinct n t p) (both-apart n t p) (p .j) (p .joined) m q
+    quick-shown = inputs-are quick
+        ∙ whole.quick-shown (p .inputs .a) (p .inputs .b) (first-can n t p) (second-can n t p) (first-proper n t p) (second-proper n t p)
+        (first-distinct n t p) (second-distinct n t p) (both-apart n t p) (p .j) (p .joined) m q

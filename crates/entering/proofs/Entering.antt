@@ -4,7 +4,8 @@ use Prim.Native.Nat.{ℕ, _+_, _-_, _≤_, _<_}
 use native.Mathlib.Omega.{arith}
 use mathlib.Core.Path.{_≡_, refl, sym, ap, subst, _∙_}
 use mathlib.Core.Logic.{inl, ⊎-elim}
-use mathlib.Core.List.{List, [], _∷_, _++_, append-nil, append-assoc, List·Memᴰ, List·Memᴰ·head, List·Memᴰ·tail, List·Memᴰ·cases-cons, List·Memᴰ·not-nil, List·Memᴰ·append-cases, Memᴰ·append-left}
+use mathlib.Core.List.{List, [], _∷_, _++_, append-nil, append-assoc, List·Memᴰ, List·Memᴰ·head, List·Memᴰ·tail, List·Memᴰ·cases-cons}
+use mathlib.Core.List.{List·Memᴰ·not-nil, List·Memᴰ·append-cases, Memᴰ·append-left}
 use lib.ListN.{length, getD}
 use Rattle.theory.specs.Net.{Graph, Clash}
 use Rattle.theory.proofs.Instance.{AllCanonical}
@@ -51,8 +52,11 @@ canonical-all n t U [] g i = tt
 canonical-all n t U (e ∷ es) g i = (g .canonical e (i e (List·Memᴰ·head refl)), canonical-all n t U es g (λ o j. i o (List·Memᴰ·tail j)))
 
 -- more graphs clash where some do
-pub clash-more : (n : ℕ) (t : List ℕ) (U xs ys : List Entry) → Ground n t U → Inside U (xs ++ ys) → Clash (graphs xs) → Clash (graphs (xs ++ ys))
-clash-more n t U xs ys g i c = clash-within (graphs xs) (graphs (xs ++ ys)) (canonical-all n t U xs g (λ o j. i o (Memᴰ·append-left ys j))) (canonical-all n t U (xs ++ ys) g i)
+pub clash-more : (n : ℕ) (t : List ℕ) (U xs ys : List Entry) → Ground n t U → Inside U (xs ++ ys) → Clash (graphs xs) →
+    Clash (graphs (xs ++ ys))
+clash-more n t U xs ys g i c =
+    clash-within (graphs xs) (graphs (xs ++ ys)) (canonical-all n t U xs g (λ o j. i o (Memᴰ·append-left ys j)))
+    (canonical-all n t U (xs ++ ys) g i)
     (λ x j. subst (λ (l : List Graph). List·Memᴰ x l) (sym (graphs-append xs ys)) (Memᴰ·append-left (graphs ys) j)) c
 
 -- what has been reached: nothing from WORDS on has changed, and the start is remembered
@@ -66,19 +70,23 @@ module _ (n k : ℕ) (w : List ℕ) (g left : ℕ) (c : Entering n k w g left) w
   room = c .holds .long
 
   -- ---- the description's own graph
-  pub own-comes : (K : Graph) (ds : Places) (at : At (c .t) g (c .from) (place K ds) (c .end) (c .to)) → Among (c .U) (c .t) g (c .from) (place K ds) (c .end) (c .to) at → Comes n (c .es) (entry g (c .from) K) w
+  pub own-comes : (K : Graph) (ds : Places) (at : At (c .t) g (c .from) (place K ds) (c .end) (c .to)) →
+      Among (c .U) (c .t) g (c .from) (place K ds) (c .end) (c .to) at → Comes n (c .es) (entry g (c .from) K) w
   own-comes K ds at u =
       let more = at-bounds (c .t) (place K ds) g (c .from) (c .end) (c .to) at .2 in
-      c .ground .comes w (c .es) k (c .loaded) (c .holds) (c .inside) (entry g (c .from) K) (u .0) (λ o i q. ⊎-elim (λ b. omega arith) (λ b. omega arith) (c .free o i))
+      c .ground .comes w (c .es) k (c .loaded) (c .holds) (c .inside) (entry g (c .from) K) (u .0)
+      (λ o i q. ⊎-elim (λ b. omega arith) (λ b. omega arith) (c .free o i))
 
   pub asks-own : Pushing n k w g
   asks-own = go (c .d) (c .at) (c .among)
     where
-      go : (d : Placed) (at : At (c .t) g (c .from) d (c .end) (c .to)) → Among (c .U) (c .t) g (c .from) d (c .end) (c .to) at → Pushing n k w g
+      go : (d : Placed) (at : At (c .t) g (c .from) d (c .end) (c .to)) → Among (c .U) (c .t) g (c .from) d (c .end) (c .to) at →
+          Pushing n k w g
       go (place K ds) at u = record { es = c .es; e = entry g (c .from) K; is = refl; holds = c .holds; comes = own-comes K ds at u }
 
   inside-all : Inside (c .U) (entered c)
-  inside-all = inside-append (c .U) (c .es) (taken (c .t) (marking w) g (c .from) (c .d) (c .end) (c .to) (c .at)) (c .inside) (taken-inside (c .t) (marking w) (c .U) g (c .from) (c .d) (c .end) (c .to) (c .at) (c .among))
+  inside-all = inside-append (c .U) (c .es) (taken (c .t) (marking w) g (c .from) (c .d) (c .end) (c .to) (c .at)) (c .inside)
+      (taken-inside (c .t) (marking w) (c .U) g (c .from) (c .d) (c .end) (c .to) (c .at) (c .among))
 
   -- ---- `more` disjunctions are left, from `at` on; before them some graphs were pushed
   pub record Walking (more at log : ℕ) (w₁ : List ℕ) : Type 0 where
@@ -113,10 +121,12 @@ module _ (n k : ℕ) (w : List ℕ) (g left : ℕ) (c : Entering n k w g left) w
     pub starts : (g < 2048) × (tail-at w₁ g < 2048)
     starts = let s = read-at w₁ room₁ (c .d) g (c .from) (c .end) (c .to) at₁ low in (s .here, s .inside)
 
-    pub walk-start : (o : Pushed) → Pushes n k w g o w₁ → o ≡ In log → (e more : ℕ) → e ≡ tail-at w₁ g → more ≡ disjunctions-at w₁ e → Walking more (e + 1) log w₁
+    pub walk-start : (o : Pushed) → Pushes n k w g o w₁ → o ≡ In log → (e more : ℕ) → e ≡ tail-at w₁ g → more ≡ disjunctions-at w₁ e →
+        Walking more (e + 1) log w₁
     walk-start o u z e more f h = go (c .d) (c .at) at₁ (c .among) (c .nests) refl
       where
-        go : (d : Placed) (at : At (c .t) g (c .from) d (c .end) (c .to)) → At (words w₁) g (c .from) d (c .end) (c .to) → Among (c .U) (c .t) g (c .from) d (c .end) (c .to) at → Nests d left →
+        go : (d : Placed) (at : At (c .t) g (c .from) d (c .end) (c .to)) → At (words w₁) g (c .from) d (c .end) (c .to) →
+            Among (c .U) (c .t) g (c .from) d (c .end) (c .to) at → Nests d left →
             entered c ≡ c .es ++ taken (c .t) (marking w) g (c .from) d (c .end) (c .to) at → Walking more (e + 1) log w₁
         go (place K ds) at here s nests same =
             let own = entry g (c .from) K in
@@ -132,17 +142,23 @@ module _ (n k : ℕ) (w : List ℕ) (g left : ℕ) (c : Entering n k w g left) w
               among = s .1;
               es = c .es ++ own ∷ [];
               holds = u .inside log z .1 (c .es) own refl (c .holds) (own-comes K ds at s);
-              inside = inside-append (c .U) (c .es) (own ∷ []) (c .inside) (λ o i. ⊎-elim (λ q. subst (λ (x : Entry). List·Memᴰ x (c .U)) (sym q) (s .0)) (λ j. absurd (List·Memᴰ·not-nil j)) (List·Memᴰ·cases-cons i));
-              free = free-append (c .from + length K) (c .to) (c .es) (own ∷ []) (free-narrow (c .from) (c .to) (c .from + length K) (c .to) (c .es) (omega arith) (omega arith) (c .free))
-                  (λ o i. ⊎-elim (λ q. let v : o .number ≡ c .from = ap (λ (x : Entry). x .number) q in inl (omega arith)) (λ j. absurd (List·Memᴰ·not-nil j)) (List·Memᴰ·cases-cons i));
-              total = same ∙ sym (append-assoc (c .es) (own ∷ []) (taken-all (c .t) (marking w) (g + extent K + 1) (c .from + length K) ds (c .end) (c .to) (at .6)));
+              inside = inside-append (c .U) (c .es) (own ∷ []) (c .inside)
+                  (λ o i. ⊎-elim (λ q. subst (λ (x : Entry). List·Memᴰ x (c .U)) (sym q) (s .0)) (λ j. absurd (List·Memᴰ·not-nil j))
+                  (List·Memᴰ·cases-cons i));
+              free = free-append (c .from + length K) (c .to) (c .es) (own ∷ [])
+                  (free-narrow (c .from) (c .to) (c .from + length K) (c .to) (c .es) (omega arith) (omega arith) (c .free))
+                  (λ o i. ⊎-elim (λ q. let v : o .number ≡ c .from = ap (λ (x : Entry). x .number) q in
+                  inl (omega arith)) (λ j. absurd (List·Memᴰ·not-nil j)) (List·Memᴰ·cases-cons i));
+              total = same ∙ sym (append-assoc (c .es) (own ∷ [])
+                  (taken-all (c .t) (marking w) (g + extent K + 1) (c .from + length K) ds (c .end) (c .to) (at .6)));
             })
 
     module _ (more at : ℕ) (v : Walking more at log w₁) where
       pub walk-done : more ≤ 0 → Holds n (entered c) log w₁
       walk-done h = go (v .ds) (v .stand) (v .many) (v .total)
         where
-          go : (ds : Places) (s : AtAll (c .t) at (v .from) ds (c .end) (c .to)) → places ds ≡ more → entered c ≡ v .es ++ taken-all (c .t) (marking w) at (v .from) ds (c .end) (c .to) s → Holds n (entered c) log w₁
+          go : (ds : Places) (s : AtAll (c .t) at (v .from) ds (c .end) (c .to)) → places ds ≡ more →
+              entered c ≡ v .es ++ taken-all (c .t) (marking w) at (v .from) ds (c .end) (c .to) s → Holds n (entered c) log w₁
           go stop s many total = subst (λ (l : List Entry). Holds n l log w₁) (sym (total ∙ append-nil (v .es))) (v .holds)
           go (a also ds) s many total = absurd (omega arith)
 
@@ -171,12 +187,15 @@ module _ (n k : ℕ) (w : List ℕ) (g left : ℕ) (c : Entering n k w g left) w
         nests-later : NestsAll later left
         among-any : AmongAny (c .U) (c .t) (at + 1) (v .from) a q m any
         among-later : AmongAll (c .U) (c .t) q m later (c .end) (c .to) all
-        total-next : entered c ≡ v .es ++ (taken-any (c .t) (marking w) (at + 1) (v .from) a q m any ++ taken-all (c .t) (marking w) q m later (c .end) (c .to) all)
+        total-next : entered c ≡ v .es
+            ++ (taken-any (c .t) (marking w) (at + 1) (v .from) a q m any ++ taken-all (c .t) (marking w) q m later (c .end) (c .to) all)
 
       next : 0 < more → Next
       next h = go (v .ds) (v .stand) (v .many) (v .nests) (v .among) (v .total)
         where
-          go : (ds : Places) (s : AtAll (c .t) at (v .from) ds (c .end) (c .to)) → places ds ≡ more → NestsAll ds left → AmongAll (c .U) (c .t) at (v .from) ds (c .end) (c .to) s → entered c ≡ v .es ++ taken-all (c .t) (marking w) at (v .from) ds (c .end) (c .to) s → Next
+          go : (ds : Places) (s : AtAll (c .t) at (v .from) ds (c .end) (c .to)) → places ds ≡ more → NestsAll ds left →
+              AmongAll (c .U) (c .t) at (v .from) ds (c .end) (c .to) s →
+              entered c ≡ v .es ++ taken-all (c .t) (marking w) at (v .from) ds (c .end) (c .to) s → Next
           go stop s many nests u total = absurd (omega arith)
           go (a also ds) s many nests u total =
               let there = s .2 in
@@ -191,7 +210,8 @@ module _ (n k : ℕ) (w : List ℕ) (g left : ℕ) (c : Entering n k w g left) w
                 within = omega arith;
                 low-end = first .2;
                 end-low = all-bounds (c .t) ds (s .0) (s .1) (c .end) (c .to) (first .1) (s .5) .2;
-                count = alternatives-is w₁ a ds at (v .from) (c .end) (c .to) (subst (λ (t : List ℕ). AtAll t at (v .from) (a also ds) (c .end) (c .to)) (sym loaded₁) s);
+                count = alternatives-is w₁ a ds at (v .from) (c .end) (c .to)
+                    (subst (λ (t : List ℕ). AtAll t at (v .from) (a also ds) (c .end) (c .to)) (sym loaded₁) s);
                 many-later = omega arith;
                 deep = nests .0;
                 inner = nests .1;
@@ -243,7 +263,8 @@ module _ (n k : ℕ) (w : List ℕ) (g left : ℕ) (c : Entering n k w g left) w
         total-alone = next h .total-next ∙ sym (append-assoc (v .es) list rest-list)
 
         settled-is : settled these ≡ v .es ++ list
-        settled-is = ap (λ (u : Marking). v .es ++ taken-any (c .t) u (at + 1) (v .from) (next h .a) (next h .q) (next h .m) (next h .any)) marks₁
+        settled-is = ap (λ (u : Marking). v .es ++ taken-any (c .t) u (at + 1) (v .from) (next h .a) (next h .q) (next h .m) (next h .any))
+            marks₁
 
         -- past it
         past : (i : ℕ) (w₂ : List ℕ) → Holds n (v .es ++ list) i w₂ → Walking (more - 1) (next h .q) i w₂
@@ -259,9 +280,12 @@ module _ (n k : ℕ) (w : List ℕ) (g left : ℕ) (c : Entering n k w g left) w
               among = x .among-later;
               es = v .es ++ list;
               holds = held;
-              inside = inside-append (c .U) (v .es) list (v .inside) (taken-any-inside (c .t) (marking w) (c .U) (at + 1) (v .from) (x .a) (x .q) (x .m) (x .any) (x .among-any));
-              free = free-append (x .m) (c .to) (v .es) list (free-narrow (v .from) (c .to) (x .m) (c .to) (v .es) (x .low-end) (omega arith) (v .free))
-                  (λ o j. let f = taken-any-between (c .t) (marking w) (at + 1) (v .from) (x .a) (x .q) (x .m) (x .within) (x .any) o j .1 in inl (omega arith));
+              inside = inside-append (c .U) (v .es) list (v .inside)
+                  (taken-any-inside (c .t) (marking w) (c .U) (at + 1) (v .from) (x .a) (x .q) (x .m) (x .any) (x .among-any));
+              free = free-append (x .m) (c .to) (v .es) list
+                  (free-narrow (v .from) (c .to) (x .m) (c .to) (v .es) (x .low-end) (omega arith) (v .free))
+                  (λ o j. let f = taken-any-between (c .t) (marking w) (at + 1) (v .from) (x .a) (x .q) (x .m) (x .within)
+                  (x .any) o j .1 in inl (omega arith));
               total = total-alone;
             }
 
@@ -271,8 +295,11 @@ module _ (n k : ℕ) (w : List ℕ) (g left : ℕ) (c : Entering n k w g left) w
 
           pub walk-skip : (kept ≡ 1 → ⊥) → Walking (more - 1) after log w₁
           walk-skip z =
-              let none = taken-none (c .t) (marking w) (next h .a) (at + 1) (v .from) (next h .q) (next h .m) (next h .any) (λ f. z (told .kept-are ∙ ap (λ (u : Marking). kept-of u (next h .a)) marks₁ ∙ f)) in
-              subst (λ (p : ℕ). Walking (more - 1) p log w₁) (sym (told .after-is)) (past log w₁ (subst (λ (l : List Entry). Holds n l log w₁) (sym (ap (λ (l : List Entry). v .es ++ l) none ∙ append-nil (v .es))) (v .holds)))
+              let none = taken-none (c .t) (marking w) (next h .a) (at + 1) (v .from) (next h .q) (next h .m) (next h .any)
+              (λ f. z (told .kept-are ∙ ap (λ (u : Marking). kept-of u (next h .a)) marks₁ ∙ f)) in
+              subst (λ (p : ℕ). Walking (more - 1) p log w₁) (sym (told .after-is))
+              (past log w₁ (subst (λ (l : List Entry). Holds n l log w₁)
+              (sym (ap (λ (l : List Entry). v .es ++ l) none ∙ append-nil (v .es))) (v .holds)))
 
           module _ (one : kept ≡ 1) where
             pub walk-inner : Entering n log w₁ first (left - 1)
@@ -286,21 +313,26 @@ module _ (n k : ℕ) (w : List ℕ) (g left : ℕ) (c : Entering n k w g left) w
               pub walk-clash : o ≡ Clashed → Clash (graphs (entered c))
               walk-clash z =
                   let k = subst (λ (l : List Entry). Clash (graphs l)) walk-entered (u .clashed z .1 walk-inner .0) in
-                  subst (λ (l : List Entry). Clash (graphs l)) (sym total-alone) (clash-more n (c .t) (c .U) (v .es ++ list) rest-list (c .ground) (subst (Inside (c .U)) total-alone inside-all) k)
+                  subst (λ (l : List Entry). Clash (graphs l)) (sym total-alone)
+                  (clash-more n (c .t) (c .U) (v .es ++ list) rest-list (c .ground) (subst (Inside (c .U)) total-alone inside-all) k)
 
               pub walk-in : (i : ℕ) → o ≡ In i → Walking (more - 1) after i w₂
-              walk-in i z = subst (λ (p : ℕ). Walking (more - 1) p i w₂) (sym (told .after-is)) (past i w₂ (subst (λ (l : List Entry). Holds n l i w₂) walk-entered (u .pushed i z .1 walk-inner)))
+              walk-in i z = subst (λ (p : ℕ). Walking (more - 1) p i w₂) (sym (told .after-is))
+                  (past i w₂ (subst (λ (l : List Entry). Holds n l i w₂) walk-entered (u .pushed i z .1 walk-inner)))
 
 -- further on, where the start is still remembered
-pub reach-on : (k : ℕ) (w : List ℕ) (log : ℕ) (w₁ : List ℕ) (i : ℕ) (w₂ : List ℕ) → Reached k w log w₁ → length w₂ ≡ length w₁ → ((j : ℕ) → WORDS ≤ j → getD w₂ j 0 ≡ getD w₁ j 0) → Since log w₁ i w₂ → Reached k w i w₂
-reach-on k w log w₁ i w₂ r len rest s = record { len = len ∙ r .len; rest = λ j h. rest j h ∙ r .rest j h; since = since-trans k w log w₁ i w₂ (r .since) s }
+pub reach-on : (k : ℕ) (w : List ℕ) (log : ℕ) (w₁ : List ℕ) (i : ℕ) (w₂ : List ℕ) → Reached k w log w₁ → length w₂ ≡ length w₁ →
+    ((j : ℕ) → WORDS ≤ j → getD w₂ j 0 ≡ getD w₁ j 0) → Since log w₁ i w₂ → Reached k w i w₂
+reach-on k w log w₁ i w₂ r len rest s =
+    record { len = len ∙ r .len; rest = λ j h. rest j h ∙ r .rest j h; since = since-trans k w log w₁ i w₂ (r .since) s }
 
 -- the description's own graph is in
 pub reach-own : (n k : ℕ) (w : List ℕ) (g : ℕ) (o : Pushed) (j : ℕ) (w₁ : List ℕ) → Pushes n k w g o w₁ → o ≡ In j → Reached k w j w₁
 reach-own n k w g o j w₁ u z = record { len = u .len; rest = u .rest; since = u .inside j z .0 }
 
 -- it clashes
-pub enters-own : (n k : ℕ) (w : List ℕ) (g left : ℕ) (o : Pushed) (w₁ : List ℕ) → Pushes n k w g o w₁ → o ≡ Clashed → Enters n k w g left Clashed w₁
+pub enters-own : (n k : ℕ) (w : List ℕ) (g left : ℕ) (o : Pushed) (w₁ : List ℕ) → Pushes n k w g o w₁ → o ≡ Clashed →
+    Enters n k w g left Clashed w₁
 enters-own n k w g left o w₁ u z = record {
   len = u .len;
   rest = u .rest;
@@ -308,36 +340,49 @@ enters-own n k w g left o w₁ u z = record {
   clashed = λ y. (u .clashed z .0 .0, λ c. own-clash c (c .d) (c .at) (c .among) refl);
 }
   where
-    own-clash : (c : Entering n k w g left) (d : Placed) (at : At (c .t) g (c .from) d (c .end) (c .to)) → Among (c .U) (c .t) g (c .from) d (c .end) (c .to) at →
+    own-clash : (c : Entering n k w g left) (d : Placed) (at : At (c .t) g (c .from) d (c .end) (c .to)) →
+        Among (c .U) (c .t) g (c .from) d (c .end) (c .to) at →
         entered c ≡ c .es ++ taken (c .t) (marking w) g (c .from) d (c .end) (c .to) at → Clash (graphs (entered c)) × Holds n (c .es) k w₁
     own-clash c (place K ds) at s same =
         let own = entry g (c .from) K in
         let told = u .clashed z .1 (c .es) own refl (c .holds) (own-comes n k w g left c K ds at s) in
         let rest = taken-all (c .t) (marking w) (g + extent K + 1) (c .from + length K) ds (c .end) (c .to) (at .6) in
         let all : entered c ≡ (c .es ++ own ∷ []) ++ rest = same ∙ sym (append-assoc (c .es) (own ∷ []) rest) in
-        let first = subst Clash (sym (graphs-append (c .es) (own ∷ []))) (told .0) in
-        (subst (λ (l : List Entry). Clash (graphs l)) (sym all) (clash-more n (c .t) (c .U) (c .es ++ own ∷ []) rest (c .ground) (subst (Inside (c .U)) all (inside-all n k w g left c)) first), told .1)
+        let first = subst Clash (sym (graphs-append (c .es) (own ∷ []))) (told .0) in (
+          subst (λ (l : List Entry). Clash (graphs l)) (sym all)
+              (clash-more n (c .t) (c .U) (c .es ++ own ∷ []) rest (c .ground) (subst (Inside (c .U)) all (inside-all n k w g left c)) first),
+          told .1,
+        )
 
 -- from the first disjunction on: what held there holds further on
 abbrev pub Onward : (n k g left more₀ at₀ log₀ : ℕ) → List ℕ → (more at log : ℕ) → List ℕ → Type 0
-Onward n k g left more₀ at₀ log₀ w₀ more at log w = (v : List ℕ) (c : Entering n k v g left) → Reached k v log₀ w₀ → Walking n k v g left c more₀ at₀ log₀ w₀ → Reached k v log w × Walking n k v g left c more at log w
+Onward n k g left more₀ at₀ log₀ w₀ more at log w = (v : List ℕ) (c : Entering n k v g left) → Reached k v log₀ w₀ →
+    Walking n k v g left c more₀ at₀ log₀ w₀ → Reached k v log w × Walking n k v g left c more at log w
 
 -- what a turn does: the alternative that stands alone is entered, or there is none
 pub data Turn (n log : ℕ) (w₁ : List ℕ) (first left kept i : ℕ) (w₂ : List ℕ) : Type 0 where
-  one : (o : Pushed) (j : ℕ) (w′ : List ℕ) → kept ≡ 1 → Enters n log w₁ first (left - 1) o w′ → o ≡ In j → w₂ ≡ w′ → i ≡ j → Turn n log w₁ first left kept i w₂
+  one : (o : Pushed) (j : ℕ) (w′ : List ℕ) → kept ≡ 1 → Enters n log w₁ first (left - 1) o w′ → o ≡ In j → w₂ ≡ w′ → i ≡ j →
+      Turn n log w₁ first left kept i w₂
   none : (kept ≡ 1 → ⊥) → w₂ ≡ w₁ → i ≡ log → Turn n log w₁ first left kept i w₂
 
-pub walk-on : (n k : ℕ) (w : List ℕ) (g left : ℕ) (c : Entering n k w g left) (log : ℕ) (w₁ : List ℕ) (r : Reached k w log w₁) (more at : ℕ) (v : Walking n k w g left c more at log w₁) (h : 0 < more) (count : ℕ) → count ≡ alternatives-at w₁ at → (kept first after : ℕ) →
-    ((s : Alternatives w₁ (at + 1) count) → Tallied w₁ s kept first after) → (i : ℕ) (w₂ : List ℕ) → Turn n log w₁ first left kept i w₂ → Reached k w i w₂ × Walking n k w g left c (more - 1) after i w₂
+pub walk-on : (n k : ℕ) (w : List ℕ) (g left : ℕ) (c : Entering n k w g left) (log : ℕ) (w₁ : List ℕ) (r : Reached k w log w₁) (more at : ℕ)
+    (v : Walking n k w g left c more at log w₁) (h : 0 < more) (count : ℕ) → count ≡ alternatives-at w₁ at → (kept first after : ℕ) →
+    ((s : Alternatives w₁ (at + 1) count) → Tallied w₁ s kept first after) → (i : ℕ) (w₂ : List ℕ) → Turn n log w₁ first left kept i w₂ →
+    Reached k w i w₂ × Walking n k w g left c (more - 1) after i w₂
 walk-on n k w g left c log w₁ r more at v h count e kept first after tally i w₂ (one o j w′ z u y f q) =
-    subst (λ (x : List ℕ). Reached k w i x × Walking n k w g left c (more - 1) after i x) (sym f) (subst (λ (b : ℕ). Reached k w b w′ × Walking n k w g left c (more - 1) after b w′) (sym q)
-    (reach-on k w log w₁ j w′ r (u .len) (u .rest) (u .pushed j y .0), walk-in n k w g left c log w₁ r more at v h count e kept first after tally z o w′ u j y))
+    subst (λ (x : List ℕ). Reached k w i x × Walking n k w g left c (more - 1) after i x) (sym f)
+    (subst (λ (b : ℕ). Reached k w b w′ × Walking n k w g left c (more - 1) after b w′) (sym q) (
+      reach-on k w log w₁ j w′ r (u .len) (u .rest) (u .pushed j y .0),
+      walk-in n k w g left c log w₁ r more at v h count e kept first after tally z o w′ u j y,
+    ))
 walk-on n k w g left c log w₁ r more at v h count e kept first after tally i w₂ (none z f q) =
-    subst (λ (x : List ℕ). Reached k w i x × Walking n k w g left c (more - 1) after i x) (sym f) (subst (λ (b : ℕ). Reached k w b w₁ × Walking n k w g left c (more - 1) after b w₁) (sym q)
+    subst (λ (x : List ℕ). Reached k w i x × Walking n k w g left c (more - 1) after i x) (sym f)
+    (subst (λ (b : ℕ). Reached k w b w₁ × Walking n k w g left c (more - 1) after b w₁) (sym q)
     (r, walk-skip n k w g left c log w₁ r more at v h count e kept first after tally z))
 
 -- all are in
-pub enters-all : (n k : ℕ) (w : List ℕ) (g left log : ℕ) (w₁ : List ℕ) → Reached k w log w₁ → ((c : Entering n k w g left) → Holds n (entered c) log w₁) → Enters n k w g left (In log) w₁
+pub enters-all : (n k : ℕ) (w : List ℕ) (g left log : ℕ) (w₁ : List ℕ) → Reached k w log w₁ →
+    ((c : Entering n k w g left) → Holds n (entered c) log w₁) → Enters n k w g left (In log) w₁
 enters-all n k w g left log w₁ r all = record {
   len = r .len;
   rest = r .rest;

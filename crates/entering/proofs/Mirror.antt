@@ -31,8 +31,12 @@ module _ (t : List ℕ) where
     all-distinct stop p n q m h at = tt
     all-distinct (a also ds) p n q m h at =
         let there = at .2 in
-        let first = any-bounds t a (p + 1) n (at .0) (at .1) (omega arith) (at .4) in
-        (any-distinct a (p + 1) n (at .0) (at .1) (omega arith) (at .4), all-distinct ds (at .0) (at .1) q m (first .1) (at .5), between-apart n (at .1) m _ _ (any-names t a (p + 1) n (at .0) (at .1) (omega arith) (at .4)) (all-names t ds (at .0) (at .1) q m (first .1) (at .5)))
+        let first = any-bounds t a (p + 1) n (at .0) (at .1) (omega arith) (at .4) in (
+          any-distinct a (p + 1) n (at .0) (at .1) (omega arith) (at .4),
+          all-distinct ds (at .0) (at .1) q m (first .1) (at .5),
+          between-apart n (at .1) m _ _ (any-names t a (p + 1) n (at .0) (at .1) (omega arith) (at .4))
+              (all-names t ds (at .0) (at .1) q m (first .1) (at .5)),
+        )
 
     pub any-distinct : (a : Options) (p n q m : ℕ) → p ≤ length t → AtAny t p n a q m → DistinctAny a
     any-distinct no-more p n q m h at = tt
@@ -42,18 +46,35 @@ module _ (t : List ℕ) where
         let near = first .2 in
         let own : Between n (n + 1) (x ∷ []) = rw e (between-one n (n + 1) (omega arith)) in
         let inner = at-names t d p n (at .0) (at .1) (at .3) in
-        let later = any-names t a (at .0) (at .1) q m (first .1) (at .4) in
-        (at-distinct d p n (at .0) (at .1) (at .3), any-distinct a (at .0) (at .1) q m (first .1) (at .4), between-apart n (n + 1) (at .1) (x ∷ []) _ own inner, between-apart n (at .1) m (x ∷ []) _ (between-wide n n (n + 1) (at .1) (x ∷ []) (omega arith) (omega arith) own) later, between-apart (n + 1) (at .1) m _ _ inner later)
+        let later = any-names t a (at .0) (at .1) q m (first .1) (at .4) in (
+          at-distinct d p n (at .0) (at .1) (at .3),
+          any-distinct a (at .0) (at .1) q m (first .1) (at .4),
+          between-apart n (n + 1) (at .1) (x ∷ []) _ own inner,
+          between-apart n (at .1) m (x ∷ []) _ (between-wide n n (n + 1) (at .1) (x ∷ []) (omega arith) (omega arith) own) later,
+          between-apart (n + 1) (at .1) m _ _ inner later,
+        )
 
 -- ---- one disjunction
 module _ (S : List Graph) (m : Marking) where
   pub any-dropped : (x : ℕ) (d : Placed) (a : Options) → m x ≡ false → any-at S m (option x d a) ≡ any-at S m a
   unfolding Rattle.modes_by_marks.specs.Quickly.any-at
-  any-dropped x d a e = ap (λ (b : Bool). elim b [ false ↦ any-at S m a | true ↦ elim (kept-of m a) [ zero ↦ inside-at S m d | suc k ↦ settle-at S (sift-at S (tried x (try-at S m d)) a) (option x d a) ] ]) e
+  any-dropped x d a e = ap (λ (b : Bool). elim b [
+    | false ↦ any-at S m a
+    | true ↦ elim (kept-of m a) [ zero ↦ inside-at S m d | suc k ↦ settle-at S (sift-at S (tried x (try-at S m d)) a) (option x d a) ]
+  ])
+      e
 
-  any-kept : (x : ℕ) (d : Placed) (a : Options) → m x ≡ true → any-at S m (option x d a) ≡ elim (kept-of m a) [ zero ↦ inside-at S m d | suc k ↦ settle-at S (sift-at S (tried x (try-at S m d)) a) (option x d a) ]
+  any-kept : (x : ℕ) (d : Placed) (a : Options) → m x ≡ true →
+      any-at S m (option x d a) ≡ elim (kept-of m a) [
+        | zero ↦ inside-at S m d
+        | suc k ↦ settle-at S (sift-at S (tried x (try-at S m d)) a) (option x d a)
+      ]
   unfolding Rattle.modes_by_marks.specs.Quickly.any-at
-  any-kept x d a e = ap (λ (b : Bool). elim b [ false ↦ any-at S m a | true ↦ elim (kept-of m a) [ zero ↦ inside-at S m d | suc k ↦ settle-at S (sift-at S (tried x (try-at S m d)) a) (option x d a) ] ]) e
+  any-kept x d a e = ap (λ (b : Bool). elim b [
+    | false ↦ any-at S m a
+    | true ↦ elim (kept-of m a) [ zero ↦ inside-at S m d | suc k ↦ settle-at S (sift-at S (tried x (try-at S m d)) a) (option x d a) ]
+  ])
+      e
 
   -- none is kept
   pub any-none : (a : Options) → kept-of m a ≡ 0 → any-at S m a ≡ fails m
@@ -67,7 +88,8 @@ module _ (S : List Graph) (m : Marking) where
 
   -- the one that stands alone
   pub any-alone : (x : ℕ) (d : Placed) (a : Options) → m x ≡ true → kept-of m a ≡ 0 → any-at S m (option x d a) ≡ inside-at S m d
-  any-alone x d a e z = any-kept x d a e ∙ ap (λ (c : ℕ). elim c [ zero ↦ inside-at S m d | suc k ↦ settle-at S (sift-at S (tried x (try-at S m d)) a) (option x d a) ]) z
+  any-alone x d a e z = any-kept x d a e
+      ∙ ap (λ (c : ℕ). elim c [ zero ↦ inside-at S m d | suc k ↦ settle-at S (sift-at S (tried x (try-at S m d)) a) (option x d a) ]) z
 
   pub sift-dropped : (x : ℕ) (d : Placed) (a : Options) → m x ≡ false → sift-at S m (option x d a) ≡ sift-at S m a
   unfolding Rattle.modes_by_marks.specs.Quickly.sift-at
@@ -78,37 +100,51 @@ module _ (S : List Graph) (m : Marking) where
   sift-kept x d a e = ap (λ (b : Bool). elim b [ false ↦ sift-at S m a | true ↦ sift-at S (tried x (try-at S m d)) a ]) e
 
 -- a dropped alternative does not count when its disjunction is settled
-settle-dropped : (S : List Graph) (m : Marking) (x : ℕ) (d : Placed) (a : Options) → m x ≡ false → settle-at S m (option x d a) ≡ settle-at S m a
-settle-dropped S m x d a e = ap (settling S m) (kept-false m x d a e) ∙ ap (λ (l : List Graph). settled-by S m l (kept-of m a)) (ap (λ (o : Options). sure-any (strip-any o)) (keep-false m x d a e))
+settle-dropped : (S : List Graph) (m : Marking) (x : ℕ) (d : Placed) (a : Options) → m x ≡ false →
+    settle-at S m (option x d a) ≡ settle-at S m a
+settle-dropped S m x d a e = ap (settling S m) (kept-false m x d a e)
+    ∙ ap (λ (l : List Graph). settled-by S m l (kept-of m a)) (ap (λ (o : Options). sure-any (strip-any o)) (keep-false m x d a e))
   where
     settled-by : List Graph → Marking → List Graph → ℕ → Step
-    settled-by S m l c = elim c [ zero ↦ fails m | suc k ↦ elim k [ zero ↦ elim (agree (S ++ l)) [ false ↦ fails m | true ↦ stands (S ++ l) m ] | suc j ↦ stands S m ] ]
+    settled-by S m l c = elim c [
+      | zero ↦ fails m
+      | suc k ↦ elim k [ zero ↦ elim (agree (S ++ l)) [ false ↦ fails m | true ↦ stands (S ++ l) m ] | suc j ↦ stands S m ]
+    ]
 
     settling : List Graph → Marking → ℕ → Step
     settling S m c = settled-by S m (certain-any m (option x d a)) c
 
 -- several are kept: each is tried, and then the disjunction is settled
-pub any-several : (S : List Graph) (m : Marking) (a : Options) → DistinctAny a → (l : ℕ) → kept-of m a ≡ suc (suc l) → any-at S m a ≡ settle-at S (sift-at S m a) a
+pub any-several : (S : List Graph) (m : Marking) (a : Options) → DistinctAny a → (l : ℕ) → kept-of m a ≡ suc (suc l) →
+    any-at S m a ≡ settle-at S (sift-at S m a) a
 any-several S m no-more w l z = absurd (omega arith)
 any-several S m (option x d a) w l z = go (m x) refl (any-several S m a (w .1) l)
   where
-    go : (b : Bool) → m x ≡ b → (kept-of m a ≡ suc (suc l) → any-at S m a ≡ settle-at S (sift-at S m a) a) → any-at S m (option x d a) ≡ settle-at S (sift-at S m (option x d a)) (option x d a)
+    go : (b : Bool) → m x ≡ b → (kept-of m a ≡ suc (suc l) → any-at S m a ≡ settle-at S (sift-at S m a) a) →
+        any-at S m (option x d a) ≡ settle-at S (sift-at S m (option x d a)) (option x d a)
     go true e on =
         let y : kept-of m a ≡ suc l = omega (arith, kept-true m x d a e) in
-        any-kept S m x d a e ∙ ap (λ (c : ℕ). elim c [ zero ↦ inside-at S m d | suc k ↦ settle-at S (sift-at S (tried x (try-at S m d)) a) (option x d a) ]) y ∙ ap (λ (n : Marking). settle-at S n (option x d a)) (sym (sift-kept S m x d a e))
+        any-kept S m x d a e ∙ ap (λ (c : ℕ). elim c [
+          | zero ↦ inside-at S m d
+          | suc k ↦ settle-at S (sift-at S (tried x (try-at S m d)) a) (option x d a)
+        ]) y
+        ∙ ap (λ (n : Marking). settle-at S n (option x d a)) (sym (sift-kept S m x d a e))
     go false e on =
         let still : sift-at S m a x ≡ false = sift-at-ok a (w .1) S m .1 x (λ i. w .3 x (List·Memᴰ·head refl) i) ∙ e in
-        any-dropped S m x d a e ∙ on (sym (kept-false m x d a e) ∙ z) ∙ sym (settle-dropped S (sift-at S m a) x d a still) ∙ ap (λ (n : Marking). settle-at S n (option x d a)) (sym (sift-dropped S m x d a e))
+        any-dropped S m x d a e ∙ on (sym (kept-false m x d a e) ∙ z) ∙ sym (settle-dropped S (sift-at S m a) x d a still)
+        ∙ ap (λ (n : Marking). settle-at S n (option x d a)) (sym (sift-dropped S m x d a e))
 
 -- ---- marks from n up to m are the same
 abbrev pub Alike : Marking → Marking → ℕ → ℕ → Type 0
 Alike k k′ n m = (y : ℕ) → n ≤ y → y < m → k′ y ≡ k y
 
-pub kept-alike : (t : List ℕ) (k k′ : Marking) (a : Options) (p n q m : ℕ) → p ≤ length t → AtAny t p n a q m → Alike k k′ n m → kept-of k′ a ≡ kept-of k a
+pub kept-alike : (t : List ℕ) (k k′ : Marking) (a : Options) (p n q m : ℕ) → p ≤ length t → AtAny t p n a q m → Alike k k′ n m →
+    kept-of k′ a ≡ kept-of k a
 kept-alike t k k′ no-more p n q m h at s = refl
 kept-alike t k k′ (option x d a) p n q m h at s =
     let own = at .2 in
     let first = at-bounds t d p n (at .0) (at .1) (at .3) in
     let near = first .2 in
     let far = any-bounds t a (at .0) (at .1) q m (first .1) (at .4) .2 in
-    ap₂ {C = ℕ} (λ (b : Bool) (c : ℕ). elim b [ true ↦ suc c | false ↦ c ]) (s x (omega arith) (omega arith)) (kept-alike t k k′ a (at .0) (at .1) q m (first .1) (at .4) (λ y l u. s y (omega arith) u))
+    ap₂ {C = ℕ} (λ (b : Bool) (c : ℕ). elim b [ true ↦ suc c | false ↦ c ]) (s x (omega arith) (omega arith))
+    (kept-alike t k k′ a (at .0) (at .1) q m (first .1) (at .4) (λ y l u. s y (omega arith) u))

@@ -54,15 +54,18 @@ module _ (n : ℕ) (t : List ℕ) (p : Pair n t) where
 
   pub both-apart : Apart (names (p .inputs .a)) (names (p .inputs .b))
   both-apart = between-apart 1 (p .inputs .half) n (names (p .inputs .a)) (names (p .inputs .b))
-      (between-wide (0 + 1) 1 (p .inputs .half) (p .inputs .half) (names (p .inputs .a)) (omega arith) (omega arith) (at-names t (p .inputs .a) 0 0 (p .inputs .end-a) (p .inputs .half) (p .inputs .at-a)))
-      (between-wide (p .inputs .half + 1) (p .inputs .half) n n (names (p .inputs .b)) (omega arith) (omega arith) (at-names t (p .inputs .b) SECOND (p .inputs .half) (p .inputs .end-b) n (p .inputs .at-b)))
+      (between-wide (0 + 1) 1 (p .inputs .half) (p .inputs .half) (names (p .inputs .a)) (omega arith) (omega arith)
+      (at-names t (p .inputs .a) 0 0 (p .inputs .end-a) (p .inputs .half) (p .inputs .at-a)))
+      (between-wide (p .inputs .half + 1) (p .inputs .half) n n (names (p .inputs .b)) (omega arith) (omega arith)
+      (at-names t (p .inputs .b) SECOND (p .inputs .half) (p .inputs .end-b) n (p .inputs .at-b)))
 
   -- mode 0, without the numbers
   pub joined-is : joined (strip (p .inputs .a)) (strip (p .inputs .b)) ≡ some (strip (p .j))
   joined-is = joined-strip (p .inputs .a) (p .inputs .b) ∙ ap strip-some (p .joined)
 
   pub whole-comes : Can (strip (p .j)) × Proper (strip (p .j))
-  whole-comes = subst Comes joined-is (joined-comes (strip (p .inputs .a)) (strip (p .inputs .b)) first-can second-can first-proper second-proper)
+  whole-comes = subst Comes joined-is
+      (joined-comes (strip (p .inputs .a)) (strip (p .inputs .b)) first-can second-can first-proper second-proper)
 
   pub whole-distinct : Distinct (p .j)
   whole-distinct = subst SomeDistinct (p .joined) (joined-distinct (p .inputs .a) (p .inputs .b) first-distinct second-distinct both-apart)

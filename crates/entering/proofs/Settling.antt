@@ -36,14 +36,18 @@ use Rattle.theory.proofs.Live.{Agrees}
 
 -- ---- engine's settling, by the number that is kept
 settling : List Graph → Marking → Options → ℕ → Bool → Step
-settling S m a c b = elim c [ zero ↦ fails m | suc k ↦ elim k [ zero ↦ elim b [ false ↦ fails m | true ↦ stands (S ++ certain-any m a) m ] | suc l ↦ stands S m ] ]
+settling S m a c b = elim c [
+  | zero ↦ fails m
+  | suc k ↦ elim k [ zero ↦ elim b [ false ↦ fails m | true ↦ stands (S ++ certain-any m a) m ] | suc l ↦ stands S m ]
+]
 
 module _ (S : List Graph) (m : Marking) (a : Options) where
   settle-none : kept-of m a ≡ 0 → settle-at S m a ≡ fails m
   unfolding settling
   settle-none e = ap (λ (c : ℕ). settling S m a c (agree (S ++ certain-any m a))) e
 
-  settle-one : (b : Bool) → kept-of m a ≡ 1 → agree (S ++ certain-any m a) ≡ b → settle-at S m a ≡ elim b [ false ↦ fails m | true ↦ stands (S ++ certain-any m a) m ]
+  settle-one : (b : Bool) → kept-of m a ≡ 1 → agree (S ++ certain-any m a) ≡ b →
+      settle-at S m a ≡ elim b [ false ↦ fails m | true ↦ stands (S ++ certain-any m a) m ]
   unfolding settling
   settle-one b e f = ap (λ (c : ℕ). settling S m a c (agree (S ++ certain-any m a))) e ∙ ap (λ (b : Bool). settling S m a 1 b) f
 
@@ -71,16 +75,19 @@ agree-joins (g ∷ gs) f a = go (join (g ∷ gs)) refl
     go (some G) q = (G, q)
     go none q = absurd (a (join-none g gs (f .1) q))
 
-pub some-taken : (t : List ℕ) (k : Marking) (p n : ℕ) (d : Placed) (q m : ℕ) (at : At t p n d q m) → 0 < length (graphs (taken t k p n d q m at))
+pub some-taken : (t : List ℕ) (k : Marking) (p n : ℕ) (d : Placed) (q m : ℕ) (at : At t p n d q m) →
+    0 < length (graphs (taken t k p n d q m at))
 some-taken t k p n (place g ds) q m at = omega arith
 
 module _ (n k : ℕ) (w : List ℕ) (p count left : ℕ) where
   module _ (c : Alternating n k w p count left) where
     settled-graphs : graphs (settled c) ≡ graphs (c .es) ++ certain-any (marking w) (c .a)
-    settled-graphs = graphs-append (c .es) (taken-any (c .t) (marking w) p (c .from) (c .a) (c .end) (c .to) (c .at)) ∙ ap (λ (l : List Graph). graphs (c .es) ++ l) (taken-lone (c .t) (marking w) p (c .from) (c .a) (c .end) (c .to) (c .at))
+    settled-graphs = graphs-append (c .es) (taken-any (c .t) (marking w) p (c .from) (c .a) (c .end) (c .to) (c .at))
+        ∙ ap (λ (l : List Graph). graphs (c .es) ++ l) (taken-lone (c .t) (marking w) p (c .from) (c .a) (c .end) (c .to) (c .at))
 
     pub settled-inside : Inside (c .U) (settled c)
-    settled-inside = inside-append (c .U) (c .es) (taken-any (c .t) (marking w) p (c .from) (c .a) (c .end) (c .to) (c .at)) (c .inside) (taken-any-inside (c .t) (marking w) (c .U) p (c .from) (c .a) (c .end) (c .to) (c .at) (c .among))
+    settled-inside = inside-append (c .U) (c .es) (taken-any (c .t) (marking w) p (c .from) (c .a) (c .end) (c .to) (c .at)) (c .inside)
+        (taken-any-inside (c .t) (marking w) (c .U) p (c .from) (c .a) (c .end) (c .to) (c .at) (c .among))
 
   module _ (kept first after : ℕ) (tally : (s : Alternatives w p count) → Tallied w s kept first after) where
     pub settles-none : Alternating n k w p count left → kept ≡ 0 → Settles n k w p count left Clashed w
@@ -88,25 +95,37 @@ module _ (n k : ℕ) (w : List ℕ) (p count left : ℕ) where
       len = refl;
       rest = λ j h. refl;
       pushed = λ i y. let x : _≡_ {A = ℕ} 0 1 = cc in absurd (omega arith);
-      clashed = λ y. (since-refl n (c₀ .es) k w (c₀ .holds), λ c. (c .holds, settle-none (graphs (c .es)) (marking w) (c .a) (sym (tally (counted n k w p count left c) .kept-are) ∙ z)));
+      clashed = λ y. (
+        since-refl n (c₀ .es) k w (c₀ .holds),
+        λ c. (c .holds, settle-none (graphs (c .es)) (marking w) (c .a) (sym (tally (counted n k w p count left c) .kept-are) ∙ z)),
+      );
     }
 
     pub settles-several : Alternating n k w p count left → 1 < kept → Settles n k w p count left (In k) w
     settles-several c₀ z = record {
       len = refl;
       rest = λ j h. refl;
-      pushed = λ i y. let x : k ≡ i = cc in subst (λ (i : ℕ). Since k w i w × ((c : Alternating n k w p count left) → Holds n (settled c) i w × (settle-at (graphs (c .es)) (marking w) (c .a) ≡ stands (graphs (settled c)) (marking w)))) x (since-refl n (c₀ .es) k w (c₀ .holds), several);
+      pushed = λ i y. let x : k ≡ i = cc in
+          subst (λ (i : ℕ). Since k w i w
+          × ((c : Alternating n k w p count left) →
+          Holds n (settled c) i w × (settle-at (graphs (c .es)) (marking w) (c .a) ≡ stands (graphs (settled c)) (marking w)))) x
+          (since-refl n (c₀ .es) k w (c₀ .holds), several);
       clashed = λ y. let x : _≡_ {A = ℕ} 0 1 = cc in absurd (omega arith);
     }
       where
-        several : (c : Alternating n k w p count left) → Holds n (settled c) k w × (settle-at (graphs (c .es)) (marking w) (c .a) ≡ stands (graphs (settled c)) (marking w))
+        several : (c : Alternating n k w p count left) →
+            Holds n (settled c) k w × (settle-at (graphs (c .es)) (marking w) (c .a) ≡ stands (graphs (settled c)) (marking w))
         several c =
             let are = tally (counted n k w p count left c) .kept-are in
             let none = taken-none (c .t) (marking w) (c .a) p (c .from) (c .end) (c .to) (c .at) (λ f. let g = are in omega arith) in
-            let same : settled c ≡ c .es = ap (λ (l : List Entry). c .es ++ l) none ∙ append-nil (c .es) in
-            (subst (λ (l : List Entry). Holds n l k w) (sym same) (c .holds), go (kept-of (marking w) (c .a)) refl (sym are) ∙ ap (λ (l : List Entry). stands (graphs l) (marking w)) (sym same))
+            let same : settled c ≡ c .es = ap (λ (l : List Entry). c .es ++ l) none ∙ append-nil (c .es) in (
+              subst (λ (l : List Entry). Holds n l k w) (sym same) (c .holds),
+              go (kept-of (marking w) (c .a)) refl (sym are)
+                  ∙ ap (λ (l : List Entry). stands (graphs l) (marking w)) (sym same),
+            )
           where
-            go : (b : ℕ) → kept-of (marking w) (c .a) ≡ b → kept-of (marking w) (c .a) ≡ kept → settle-at (graphs (c .es)) (marking w) (c .a) ≡ stands (graphs (c .es)) (marking w)
+            go : (b : ℕ) → kept-of (marking w) (c .a) ≡ b → kept-of (marking w) (c .a) ≡ kept →
+                settle-at (graphs (c .es)) (marking w) (c .a) ≡ stands (graphs (c .es)) (marking w)
             go zero e f = absurd (omega arith)
             go (suc zero) e f = absurd (omega arith)
             go (suc (suc l)) e f = settle-several (graphs (c .es)) (marking w) (c .a) l e
@@ -131,7 +150,8 @@ module _ (n k : ℕ) (w : List ℕ) (p count left : ℕ) where
           let some = some-taken (d .t) (marking w) first (d .from) (d .d) (d .end) (d .to) (d .at) in
           subst Fine (ap graphs (same-entered c) ∙ settled-graphs c) (
             (rw (graphs-append (d .es) list) (simp length-append (omega arith))),
-            subst (λ (l : List Entry). AllCanonical (graphs l)) (sym (same-entered c)) (canonical-all n (c .t) (c .U) (settled c) (c .ground) (settled-inside c)),
+            subst (λ (l : List Entry). AllCanonical (graphs l)) (sym (same-entered c))
+                (canonical-all n (c .t) (c .U) (settled c) (c .ground) (settled-inside c)),
           )
 
       module _ (r : Pushed) (w' : List ℕ) (u : Enters n k w first left r w') where
@@ -143,15 +163,22 @@ module _ (n k : ℕ) (w : List ℕ) (p count left : ℕ) where
             u .pushed i y .0,
             λ c.
                 let held = subst (λ (l : List Entry). Holds n l i w') (same-entered c) (u .pushed i y .1 (asks-inner c)) in
-                let good = agrees-true (graphs (c .es) ++ certain-any (marking w) (c .a)) (fine c) (subst Agree (settled-graphs c) (holds-agree n (settled c) i w' held)) in
-                (held, settle-one (graphs (c .es)) (marking w) (c .a) true (kept-one c) good ∙ ap (λ (l : List Graph). stands l (marking w)) (sym (settled-graphs c))),
+                let good = agrees-true (graphs (c .es) ++ certain-any (marking w) (c .a)) (fine c)
+                (subst Agree (settled-graphs c) (holds-agree n (settled c) i w' held)) in (
+                  held,
+                  settle-one (graphs (c .es)) (marking w) (c .a) true (kept-one c) good
+                      ∙ ap (λ (l : List Graph). stands l (marking w)) (sym (settled-graphs c)),
+                ),
           );
           clashed = λ y. (
             u .clashed y .0,
             λ c.
                 let told = u .clashed y .1 (asks-inner c) in
-                let bad = clash-false (graphs (c .es) ++ certain-any (marking w) (c .a)) (fine c) (subst Clash (ap graphs (same-entered c) ∙ settled-graphs c) (told .0)) in
-                (subst (λ (l : List Entry). Holds n l k w') (same-es c) (told .1), settle-one (graphs (c .es)) (marking w) (c .a) false (kept-one c) bad),
+                let bad = clash-false (graphs (c .es) ++ certain-any (marking w) (c .a)) (fine c)
+                (subst Clash (ap graphs (same-entered c) ∙ settled-graphs c) (told .0)) in (
+                  subst (λ (l : List Entry). Holds n l k w') (same-es c) (told .1),
+                  settle-one (graphs (c .es)) (marking w) (c .a) false (kept-one c) bad,
+                ),
           );
         }
           where

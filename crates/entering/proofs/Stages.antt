@@ -5,7 +5,8 @@ use native.Mathlib.Omega.{arith}
 use mathlib.Core.Path.{_≡_, refl, sym, ap, subst, _∙_}
 use mathlib.Core.Logic.{_⊎_, inl, inr, ⊎-elim}
 use mathlib.Core.Option.{Option, none, some}
-use mathlib.Core.List.{List, [], _∷_, List·Memᴰ, List·Memᴰ·head, List·Memᴰ·not-nil, List·Memᴰ·cases-cons, Memᴰ·append-left, Memᴰ·append-right}
+use mathlib.Core.List.{List, [], _∷_, List·Memᴰ, List·Memᴰ·head, List·Memᴰ·not-nil, List·Memᴰ·cases-cons, Memᴰ·append-left}
+use mathlib.Core.List.{Memᴰ·append-right}
 use lib.ListN.{length, getD}
 use Rattle.theory.specs.Limits.{input-limit, depth-limit}
 use Rattle.theory.specs.Net.{Graph}
@@ -53,16 +54,23 @@ use Rattle.entering.proofs.Pairs.{whole-comes}
 use Rattle.entering.proofs.Settling.{agree-joins}
 
 -- ---- definite graphs
-definite-taken : (t : List ℕ) (k : Marking) (d : Desc) (p n q m : ℕ) (at : At t p n (numbered n d) q m) → List·Memᴰ (definite p n d) (taken t k p n (numbered n d) q m at)
+definite-taken : (t : List ℕ) (k : Marking) (d : Desc) (p n q m : ℕ) (at : At t p n (numbered n d) q m) →
+    List·Memᴰ (definite p n d) (taken t k p n (numbered n d) q m at)
 definite-taken t k (desc g ds) p n q m at = List·Memᴰ·head refl
 
 both-fine : (d e : Desc) (p q m n left : ℕ) → WellFormed d left → WellFormed e left → Fine (graphs (definite p m d ∷ definite q n e ∷ []))
 both-fine (desc g ds) (desc h es) p q m n left a b = fine-cons g (h ∷ []) (a .0) (b .0, tt)
 
-both-joined : (d e : Desc) (p q m n : ℕ) (G : Graph) → join (graphs (definite p m d ∷ definite q n e ∷ [])) ≡ some G → joined-placed (numbered m d) (numbered n e) ≡ some (place G (beside (numbered m d) (numbered n e)))
-both-joined (desc g ds) (desc h es) p q m n G z = ap {B = Option Placed} (λ (o : Option Graph). elim o [ none ↦ none | some k ↦ some (place k (beside (numbered m (desc g ds)) (numbered n (desc h es)))) ]) z
+both-joined : (d e : Desc) (p q m n : ℕ) (G : Graph) → join (graphs (definite p m d ∷ definite q n e ∷ [])) ≡ some G →
+    joined-placed (numbered m d) (numbered n e) ≡ some (place G (beside (numbered m d) (numbered n e)))
+both-joined (desc g ds) (desc h es) p q m n G z =
+    ap {B = Option Placed} (λ (o : Option Graph). elim o [
+      | none ↦ none
+      | some k ↦ some (place k (beside (numbered m (desc g ds)) (numbered n (desc h es))))
+    ]) z
 
-both-same : (d e : Desc) (p q m n left : ℕ) → WellFormed d left → WellFormed e left → (G : Graph) → join (graphs (definite p m d ∷ definite q n e ∷ [])) ≡ some G → Same (graphs (definite p m d ∷ definite q n e ∷ [])) (G ∷ [])
+both-same : (d e : Desc) (p q m n left : ℕ) → WellFormed d left → WellFormed e left → (G : Graph) →
+    join (graphs (definite p m d ∷ definite q n e ∷ [])) ≡ some G → Same (graphs (definite p m d ∷ definite q n e ∷ [])) (G ∷ [])
 both-same (desc g ds) (desc h es) p q m n left a b G z = joined-same g h G [] [] (a .0) (b .0) tt tt z
 
 -- where every disjunction has two or more alternatives, its own graph is all that is certain
@@ -71,9 +79,11 @@ flat-proper (place g ds) p = ap (λ (l : Ctx). g ∷ l) (proper-sure (strip-all 
 
 -- of two, the first or the second
 two-cases : (P : Entry → Type 0) (x y : Entry) → P x → P y → (o : Entry) → List·Memᴰ o (x ∷ y ∷ []) → P o
-two-cases P x y a b o i = ⊎-elim (λ e. subst P (sym e) a) (λ j. ⊎-elim (λ e. subst P (sym e) b) (λ l. absurd (List·Memᴰ·not-nil l)) (List·Memᴰ·cases-cons j)) (List·Memᴰ·cases-cons i)
+two-cases P x y a b o i = ⊎-elim (λ e. subst P (sym e) a)
+    (λ j. ⊎-elim (λ e. subst P (sym e) b) (λ l. absurd (List·Memᴰ·not-nil l)) (List·Memᴰ·cases-cons j)) (List·Memᴰ·cases-cons i)
 
-module _ (w : List ℕ) (d e : Desc) (n : ℕ) (long : SIZE ≤ length w) (wd : WellFormed d depth-limit) (we : WellFormed e depth-limit) (fd : length (layout.words d) ≤ input-limit) (fe : length (layout.words e) ≤ input-limit) (s : Stand (words w) d e n) where
+module _ (w : List ℕ) (d e : Desc) (n : ℕ) (long : SIZE ≤ length w) (wd : WellFormed d depth-limit) (we : WellFormed e depth-limit)
+    (fd : length (layout.words d) ≤ input-limit) (fe : length (layout.words e) ≤ input-limit) (s : Stand (words w) d e n) where
   abbrev t : List ℕ
   t = words w
 
@@ -93,7 +103,8 @@ module _ (w : List ℕ) (d e : Desc) (n : ℕ) (long : SIZE ≤ length w) (wd : 
   end-b = SECOND + length (layout.words e)
 
   at-a : At t 0 0 a end-a half
-  at-a = let z : 0 + half ≡ half = omega arith in subst (λ (m : ℕ). At t 0 0 a end-a m) z (loaded-at t d 0 0 end-a (well-can d wd) (s .first))
+  at-a = let z : 0 + half ≡ half = omega arith in
+      subst (λ (m : ℕ). At t 0 0 a end-a m) z (loaded-at t d 0 0 end-a (well-can d wd) (s .first))
 
   at-b : At t SECOND half b end-b n
   at-b = subst (λ (m : ℕ). At t SECOND half b end-b m) (sym (s .count)) (loaded-at t e SECOND half end-b (well-can e we) (s .second))
@@ -124,8 +135,14 @@ module _ (w : List ℕ) (d e : Desc) (n : ℕ) (long : SIZE ≤ length w) (wd : 
       loaded = refl;
       holds = held;
       inside = two-cases (λ o. List·Memᴰ o (universe d e)) (definite 0 0 d) (definite SECOND half e) (in-one d e) (in-two d e);
-      clear-a = clear-taken t (marking w) both 0 0 a end-a half at-a (two-cases (λ o. Outside 0 half (o .number) ⊎ List·Memᴰ o (taken t (marking w) 0 0 a end-a half at-a)) (definite 0 0 d) (definite SECOND half e) (inr (definite-taken t (marking w) d 0 0 end-a half at-a)) (let z = number-definite SECOND half e in inl (inr (omega arith))));
-      clear-b = clear-taken t (marking w) both SECOND half b end-b n at-b (two-cases (λ o. Outside half n (o .number) ⊎ List·Memᴰ o (taken t (marking w) SECOND half b end-b n at-b)) (definite 0 0 d) (definite SECOND half e) (let z = number-definite 0 0 d in let m = nodes-some d (well-can d wd) in inl (inl (omega arith))) (inr (definite-taken t (marking w) e SECOND half end-b n at-b)));
+      clear-a = clear-taken t (marking w) both 0 0 a end-a half at-a
+          (two-cases (λ o. Outside 0 half (o .number) ⊎ List·Memᴰ o (taken t (marking w) 0 0 a end-a half at-a)) (definite 0 0 d)
+          (definite SECOND half e) (inr (definite-taken t (marking w) d 0 0 end-a half at-a)) (let z = number-definite SECOND half e in
+          inl (inr (omega arith))));
+      clear-b = clear-taken t (marking w) both SECOND half b end-b n at-b
+          (two-cases (λ o. Outside half n (o .number) ⊎ List·Memᴰ o (taken t (marking w) SECOND half b end-b n at-b)) (definite 0 0 d)
+          (definite SECOND half e) (let z = number-definite 0 0 d in let m = nodes-some d (well-can d wd) in
+          inl (inl (omega arith))) (inr (definite-taken t (marking w) e SECOND half end-b n at-b)));
     }
 
     joins : Agrees (graphs both)
@@ -148,22 +165,26 @@ module _ (w : List ℕ) (d e : Desc) (n : ℕ) (long : SIZE ≤ length w) (wd : 
 
     same : marking w ≡ all-kept → Same (graphs both) (flat (strip (keep (marking w) (pair .j))))
     same every =
-        let z : flat (strip (keep (marking w) (pair .j))) ≡ joins .0 ∷ [] = ap (λ (m : Marking). flat (strip (keep m (pair .j)))) every ∙ ap (λ (z : Placed). flat (strip z)) (keep-all-marked (pair .j)) ∙ flat-proper (pair .j) (whole-comes n t pair .1) in
+        let z : flat (strip (keep (marking w) (pair .j))) ≡ joins .0 ∷ [] = ap (λ (m : Marking). flat (strip (keep m (pair .j)))) every
+        ∙ ap (λ (z : Placed). flat (strip z)) (keep-all-marked (pair .j)) ∙ flat-proper (pair .j) (whole-comes n t pair .1) in
         subst (λ (l : Ctx). Same (graphs both) l) (sym z) (both-same d e 0 SECOND 0 half depth-limit wd we (joins .0) (joins .1))
 
     pub first-stage : Undoable n k w → marking w ≡ all-kept → (p : Pair n (words w)) × ((p .d ≡ d) × ((p .e ≡ e) × Stage n (words w) p k w))
     first-stage undoable every = (pair, (refl, (refl, record { es = both; ready = ready; undoable = undoable; same = same every })))
 
 -- a stage is where it was when only marks have changed, and none of these for what is kept
-pub stage-again : (n : ℕ) (t : List ℕ) (p : Pair n t) (k : ℕ) (w : List ℕ) (s : Stage n t p k w) (w′ : List ℕ) → length w′ ≡ length w → ((j : ℕ) → j < MARKS → getD w′ j 0 ≡ getD w j 0) → marking w′ ≡ marking w → Stage n t p k w′
+pub stage-again : (n : ℕ) (t : List ℕ) (p : Pair n t) (k : ℕ) (w : List ℕ) (s : Stage n t p k w) (w′ : List ℕ) → length w′ ≡ length w →
+    ((j : ℕ) → j < MARKS → getD w′ j 0 ≡ getD w j 0) → marking w′ ≡ marking w → Stage n t p k w′
 stage-again n t p k w s w′ len same m = record {
   es = s .es;
   ready = record {
     loaded = words-same w w′ (s .ready .holds .long) len (λ j a b. same j b) ∙ s .ready .loaded;
     holds = holds-frame n (s .es) k w (s .ready .holds) w′ len same;
     inside = s .ready .inside;
-    clear-a = subst (λ (z : Marking). Clear (s .es) t z 0 0 (p .inputs .a) (p .inputs .end-a) (p .inputs .half) (p .inputs .at-a)) (sym m) (s .ready .clear-a);
-    clear-b = subst (λ (z : Marking). Clear (s .es) t z SECOND (p .inputs .half) (p .inputs .b) (p .inputs .end-b) n (p .inputs .at-b)) (sym m) (s .ready .clear-b);
+    clear-a = subst (λ (z : Marking). Clear (s .es) t z 0 0 (p .inputs .a) (p .inputs .end-a) (p .inputs .half) (p .inputs .at-a)) (sym m)
+        (s .ready .clear-a);
+    clear-b = subst (λ (z : Marking). Clear (s .es) t z SECOND (p .inputs .half) (p .inputs .b) (p .inputs .end-b) n (p .inputs .at-b))
+        (sym m) (s .ready .clear-b);
   };
   undoable = undoable-frame n k w (s .undoable) w′ len same;
   same = subst (λ (z : Marking). Same (graphs (s .es)) (flat (strip (keep z (p .j))))) (sym m) (s .same);

@@ -1,4 +1,5 @@
--- Which graphs are on the stack while disjunctions are narrowed: of an alternative that stands alone all that is certain, of one among several none.
+-- Which graphs are on the stack while disjunctions are narrowed: of an alternative that stands alone all that is certain, of one among
+-- several none.
 -- Assumes nothing: these are definitions.
 use Prim.Native.Nat.{ℕ, zero, suc, _+_, _≤_, _<_}
 use mathlib.Core.Logic.{_⊎_}
@@ -39,7 +40,8 @@ abbrev mutual
 
   pub ClearLone : (es : List Entry) (t : List ℕ) (k : Marking) (p n : ℕ) (a : Options) (q m : ℕ) → AtAny t p n a q m → Type 0
   ClearLone es t k p n no-more q m at = Unit {0}
-  ClearLone es t k p n (option x d a) q m at = ByMark (k x) (Clear es t k p n d (at .0) (at .1) (at .3)) (ClearLone es t k (at .0) (at .1) a q m (at .4))
+  ClearLone es t k p n (option x d a) q m at =
+      ByMark (k x) (Clear es t k p n d (at .0) (at .1) (at .3)) (ClearLone es t k (at .0) (at .1) a q m (at .4))
 
 -- one disjunction
 abbrev pub ClearAny : (es : List Entry) (t : List ℕ) (k : Marking) (p n : ℕ) (a : Options) (q m : ℕ) → AtAny t p n a q m → Type 0

@@ -49,6 +49,7 @@ pub record Settles (n k : ℕ) (w : List ℕ) (p count left : ℕ) (r : Pushed) 
   pub len : length w' ≡ length w
   pub rest : (j : ℕ) → WORDS ≤ j → getD w' j 0 ≡ getD w j 0
   pub pushed : (k' : ℕ) → r ≡ In k' → Since k w k' w'
-      × ((c : Alternating n k w p count left) → Holds n (settled c) k' w' × (settle-at (graphs (c .es)) (marking w) (c .a) ≡ stands (graphs (settled c)) (marking w)))
+      × ((c : Alternating n k w p count left) →
+      Holds n (settled c) k' w' × (settle-at (graphs (c .es)) (marking w) (c .a) ≡ stands (graphs (settled c)) (marking w)))
   pub clashed : r ≡ Clashed → Since k w k w'
       × ((c : Alternating n k w p count left) → Holds n (c .es) k w' × (settle-at (graphs (c .es)) (marking w) (c .a) ≡ fails (marking w)))

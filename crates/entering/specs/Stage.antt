@@ -1,4 +1,5 @@
--- Where a mode stands between its steps: two inputs are loaded, marks leave some alternatives of their joined description, and what is certain then is pushed.
+-- Where a mode stands between its steps: two inputs are loaded, marks leave some alternatives of their joined description, and what is
+-- certain then is pushed.
 -- Assumes nothing: these are definitions.
 use Prim.Native.Nat.{ℕ, _≤_}
 use mathlib.Core.Path.{_≡_}

@@ -12,7 +12,8 @@ use Rattle.loading.specs.Loaded.{extent}
 use Rattle.loading.specs.At.{At, AtAll, AtAny}
 use Rattle.loading.proofs.Entries.{entry}
 
--- "One with exactly one left is folded: its graph is joined to the definite graph": a description's own graph, and those of alternatives that stand alone in it, at every depth
+-- "One with exactly one left is folded: its graph is joined to the definite graph": a description's own graph, and those of
+-- alternatives that stand alone in it, at every depth
 abbrev mutual
   pub taken : (t : List ℕ) (k : Marking) (p n : ℕ) (d : Placed) (q m : ℕ) → At t p n d q m → List Entry
   taken t k p n (place g ds) q m at = entry p n g ∷ taken-all t k (p + extent g + 1) (n + length g) ds q m (at .6)
@@ -24,7 +25,10 @@ abbrev mutual
   pub taken-any : (t : List ℕ) (k : Marking) (p n : ℕ) (a : Options) (q m : ℕ) → AtAny t p n a q m → List Entry
   taken-any t k p n no-more q m at = []
   taken-any t k p n (option x d a) q m at =
-      elim (k x) [ true ↦ elim (kept-of k a) [ zero ↦ taken t k p n d (at .0) (at .1) (at .3) | suc l ↦ [] ] | false ↦ taken-any t k (at .0) (at .1) a q m (at .4) ]
+      elim (k x) [
+        | true ↦ elim (kept-of k a) [ zero ↦ taken t k p n d (at .0) (at .1) (at .3) | suc l ↦ [] ]
+        | false ↦ taken-any t k (at .0) (at .1) a q m (at .4)
+      ]
 
 -- each graph of a description that stands loaded is one of U
 abbrev mutual

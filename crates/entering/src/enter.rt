@@ -8,7 +8,8 @@ use marks::positions::tail_at;
 use marks::tally::count_kept;
 ghost use Rattle.entering.specs.Entered.{Entering, Enters};
 
-// Pushes the graph at g and, of each disjunction after it with one alternative left, that alternative in the same way. A clash takes all of it back.
+// Pushes the graph at g and, of each disjunction after it with one alternative left, that alternative in the same way. A clash takes
+// all of it back.
 pub fn enter(w: &mut [u32], k: usize, n: usize, g: usize, left: u32) -> Pushed
     requires { ⌜ Entering n k (now w) g left ⌝ }
     ensures { λ r. ⌜ Enters n k (now (w .entry)) g left r (now (w .exit)) ⌝ }

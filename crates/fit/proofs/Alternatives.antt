@@ -21,7 +21,12 @@ use Rattle.fit.proofs.Things.{Left, left-says, left-on}
 
 -- k alternatives under which others nest at most `left` deep
 abbrev pub its-alternatives : Graph → ℕ → ℕ → Kind
-its-alternatives H left k = record { Thing = Alts; Fine = λ a. (alts a ≡ k) × (left ≤ depth-limit) × WellAny a left; text = alts-words; Holds = FitsAny H }
+its-alternatives H left k = record {
+  Thing = Alts;
+  Fine = λ a. (alts a ≡ k) × (left ≤ depth-limit) × WellAny a left;
+  text = alts-words;
+  Holds = FitsAny H;
+}
 
 module _ (ws : List ℕ) where
   pub skips-end : (at k : ℕ) → k ≤ 0 → Skips ws at k at
@@ -49,17 +54,25 @@ module _ (ws : List ℕ) where
     module _ (left count at : ℕ) where
       pub alternative-next : 0 < count → Asked (its-alternatives H left count) ws at → Asked (a-description H left) ws at
       alternative-next some (few, (fail, q, f, s)) = let z = f .0 in absurd (omega arith)
-      alternative-next some (few, (d or a, q, f, s)) = let t = stands-alternatives ws d a at q .0 s in (few, (d, t .0, (f .1, f .2 .0), t .1))
+      alternative-next some (few, (d or a, q, f, s)) = let t = stands-alternatives ws d a at q .0 s in
+          (few, (d, t .0, (f .1, f .2 .0), t .1))
 
       module _ (r : Answer) (answers : Answers (a-description H left) ws at r) (some : 0 < count) where
-        others : (n : ℕ) → r ≡ answer.Fails → n ≡ descriptionEnd ws at → Left ws (its-alternatives H left count) at (its-alternatives H left (count - 1)) n
+        others : (n : ℕ) → r ≡ answer.Fails → n ≡ descriptionEnd ws at →
+            Left ws (its-alternatives H left count) at (its-alternatives H left (count - 1)) n
         others n e d fail q f s = let z = f .0 in absurd (omega arith)
         others n e d (x or a) q f s =
             let z = f .0 in
             let t = stands-alternatives ws x a at q .0 s in
             let y : n ≡ t .0 = d ∙ description-ends ws x left at (t .0) (f .1) (f .2 .0) (t .1) in
             let lost = subst (Answers (a-description H left) ws at) e answers x (t .0) (f .1, f .2 .0) (t .1) in
-            record { rest = a; fine = (omega arith, f .1, f .2 .1); there = rw y (t .2); same = (⊎-elim (λ h. absurd (lost h)) (λ h. h), λ h. inr h) }
+            record {
+              rest = a;
+              fine = (omega arith, f .1, f .2 .1);
+              there = rw y (t .2);
+              same =
+                  (⊎-elim (λ h. absurd (lost h)) (λ h. h), λ h. inr h);
+            }
 
         one : (n m : ℕ) → r ≡ answer.Fits n → Skips ws n (count - 1) m → Answers (its-alternatives H left count) ws at (answer.Fits m)
         one n m e skips fail q f s = let z = f .0 in absurd (omega arith)
@@ -71,8 +84,10 @@ module _ (ws : List ℕ) where
             (skips a left q (omega arith) (f .1) (f .2 .1) (rw y (t .2)), inl (b .1))
 
         module _ (K : Kind) (p : ℕ) (going : Left ws K p (its-alternatives H left count) at) where
-          pub alternatives-step : (n : ℕ) → r ≡ answer.Fails → n ≡ descriptionEnd ws at → Left ws K p (its-alternatives H left (count - 1)) n
-          alternatives-step n e d = left-on ws K (its-alternatives H left count) (its-alternatives H left (count - 1)) p at n going (others n e d)
+          pub alternatives-step : (n : ℕ) → r ≡ answer.Fails → n ≡ descriptionEnd ws at →
+              Left ws K p (its-alternatives H left (count - 1)) n
+          alternatives-step n e d = left-on ws K (its-alternatives H left count) (its-alternatives H left (count - 1)) p at n going
+              (others n e d)
 
           pub alternatives-fit : (n m : ℕ) → r ≡ answer.Fits n → Skips ws n (count - 1) m → Answers K ws p (answer.Fits m)
           alternatives-fit n m e skips = left-says ws K (its-alternatives H left count) p at (answer.Fits m) going (one n m e skips)

@@ -31,7 +31,8 @@ module _ (s : List ℕ) (e : ℕ) (ws : List ℕ) (B l : List (ℕ × ℕ)) (L :
     arcwise-end h =
         let z = arcs-none ws at left h in
         let d : k ≡ met j l = subst (λ (x : List (ℕ × ℕ)). met k x ≡ met j l) z (a .sum) in
-        let c = comes-end L j (λ m. SentArcs B m l) M k (λ m. SentArcs (lastArcs s e more) m (arcsFrom ws at left)) (a .comes) (λ m. rw z tt) in
+        let c = comes-end L j (λ m. SentArcs B m l) M k (λ m. SentArcs (lastArcs s e more) m (arcsFrom ws at left)) (a .comes)
+        (λ m. rw z tt) in
         (d, rw d at c)
 
     module _ (some : 0 < left) where
@@ -67,15 +68,18 @@ module _ (s : List ℕ) (e : ℕ) (ws : List ℕ) (B l : List (ℕ × ℕ)) (L :
         found : Finds s e more f (Target u i)
         found = subst (Finds s e more f) is finds
 
-        same : (m : ℕ → ℕ) → SentArcs (lastArcs s e more) m (arcsFrom ws at left) ↔ ((m t ≡ u) × SentArcs (lastArcs s e i) m (arcsFrom ws (at + 2) (left - 1)))
+        same : (m : ℕ → ℕ) → SentArcs (lastArcs s e more) m (arcsFrom ws at left)
+            ↔ ((m t ≡ u) × SentArcs (lastArcs s e i) m (arcsFrom ws (at + 2) (left - 1)))
         same m = rw split (sent-first (lastArcs s e more) (lastArcs s e i) f u (found .1) m t (arcsFrom ws (at + 2) (left - 1)) rising)
 
-        pub arcwise-stop : (k′ : ℕ) (M′ : List ℕ) (y : Step) → y ≡ Stopped → Steps M k (λ m. m t ≡ u) k′ M′ y → Refused L j (λ m. SentArcs B m l)
+        pub arcwise-stop : (k′ : ℕ) (M′ : List ℕ) (y : Step) → y ≡ Stopped → Steps M k (λ m. m t ≡ u) k′ M′ y →
+            Refused L j (λ m. SentArcs B m l)
         arcwise-stop k′ M′ y d n =
             comes-refused L j (λ m. SentArcs B m l) M k (λ m. SentArcs (lastArcs s e more) m (arcsFrom ws at left)) (a .comes)
             (λ m g o. subst (Steps M k (λ m. m t ≡ u) k′ M′) d n m g (same m .0 o .0))
 
-        pub arcwise-step : (M′ : List ℕ) (y : Step) (r : ℕ) → y ≡ Met r → Steps M k (λ m. m t ≡ u) (max k (suc t)) M′ y → length M′ ≡ length M → Arcwise i (at + 2) (left - 1) M′ r
+        pub arcwise-step : (M′ : List ℕ) (y : Step) (r : ℕ) → y ≡ Met r → Steps M k (λ m. m t ≡ u) (max k (suc t)) M′ y →
+            length M′ ≡ length M → Arcwise i (at + 2) (left - 1) M′ r
         arcwise-step M′ y r d steps h =
             let g = subst (Steps M k (λ m. m t ≡ u) (max k (suc t)) M′) d steps in
             let z = g .0 in
@@ -96,4 +100,5 @@ module _ (s : List ℕ) (e : ℕ) (ws : List ℕ) (B l : List (ℕ × ℕ)) (L :
 
 pub arcwise-start : (s : List ℕ) (e more : ℕ) (ws : List ℕ) (at left : ℕ) (M : List ℕ) (k : ℕ) → ArcsAsked s e more ws at left k
     → Arcwise s e ws (lastArcs s e more) (arcsFrom ws at left) M k more at left M k
-arcwise-start s e more ws at left M k a = record { asked = a; kept = refl; sum = refl; comes = comes-start M k (λ m. SentArcs (lastArcs s e more) m (arcsFrom ws at left)) }
+arcwise-start s e more ws at left M k a =
+    record { asked = a; kept = refl; sum = refl; comes = comes-start M k (λ m. SentArcs (lastArcs s e more) m (arcsFrom ws at left)) }

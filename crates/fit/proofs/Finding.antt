@@ -86,22 +86,37 @@ module _ (s : List ℕ) (e count f left : ℕ) (b : Looking s e count f left) wh
     less : Findable s e (left - 1)
     less =
         let r = b .0 .room in
-        record { room = omega arith; inside = b .0 .inside; rising = rising-all (suc (getD s at 0)) (lastArcs s e (left - 1)) (subst (Rising 0) split (b .0 .rising) .1) }
+        record {
+          room = omega arith;
+          inside = b .0 .inside;
+          rising =
+              rising-all (suc (getD s at 0)) (lastArcs s e (left - 1)) (subst (Rising 0) split (b .0 .rising) .1);
+        }
 
     pub look-high : f < getD s at 0 → Finds s e count f Nowhere
-    look-high h = behind-high (lastArcs s e count) f (getD s at 0) (getD s (at + 1) 0) (lastArcs s e (left - 1)) (lastArcs s e left) split h (b .0 .rising) (b .1)
+    look-high h = behind-high (lastArcs s e count) f (getD s at 0) (getD s (at + 1) 0) (lastArcs s e (left - 1)) (lastArcs s e left) split h
+        (b .0 .rising) (b .1)
 
     pub look-hit : f ≡ getD s at 0 → Finds s e count f (Target (getD s (at + 1) 0) (left - 1))
-    look-hit h = (less, behind-hit (lastArcs s e count) f (lastArcs s e left) (getD s (at + 1) 0) (lastArcs s e (left - 1)) (split ∙ rw (← h)) (b .0 .rising) (b .1))
+    look-hit h = (
+      less,
+      behind-hit (lastArcs s e count) f (lastArcs s e left) (getD s (at + 1) 0) (lastArcs s e (left - 1)) (split
+          ∙ rw (← h)) (b .0 .rising) (b .1),
+    )
 
     pub look-on : getD s at 0 < f → Looking s e count f (left - 1)
-    look-on h = (less, behind-step (lastArcs s e count) f (getD s at 0) (getD s (at + 1) 0) (lastArcs s e (left - 1)) (lastArcs s e left) split h (b .1))
+    look-on h = (
+      less,
+      behind-step (lastArcs s e count) f (getD s at 0) (getD s (at + 1) 0) (lastArcs s e (left - 1))
+          (lastArcs s e left) split h (b .1),
+    )
 
 -- the rest of the rising arcs goes where the rest of B is
 module _ (B C : Arcs) (f u : ℕ) (b : Beyond B f u C) (m : ℕ → ℕ) where
   rest-on : (l : Arcs) (k : ℕ) → f < k → Rising k l → SentArcs B m l → SentArcs C m l
   rest-on [] k h r s = tt
-  rest-on (e ∷ l) k h r s = let q = r .0 in (b .later (e .0) (m (e .1)) (omega arith) (s .0), rest-on l (suc (e .0)) (omega arith) (r .1) (s .1))
+  rest-on (e ∷ l) k h r s = let q = r .0 in
+      (b .later (e .0) (m (e .1)) (omega arith) (s .0), rest-on l (suc (e .0)) (omega arith) (r .1) (s .1))
 
   rest-back : (l : Arcs) → SentArcs C m l → SentArcs B m l
   rest-back [] s = tt

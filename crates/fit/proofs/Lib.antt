@@ -1,4 +1,5 @@
--- `Parts` ties words to nodes and `Maps` maps to nodes that are sent. `Finding`, `Steps`, `Arcwise`, `OneNode` and `Nodewise` have what sending asks, from one arc to all nodes, and `Noting` what noting does.
+-- `Parts` ties words to nodes and `Maps` maps to nodes that are sent. `Finding`, `Steps`, `Arcwise`, `OneNode` and `Nodewise` have
+-- what sending asks, from one arc to all nodes, and `Noting` what noting does.
 -- `Things` and `Alternatives` have what testing a description asks; `Whole` concludes for both inputs.
 mod Parts
 mod Maps

@@ -34,7 +34,8 @@ module _ (H : Graph) (m : ℕ → ℕ) where
   sent-arc (atom a) y o f t i = absurd (List·Memᴰ·not-nil i)
   sent-arc (arcs l) y o f t i = sent-in (arcsOf (nodeAt H y)) l o f t i
 
-  sent-from : (v : Node) (y : ℕ) → ((a : ℕ) → v ≡ atom a → nodeAt H y ≡ atom a) → ((f t : ℕ) → List·Memᴰ (f, t) (arcsOf v) → List·Memᴰ (f, m t) (arcsOf (nodeAt H y))) → Sent H m v y
+  sent-from : (v : Node) (y : ℕ) → ((a : ℕ) → v ≡ atom a → nodeAt H y ≡ atom a) →
+      ((f t : ℕ) → List·Memᴰ (f, t) (arcsOf v) → List·Memᴰ (f, m t) (arcsOf (nodeAt H y))) → Sent H m v y
   sent-from (atom a) y p q = p a refl
   sent-from (arcs l) y p q = in-sent (arcsOf (nodeAt H y)) l q
 
@@ -46,8 +47,11 @@ module _ (H : Graph) (m : ℕ → ℕ) where
   here-all : (k : ℕ) (g : Graph) → ((i : ℕ) → i < length g → SentHere H m (k + i) (nodeAt g i)) → SentAll H m k g
   here-all k [] s = tt
   here-all k (v ∷ vs) s =
-      let e : k + 0 ≡ k = omega arith in
-      (rw e at (s 0 (omega arith)), here-all (suc k) vs (λ i h. let d : k + suc i ≡ suc k + i = omega arith in rw d at (s (suc i) (omega arith))))
+      let e : k + 0 ≡ k = omega arith in (
+        rw e at (s 0 (omega arith)),
+        here-all (suc k) vs (λ i h. let d : k + suc i ≡ suc k + i = omega arith in
+            rw d at (s (suc i) (omega arith))),
+      )
 
   pub sent-map : (g : Graph) → m 0 ≡ 0 → SentAll H m 0 g → Map (graph g) (graph H)
   sent-map g root o = record {
@@ -85,7 +89,8 @@ module _ (H g : Graph) (c : Canonical g) (t : Map (graph g) (graph H)) where
       let e = is i h in (
         rw e (t .to (i, h) .1),
         sent-from H given (nodeAt g i) (given i) (λ a d. rw e (t .atom-to (i, h) a d))
-            (λ f u j. let l : u < length g = omega (arith, numbered-target 0 1 g c i f u j) in let d = is u l in rw (e, d) (t .arc-to (i, h) f (u, l) j)),
+            (λ f u j. let l : u < length g = omega (arith, numbered-target 0 1 g c i f u j) in let d = is u l in
+            rw (e, d) (t .arc-to (i, h) f (u, l) j)),
       )
 
   pub map-sent : SentAll H given 0 g

@@ -20,12 +20,17 @@ use Rattle.fit.proofs.Maps.{sent-arc}
 use Rattle.fit.proofs.Steps.{comes-start, comes-on, comes-refused}
 
 -- the nodes met are given nodes of the structure
-low-after : (H : Graph) → Canonical H → (v : Node) (i : ℕ) (M : List ℕ) (k : ℕ) → InOrder k (arcsOf v) → Low (length H) M k → (M′ : List ℕ) → Turns M k (λ m. SentHere H m i v) M′ (met k (arcsOf v)) → Low (length H) M′ (met k (arcsOf v))
+low-after : (H : Graph) → Canonical H → (v : Node) (i : ℕ) (M : List ℕ) (k : ℕ) → InOrder k (arcsOf v) → Low (length H) M k →
+    (M′ : List ℕ) → Turns M k (λ m. SentHere H m i v) M′ (met k (arcsOf v)) → Low (length H) M′ (met k (arcsOf v))
 low-after H c v i M k order low M′ t =
     let b = t .back (λ j. getD M′ j 0) (λ j h. refl) tt in
     met-reach (λ j. getD M′ j 0 < length H) k (arcsOf v) order
     (λ j h. let z = b .0 j h in rw z (low j h))
-    (λ f t e. omega (arith, numbered-target 0 1 H c (getD M′ i 0) f (getD M′ t 0) (sent-arc H (λ j. getD M′ j 0) v (getD M′ i 0) (b .1 .1) f t e)))
+    (λ f t e. omega (
+      arith,
+      numbered-target 0 1 H c (getD M′ i 0) f (getD M′ t 0)
+          (sent-arc H (λ j. getD M′ j 0) v (getD M′ i 0) (b .1 .1) f t e),
+    ))
 
 module _ (s ws : List ℕ) (p nodes : ℕ) (L : List ℕ) where
   abbrev All : (ℕ → ℕ) → Type 0
@@ -91,15 +96,18 @@ module _ (s ws : List ℕ) (p nodes : ℕ) (L : List ℕ) where
             few = omega (arith, a .few);
           }
 
-      same : (m : ℕ → ℕ) → SentAll (graphIn s 0) m i (nodesFrom ws at (nodes - i)) ↔ (SentHere (graphIn s 0) m i v × SentAll (graphIn s 0) m (i + 1) vs)
-      same m = rw split (subst (λ (j : ℕ). SentAll (graphIn s 0) m i (v ∷ vs) ↔ (SentHere (graphIn s 0) m i v × SentAll (graphIn s 0) m j vs)) (sym (add-one i)) (λ o. o, λ o. o))
+      same : (m : ℕ → ℕ) → SentAll (graphIn s 0) m i (nodesFrom ws at (nodes - i))
+          ↔ (SentHere (graphIn s 0) m i v × SentAll (graphIn s 0) m (i + 1) vs)
+      same m = rw split (subst (λ (j : ℕ). SentAll (graphIn s 0) m i (v ∷ vs)
+          ↔ (SentHere (graphIn s 0) m i v × SentAll (graphIn s 0) m j vs)) (sym (add-one i)) (λ o. o, λ o. o))
 
       pub nodewise-stop : (M′ : List ℕ) (r : Walk) → r ≡ Stuck → Walks (graphIn s 0) ws at i M k M′ r → Refused L 1 All
       nodewise-stop M′ r d n =
           comes-refused L 1 All M k (λ m. SentAll (graphIn s 0) m i (nodesFrom ws at (nodes - i))) (a .comes)
           (λ m g o. subst (Walks (graphIn s 0) ws at i M k M′) d n m g (same m .0 o .0))
 
-      pub nodewise-step : Canonical (graphIn s 0) → (M′ : List ℕ) (r : Walk) (q j : ℕ) → r ≡ Went q j → Walks (graphIn s 0) ws at i M k M′ r → length M′ ≡ length M → Nodewise (i + 1) q M′ j
+      pub nodewise-step : Canonical (graphIn s 0) → (M′ : List ℕ) (r : Walk) (q j : ℕ) → r ≡ Went q j →
+          Walks (graphIn s 0) ws at i M k M′ r → length M′ ≡ length M → Nodewise (i + 1) q M′ j
       nodewise-step c M′ r q j d walks h =
           let w = subst (Walks (graphIn s 0) ws at i M k M′) d walks in
           let n = numbers in

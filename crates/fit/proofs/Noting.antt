@@ -29,7 +29,16 @@ module _ (s : List ℕ) where
   n = getD s 0 0
 
   pub noting-start : (P : List ℕ) → Notable s → node-limit ≤ length P → Noting s P 0 1
-  noting-start P a h = let few = nodes-few s 1 n 0 1 (a .canonical) in record { part = omega arith; few = omega (arith, a .few, a .there); size = omega (arith, a .few, a .there); done = λ x l. absurd (omega arith); others = rw sub-zero; there = rw sub-zero (a .there) }
+  noting-start P a h = let few = nodes-few s 1 n 0 1 (a .canonical) in
+      record {
+        part = omega arith;
+        few = omega (arith, a .few, a .there);
+        size = omega (arith, a .few, a .there);
+        done =
+            λ x l. absurd (omega arith);
+        others = rw sub-zero;
+        there = rw sub-zero (a .there);
+      }
 
   module _ (P : List ℕ) (i p : ℕ) (a : Noting s P i p) where
     pub noting-end : n ≤ i → Notable s → Noted s P
@@ -50,7 +59,8 @@ module _ (s : List ℕ) where
       noting-there q is = rw is within
 
       split : drop i (graphIn s 0) ≡ nodeAt (graphIn s 0) i ∷ drop (i + 1) (graphIn s 0)
-      split = drop-cons (graphIn s 0) i (arcs []) (omega (arith, nodes-length s 1 n)) ∙ ap (λ (k : ℕ). nodeAt (graphIn s 0) i ∷ drop k (graphIn s 0)) (sym (add-one i))
+      split = drop-cons (graphIn s 0) i (arcs []) (omega (arith, nodes-length s 1 n))
+          ∙ ap (λ (k : ℕ). nodeAt (graphIn s 0) i ∷ drop k (graphIn s 0)) (sym (add-one i))
 
       both : nodeAt (graphIn s 0) i ∷ drop (i + 1) (graphIn s 0) ≡ nodeFrom s p ∷ nodesFrom s (after s p) (n - (i + 1))
       both = sym split ∙ a .others ∙ nodes-step s p n i h

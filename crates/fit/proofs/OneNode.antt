@@ -93,7 +93,12 @@ module _ (s P ws : List ℕ) (p i : ℕ) (M : List ℕ) (k : ℕ) (noted : Noted
           let z = its in
           let y = ahead-is in
           record {
-            findable = record { room = omega arith; inside = omega (arith, inside); rising = rw y (numbered-rising 0 1 H (noted .canonical) x) };
+            findable = record {
+              room = omega arith;
+              inside = omega (arith, inside);
+              rising =
+                  rw y (numbered-rising 0 1 H (noted .canonical) x);
+            };
             there = omega (arith, asked .there, arcs-in-low h low);
             rising = rw z (asked .rising);
             order = rw z (asked .order);
@@ -107,10 +112,12 @@ module _ (s P ws : List ℕ) (p i : ℕ) (M : List ℕ) (k : ℕ) (noted : Noted
           let v = node-arcs ws p low in
           rw (v, z, y) (λ o. o .1, λ o. (asked .low i (asked .known), o))
 
-      pub arcs-stuck : (M′ : List ℕ) (y : Step) → y ≡ Stopped → Sends (lastArcs s e ahead) (arcsFrom ws (p + 1) h) M k M′ y → Refused M k Here
+      pub arcs-stuck : (M′ : List ℕ) (y : Step) → y ≡ Stopped → Sends (lastArcs s e ahead) (arcsFrom ws (p + 1) h) M k M′ y →
+          Refused M k Here
       arcs-stuck M′ y d n m g o = subst (Sends (lastArcs s e ahead) (arcsFrom ws (p + 1) h) M k M′) d n m g (same m g .0 o)
 
-      pub arcs-went : (M′ : List ℕ) (y : Step) (r : ℕ) → y ≡ Met r → Sends (lastArcs s e ahead) (arcsFrom ws (p + 1) h) M k M′ y → (n : ℕ) → n ≡ p + 1 + 2 * h → Walks H ws p i M k M′ (Went n r)
+      pub arcs-went : (M′ : List ℕ) (y : Step) (r : ℕ) → y ≡ Met r → Sends (lastArcs s e ahead) (arcsFrom ws (p + 1) h) M k M′ y → (n : ℕ) →
+          n ≡ p + 1 + 2 * h → Walks H ws p i M k M′ (Went n r)
       arcs-went M′ y r d sends n far =
           let t = subst (Sends (lastArcs s e ahead) (arcsFrom ws (p + 1) h) M k M′) d sends in
           let z = its in

@@ -37,7 +37,8 @@ module _ (ws : List ℕ) where
   arcs-none p zero h = refl
   arcs-none p (suc k) h = absurd (not-suc-le-zero h)
 
-  pub last-step : (e k : ℕ) → 0 < k → 2 * k ≤ e → lastArcs ws e k ≡ (getD ws (e - 2 * k) 0, getD ws (e - 2 * k + 1) 0) ∷ lastArcs ws e (k - 1)
+  pub last-step : (e k : ℕ) → 0 < k → 2 * k ≤ e →
+      lastArcs ws e k ≡ (getD ws (e - 2 * k) 0, getD ws (e - 2 * k + 1) 0) ∷ lastArcs ws e (k - 1)
   last-step e k h r = let z : e - 2 * k + 2 ≡ e - 2 * (k - 1) = omega arith in arcs-step (e - 2 * k) k h ∙ rw z
 
   pub node-arcs : (p : ℕ) → getD ws p 0 < code-limit → nodeFrom ws p ≡ arcs (arcsFrom ws (p + 1) (getD ws p 0))
@@ -91,7 +92,8 @@ module _ (ws : List ℕ) where
   unfolding nodesFrom nodesEnd
   nodes-few p zero k m c = omega arith
   nodes-few p (suc n) k m c =
-      let l : length (arcsOf (nodeFrom ws p)) ≡ arcs-in (getD ws p 0) = ap length (node-its p) ∙ arcs-length (p + 1) (arcs-in (getD ws p 0)) in
+      let l : length (arcsOf (nodeFrom ws p)) ≡ arcs-in (getD ws p 0) = ap length (node-its p)
+      ∙ arcs-length (p + 1) (arcs-in (getD ws p 0)) in
       omega (arith, nodes-few (after ws p) n (suc k) (met m (arcsOf (nodeFrom ws p))) (c .3), met-few m (arcsOf (nodeFrom ws p)) (c .2))
 
   arcs-stand : (l : List (ℕ × ℕ)) (p q : ℕ) → Stands ws p (arc-words l) q → arcsFrom ws p (length l) ≡ l
@@ -119,7 +121,8 @@ module _ (ws : List ℕ) where
       (node-arcs p (omega arith) ∙ rw e (ap arcs (arcs-stand l (p + 1) q (t .2))), omega (arith, arcs-in-low (getD ws p 0) (omega arith)))
 
   -- where the nodes of a graph stand, the words are that graph
-  pub nodes-stand : (g : Graph) (p q : ℕ) → GraphFits g → Stands ws p (nodes-words g) q → (nodesFrom ws p (length g) ≡ g) × (nodesEnd ws p (length g) ≡ q)
+  pub nodes-stand : (g : Graph) (p q : ℕ) → GraphFits g → Stands ws p (nodes-words g) q →
+      (nodesFrom ws p (length g) ≡ g) × (nodesEnd ws p (length g) ≡ q)
   unfolding nodesFrom nodesEnd
   nodes-stand [] p q f s = (refl, stands-nil ws p q .0 s)
   nodes-stand (v ∷ vs) p q f s =

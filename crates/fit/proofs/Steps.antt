@@ -54,9 +54,20 @@ module _ (M : List ℕ) (k t u : ℕ) where
 
     pub send-new : k ≤ t → t ≤ k → t < length M → Steps M k Goes (max k (suc t)) (set M at u) (Met (t + 1))
     send-new h l b =
-        let z : max k (suc t) ≡ t + 1 = omega arith in
-        (sym z, rw (z, is) (record { onward = λ m a o. (λ i q. new m a o i q (test-lt i k), tt); back = λ m a _. (λ i q. a i (omega arith) ∙ getD-set-other M t i u 0 (λ e. omega arith), a t (omega arith) ∙ getD-set-same M t u 0 b) }))
+        let z : max k (suc t) ≡ t + 1 = omega arith in (
+          sym z,
+          rw (z, is) (record {
+            onward = λ m a o. (λ i q. new m a o i q (test-lt i k), tt);
+            back =
+                λ m a _. (
+                  λ i q. a i (omega arith) ∙ getD-set-other M t i u 0 (λ e. omega arith),
+                  a t (omega arith)
+                      ∙ getD-set-same M t u 0 b,
+                );
+          }),
+        )
       where
         new : (m : ℕ → ℕ) → Agrees M k m → m t ≡ u → (i : ℕ) → i < t + 1 → {b : Bool} → TestLt i k b → m i ≡ getD (set M t u) i 0
         new m a o i q (less g) = a i g ∙ sym (getD-set-other M t i u 0 (λ e. omega arith))
-        new m a o i q (geq g) = let e : i ≡ t = omega arith in subst (λ (x : ℕ). m x ≡ getD (set M t u) x 0) (sym e) (o ∙ sym (getD-set-same M t u 0 b))
+        new m a o i q (geq g) = let e : i ≡ t = omega arith in
+            subst (λ (x : ℕ). m x ≡ getD (set M t u) x 0) (sym e) (o ∙ sym (getD-set-same M t u 0 b))

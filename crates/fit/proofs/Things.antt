@@ -25,7 +25,13 @@ use Rattle.fit.proofs.Maps.{sent-map, given, given-root, map-sent}
 
 -- k disjunctions under which alternatives nest at most `left` deep
 abbrev pub its-disjunctions : Graph → ℕ → ℕ → Kind
-its-disjunctions H left k = record { Thing = Disjs; Fine = λ ds. (disjs ds ≡ k) × (left ≤ depth-limit) × WellAll ds left; text = disjs-words; Holds = FitsAll H }
+its-disjunctions H left k = record {
+  Thing = Disjs;
+  Fine = λ ds. (disjs ds ≡ k) × (left ≤ depth-limit) × WellAll ds left;
+  text =
+      disjs-words;
+  Holds = FitsAll H;
+}
 
 module _ (ws : List ℕ) where
   -- what is left of x stands at `at`, and the structure satisfies it when it satisfies x
@@ -43,7 +49,8 @@ module _ (ws : List ℕ) where
 
   -- the structure satisfies what is left, or it does not
   pub left-says : (K L : Kind) (p at : ℕ) (r : Answer) → Left K p L at → Answers L ws at r → Answers K ws p r
-  left-says K L p at (answer.Fits n) l a x q f s = let r = l x q f s in let b = a (r .rest) q (r .fine) (r .there) in (b .0, r .same .1 (b .1))
+  left-says K L p at (answer.Fits n) l a x q f s = let r = l x q f s in let b = a (r .rest) q (r .fine) (r .there) in
+      (b .0, r .same .1 (b .1))
   left-says K L p at answer.Fails l a x q f s = let r = l x q f s in λ h. a (r .rest) q (r .fine) (r .there) (r .same .0 h)
 
   pub left-on : (K L M : Kind) (p at n : ℕ) → Left K p L at → Left L at M n → Left K p M n
@@ -56,7 +63,8 @@ module _ (ws : List ℕ) where
     pub graph-there : (p : ℕ) → Asked (a-graph H) ws p → p < length ws
     graph-there p a = let b = a .1 in stands-graph ws (b .0) p (b .1) .0 (b .3) .0
 
-    pub graph-sends : (s : List ℕ) → H ≡ graphIn s 0 → Canonical H → (p : ℕ) (M : List ℕ) → getD M 0 0 ≡ 0 → Asked (a-graph H) ws p → NodesAsked s ws (p + 1) (getD ws p 0) M
+    pub graph-sends : (s : List ℕ) → H ≡ graphIn s 0 → Canonical H → (p : ℕ) (M : List ℕ) → getD M 0 0 ≡ 0 → Asked (a-graph H) ws p →
+        NodesAsked s ws (p + 1) (getD ws p 0) M
     graph-sends s h c p M z a =
         let b = a .1 in
         let t = stands-graph ws (b .0) p (b .1) .0 (b .3) in
@@ -73,7 +81,8 @@ module _ (ws : List ℕ) where
           root = λ j l. let d : j ≡ 0 = omega arith in rw (d, z, ← h) i;
         }
 
-    pub graph-says : (p : ℕ) (M : List ℕ) → getD M 0 0 ≡ 0 → (r : Answer) → SentNodes H ws (p + 1) (getD ws p 0) M r → Answers (a-graph H) ws p r
+    pub graph-says : (p : ℕ) (M : List ℕ) → getD M 0 0 ≡ 0 → (r : Answer) → SentNodes H ws (p + 1) (getD ws p 0) M r →
+        Answers (a-graph H) ws p r
     graph-says p M z (answer.Fits n) o g q f s =
         let t = stands-graph ws g p q .0 s in
         let e = t .1 in
@@ -86,7 +95,8 @@ module _ (ws : List ℕ) where
         let e = t .1 in
         let k = nodes-stand ws g (p + 1) q (f .1) (t .2) in
         let d = k .0 in
-        λ h. o (given H g (f .0) h) (λ j l. let y : j ≡ 0 = omega arith in rw (y, z) (given-root H g (f .0) h)) (rw (e, d) (map-sent H g (f .0) h))
+        λ h. o (given H g (f .0) h) (λ j l. let y : j ≡ 0 = omega arith in
+        rw (y, z) (given-root H g (f .0) h)) (rw (e, d) (map-sent H g (f .0) h))
 
     module _ (left p : ℕ) where
       pub graph-first : Asked (a-description H left) ws p → Asked (a-graph H) ws p
@@ -116,7 +126,8 @@ module _ (ws : List ℕ) where
     well-split a ds (suc left) w = (omega arith, rw sub-one (w .1), w .2)
 
     module _ (left count at : ℕ) where
-      disjunctions-one : (r : Answer) (n : ℕ) → r ≡ answer.Fits n → Answers (a-disjunction H left) ws at r → 0 < count → Left (its-disjunctions H left count) at (its-disjunctions H left (count - 1)) n
+      disjunctions-one : (r : Answer) (n : ℕ) → r ≡ answer.Fits n → Answers (a-disjunction H left) ws at r → 0 < count →
+          Left (its-disjunctions H left count) at (its-disjunctions H left (count - 1)) n
       disjunctions-one r n e fits some end q f s = let z = f .0 in absurd (omega arith)
       disjunctions-one r n e fits some (a and ds) q f s =
           let z = f .0 in
@@ -126,7 +137,8 @@ module _ (ws : List ℕ) where
           let d = b .0 in
           record { rest = ds; fine = (omega arith, f .1, w .2); there = rw d (t .2); same = (λ h. h .1, λ h. (b .1, h)) }
 
-      disjunctions-lost : (r : Answer) → r ≡ answer.Fails → Answers (a-disjunction H left) ws at r → 0 < count → Answers (its-disjunctions H left count) ws at answer.Fails
+      disjunctions-lost : (r : Answer) → r ≡ answer.Fails → Answers (a-disjunction H left) ws at r → 0 < count →
+          Answers (its-disjunctions H left count) ws at answer.Fails
       disjunctions-lost r e n some end q f s = let z = f .0 in absurd (omega arith)
       disjunctions-lost r e n some (a and ds) q f s =
           let w = well-split a ds left (f .2) in
@@ -145,10 +157,13 @@ module _ (ws : List ℕ) where
           (few, (a, t .0, (w .0, f .1, w .1), t .1))
 
       module _ (K : Kind) (p : ℕ) (going : Left K p (its-disjunctions H left count) at) where
-        pub disjunctions-step : (r : Answer) (n : ℕ) → r ≡ answer.Fits n → Answers (a-disjunction H left) ws at r → 0 < count → Left K p (its-disjunctions H left (count - 1)) n
-        disjunctions-step r n e fits some = left-on K (its-disjunctions H left count) (its-disjunctions H left (count - 1)) p at n going (disjunctions-one r n e fits some)
+        pub disjunctions-step : (r : Answer) (n : ℕ) → r ≡ answer.Fits n → Answers (a-disjunction H left) ws at r → 0 < count →
+            Left K p (its-disjunctions H left (count - 1)) n
+        disjunctions-step r n e fits some =
+            left-on K (its-disjunctions H left count) (its-disjunctions H left (count - 1)) p at n going (disjunctions-one r n e fits some)
 
-        pub disjunctions-stop : (r : Answer) → r ≡ answer.Fails → Answers (a-disjunction H left) ws at r → 0 < count → Answers K ws p answer.Fails
+        pub disjunctions-stop : (r : Answer) → r ≡ answer.Fails → Answers (a-disjunction H left) ws at r → 0 < count →
+            Answers K ws p answer.Fails
         disjunctions-stop r e n some = left-says K (its-disjunctions H left count) p at answer.Fails going (disjunctions-lost r e n some)
 
         pub disjunctions-end : count ≤ 0 → Answers K ws p (answer.Fits at)

@@ -66,16 +66,19 @@ module _ (a : List ℕ) where
   pub graph-inside : Image a → (n : ℕ) → n ≡ graphEnd a 0 → n < length a
   graph-inside (desc H ds, w, is) n e = counted a H ds w is n e .0
 
-  pub has-disjunctions : (b : List ℕ) → length a ≤ input-limit → length b ≤ input-limit → Image a → Image b → (n : ℕ) → n ≡ graphEnd a 0 → 0 < getD a n 0 → FitGiven a b 9
+  pub has-disjunctions : (b : List ℕ) → length a ≤ input-limit → length b ≤ input-limit → Image a → Image b → (n : ℕ) → n ≡ graphEnd a 0 →
+      0 < getD a n 0 → FitGiven a b 9
   has-disjunctions b la lb (desc H end, w, is) i n e h = let z = counted a H end w is n e .1 in absurd (omega arith)
   has-disjunctions b la lb (desc H (x and ds), w, is) i n e h = nine la lb H x ds w is i
 
   -- a structure
-  plain : Image a → (n : ℕ) → n ≡ graphEnd a 0 → getD a n 0 ≤ 0 → (H : Graph) × WellFormed (desc H end) depth-limit × (a ≡ words (desc H end))
+  plain : Image a → (n : ℕ) → n ≡ graphEnd a 0 → getD a n 0 ≤ 0 →
+      (H : Graph) × WellFormed (desc H end) depth-limit × (a ≡ words (desc H end))
   plain (desc H end, w, is) n e h = (H, w, is)
   plain (desc H (x and ds), w, is) n e h = let z = counted a H (x and ds) w is n e .1 in absurd (omega arith)
 
-  module _ (b : List ℕ) (la : length a ≤ input-limit) (lb : length b ≤ input-limit) (i : Image a) (j : Image b) (n : ℕ) (e : n ≡ graphEnd a 0) (h : getD a n 0 ≤ 0) where
+  module _ (b : List ℕ) (la : length a ≤ input-limit) (lb : length b ≤ input-limit) (i : Image a) (j : Image b) (n : ℕ)
+      (e : n ≡ graphEnd a 0) (h : getD a n 0 ≤ 0) where
     pub test-asked : TestAsked a b
     test-asked =
         let p = plain i n e h in
@@ -104,7 +107,8 @@ given-number a b r = let t = fit-table a b (number-of r) in (t .1, t .0)
 
 -- the answer with this number
 answered : ℕ → Verdict
-answered n = pick (eqb n 0) Satisfies (pick (eqb n 6) Fails (pick (eqb n 3) TooLong (pick (eqb n 4) BadStructure (pick (eqb n 5) BadDescription HasDisjunctions))))
+answered n = pick (eqb n 0) Satisfies
+    (pick (eqb n 6) Fails (pick (eqb n 3) TooLong (pick (eqb n 4) BadStructure (pick (eqb n 5) BadDescription HasDisjunctions))))
 
 answered-is : (r : Verdict) → answered (number-of r) ≡ r
 unfolding answered
@@ -120,7 +124,8 @@ pub one-fit : (a b : List ℕ) (r s : Verdict) → FitGiven a b (number-of r) �
 one-fit a b r s g h = sym (answered-is r) ∙ ap answered (sym (given-number a b r .0 g) ∙ given-number a b s .0 h) ∙ answered-is s
 
 -- in the words of satisfaction: of inputs that are read, the answer is `Satisfies` exactly when the structure satisfies the description
-pub satisfies-iff : (H : Graph) (d : Desc) (w : WellFormed (desc H end) depth-limit) → WellFormed d depth-limit → length (words (desc H end)) ≤ input-limit → length (words d) ≤ input-limit
+pub satisfies-iff : (H : Graph) (d : Desc) (w : WellFormed (desc H end) depth-limit) → WellFormed d depth-limit →
+    length (words (desc H end)) ≤ input-limit → length (words d) ≤ input-limit
     → (r : Verdict) → FitGiven (words (desc H end)) (words d) (number-of r) → (r ≡ Satisfies) ↔ Sat (structure H (w .0)) d
 satisfies-iff H d w v la lb r g =
     let t = fit-satisfies H d w v la lb in

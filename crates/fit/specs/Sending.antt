@@ -103,7 +103,8 @@ pub record NodeAsked (s ws : List ℕ) (p i : ℕ) (M : List ℕ) (k : ℕ) : Ty
   pub few : met k (arcsOf (nodeFrom ws p)) ≤ node-limit
 
 abbrev pub Walks : Graph → List ℕ → ℕ → ℕ → List ℕ → ℕ → List ℕ → Walk → Type 0
-Walks H ws p i M k M′ (Went q j) = (q ≡ after ws p) × (j ≡ met k (arcsOf (nodeFrom ws p))) × Turns M k (λ m. SentHere H m i (nodeFrom ws p)) M′ j
+Walks H ws p i M k M′ (Went q j) =
+    (q ≡ after ws p) × (j ≡ met k (arcsOf (nodeFrom ws p))) × Turns M k (λ m. SentHere H m i (nodeFrom ws p)) M′ j
 Walks H ws p i M k M′ Stuck = Refused M k (λ m. SentHere H m i (nodeFrom ws p))
 
 -- k nodes whose words are there, of which the root is given a structure node

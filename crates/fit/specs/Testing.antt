@@ -36,7 +36,12 @@ module _ (H : Graph) where
 
     -- its own alternatives are one of the `left` levels
     abbrev pub a-disjunction : Kind
-    a-disjunction = record { Thing = Alts; Fine = λ a. (0 < left) × (left ≤ depth-limit) × WellAny a (left - 1); text = disjunction-words; Holds = FitsAny H }
+    a-disjunction = record {
+      Thing = Alts;
+      Fine = λ a. (0 < left) × (left ≤ depth-limit) × WellAny a (left - 1);
+      text = disjunction-words;
+      Holds = FitsAny H;
+    }
 
 -- a thing of the kind stands at p
 abbrev pub Asked : Kind → List ℕ → ℕ → Type 0

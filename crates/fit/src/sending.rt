@@ -5,7 +5,8 @@ ghost use mathlib.Core.Path.{_≡_};
 ghost use Prim.Native.Nat.{_≤_, suc, max};
 ghost use lib.ListN.{length};
 ghost use Rattle.fit.specs.Parts.{node-limit, arcs-in, arcsFrom, lastArcs, graphIn};
-ghost use Rattle.fit.specs.Sending.{Finds, Steps, Sends, Walks, SentNodes, Findable, Sendable, ArcsAsked, NodeAsked, NodesAsked, Noted, Notable};
+ghost use Rattle.fit.specs.Sending.{Finds, Steps, Sends, Walks, SentNodes, Findable, Sendable, ArcsAsked, NodeAsked, NodesAsked};
+ghost use Rattle.fit.specs.Sending.{Noted, Notable};
 
 // A graph in an input has at most so many nodes: each but the root has an arc to it, so it takes three words.
 pub const NODE_LIMIT: usize = 342;
@@ -97,7 +98,8 @@ fn send_arcs(
 ) -> Step
     requires { ⌜ node-limit ≤ length (now map) ⌝ }
     requires { ⌜ ArcsAsked (now structure) end ahead (now ws) p count first ⌝ }
-    ensures { λ r. ⌜ Sends (lastArcs (now (structure .entry)) end ahead) (arcsFrom (now (ws .entry)) p count) (now (map .entry)) first (now (map .exit)) r ⌝ }
+    ensures { λ r. ⌜ Sends (lastArcs (now (structure .entry)) end ahead) (arcsFrom (now (ws .entry)) p count) (now (map .entry)) first
+        (now (map .exit)) r ⌝ }
     ensures { λ _. ⌜ length (now (map .exit)) ≡ length (now (map .entry)) ⌝ }
 {
     let mut at = p;

@@ -1,7 +1,8 @@
 -- The ends of a merge of the class b into the class a. Assumes nothing.
 use mathlib.Core.Path.{_≡_, refl, sym, ap, _∙_, subst}
 use mathlib.Core.Bool.{true, false}
-use mathlib.Core.List.{List, [], _∷_, _++_, append-nil, List·Memᴰ, List·Memᴰ·head, List·Memᴰ·not-nil, List·Memᴰ·eq-of-singleton, Memᴰ·append-left, Memᴰ·append-right}
+use mathlib.Core.List.{List, [], _∷_, _++_, append-nil, List·Memᴰ, List·Memᴰ·head, List·Memᴰ·not-nil, List·Memᴰ·eq-of-singleton}
+use mathlib.Core.List.{Memᴰ·append-left, Memᴰ·append-right}
 use mathlib.Core.Logic.{_⊎_, inl, inr, ⊎-elim}
 use Prim.Native.Nat.{ℕ, suc, _+_, _*_, _/_, _%_, _≤_, _<_}
 use native.Mathlib.Numerals.{add-one}
@@ -14,14 +15,17 @@ use Rattle.area.specs.Region.{region}
 use Rattle.forest.proofs.Relabel.{relabelled}
 use Rattle.area.specs.Log.{Logged, Later, Put}
 use Rattle.forest.specs.Forest.{tops}
-use Rattle.forest.specs.State.{Pile, Done, Same, Clashes, Chain, Seg, First, Near, Framed, Bears, State, Ready, Met, Grow, Last, Runs, frames}
+use Rattle.forest.specs.State.{Pile, Done, Same, Clashes, Chain, Seg, First, Near, Framed, Bears, State, Ready, Met, Grow, Last, Runs}
+use Rattle.forest.specs.State.{frames}
 use Rattle.area.proofs.Region.{length-region, region-ext}
 use Rattle.area.proofs.Undo.{later-refl, later-trans, later-scratch, put-at, put-off, put-region}
 use Rattle.forest.proofs.Wood.{tops-link, tops-pos}
-use Rattle.forest.proofs.Links.{calm-refl, chain-same, chain-zero, seg-link, seg-chain, first-way, first-mem, first-feature, frames-same}
+use Rattle.forest.proofs.Links.{calm-refl, chain-same, chain-zero, seg-link, seg-chain, first-way, first-mem, first-feature}
+use Rattle.forest.proofs.Links.{frames-same}
 use Rattle.forest.proofs.Fuse.{fused, short, Fuses, Ma, Mb, Na, Ca, fuse-state}
 
-module _ (n k s : ℕ) (w : List ℕ) (a b : ℕ) (lt : a < b) (hb : b < n) (hn : n ≤ 1024) (hw : SIZE ≤ length w) (ra : getD (region PARENT n w) a 0 ≡ a) (rb : getD (region PARENT n w) b 0 ≡ b) (g : Ready n k s w) where
+module _ (n k s : ℕ) (w : List ℕ) (a b : ℕ) (lt : a < b) (hb : b < n) (hn : n ≤ 1024) (hw : SIZE ≤ length w)
+    (ra : getD (region PARENT n w) a 0 ≡ a) (rb : getD (region PARENT n w) b 0 ≡ b) (g : Ready n k s w) where
   pub room : k + 3 ≤ 4096
   room =
       let l = length-region PARENT n w (omega arith) in
@@ -42,7 +46,8 @@ module _ (n k s : ℕ) (w : List ℕ) (a b : ℕ) (lt : a < b) (hb : b < n) (hn 
 
   -- the roots are one fewer
   less : (w' : List ℕ) → region PARENT n w' ≡ set (region PARENT n w) b a → suc (tops 0 (region PARENT n w')) ≡ tops 0 (region PARENT n w)
-  less w' e = let l = length-region PARENT n w (omega arith) in rw e (tops-link 0 (region PARENT n w) b a (omega arith) (omega (arith, rb)) (λ z. omega arith))
+  less w' e = let l = length-region PARENT n w (omega arith) in
+      rw e (tops-link 0 (region PARENT n w) b a (omega arith) (omega (arith, rb)) (λ z. omega arith))
 
   -- ---- the class b holds nothing, or the atom that a holds
   module _ (r : ℕ) (w1 : List ℕ) (p : Put k w (PARENT + b) a r w1) where
@@ -64,7 +69,8 @@ module _ (n k s : ℕ) (w : List ℕ) (a b : ℕ) (lt : a < b) (hb : b < n) (hn 
     grow1 : Grow w w1
     grow1 j h x = next1 j h
 
-    below : {G : Pile} {H : Done} {F T : List ℕ} {fs : List (ℕ × ℕ)} (u : State G H F T n k s fs w) (c q : ℕ) → c < n → List·Memᴰ q (getD (u .C) c []) → q < 2048
+    below : {G : Pile} {H : Done} {F T : List ℕ} {fs : List (ℕ × ℕ)} (u : State G H F T n k s fs w) (c q : ℕ) → c < n →
+        List·Memᴰ q (getD (u .C) c []) → q < 2048
     below u c q h m = let b = u .arcs q (u .known q (u .home c q h m .0)) .0 in omega arith
 
     pub plain : (getD w b 0 ≡ 0) ⊎ ((2048 < getD w b 0) × (getD w b 0 ≡ getD w a 0)) → Met n k s w a b r s false w1
@@ -79,7 +85,8 @@ module _ (n k s : ℕ) (w : List ℕ) (a b : ℕ) (lt : a < b) (hb : b < n) (hn 
       clash = λ z. let y : _≡_ {A = ℕ} 0 1 = cc in absurd (omega arith);
     }
       where
-        fuses : (G : Pile) (H : Done) (F T : List ℕ) (fs : List (ℕ × ℕ)) (u : State G H F T n k s fs w) → Fuses G H F T n k s fs w (omega arith) hw u a b lt hb ra rb r s [] w1
+        fuses : (G : Pile) (H : Done) (F T : List ℕ) (fs : List (ℕ × ℕ)) (u : State G H F T n k s fs w) →
+            Fuses G H F T n k s fs w (omega arith) hw u a b lt hb ra rb r s [] w1
         fuses G H F T fs u = record {
           len = p .later .len;
           logged = p .later .logged;
@@ -89,7 +96,9 @@ module _ (n k s : ℕ) (w : List ℕ) (a b : ℕ) (lt : a < b) (hb : b < n) (hn 
           first = λ c h x. first1 c h;
           nexts = λ c q h x m. next1 q (below u c q h m);
           grow = grow1;
-          chain = λ l. rw (nil, first1 a (omega arith)) (chain-same w w1 (getD w a 0) (getD (u .C) a []) (λ q m. next1 q (below u a q (omega arith) m)) (u .chain a (omega arith) ma (omega (arith, first1 a (omega arith)))));
+          chain = λ l. rw (nil, first1 a (omega arith))
+              (chain-same w w1 (getD w a 0) (getD (u .C) a []) (λ q m. next1 q (below u a q (omega arith) m))
+              (u .chain a (omega arith) ma (omega (arith, first1 a (omega arith)))));
           alone = λ l. (rw nil (u .bare a (omega arith) ma (omega (arith, first1 a (omega arith))) .0), inl (first1 a (omega arith)));
           keep-a = λ l. first1 a (omega arith);
           keep-b = λ l. ⊎-elim (λ e. absurd (omega arith)) (λ e. first1 a (omega arith) ∙ sym (e .1)) d;
@@ -104,7 +113,8 @@ module _ (n k s : ℕ) (w : List ℕ) (a b : ℕ) (lt : a < b) (hb : b < n) (hn 
             mb = Mb G H F T n k s fs w (omega arith) hw u a b lt hb ra rb
 
             nil : getD (u .C) b [] ≡ []
-            nil = ⊎-elim (λ e. chain-zero w (getD w b 0) (getD (u .C) b []) e (u .chain b hb mb (omega arith))) (λ e. u .bare b hb mb (e .0) .0) d
+            nil = ⊎-elim (λ e. chain-zero w (getD w b 0) (getD (u .C) b []) e (u .chain b hb mb (omega arith)))
+                (λ e. u .bare b hb mb (e .0) .0) d
 
     -- ---- the class a holds nothing
     module _ (v t : ℕ) (w2 : List ℕ) (ev : v ≡ getD w b 0) (p2 : Put r w1 a v t w2) (e0 : getD w a 0 ≡ 0) where
@@ -112,7 +122,8 @@ module _ (n k s : ℕ) (w : List ℕ) (a b : ℕ) (lt : a < b) (hb : b < n) (hn 
       off2 j x y c = let h = room in let e = p .next in put-off r w1 a v t w2 p2 (omega arith) j y c ∙ off1 j x c
 
       par2 : region PARENT n w2 ≡ set (region PARENT n w) b a
-      par2 = region-ext PARENT n w2 w1 (omega (arith, p2 .later .len, p .later .len)) (p2 .later .len) (λ j h. let x = room in let e = p .next in put-off r w1 a v t w2 p2 (omega arith) (PARENT + j) (λ z. omega arith) (inl (omega arith))) ∙ par1
+      par2 = region-ext PARENT n w2 w1 (omega (arith, p2 .later .len, p .later .len)) (p2 .later .len) (λ j h. let x = room in
+          let e = p .next in put-off r w1 a v t w2 p2 (omega arith) (PARENT + j) (λ z. omega arith) (inl (omega arith))) ∙ par1
 
       next2 : (j : ℕ) → j < 2048 → getD w2 (NEXT + j) 0 ≡ getD w (NEXT + j) 0
       next2 j h = off2 (NEXT + j) (λ e. omega arith) (λ e. omega arith) (inl (omega arith))
@@ -127,12 +138,20 @@ module _ (n k s : ℕ) (w : List ℕ) (a b : ℕ) (lt : a < b) (hb : b < n) (hn 
         stack = frames-same w w2 s (λ j x y. off2 j (λ e. omega arith) (λ e. omega arith) (inr x));
         count = let t = less w2 par2 in omega arith;
         grow = λ j h x. next2 j h;
-        calm = λ h. (refl, record { nexts = next2; firsts = λ c l z. off2 c (λ e. omega arith) (λ e. z (ap (λ (i : ℕ). getD w i 0) e ∙ e0)) (inl (omega arith)) });
+        calm = λ h. (
+          refl,
+          record {
+            nexts = next2;
+            firsts =
+                λ c l z. off2 c (λ e. omega arith) (λ e. z (ap (λ (i : ℕ). getD w i 0) e ∙ e0)) (inl (omega arith));
+          },
+        );
         fine = λ z G H F T fs u same. fuse-state G H F T n k s fs w (omega arith) hw u a b lt hb ra rb t s [] w2 same (fuses G H F T fs u);
         clash = λ z. let y : _≡_ {A = ℕ} 0 1 = cc in absurd (omega arith);
       }
         where
-          fuses : (G : Pile) (H : Done) (F T : List ℕ) (fs : List (ℕ × ℕ)) (u : State G H F T n k s fs w) → Fuses G H F T n k s fs w (omega arith) hw u a b lt hb ra rb t s [] w2
+          fuses : (G : Pile) (H : Done) (F T : List ℕ) (fs : List (ℕ × ℕ)) (u : State G H F T n k s fs w) →
+              Fuses G H F T n k s fs w (omega arith) hw u a b lt hb ra rb t s [] w2
           fuses G H F T fs u = record {
             len = p2 .later .len ∙ p .later .len;
             logged = p2 .later .logged;
@@ -142,7 +161,9 @@ module _ (n k s : ℕ) (w : List ℕ) (a b : ℕ) (lt : a < b) (hb : b < n) (hn 
             first = λ c h x. off2 c (λ e. omega arith) x (inl (omega arith));
             nexts = λ c q h x m. next2 q (below u c q h m);
             grow = λ j h x. next2 j h;
-            chain = λ l. rw (nil, append-nil, at2) (chain-same w w2 (getD w b 0) (getD (u .C) b []) (λ q m. next2 q (below u b q hb m)) (u .chain b hb mb (omega (arith, at2))));
+            chain = λ l. rw (nil, append-nil, at2)
+                (chain-same w w2 (getD w b 0) (getD (u .C) b []) (λ q m. next2 q (below u b q hb m))
+                (u .chain b hb mb (omega (arith, at2))));
             alone = λ l. (rw (nil, append-nil) (u .bare b hb mb (omega (arith, at2)) .0), inr at2);
             keep-a = λ l. absurd (omega arith);
             keep-b = λ l. at2;
@@ -160,7 +181,8 @@ module _ (n k s : ℕ) (w : List ℕ) (a b : ℕ) (lt : a < b) (hb : b < n) (hn 
               nil = chain-zero w (getD w a 0) (getD (u .C) a []) e0 (u .chain a (omega arith) ma (omega arith))
 
     -- ---- both have chains: that of b goes before that of a
-    module _ (x y z r2 r3 : ℕ) (w2 w3 w4 : List ℕ) (ex : x ≡ getD w b 0) (ey : y ≡ getD w a 0) (hx : 0 < x) (lx : x ≤ 2048) (hy : 0 < y) (ly : y ≤ 2048) (la : Last w x z)
+    module _ (x y z r2 r3 : ℕ) (w2 w3 w4 : List ℕ) (ex : x ≡ getD w b 0) (ey : y ≡ getD w a 0) (hx : 0 < x) (lx : x ≤ 2048) (hy : 0 < y)
+        (ly : y ≤ 2048) (la : Last w x z)
         (p2 : Put r w1 (NEXT + z) y r2 w2) (p3 : Put r2 w2 a x r3 w3) (e4 : w4 ≡ set w3 (STACK + s) (x + 4096 * y)) where
       r1-is : r ≡ k + 1
       r1-is = p .next
@@ -192,7 +214,9 @@ module _ (n k s : ℕ) (w : List ℕ) (a b : ℕ) (lt : a < b) (hb : b < n) (hn 
       par4 =
           region-ext PARENT n w4 w1 (omega (arith, len4)) (len4 ∙ sym (p .later .len))
           (λ j h. let m = room in let i = r1-is in let i' = r2-is in
-          off-4 (PARENT + j) (λ e. omega arith) ∙ put-off r2 w2 a x r3 w3 p3 (omega arith) (PARENT + j) (λ e. omega arith) (inl (omega arith)) ∙ put-off r w1 (NEXT + z) y r2 w2 p2 (omega arith) (PARENT + j) (λ e. omega arith) (inl (omega arith)))
+          off-4 (PARENT + j) (λ e. omega arith)
+          ∙ put-off r2 w2 a x r3 w3 p3 (omega arith) (PARENT + j) (λ e. omega arith) (inl (omega arith))
+          ∙ put-off r w1 (NEXT + z) y r2 w2 p2 (omega arith) (PARENT + j) (λ e. omega arith) (inl (omega arith)))
           ∙ par1
 
       next4 : (j : ℕ) → j < 2048 → (j ≡ z → ⊥) → getD w4 (NEXT + j) 0 ≡ getD w (NEXT + j) 0
@@ -201,7 +225,8 @@ module _ (n k s : ℕ) (w : List ℕ) (a b : ℕ) (lt : a < b) (hb : b < n) (hn 
       at-z : getD w4 (NEXT + z) 0 ≡ y
       at-z =
           let h = room in let i = r1-is in let i' = r2-is in let lz = la .below in
-          off-4 (NEXT + z) (λ e. omega arith) ∙ put-off r2 w2 a x r3 w3 p3 (omega arith) (NEXT + z) (λ e. omega arith) (inl (omega arith)) ∙ put-at r w1 (NEXT + z) y r2 w2 p2 (omega arith) (omega (arith, p .later .len))
+          off-4 (NEXT + z) (λ e. omega arith) ∙ put-off r2 w2 a x r3 w3 p3 (omega arith) (NEXT + z) (λ e. omega arith) (inl (omega arith))
+          ∙ put-at r w1 (NEXT + z) y r2 w2 p2 (omega arith) (omega (arith, p .later .len))
 
       at-a : getD w4 a 0 ≡ x
       at-a = off-4 a (λ e. omega arith) ∙ put-at r2 w2 a x r3 w3 p3 (omega arith) (omega (arith, p2 .later .len, p .later .len))
@@ -212,7 +237,8 @@ module _ (n k s : ℕ) (w : List ℕ) (a b : ℕ) (lt : a < b) (hb : b < n) (hn 
       later4 : Later k w r3 w4
       later4 =
           let h = room in let i = r3-is in let t = high in
-          later-scratch k w r3 w3 w4 (later-trans k w r w1 r3 w3 (p .later) (later-trans r w1 r2 w2 r3 w3 (p2 .later) (p3 .later))) (len4 ∙ sym len3) (λ j l. off-4 j (λ e. ⊎-elim (λ z. omega arith) (λ z. omega arith) l))
+          later-scratch k w r3 w3 w4 (later-trans k w r w1 r3 w3 (p .later) (later-trans r w1 r2 w2 r3 w3 (p2 .later) (p3 .later))) (len4
+          ∙ sym len3) (λ j l. off-4 j (λ e. ⊎-elim (λ z. omega arith) (λ z. omega arith) l))
 
       stack4 : frames w4 (s + 1) ≡ (x, y) ∷ frames w s
       unfolding frames
@@ -222,7 +248,9 @@ module _ (n k s : ℕ) (w : List ℕ) (a b : ℕ) (lt : a < b) (hb : b < n) (hn 
           let c1 : getD w4 (STACK + s) 0 ≡ x + 4096 * y = rw e4 (getD-set-same w3 (STACK + s) (x + 4096 * y) 0 (omega arith)) in
           let d1 : getD w4 (STACK + s) 0 % 4096 ≡ x = omega arith in
           let d2 : getD w4 (STACK + s) 0 / 4096 ≡ y = omega arith in
-          let c3 : frames w4 s ≡ frames w s = frames-same w w4 s (λ j b1 b2. off-4 j (λ e. omega arith) ∙ off3 j (λ e. omega arith) (λ e. let lz = la .below in omega arith) (λ e. omega arith) (inr b1)) in
+          let c3 : frames w4 s ≡ frames w s =
+          frames-same w w4 s (λ j b1 b2. off-4 j (λ e. omega arith)
+          ∙ off3 j (λ e. omega arith) (λ e. let lz = la .below in omega arith) (λ e. omega arith) (inr b1)) in
           rw (add-one s, d1, d2, c3) refl
 
       pub knitted : Met n k s w a b r3 (s + 1) false w4
@@ -233,11 +261,13 @@ module _ (n k s : ℕ) (w : List ℕ) (a b : ℕ) (lt : a < b) (hb : b < n) (hn 
         count = let t = less w4 par4 in omega arith;
         grow = grow4;
         calm = λ h. let i = r3-is in absurd (omega arith);
-        fine = λ q G H F T fs u same. fuse-state G H F T n k s fs w (omega arith) hw u a b lt hb ra rb r3 (s + 1) ((x, y) ∷ []) w4 same (fuses G H F T fs u);
+        fine = λ q G H F T fs u same. fuse-state G H F T n k s fs w (omega arith) hw u a b lt hb ra rb r3 (s + 1) ((x, y) ∷ []) w4 same
+            (fuses G H F T fs u);
         clash = λ q. let y : _≡_ {A = ℕ} 0 1 = cc in absurd (omega arith);
       }
         where
-          fuses : (G : Pile) (H : Done) (F T : List ℕ) (fs : List (ℕ × ℕ)) (u : State G H F T n k s fs w) → Fuses G H F T n k s fs w (omega arith) hw u a b lt hb ra rb r3 (s + 1) ((x, y) ∷ []) w4
+          fuses : (G : Pile) (H : Done) (F T : List ℕ) (fs : List (ℕ × ℕ)) (u : State G H F T n k s fs w) →
+              Fuses G H F T n k s fs w (omega arith) hw u a b lt hb ra rb r3 (s + 1) ((x, y) ∷ []) w4
           fuses G H F T fs u = record {
             len = len4;
             logged = later4 .logged;
@@ -253,9 +283,11 @@ module _ (n k s : ℕ) (w : List ℕ) (a b : ℕ) (lt : a < b) (hb : b < n) (hn 
             keep-b = λ l. absurd (omega arith);
             owes = λ f q i m1 m2.
                 let e : getD F q 0 ≡ f = first-feature F f (getD (u .C) b []) q m1 in
-                let wy = first-way w4 F (getD F q 0) y (getD (u .C) a []) i tail (subst (λ (v : ℕ). First F v (getD (u .C) a []) i) (sym e) m2) in
+                let wy = first-way w4 F (getD F q 0) y (getD (u .C) a []) i tail
+                (subst (λ (v : ℕ). First F v (getD (u .C) a []) i) (sym e) m2) in
                 Near.owe i (getD (u .C) b []) (wy .0) (List·Memᴰ·head refl) seg (first-mem F f (getD (u .C) b []) q m1) (wy .1);
-            news = λ i j m. subst (λ (v : ℕ × ℕ). Framed n (relabelled b a (u .M)) (fused (u .C) a b) w4 (v .0) (v .1)) (sym (List·Memᴰ·eq-of-singleton m)) framed;
+            news = λ i j m. subst (λ (v : ℕ × ℕ). Framed n (relabelled b a (u .M)) (fused (u .C) a b) w4 (v .0) (v .1))
+                (sym (List·Memᴰ·eq-of-singleton m)) framed;
           }
             where
               ma : getD (u .M) a 0 ≡ a
@@ -277,7 +309,8 @@ module _ (n k s : ℕ) (w : List ℕ) (a b : ℕ) (lt : a < b) (hb : b < n) (hn 
               away c q h d m e = d (sym (u .home c q h m .1) ∙ ap (λ (i : ℕ). getD (u .M) (G .S i) 0) e ∙ u .home b z hb z-on .1)
 
               tail : Chain w4 y (getD (u .C) a [])
-              tail = chain-same w w4 y (getD (u .C) a []) (λ q m. next4 q (below u a q (omega arith) m) (away a q (omega arith) (λ e. omega arith) m)) chain-a
+              tail = chain-same w w4 y (getD (u .C) a [])
+                  (λ q m. next4 q (below u a q (omega arith) m) (away a q (omega arith) (λ e. omega arith) m)) chain-a
 
               head-of : (l : List ℕ) → Chain w y l → (e : ℕ) × ((y ≡ suc e) × List·Memᴰ e l)
               head-of [] c = absurd (omega arith)
@@ -289,7 +322,8 @@ module _ (n k s : ℕ) (w : List ℕ) (a b : ℕ) (lt : a < b) (hb : b < n) (hn 
               apart : (q : ℕ) → List·Memᴰ q (getD (u .C) b []) → suc q ≡ y → ⊥
               apart q m e =
                   let d : q ≡ hd .0 = let f = hd .1 .0 in omega arith in
-                  let f : b ≡ a = sym (u .home b q hb m .1) ∙ ap (λ (i : ℕ). getD (u .M) (G .S i) 0) d ∙ u .home a (hd .0) (omega arith) (hd .1 .1) .1 in
+                  let f : b ≡ a = sym (u .home b q hb m .1) ∙ ap (λ (i : ℕ). getD (u .M) (G .S i) 0) d
+                  ∙ u .home a (hd .0) (omega arith) (hd .1 .1) .1 in
                   omega arith
 
               seg : Seg w4 y x (getD (u .C) b [])
@@ -318,7 +352,8 @@ module _ (n k s : ℕ) (w : List ℕ) (a b : ℕ) (lt : a < b) (hb : b < n) (hn 
               }
 
   -- ---- a clash
-  pub clashed : (getD w b 0 ≡ 0 → ⊥) → (getD w a 0 ≡ 0 → ⊥) → (getD w b 0 ≡ getD w a 0 → ⊥) → (2048 < getD w b 0) ⊎ (2048 < getD w a 0) → Met n k s w a b k s true w
+  pub clashed : (getD w b 0 ≡ 0 → ⊥) → (getD w a 0 ≡ 0 → ⊥) → (getD w b 0 ≡ getD w a 0 → ⊥) → (2048 < getD w b 0) ⊎ (2048 < getD w a 0) →
+      Met n k s w a b k s true w
   clashed nb na ne big = record {
     later = later-refl k w logged;
     new = [];
@@ -330,7 +365,8 @@ module _ (n k s : ℕ) (w : List ℕ) (a b : ℕ) (lt : a < b) (hb : b < n) (hn 
     clash = λ z G H F T fs u same. told G H F T fs u same (decLt 2048 (getD w b 0)) (decLt 2048 (getD w a 0));
   }
     where
-      told : (G : Pile) (H : Done) (F T : List ℕ) (fs : List (ℕ × ℕ)) (u : State G H F T n k s fs w) → Same G F T a b → Dec (2048 < getD w b 0) → Dec (2048 < getD w a 0) → Clashes G F T
+      told : (G : Pile) (H : Done) (F T : List ℕ) (fs : List (ℕ × ℕ)) (u : State G H F T n k s fs w) → Same G F T a b →
+          Dec (2048 < getD w b 0) → Dec (2048 < getD w a 0) → Clashes G F T
       told G H F T fs u same db da = go db da
         where
           ma : getD (u .M) a 0 ≡ a
@@ -346,7 +382,8 @@ module _ (n k s : ℕ) (w : List ℕ) (a b : ℕ) (lt : a < b) (hb : b < n) (hn 
           head-of c h d [] e = absurd (d e)
           head-of c h d (j ∷ l) e = (j, List·Memᴰ·head refl)
 
-          arc : (c : ℕ) → c < n → getD (u .M) c 0 ≡ c → (getD w c 0 ≡ 0 → ⊥) → (2048 < getD w c 0 → ⊥) → (e : ℕ) × (List·Memᴰ e (G .B) × Same G F T c (G .S e))
+          arc : (c : ℕ) → c < n → getD (u .M) c 0 ≡ c → (getD w c 0 ≡ 0 → ⊥) → (2048 < getD w c 0 → ⊥) →
+              (e : ℕ) × (List·Memᴰ e (G .B) × Same G F T c (G .S e))
           arc c h e d l =
               let t = head-of c h d (getD (u .C) c []) (u .chain c h e (omega arith)) in
               let m = u .known (t .0) (u .home c (t .0) h (t .1) .0) in
@@ -356,7 +393,9 @@ module _ (n k s : ℕ) (w : List ℕ) (a b : ℕ) (lt : a < b) (hb : b < n) (hn 
           go (yes p) (yes q) =
               let x = u .bare b hb mb p .1 in
               let y = u .bare a (omega arith) ma q .1 in
-              Clashes.atoms (x .node) (y .node) (Same.on (node b hb mb x) (Same.on (Same.back same) (Same.back (node a (omega arith) ma y)))) (λ e. nb (sym (x .is) ∙ e)) (λ e. na (sym (y .is) ∙ e)) (λ e. ne (sym (x .is) ∙ e ∙ y .is))
+              Clashes.atoms (x .node) (y .node)
+              (Same.on (node b hb mb x) (Same.on (Same.back same) (Same.back (node a (omega arith) ma y)))) (λ e. nb (sym (x .is) ∙ e))
+              (λ e. na (sym (y .is) ∙ e)) (λ e. ne (sym (x .is) ∙ e ∙ y .is))
           go (yes p) (no q) =
               let x = u .bare b hb mb p .1 in
               let y = arc a (omega arith) ma na q in
@@ -372,4 +411,9 @@ module _ (n k s : ℕ) (w : List ℕ) (a b : ℕ) (lt : a < b) (hb : b < n) (hn 
   ready-runs c h e l =
       let u = g .state in
       let p = length-region PARENT n w (omega arith) in
-      record { xs = getD (u .C) c []; chain = u .chain c h (u .forest .tops c (omega arith) e) l; short = short (g .G) (g .H) (g .F) (g .T) n k s (g .fs) w (omega arith) hw u c }
+      record {
+        xs = getD (u .C) c [];
+        chain = u .chain c h (u .forest .tops c (omega arith) e) l;
+        short =
+            short (g .G) (g .H) (g .F) (g .T) n k s (g .fs) w (omega arith) hw u c;
+      }

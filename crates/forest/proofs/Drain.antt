@@ -11,39 +11,50 @@ use Rattle.area.specs.Map.{PARENT, NEXT, STACK}
 use Rattle.area.specs.Region.{region}
 use Rattle.area.specs.Log.{Logged, Later}
 use Rattle.forest.specs.Forest.{tops}
-use Rattle.forest.specs.State.{Pile, Done, Same, Seg, Near, State, Calm, Met, frames, withPair, Walk, Working, ClashTold, Turned, Drained, Stacked, Settled, United}
+use Rattle.forest.specs.State.{Pile, Done, Same, Seg, Near, State, Calm, Met, frames, withPair, Walk, Working, ClashTold, Turned}
+use Rattle.forest.specs.State.{Drained, Stacked, Settled, United}
 use Rattle.area.proofs.Undo.{later-refl, later-trans}
 
 pub walk-refl : (F T : List ℕ) (n k s : ℕ) (w : List ℕ) (x to : ℕ) → Logged k w → Walk F T n k s w x to k s w x
 walk-refl F T n k s w x to g = record { later = later-refl k w g; new = []; stack = refl; count = omega arith; go = λ G H fs u. u }
 
-pub walk-trans : (F T : List ℕ) (n k s : ℕ) (w : List ℕ) (x to k1 s1 : ℕ) (w1 : List ℕ) (x1 k2 s2 : ℕ) (w2 : List ℕ) (x2 : ℕ) → Walk F T n k s w x to k1 s1 w1 x1 → Walk F T n k1 s1 w1 x1 to k2 s2 w2 x2 → Walk F T n k s w x to k2 s2 w2 x2
+pub walk-trans : (F T : List ℕ) (n k s : ℕ) (w : List ℕ) (x to k1 s1 : ℕ) (w1 : List ℕ) (x1 k2 s2 : ℕ) (w2 : List ℕ) (x2 : ℕ) →
+    Walk F T n k s w x to k1 s1 w1 x1 → Walk F T n k1 s1 w1 x1 to k2 s2 w2 x2 → Walk F T n k s w x to k2 s2 w2 x2
 walk-trans F T n k s w x to k1 s1 w1 x1 k2 s2 w2 x2 p q = record {
   later = later-trans k w k1 w1 k2 w2 (p .later) (q .later);
   new = q .new ++ p .new;
   stack = q .stack ∙ ap (λ (l : List (ℕ × ℕ)). q .new ++ l) (p .stack) ∙ sym (append-assoc (q .new) (p .new) (frames w s));
   count = le-trans (q .count) (p .count);
-  go = λ G H fs u. subst (λ (l : List (ℕ × ℕ)). State G H F T n k2 s2 ((x2, to) ∷ l) w2) (sym (append-assoc (q .new) (p .new) fs)) (q .go G H (p .new ++ fs) (p .go G H fs u));
+  go = λ G H fs u. subst (λ (l : List (ℕ × ℕ)). State G H F T n k2 s2 ((x2, to) ∷ l) w2) (sym (append-assoc (q .new) (p .new) fs))
+      (q .go G H (p .new ++ fs) (p .go G H fs u));
 }
 
-pub walk-working : (F T : List ℕ) (n k s : ℕ) (w : List ℕ) (x to k1 s1 : ℕ) (w1 : List ℕ) (x1 : ℕ) → Working F T n k s x to w → Walk F T n k s w x to k1 s1 w1 x1 → Working F T n k1 s1 x1 to w1
-walk-working F T n k s w x to k1 s1 w1 x1 g p = record { G = g .G; H = g .H; fs = p .new ++ g .fs; state = p .go (g .G) (g .H) (g .fs) (g .state) }
+pub walk-working : (F T : List ℕ) (n k s : ℕ) (w : List ℕ) (x to k1 s1 : ℕ) (w1 : List ℕ) (x1 : ℕ) → Working F T n k s x to w →
+    Walk F T n k s w x to k1 s1 w1 x1 → Working F T n k1 s1 x1 to w1
+walk-working F T n k s w x to k1 s1 w1 x1 g p =
+    record { G = g .G; H = g .H; fs = p .new ++ g .fs; state = p .go (g .G) (g .H) (g .fs) (g .state) }
 
-pub walk-told : (F T : List ℕ) (n k s : ℕ) (w : List ℕ) (x to k1 s1 : ℕ) (w1 : List ℕ) (x1 : ℕ) → Walk F T n k s w x to k1 s1 w1 x1 → ClashTold F T n k1 s1 w1 x1 to → ClashTold F T n k s w x to
+pub walk-told : (F T : List ℕ) (n k s : ℕ) (w : List ℕ) (x to k1 s1 : ℕ) (w1 : List ℕ) (x1 : ℕ) → Walk F T n k s w x to k1 s1 w1 x1 →
+    ClashTold F T n k1 s1 w1 x1 to → ClashTold F T n k s w x to
 walk-told F T n k s w x to k1 s1 w1 x1 p t = λ G H fs u. t G H (p .new ++ fs) (p .go G H fs u)
 
 -- ---- as `drain` has it
-pub drain-turn : (F T : List ℕ) (n k s : ℕ) (w : List ℕ) (x to k1 s1 : ℕ) (w1 : List ℕ) (x1 k2 s2 : ℕ) (bad : Bool) (w2 : List ℕ) (x2 : ℕ) → Walk F T n k s w x to k1 s1 w1 x1 → Turned F T n k1 s1 w1 x1 to k2 s2 bad w2 → bad ≡ false → x2 ≡ getD w2 (NEXT + (x1 - 1)) 0 → Walk F T n k s w x to k2 s2 w2 x2
-drain-turn F T n k s w x to k1 s1 w1 x1 k2 s2 bad w2 x2 p q b e = rw e (walk-trans F T n k s w x to k1 s1 w1 x1 k2 s2 w2 (getD w2 (NEXT + (x1 - 1)) 0) p (q .fine b))
+pub drain-turn : (F T : List ℕ) (n k s : ℕ) (w : List ℕ) (x to k1 s1 : ℕ) (w1 : List ℕ) (x1 k2 s2 : ℕ) (bad : Bool) (w2 : List ℕ) (x2 : ℕ) →
+    Walk F T n k s w x to k1 s1 w1 x1 → Turned F T n k1 s1 w1 x1 to k2 s2 bad w2 → bad ≡ false → x2 ≡ getD w2 (NEXT + (x1 - 1)) 0 →
+    Walk F T n k s w x to k2 s2 w2 x2
+drain-turn F T n k s w x to k1 s1 w1 x1 k2 s2 bad w2 x2 p q b e =
+    rw e (walk-trans F T n k s w x to k1 s1 w1 x1 k2 s2 w2 (getD w2 (NEXT + (x1 - 1)) 0) p (q .fine b))
 
-pub drained-bad : (F T : List ℕ) (n k s : ℕ) (w : List ℕ) (x to k1 s1 : ℕ) (w1 : List ℕ) (x1 k2 s2 : ℕ) (bad : Bool) (w2 : List ℕ) → Walk F T n k s w x to k1 s1 w1 x1 → Turned F T n k1 s1 w1 x1 to k2 s2 bad w2 → bad ≡ true → Drained F T n k s w x to k2 s2 true w2
+pub drained-bad : (F T : List ℕ) (n k s : ℕ) (w : List ℕ) (x to k1 s1 : ℕ) (w1 : List ℕ) (x1 k2 s2 : ℕ) (bad : Bool) (w2 : List ℕ) →
+    Walk F T n k s w x to k1 s1 w1 x1 → Turned F T n k1 s1 w1 x1 to k2 s2 bad w2 → bad ≡ true → Drained F T n k s w x to k2 s2 true w2
 drained-bad F T n k s w x to k1 s1 w1 x1 k2 s2 bad w2 p q b = record {
   later = later-trans k w k1 w1 k2 w2 (p .later) (q .later);
   fine = λ z. let y : _≡_ {A = ℕ} 0 1 = cc in absurd (omega arith);
   clash = λ z. walk-told F T n k s w x to k1 s1 w1 x1 p (q .clash b);
 }
 
-pub drained-end : (F T : List ℕ) (n k s : ℕ) (w : List ℕ) (x to k1 s1 : ℕ) (w1 : List ℕ) (x1 : ℕ) → Walk F T n k s w x to k1 s1 w1 x1 → x1 ≡ to → Drained F T n k s w x to k1 s1 false w1
+pub drained-end : (F T : List ℕ) (n k s : ℕ) (w : List ℕ) (x to k1 s1 : ℕ) (w1 : List ℕ) (x1 : ℕ) → Walk F T n k s w x to k1 s1 w1 x1 →
+    x1 ≡ to → Drained F T n k s w x to k1 s1 false w1
 drained-end F T n k s w x to k1 s1 w1 x1 p e = record {
   later = p .later;
   fine = λ z. subst (λ (v : ℕ). Walk F T n k s w x to k1 s1 w1 v) e p;
@@ -51,7 +62,8 @@ drained-end F T n k s w x to k1 s1 w1 x1 p e = record {
 }
 
 -- ---- a frame that is worked off goes
-finish : (G : Pile) (H : Done) (F T : List ℕ) (n k s to : ℕ) (fs : List (ℕ × ℕ)) (w : List ℕ) → State G H F T n k s ((to, to) ∷ fs) w → State G H F T n k s fs w
+finish : (G : Pile) (H : Done) (F T : List ℕ) (n k s to : ℕ) (fs : List (ℕ × ℕ)) (w : List ℕ) → State G H F T n k s ((to, to) ∷ fs) w →
+    State G H F T n k s fs w
 finish G H F T n k s to fs w u = record {
   logged = u .logged;
   shape = u .shape;
@@ -83,12 +95,14 @@ finish G H F T n k s to fs w u = record {
 
     near : {i j : ℕ} → Near F T (u .M) w ((to, to) ∷ fs) i j → Near F T (u .M) w fs i j
     near (Near.old e) = Near.old e
-    near (Near.owe {x} {y} {q} q' zs js m sg mq wy) = ⊎-elim (λ e. absurd (none zs x y q e sg mq)) (λ m'. Near.owe q' zs js m' sg mq wy) (List·Memᴰ·cases-cons m)
+    near (Near.owe {x} {y} {q} q' zs js m sg mq wy) =
+        ⊎-elim (λ e. absurd (none zs x y q e sg mq)) (λ m'. Near.owe q' zs js m' sg mq wy) (List·Memᴰ·cases-cons m)
     near (Near.sym r) = Near.sym (near r)
     near (Near.trans r t) = Near.trans (near r) (near t)
 
 -- fewer frames are counted
-lower : (G : Pile) (H : Done) (F T : List ℕ) (n k s s' : ℕ) (fs : List (ℕ × ℕ)) (w : List ℕ) → s' ≤ s → State G H F T n k s fs w → State G H F T n k s' fs w
+lower : (G : Pile) (H : Done) (F T : List ℕ) (n k s s' : ℕ) (fs : List (ℕ × ℕ)) (w : List ℕ) → s' ≤ s → State G H F T n k s fs w →
+    State G H F T n k s' fs w
 lower G H F T n k s s' fs w h u = record {
   logged = u .logged;
   shape = u .shape;
@@ -125,7 +139,9 @@ pub settle-start : (F T : List ℕ) (n k s : ℕ) (w : List ℕ) → Logged k w 
 settle-start F T n k s w g = record { later = later-refl k w g; count = omega arith; still = λ z. (z, refl); go = λ G H u. u }
 
 -- the frame on top
-pop : (G : Pile) (H : Done) (F T : List ℕ) (n k h : ℕ) (w : List ℕ) (from to : ℕ) → 0 < h → from ≡ getD w (STACK + (h - 1)) 0 % 4096 → to ≡ getD w (STACK + (h - 1)) 0 / 4096 → State G H F T n k h (frames w h) w → State G H F T n k (h - 1) ((from, to) ∷ frames w (h - 1)) w
+pop : (G : Pile) (H : Done) (F T : List ℕ) (n k h : ℕ) (w : List ℕ) (from to : ℕ) → 0 < h → from ≡ getD w (STACK + (h - 1)) 0 % 4096 →
+    to ≡ getD w (STACK + (h - 1)) 0 / 4096 → State G H F T n k h (frames w h) w →
+    State G H F T n k (h - 1) ((from, to) ∷ frames w (h - 1)) w
 unfolding frames
 pop G H F T n k zero w from to p a b u = absurd (omega arith)
 pop G H F T n k (suc h) w from to p a b u =
@@ -134,13 +150,24 @@ pop G H F T n k (suc h) w from to p a b u =
     let b' : getD w (STACK + h) 0 / 4096 ≡ to = sym (rw d at b) in
     rw d (rw (a', b') at (lower G H F T n k (suc h) h (frames w (suc h)) w (omega arith) u))
 
-pub settle-working : (F T : List ℕ) (n k s : ℕ) (w : List ℕ) (e h : ℕ) (w' : List ℕ) (from to : ℕ) → Stacked F T n k s w → Settling F T n k s w e h w' → 0 < h → from ≡ getD w' (STACK + (h - 1)) 0 % 4096 → to ≡ getD w' (STACK + (h - 1)) 0 / 4096 → Working F T n e (h - 1) from to w'
-settle-working F T n k s w e h w' from to g p l a b = record { G = g .G; H = g .H; fs = frames w' (h - 1); state = pop (g .G) (g .H) F T n e h w' from to l a b (p .go (g .G) (g .H) (g .state)) }
+pub settle-working : (F T : List ℕ) (n k s : ℕ) (w : List ℕ) (e h : ℕ) (w' : List ℕ) (from to : ℕ) → Stacked F T n k s w →
+    Settling F T n k s w e h w' → 0 < h → from ≡ getD w' (STACK + (h - 1)) 0 % 4096 → to ≡ getD w' (STACK + (h - 1)) 0 / 4096 →
+    Working F T n e (h - 1) from to w'
+settle-working F T n k s w e h w' from to g p l a b =
+    record {
+      G = g .G;
+      H = g .H;
+      fs = frames w' (h - 1);
+      state =
+          pop (g .G) (g .H) F T n e h w' from to l a b (p .go (g .G) (g .H) (g .state));
+    }
 
-pub settle-stack : (F T : List ℕ) (n k s : ℕ) (w : List ℕ) (e h : ℕ) (w' : List ℕ) → Stacked F T n k s w → Settling F T n k s w e h w' → h + tops 0 (region PARENT n w') ≤ n
+pub settle-stack : (F T : List ℕ) (n k s : ℕ) (w : List ℕ) (e h : ℕ) (w' : List ℕ) → Stacked F T n k s w → Settling F T n k s w e h w' →
+    h + tops 0 (region PARENT n w') ≤ n
 settle-stack F T n k s w e h w' g p = p .go (g .G) (g .H) (g .state) .stack
 
-pub settle-turn : (F T : List ℕ) (n k s : ℕ) (w : List ℕ) (e h : ℕ) (w' : List ℕ) (from to e2 h2 : ℕ) (bad : Bool) (w2 : List ℕ) → Settling F T n k s w e h w' → 0 < h → from ≡ getD w' (STACK + (h - 1)) 0 % 4096 → to ≡ getD w' (STACK + (h - 1)) 0 / 4096
+pub settle-turn : (F T : List ℕ) (n k s : ℕ) (w : List ℕ) (e h : ℕ) (w' : List ℕ) (from to e2 h2 : ℕ) (bad : Bool) (w2 : List ℕ) →
+    Settling F T n k s w e h w' → 0 < h → from ≡ getD w' (STACK + (h - 1)) 0 % 4096 → to ≡ getD w' (STACK + (h - 1)) 0 / 4096
     → Drained F T n e (h - 1) w' from to e2 h2 bad w2 → bad ≡ false → Settling F T n k s w e2 h2 w2
 settle-turn F T n k s w e h w' from to e2 h2 bad w2 p l a b q z =
     let y = q .fine z in
@@ -150,13 +177,18 @@ settle-turn F T n k s w e h w' from to e2 h2 bad w2 p l a b q z =
       later = later-trans k w e w' e2 w2 (p .later) (y .later);
       count = omega arith;
       still = λ i. let j = p .still i .0 in absurd (omega arith);
-      go = λ G H u. subst (λ (f : List (ℕ × ℕ)). State G H F T n e2 h2 f w2) (sym (y .stack)) (finish G H F T n e2 h2 to (y .new ++ frames w' (h - 1)) w2 (y .go G H (frames w' (h - 1)) (pop G H F T n e h w' from to l a b (p .go G H u))));
+      go = λ G H u. subst (λ (f : List (ℕ × ℕ)). State G H F T n e2 h2 f w2) (sym (y .stack))
+          (finish G H F T n e2 h2 to (y .new ++ frames w' (h - 1)) w2
+          (y .go G H (frames w' (h - 1)) (pop G H F T n e h w' from to l a b (p .go G H u))));
     }
 
-pub settle-less : (F T : List ℕ) (n : ℕ) (e h : ℕ) (w' : List ℕ) (from to e2 h2 : ℕ) (bad : Bool) (w2 : List ℕ) → 0 < h → Drained F T n e (h - 1) w' from to e2 h2 bad w2 → bad ≡ false → h2 + tops 0 (region PARENT n w2) < h + tops 0 (region PARENT n w')
-settle-less F T n e h w' from to e2 h2 bad w2 l q z = let c : h2 + tops 0 (region PARENT n w2) ≤ (h - 1) + tops 0 (region PARENT n w') = q .fine z .count in omega arith
+pub settle-less : (F T : List ℕ) (n : ℕ) (e h : ℕ) (w' : List ℕ) (from to e2 h2 : ℕ) (bad : Bool) (w2 : List ℕ) → 0 < h →
+    Drained F T n e (h - 1) w' from to e2 h2 bad w2 → bad ≡ false → h2 + tops 0 (region PARENT n w2) < h + tops 0 (region PARENT n w')
+settle-less F T n e h w' from to e2 h2 bad w2 l q z = let c : h2 + tops 0 (region PARENT n w2) ≤ (h - 1) + tops 0 (region PARENT n w') =
+    q .fine z .count in omega arith
 
-pub settled-bad : (F T : List ℕ) (n k s : ℕ) (w : List ℕ) (e h : ℕ) (w' : List ℕ) (from to e2 h2 : ℕ) (bad : Bool) (w2 : List ℕ) → Settling F T n k s w e h w' → 0 < h → from ≡ getD w' (STACK + (h - 1)) 0 % 4096 → to ≡ getD w' (STACK + (h - 1)) 0 / 4096
+pub settled-bad : (F T : List ℕ) (n k s : ℕ) (w : List ℕ) (e h : ℕ) (w' : List ℕ) (from to e2 h2 : ℕ) (bad : Bool) (w2 : List ℕ) →
+    Settling F T n k s w e h w' → 0 < h → from ≡ getD w' (STACK + (h - 1)) 0 % 4096 → to ≡ getD w' (STACK + (h - 1)) 0 / 4096
     → Drained F T n e (h - 1) w' from to e2 h2 bad w2 → bad ≡ true → Settled F T n k s w e2 true w2
 settled-bad F T n k s w e h w' from to e2 h2 bad w2 p l a b q z = record {
   later = later-trans k w e w' e2 w2 (p .later) (q .later);
@@ -165,7 +197,8 @@ settled-bad F T n k s w e h w' from to e2 h2 bad w2 p l a b q z = record {
   clash = λ y G H u. q .clash z G H (frames w' (h - 1)) (pop G H F T n e h w' from to l a b (p .go G H u));
 }
 
-pub settled-end : (F T : List ℕ) (n k s : ℕ) (w : List ℕ) (e h : ℕ) (w' : List ℕ) → Settling F T n k s w e h w' → h ≡ 0 → Settled F T n k s w e false w'
+pub settled-end : (F T : List ℕ) (n k s : ℕ) (w : List ℕ) (e h : ℕ) (w' : List ℕ) → Settling F T n k s w e h w' → h ≡ 0 →
+    Settled F T n k s w e false w'
 unfolding frames
 settled-end F T n k s w e h w' p z = record {
   later = p .later;
@@ -175,7 +208,8 @@ settled-end F T n k s w e h w' p z = record {
 }
 
 -- ---- a union
-pub united : (F T : List ℕ) (n k : ℕ) (w : List ℕ) (x y k1 s1 : ℕ) (b1 : Bool) (w1 : List ℕ) (k2 : ℕ) (b2 : Bool) (w2 : List ℕ) → Met n k 0 w x y k1 s1 b1 w1 → b1 ≡ false → Settled F T n k1 s1 w1 k2 b2 w2 → United F T n k w x y k2 b2 w2
+pub united : (F T : List ℕ) (n k : ℕ) (w : List ℕ) (x y k1 s1 : ℕ) (b1 : Bool) (w1 : List ℕ) (k2 : ℕ) (b2 : Bool) (w2 : List ℕ) →
+    Met n k 0 w x y k1 s1 b1 w1 → b1 ≡ false → Settled F T n k1 s1 w1 k2 b2 w2 → United F T n k w x y k2 b2 w2
 unfolding frames
 united F T n k w x y k1 s1 b1 w1 k2 b2 w2 m z q = record {
   later = later-trans k w k1 w1 k2 w2 (m .later) (q .later);
@@ -187,7 +221,8 @@ united F T n k w x y k1 s1 b1 w1 k2 b2 w2 m z q = record {
     on : (G : Pile) (H : Done) → State G H F T n k 0 [] w → Same G F T x y → State G (withPair H x y) F T n k1 s1 (frames w1 s1) w1
     on G H u r = subst (λ (f : List (ℕ × ℕ)). State G (withPair H x y) F T n k1 s1 f w1) (sym (m .stack)) (m .fine z G H F T [] u r)
 
-pub united-bad : (F T : List ℕ) (n k : ℕ) (w : List ℕ) (x y k1 s1 : ℕ) (b1 : Bool) (w1 : List ℕ) → Met n k 0 w x y k1 s1 b1 w1 → b1 ≡ true → United F T n k w x y k1 true w1
+pub united-bad : (F T : List ℕ) (n k : ℕ) (w : List ℕ) (x y k1 s1 : ℕ) (b1 : Bool) (w1 : List ℕ) → Met n k 0 w x y k1 s1 b1 w1 → b1 ≡ true →
+    United F T n k w x y k1 true w1
 united-bad F T n k w x y k1 s1 b1 w1 m z = record {
   later = m .later;
   calm = λ h. m .calm h .1;
@@ -196,6 +231,13 @@ united-bad F T n k w x y k1 s1 b1 w1 m z = record {
 }
 
 -- what `settle` asks
-pub united-stacked : (F T : List ℕ) (n k : ℕ) (w : List ℕ) (x y k1 s1 : ℕ) (b1 : Bool) (w1 : List ℕ) (G : Pile) (H : Done) → State G H F T n k 0 [] w → Same G F T x y → Met n k 0 w x y k1 s1 b1 w1 → b1 ≡ false → Stacked F T n k1 s1 w1
+pub united-stacked : (F T : List ℕ) (n k : ℕ) (w : List ℕ) (x y k1 s1 : ℕ) (b1 : Bool) (w1 : List ℕ) (G : Pile) (H : Done) →
+    State G H F T n k 0 [] w → Same G F T x y → Met n k 0 w x y k1 s1 b1 w1 → b1 ≡ false → Stacked F T n k1 s1 w1
 unfolding frames
-united-stacked F T n k w x y k1 s1 b1 w1 G H u r m z = record { G = G; H = withPair H x y; state = subst (λ (f : List (ℕ × ℕ)). State G (withPair H x y) F T n k1 s1 f w1) (sym (m .stack)) (m .fine z G H F T [] u r) }
+united-stacked F T n k w x y k1 s1 b1 w1 G H u r m z =
+    record {
+      G = G;
+      H = withPair H x y;
+      state =
+          subst (λ (f : List (ℕ × ℕ)). State G (withPair H x y) F T n k1 s1 f w1) (sym (m .stack)) (m .fine z G H F T [] u r);
+    }

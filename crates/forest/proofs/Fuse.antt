@@ -1,6 +1,7 @@
 -- A merge of two classes keeps the state. Assumes nothing.
 use mathlib.Core.Path.{_≡_, refl, sym, ap, _∙_, subst}
-use mathlib.Core.List.{List, [], _++_, List·Memᴰ, List·Memᴰ·not-nil, List·Memᴰ·cases-cons, List·Memᴰ·append-cases, Memᴰ·append-left, Memᴰ·append-right}
+use mathlib.Core.List.{List, [], _++_, List·Memᴰ, List·Memᴰ·not-nil, List·Memᴰ·cases-cons, List·Memᴰ·append-cases, Memᴰ·append-left}
+use mathlib.Core.List.{Memᴰ·append-right}
 use mathlib.Core.Logic.{_⊎_, inl, inr, ⊎-elim}
 use Prim.Native.Nat.{ℕ, zero, suc, _+_, _≤_, _<_}
 use native.Mathlib.Omega.{arith}
@@ -27,7 +28,8 @@ label-low P M s f i h = go (suc i) i (omega arith) h
     go zero i l h = absurd (omega arith)
     go (suc b) i l h = ⊎-elim
         (λ e. omega (arith, f .tops i h e))
-        (λ k. let r : getD M (getD P i 0) 0 ≤ getD P i 0 = go b (getD P i 0) (omega arith) (omega (arith, s .down i h)) in omega (arith, f .follow i h))
+        (λ k. let r : getD M (getD P i 0) 0 ≤ getD P i 0 = go b (getD P i 0) (omega arith) (omega (arith, s .down i h)) in
+        omega (arith, f .follow i h))
         (low (getD P i 0) (s .down i h))
       where
         low : (p : ℕ) → p ≤ i → (p ≡ i) ⊎ (p < i)
@@ -45,14 +47,16 @@ label-top P M s f i h = go (suc i) i (omega arith) h
     go zero i l h = absurd (omega arith)
     go (suc b) i l h = pick (λ y. go b (getD P i 0) (omega arith) (omega arith)) (decLt (getD P i 0) i)
       where
-        pick : (getD P i 0 < i → getD M (getD M (getD P i 0) 0) 0 ≡ getD M (getD P i 0) 0) → Dec (getD P i 0 < i) → getD M (getD M i 0) 0 ≡ getD M i 0
+        pick : (getD P i 0 < i → getD M (getD M (getD P i 0) 0) 0 ≡ getD M (getD P i 0) 0) → Dec (getD P i 0 < i) →
+            getD M (getD M i 0) 0 ≡ getD M i 0
         pick r (yes y) = rw (f .follow i h) (r y)
         pick r (no y) = ap (λ (z : ℕ). getD M z 0) (f .tops i h (omega (arith, s .down i h)))
 
 abbrev pub fused : List (List ℕ) → ℕ → ℕ → List (List ℕ)
 fused C a b = set (set C b []) a (getD C b [] ++ getD C a [])
 
-module _ (G : Pile) (H : Done) (F T : List ℕ) (n k s : ℕ) (fs : List (ℕ × ℕ)) (w : List ℕ) (hn : n ≤ 1024) (hw : SIZE ≤ length w) (u : State G H F T n k s fs w) where
+module _ (G : Pile) (H : Done) (F T : List ℕ) (n k s : ℕ) (fs : List (ℕ × ℕ)) (w : List ℕ) (hn : n ≤ 1024) (hw : SIZE ≤ length w)
+    (u : State G H F T n k s fs w) where
   -- what a state says of a node
   pub length-P : length (region PARENT n w) ≡ n
   length-P = length-region PARENT n w (omega arith)
@@ -86,10 +90,12 @@ module _ (G : Pile) (H : Done) (F T : List ℕ) (n k s : ℕ) (fs : List (ℕ ×
       pub nexts : (c q : ℕ) → c < n → (c ≡ b → ⊥) → List·Memᴰ q (getD (u .C) c []) → getD w' (NEXT + q) 0 ≡ getD w (NEXT + q) 0
       pub grow : Grow w w'
       pub chain : getD w' a 0 ≤ 2048 → Chain w' (getD w' a 0) (getD (u .C) b [] ++ getD (u .C) a [])
-      pub alone : 2048 < getD w' a 0 → (getD (u .C) b [] ++ getD (u .C) a [] ≡ []) × ((getD w' a 0 ≡ getD w a 0) ⊎ (getD w' a 0 ≡ getD w b 0))
+      pub alone : 2048 < getD w' a 0 →
+          (getD (u .C) b [] ++ getD (u .C) a [] ≡ []) × ((getD w' a 0 ≡ getD w a 0) ⊎ (getD w' a 0 ≡ getD w b 0))
       pub keep-a : 2048 < getD w a 0 → getD w' a 0 ≡ getD w a 0
       pub keep-b : 2048 < getD w b 0 → getD w' a 0 ≡ getD w b 0
-      pub owes : (f q i : ℕ) → First F f (getD (u .C) b []) q → First F f (getD (u .C) a []) i → Near F T (relabelled b a (u .M)) w' (new ++ fs) (getD T q 0) (getD T i 0)
+      pub owes : (f q i : ℕ) → First F f (getD (u .C) b []) q → First F f (getD (u .C) a []) i →
+          Near F T (relabelled b a (u .M)) w' (new ++ fs) (getD T q 0) (getD T i 0)
       pub news : (x y : ℕ) → List·Memᴰ (x, y) new → Framed n (relabelled b a (u .M)) (fused (u .C) a b) w' x y
 
     ha : a < n
@@ -123,7 +129,8 @@ module _ (G : Pile) (H : Done) (F T : List ℕ) (n k s : ℕ) (fs : List (ℕ ×
     Ca = getD-set-same (set (u .C) b []) a (getD (u .C) b [] ++ getD (u .C) a []) [] (let l = u .wide in simp length-set (omega arith))
 
     Cb : getD (fused (u .C) a b) b [] ≡ []
-    Cb = getD-set-other (set (u .C) b []) a b (getD (u .C) b [] ++ getD (u .C) a []) [] (λ e. omega arith) ∙ getD-set-same (u .C) b [] [] (let l = u .wide in omega arith)
+    Cb = getD-set-other (set (u .C) b []) a b (getD (u .C) b [] ++ getD (u .C) a []) [] (λ e. omega arith)
+        ∙ getD-set-same (u .C) b [] [] (let l = u .wide in omega arith)
 
     Co : (c : ℕ) → (c ≡ a → ⊥) → (c ≡ b → ⊥) → getD (fused (u .C) a b) c [] ≡ getD (u .C) c []
     Co c x y = getD-set-other (set (u .C) b []) a c (getD (u .C) b [] ++ getD (u .C) a []) [] x ∙ getD-set-other (u .C) b c [] [] y
@@ -131,13 +138,18 @@ module _ (G : Pile) (H : Done) (F T : List ℕ) (n k s : ℕ) (fs : List (ℕ ×
     -- an arc stays on its class's chain
     pub stays : (i q : ℕ) → List·Memᴰ q (getD (u .C) (getD (u .M) i 0) []) → List·Memᴰ q (getD (fused (u .C) a b) (getD N i 0) [])
     stays i q m = ⊎-elim
-        (λ z. subst (λ (c : ℕ). List·Memᴰ q (getD (fused (u .C) a b) c [])) (sym (z .1)) (subst (List·Memᴰ q) (sym Ca) (Memᴰ·append-left (getD (u .C) a []) (subst (λ (c : ℕ). List·Memᴰ q (getD (u .C) c [])) (z .0) m))))
+        (λ z. subst (λ (c : ℕ). List·Memᴰ q (getD (fused (u .C) a b) c [])) (sym (z .1))
+        (subst (List·Memᴰ q) (sym Ca) (Memᴰ·append-left (getD (u .C) a [])
+        (subst (λ (c : ℕ). List·Memᴰ q (getD (u .C) c [])) (z .0) m))))
         (λ z. go z (ℕ-discrete (getD (u .M) i 0) a))
         (split i)
       where
-        go : (getD (u .M) i 0 ≡ b → ⊥) × (getD N i 0 ≡ getD (u .M) i 0) → Dec (getD (u .M) i 0 ≡ a) → List·Memᴰ q (getD (fused (u .C) a b) (getD N i 0) [])
-        go z (yes e) = subst (λ (c : ℕ). List·Memᴰ q (getD (fused (u .C) a b) c [])) (sym (z .1 ∙ e)) (subst (List·Memᴰ q) (sym Ca) (Memᴰ·append-right (getD (u .C) b []) (subst (λ (c : ℕ). List·Memᴰ q (getD (u .C) c [])) e m)))
-        go z (no x) = subst (λ (c : ℕ). List·Memᴰ q (getD (fused (u .C) a b) c [])) (sym (z .1)) (subst (List·Memᴰ q) (sym (Co (getD (u .M) i 0) x (z .0))) m)
+        go : (getD (u .M) i 0 ≡ b → ⊥) × (getD N i 0 ≡ getD (u .M) i 0) → Dec (getD (u .M) i 0 ≡ a) →
+            List·Memᴰ q (getD (fused (u .C) a b) (getD N i 0) [])
+        go z (yes e) = subst (λ (c : ℕ). List·Memᴰ q (getD (fused (u .C) a b) c [])) (sym (z .1 ∙ e))
+            (subst (List·Memᴰ q) (sym Ca) (Memᴰ·append-right (getD (u .C) b []) (subst (λ (c : ℕ). List·Memᴰ q (getD (u .C) c [])) e m)))
+        go z (no x) = subst (λ (c : ℕ). List·Memᴰ q (getD (fused (u .C) a b) c [])) (sym (z .1))
+            (subst (List·Memᴰ q) (sym (Co (getD (u .M) i 0) x (z .0))) m)
 
     fused-total : total (fused (u .C) a b) ≡ total (u .C)
     fused-total =
@@ -145,9 +157,11 @@ module _ (G : Pile) (H : Done) (F T : List ℕ) (n k s : ℕ) (fs : List (ℕ ×
         let l1 : length (set (u .C) b []) ≡ length (u .C) = length-set (u .C) b [] in
         let e1 : total (set (u .C) b []) + length (getD (u .C) b []) ≡ total (u .C) + 0 = total-set (u .C) b [] (omega arith) in
         let e0 : getD (set (u .C) b []) a [] ≡ getD (u .C) a [] = getD-set-other (u .C) b a [] [] (λ e. omega arith) in
-        let e2 : total (fused (u .C) a b) + length (getD (u .C) a []) ≡ total (set (u .C) b []) + length (getD (u .C) b [] ++ getD (u .C) a []) =
+        let e2 : total (fused (u .C) a b) + length (getD (u .C) a [])
+        ≡ total (set (u .C) b []) + length (getD (u .C) b [] ++ getD (u .C) a []) =
         rw e0 at (total-set (set (u .C) b []) a (getD (u .C) b [] ++ getD (u .C) a []) (omega arith)) in
-        let e3 : length (getD (u .C) b [] ++ getD (u .C) a []) ≡ length (getD (u .C) b []) + length (getD (u .C) a []) = length-append (getD (u .C) b []) (getD (u .C) a []) in
+        let e3 : length (getD (u .C) b [] ++ getD (u .C) a []) ≡ length (getD (u .C) b []) + length (getD (u .C) a []) =
+        length-append (getD (u .C) b []) (getD (u .C) a []) in
         omega arith
 
     module _ (k' s' : ℕ) (new : List (ℕ × ℕ)) (w' : List ℕ) (same : Same G F T a b) (z : Fuses k' s' new w') where
@@ -155,13 +169,15 @@ module _ (G : Pile) (H : Done) (F T : List ℕ) (n k s : ℕ) (fs : List (ℕ ×
       near {i} {j} (Near.old e) = Near.old (coarse i j e)
       near (Near.owe {x} {y} {q} q' zs js m sg mq wy) =
           let fr = u .frame x y m in
-          Near.owe q' zs js (Memᴰ·append-right new m) (seg-grow w w' y x zs (λ e. let h = fr .is in omega arith) (z .grow) sg) mq (way-grow w w' F (getD F q 0) y js q' (z .grow) wy)
+          Near.owe q' zs js (Memᴰ·append-right new m) (seg-grow w w' y x zs (λ e. let h = fr .is in omega arith) (z .grow) sg) mq
+          (way-grow w w' F (getD F q 0) y js q' (z .grow) wy)
       near (Near.sym r) = Near.sym (near r)
       near (Near.trans r t) = Near.trans (near r) (near t)
 
       -- the roots of w' but a are roots of w other than b, with their chains
       old-root : (c : ℕ) → c < n → getD N c 0 ≡ c → (c ≡ a → ⊥) → (c ≡ b → ⊥) × (getD (u .M) c 0 ≡ c)
-      old-root c h e x = ⊎-elim (λ y. absurd (x (sym e ∙ y .1))) (λ y. ((λ d. y .0 (ap (λ (i : ℕ). getD (u .M) i 0) d ∙ Mb)), sym (y .1) ∙ e)) (split c)
+      old-root c h e x = ⊎-elim (λ y. absurd (x (sym e ∙ y .1)))
+          (λ y. ((λ d. y .0 (ap (λ (i : ℕ). getD (u .M) i 0) d ∙ Mb)), sym (y .1) ∙ e)) (split c)
 
       chains : (c : ℕ) → c < n → getD N c 0 ≡ c → getD w' c 0 ≤ 2048 → Chain w' (getD w' c 0) (getD (fused (u .C) a b) c [])
       chains c h e l = go (ℕ-discrete c a)
@@ -174,7 +190,8 @@ module _ (G : Pile) (H : Done) (F T : List ℕ) (n k s : ℕ) (fs : List (ℕ ×
               let o = old-root c h e x in
               let f : getD w' c 0 ≡ getD w c 0 = z .first c h x in
               subst (λ (l : List ℕ). Chain w' (getD w' c 0) l) (sym (Co c x (o .0)))
-              (subst (λ (v : ℕ). Chain w' v (getD (u .C) c [])) (sym f) (chain-same w w' (getD w c 0) (getD (u .C) c []) (λ q m. z .nexts c q h (o .0) m) (u .chain c h (o .1) (omega arith))))
+              (subst (λ (v : ℕ). Chain w' v (getD (u .C) c [])) (sym f)
+              (chain-same w w' (getD w c 0) (getD (u .C) c []) (λ q m. z .nexts c q h (o .0) m) (u .chain c h (o .1) (omega arith))))
 
       bears : (c v : ℕ) → Bears G n (u .M) c v → (d : ℕ) → ((i : ℕ) → getD (u .M) i 0 ≡ c → getD N i 0 ≡ d) → Bears G n N d v
       bears c v r d f = record { i = r .i; small = r .small; node = r .node; is = r .is; class = f (r .i) (r .class) }
@@ -190,18 +207,24 @@ module _ (G : Pile) (H : Done) (F T : List ℕ) (n k s : ℕ) (fs : List (ℕ ×
           at-a g = (
             Ca ∙ z .alone g .0,
             ⊎-elim
-                (λ q. subst (λ (v : ℕ). Bears G n N a v) (sym q) (bears a (getD w a 0) (u .bare a ha Ma (omega arith) .1) a (λ i p. to-a a i (inl refl) p)))
-                (λ q. subst (λ (v : ℕ). Bears G n N a v) (sym q) (bears b (getD w b 0) (u .bare b hb Mb (omega arith) .1) a (λ i p. to-a b i (inr refl) p)))
+                (λ q. subst (λ (v : ℕ). Bears G n N a v) (sym q)
+                (bears a (getD w a 0) (u .bare a ha Ma (omega arith) .1) a (λ i p. to-a a i (inl refl) p)))
+                (λ q. subst (λ (v : ℕ). Bears G n N a v) (sym q)
+                (bears b (getD w b 0) (u .bare b hb Mb (omega arith) .1) a (λ i p. to-a b i (inr refl) p)))
                 (z .alone g .1),
           )
 
           go : Dec (c ≡ a) → (getD (fused (u .C) a b) c [] ≡ []) × Bears G n N c (getD w' c 0)
-          go (yes q) = subst (λ (d : ℕ). (getD (fused (u .C) a b) d [] ≡ []) × Bears G n N d (getD w' d 0)) (sym q) (at-a (subst (λ (d : ℕ). 2048 < getD w' d 0) q l))
+          go (yes q) = subst (λ (d : ℕ). (getD (fused (u .C) a b) d [] ≡ []) × Bears G n N d (getD w' d 0)) (sym q)
+              (at-a (subst (λ (d : ℕ). 2048 < getD w' d 0) q l))
           go (no x) =
               let o = old-root c h e x in
               let f : getD w' c 0 ≡ getD w c 0 = z .first c h x in
-              let r = u .bare c h (o .1) (omega arith) in
-              (Co c x (o .0) ∙ r .0, subst (λ (v : ℕ). Bears G n N c v) (sym f) (bears c (getD w c 0) (r .1) c (λ i p. coarse i c (p ∙ sym (o .1)) ∙ e)))
+              let r = u .bare c h (o .1) (omega arith) in (
+                Co c x (o .0) ∙ r .0,
+                subst (λ (v : ℕ). Bears G n N c v) (sym f)
+                    (bears c (getD w c 0) (r .1) c (λ i p. coarse i c (p ∙ sym (o .1)) ∙ e)),
+              )
 
       homes : (c q : ℕ) → c < n → List·Memᴰ q (getD (fused (u .C) a b) c []) → List·Memᴰ q (H .K) × (getD N (G .S q) 0 ≡ c)
       homes c q h m = go (ℕ-discrete c a) (ℕ-discrete c b)
@@ -217,11 +240,22 @@ module _ (G : Pile) (H : Done) (F T : List ℕ) (n k s : ℕ) (fs : List (ℕ ×
               (r .0, ⊎-elim (λ p. absurd (y (sym (r .1) ∙ p .0))) (λ p. p .1 ∙ r .1) (split (G .S q)))
 
       abbrev Goal : ℕ → Type 0
-      Goal j = (i : ℕ) × (First F (getD F j 0) (getD (fused (u .C) a b) (getD N (G .S j) 0) []) i × Near F T N w' (new ++ fs) (getD T i 0) (getD T j 0))
+      Goal j = (i : ℕ) × (First F (getD F j 0) (getD (fused (u .C) a b) (getD N (G .S j) 0) []) i
+          × Near F T N w' (new ++ fs) (getD T i 0) (getD T j 0))
 
-      covers : (j : ℕ) → List·Memᴰ j (H .K) → (i : ℕ) × (First F (getD F j 0) (getD (fused (u .C) a b) (getD N (G .S j) 0) []) i × Near F T N w' (new ++ fs) (getD T i 0) (getD T j 0))
+      covers : (j : ℕ) → List·Memᴰ j (H .K) →
+          (i : ℕ) × (First F (getD F j 0) (getD (fused (u .C) a b) (getD N (G .S j) 0) []) i
+          × Near F T N w' (new ++ fs) (getD T i 0) (getD T j 0))
       covers j m = ⊎-elim
-          (λ p. (o .0, (put (o .0) a (p .1) (subst (λ (l : List ℕ). First F (getD F j 0) l (o .0)) (sym Ca) (first-left F (getD F j 0) (getD (u .C) b []) (getD (u .C) a []) (o .0) (at b (p .0)))), near (o .1 .1))))
+          (λ p. (
+            o .0,
+            (
+              put (o .0) a (p .1)
+                  (subst (λ (l : List ℕ). First F (getD F j 0) l (o .0)) (sym Ca)
+                  (first-left F (getD F j 0) (getD (u .C) b []) (getD (u .C) a []) (o .0) (at b (p .0)))),
+              near (o .1 .1),
+            ),
+          ))
           (λ p. other p (ℕ-discrete (getD (u .M) (G .S j) 0) a))
           (split (G .S j))
         where
@@ -231,26 +265,46 @@ module _ (G : Pile) (H : Done) (F T : List ℕ) (n k s : ℕ) (fs : List (ℕ ×
           at : (c : ℕ) → getD (u .M) (G .S j) 0 ≡ c → First F (getD F j 0) (getD (u .C) c []) (o .0)
           at c e = subst (λ (d : ℕ). First F (getD F j 0) (getD (u .C) d []) (o .0)) e (o .1 .0)
 
-          put : (i c : ℕ) → getD N (G .S j) 0 ≡ c → First F (getD F j 0) (getD (fused (u .C) a b) c []) i → First F (getD F j 0) (getD (fused (u .C) a b) (getD N (G .S j) 0) []) i
+          put : (i c : ℕ) → getD N (G .S j) 0 ≡ c → First F (getD F j 0) (getD (fused (u .C) a b) c []) i →
+              First F (getD F j 0) (getD (fused (u .C) a b) (getD N (G .S j) 0) []) i
           put i c e p = subst (λ (d : ℕ). First F (getD F j 0) (getD (fused (u .C) a b) d []) i) (sym e) p
 
-          in-a : getD N (G .S j) 0 ≡ a → First F (getD F j 0) (getD (u .C) a []) (o .0) → ((q : ℕ) × First F (getD F j 0) (getD (u .C) b []) q) ⊎ None F (getD F j 0) (getD (u .C) b []) → Goal j
+          in-a : getD N (G .S j) 0 ≡ a → First F (getD F j 0) (getD (u .C) a []) (o .0) →
+              ((q : ℕ) × First F (getD F j 0) (getD (u .C) b []) q) ⊎ None F (getD F j 0) (getD (u .C) b []) → Goal j
           in-a e p (inl q) = (
             q .0,
             (
-              put (q .0) a e (subst (λ (l : List ℕ). First F (getD F j 0) l (q .0)) (sym Ca) (first-left F (getD F j 0) (getD (u .C) b []) (getD (u .C) a []) (q .0) (q .1))),
+              put (q .0) a e (subst (λ (l : List ℕ). First F (getD F j 0) l (q .0)) (sym Ca)
+                  (first-left F (getD F j 0) (getD (u .C) b []) (getD (u .C) a []) (q .0) (q .1))),
               Near.trans (z .owes (getD F j 0) (q .0) (o .0) (q .1) p) (near (o .1 .1)),
             ),
           )
-          in-a e p (inr q) = (o .0, (put (o .0) a e (subst (λ (l : List ℕ). First F (getD F j 0) l (o .0)) (sym Ca) (first-right F (getD F j 0) (getD (u .C) b []) (getD (u .C) a []) (o .0) q p)), near (o .1 .1)))
+          in-a e p (inr q) = (
+            o .0,
+            (
+              put (o .0) a e
+                  (subst (λ (l : List ℕ). First F (getD F j 0) l (o .0)) (sym Ca)
+                  (first-right F (getD F j 0) (getD (u .C) b []) (getD (u .C) a []) (o .0) q p)),
+              near (o .1 .1),
+            ),
+          )
 
-          other : (getD (u .M) (G .S j) 0 ≡ b → ⊥) × (getD N (G .S j) 0 ≡ getD (u .M) (G .S j) 0) → Dec (getD (u .M) (G .S j) 0 ≡ a) → Goal j
+          other : (getD (u .M) (G .S j) 0 ≡ b → ⊥) × (getD N (G .S j) 0 ≡ getD (u .M) (G .S j) 0) → Dec (getD (u .M) (G .S j) 0 ≡ a) →
+              Goal j
           other p (yes e) = in-a (p .1 ∙ e) (at a e) (first-case F (getD F j 0) (getD (u .C) b []))
-          other p (no x) = (o .0, (put (o .0) (getD (u .M) (G .S j) 0) (p .1) (subst (λ (l : List ℕ). First F (getD F j 0) l (o .0)) (sym (Co (getD (u .M) (G .S j) 0) x (p .0))) (o .1 .0)), near (o .1 .1)))
+          other p (no x) = (
+            o .0,
+            (
+              put (o .0) (getD (u .M) (G .S j) 0) (p .1)
+                  (subst (λ (l : List ℕ). First F (getD F j 0) l (o .0)) (sym (Co (getD (u .M) (G .S j) 0) x (p .0))) (o .1 .0)),
+              near (o .1 .1),
+            ),
+          )
 
       meets : (i : ℕ) → List·Memᴰ i (H .U) → (G .A i ≡ 0 → ⊥) → getD w' (getD N i 0) 0 ≡ G .A i
       meets i m x = ⊎-elim
-          (λ p. ap (λ (c : ℕ). getD w' c 0) (p .1) ∙ z .keep-b (subst (λ (c : ℕ). 2048 < getD w c 0) (p .0) big) ∙ ap (λ (c : ℕ). getD w c 0) (sym (p .0)) ∙ o)
+          (λ p. ap (λ (c : ℕ). getD w' c 0) (p .1) ∙ z .keep-b (subst (λ (c : ℕ). 2048 < getD w c 0) (p .0) big)
+          ∙ ap (λ (c : ℕ). getD w c 0) (sym (p .0)) ∙ o)
           (λ p. ap (λ (c : ℕ). getD w' c 0) (p .1) ∙ other p (ℕ-discrete (getD (u .M) i 0) a))
           (split i)
         where
@@ -260,14 +314,18 @@ module _ (G : Pile) (H : Done) (F T : List ℕ) (n k s : ℕ) (fs : List (ℕ ×
           big : 2048 < getD w (getD (u .M) i 0) 0
           big = rw o (u .atoms i (u .nodes i m .1) x)
 
-          other : (getD (u .M) i 0 ≡ b → ⊥) × (getD N i 0 ≡ getD (u .M) i 0) → Dec (getD (u .M) i 0 ≡ a) → getD w' (getD (u .M) i 0) 0 ≡ G .A i
-          other p (yes e) = ap (λ (c : ℕ). getD w' c 0) e ∙ z .keep-a (subst (λ (c : ℕ). 2048 < getD w c 0) e big) ∙ ap (λ (c : ℕ). getD w c 0) (sym e) ∙ o
+          other : (getD (u .M) i 0 ≡ b → ⊥) × (getD N i 0 ≡ getD (u .M) i 0) → Dec (getD (u .M) i 0 ≡ a) →
+              getD w' (getD (u .M) i 0) 0 ≡ G .A i
+          other p (yes e) = ap (λ (c : ℕ). getD w' c 0) e ∙ z .keep-a (subst (λ (c : ℕ). 2048 < getD w c 0) e big)
+              ∙ ap (λ (c : ℕ). getD w c 0) (sym e) ∙ o
           other p (no y) = z .first (getD (u .M) i 0) (low i (u .nodes i m .0)) y ∙ o
 
       sounds : (i j : ℕ) → i < n → j < n → Eq N i j → Same G F T i j
       sounds i j hi hj e = ⊎-elim
-          (λ p. ⊎-elim (λ q. u .sound i j hi hj (p .0 ∙ sym (q .0))) (λ q. Same.on (to-b i hi (p .0)) (Same.on (Same.back same) (Same.back (from-a j hj (sym (q .1) ∙ sym e ∙ p .1))))) (split j))
-          (λ p. ⊎-elim (λ q. Same.on (from-a i hi (sym (p .1) ∙ e ∙ q .1)) (Same.on same (Same.back (to-b j hj (q .0))))) (λ q. u .sound i j hi hj (sym (p .1) ∙ e ∙ q .1)) (split j))
+          (λ p. ⊎-elim (λ q. u .sound i j hi hj (p .0 ∙ sym (q .0)))
+          (λ q. Same.on (to-b i hi (p .0)) (Same.on (Same.back same) (Same.back (from-a j hj (sym (q .1) ∙ sym e ∙ p .1))))) (split j))
+          (λ p. ⊎-elim (λ q. Same.on (from-a i hi (sym (p .1) ∙ e ∙ q .1)) (Same.on same (Same.back (to-b j hj (q .0)))))
+          (λ q. u .sound i j hi hj (sym (p .1) ∙ e ∙ q .1)) (split j))
           (split i)
         where
           to-b : (i : ℕ) → i < n → getD (u .M) i 0 ≡ b → Same G F T i b
@@ -307,7 +365,8 @@ module _ (G : Pile) (H : Done) (F T : List ℕ) (n k s : ℕ) (fs : List (ℕ ×
             cover = covers;
             nodes = u .nodes;
             met = meets;
-            held = λ x y m. ⊎-elim (λ e. ap (λ (p : ℕ × ℕ). getD N (p .0) 0) e ∙ Na ∙ sym Nb ∙ ap (λ (p : ℕ × ℕ). getD N (p .1) 0) (sym e)) (λ m'. coarse x y (u .held x y m')) (List·Memᴰ·cases-cons m);
+            held = λ x y m. ⊎-elim (λ e. ap (λ (p : ℕ × ℕ). getD N (p .0) 0) e ∙ Na ∙ sym Nb
+                ∙ ap (λ (p : ℕ × ℕ). getD N (p .1) 0) (sym e)) (λ m'. coarse x y (u .held x y m')) (List·Memᴰ·cases-cons m);
             sound = sounds;
             frame = λ x y m. ⊎-elim (λ m'. z .news x y m') (λ m'. kept x y (u .frame x y m')) (List·Memᴰ·append-cases new m);
           }

@@ -1,4 +1,5 @@
--- `Kernel` and `Relabel` have the laws of a label, `Wood` those of a forest, `Words` those of the loaded words, `Links`, `Steps` and `Walks` those of chains, `Places` those of rising ones.
+-- `Kernel` and `Relabel` have the laws of a label, `Wood` those of a forest, `Words` those of the loaded words, `Links`, `Steps` and
+-- `Walks` those of chains, `Places` those of rising ones.
 -- `Fuse` shows that a merge keeps the state, `Cases` has the ends of a merge, `Turns` and `Drain` work off frames.
 pub mod Kernel
 pub mod Wood

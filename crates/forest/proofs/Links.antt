@@ -12,10 +12,17 @@ use Rattle.forest.specs.State.{Chain, Seg, First, None, Way, hops, Grow,
 use Rattle.forest.proofs.Steps.{steps}
 
 -- ---- a chain
-pub chain-same : (w w' : List ℕ) (x : ℕ) (xs : List ℕ) → ((q : ℕ) → List·Memᴰ q xs → getD w' (NEXT + q) 0 ≡ getD w (NEXT + q) 0) → Chain w x xs → Chain w' x xs
+pub chain-same : (w w' : List ℕ) (x : ℕ) (xs : List ℕ) → ((q : ℕ) → List·Memᴰ q xs → getD w' (NEXT + q) 0 ≡ getD w (NEXT + q) 0) →
+    Chain w x xs → Chain w' x xs
 chain-same w w' x [] f c = c
-chain-same w w' x (j ∷ xs) f c =
-    (c .0, (c .1 .0, subst (λ (z : ℕ). Chain w' z xs) (sym (f j (List·Memᴰ·head refl))) (chain-same w w' (getD w (NEXT + j) 0) xs (λ q m. f q (List·Memᴰ·tail m)) (c .1 .1))))
+chain-same w w' x (j ∷ xs) f c = (
+  c .0,
+  (
+    c .1 .0,
+    subst (λ (z : ℕ). Chain w' z xs) (sym (f j (List·Memᴰ·head refl)))
+        (chain-same w w' (getD w (NEXT + j) 0) xs (λ q m. f q (List·Memᴰ·tail m)) (c .1 .1)),
+  ),
+)
 
 -- it is empty from 0
 pub chain-zero : (w : List ℕ) (x : ℕ) (xs : List ℕ) → x ≡ 0 → Chain w x xs → xs ≡ []
@@ -23,11 +30,13 @@ chain-zero w x [] e c = refl
 chain-zero w x (j ∷ xs) e c = let d = c .0 in absurd (omega arith)
 
 -- from an arc of it on
-pub chain-from : (w : List ℕ) (x : ℕ) (xs : List ℕ) (j : ℕ) → Chain w x xs → List·Memᴰ j xs → (ys : List ℕ) × (Chain w (suc j) ys × ((length ys ≤ length xs) × ((q : ℕ) → List·Memᴰ q ys → List·Memᴰ q xs)))
+pub chain-from : (w : List ℕ) (x : ℕ) (xs : List ℕ) (j : ℕ) → Chain w x xs → List·Memᴰ j xs →
+    (ys : List ℕ) × (Chain w (suc j) ys × ((length ys ≤ length xs) × ((q : ℕ) → List·Memᴰ q ys → List·Memᴰ q xs)))
 chain-from w x [] j c m = absurd (List·Memᴰ·not-nil m)
 chain-from w x (i ∷ xs) j c m = ⊎-elim
     (λ e. ((i ∷ xs), ((ap suc e, c .1), (omega arith, λ q z. z))))
-    (λ z. let r = chain-from w (getD w (NEXT + i) 0) xs j (c .1 .1) z in let l = r .1 .1 .0 in (r .0, (r .1 .0, (omega arith, λ q u. List·Memᴰ·tail (r .1 .1 .1 q u)))))
+    (λ z. let r = chain-from w (getD w (NEXT + i) 0) xs j (c .1 .1) z in let l = r .1 .1 .0 in
+    (r .0, (r .1 .0, (omega arith, λ q u. List·Memᴰ·tail (r .1 .1 .1 q u)))))
     (List·Memᴰ·cases-cons m)
 
 -- the next arc
@@ -47,17 +56,36 @@ pub calm-refl : (w : List ℕ) → Calm w w
 calm-refl w = record { nexts = λ j h. refl; firsts = λ c h z. refl }
 
 -- ---- the last arc of a chain gets one after it
-pub seg-link : (w w' : List ℕ) (z h x : ℕ) (xs : List ℕ) → Chain w x xs → List·Memᴰ z xs → getD w (NEXT + z) 0 ≡ 0 → getD w' (NEXT + z) 0 ≡ h
-    → ((q : ℕ) → q < 2048 → (q ≡ z → ⊥) → getD w' (NEXT + q) 0 ≡ getD w (NEXT + q) 0) → ((q : ℕ) → List·Memᴰ q xs → suc q ≡ h → ⊥) → Seg w' h x xs
+pub seg-link : (w w' : List ℕ) (z h x : ℕ) (xs : List ℕ) → Chain w x xs → List·Memᴰ z xs → getD w (NEXT + z) 0 ≡ 0 →
+    getD w' (NEXT + z) 0 ≡ h
+    → ((q : ℕ) → q < 2048 → (q ≡ z → ⊥) → getD w' (NEXT + q) 0 ≡ getD w (NEXT + q) 0) → ((q : ℕ) → List·Memᴰ q xs → suc q ≡ h → ⊥) →
+    Seg w' h x xs
 seg-link w w' z h x [] c m e0 e1 f g = absurd (List·Memᴰ·not-nil m)
-seg-link w w' z h x (j ∷ xs) c m e0 e1 f g = go (λ u. seg-link w w' z h (getD w (NEXT + j) 0) xs (c .1 .1) u e0 e1 f (λ q v. g q (List·Memᴰ·tail v))) (ℕ-discrete j z)
+seg-link w w' z h x (j ∷ xs) c m e0 e1 f g =
+    go (λ u. seg-link w w' z h (getD w (NEXT + j) 0) xs (c .1 .1) u e0 e1 f (λ q v. g q (List·Memᴰ·tail v))) (ℕ-discrete j z)
   where
     go : (List·Memᴰ z xs → Seg w' h (getD w (NEXT + j) 0) xs) → Dec (j ≡ z) → Seg w' h x (j ∷ xs)
     go r (yes e) =
-        let n : xs ≡ [] = chain-zero w (getD w (NEXT + j) 0) xs (ap (λ (y : ℕ). getD w (NEXT + y) 0) e ∙ e0) (c .1 .1) in
-        (c .0, (c .1 .0, (g j (List·Memᴰ·head refl), subst (λ (ys : List ℕ). Seg w' h (getD w' (NEXT + j) 0) ys) (sym n) (ap (λ (y : ℕ). getD w' (NEXT + y) 0) e ∙ e1))))
-    go r (no n) =
-        (c .0, (c .1 .0, (g j (List·Memᴰ·head refl), subst (λ (y : ℕ). Seg w' h y xs) (sym (f j (c .1 .0) n)) (⊎-elim (λ e. absurd (n (sym e))) r (List·Memᴰ·cases-cons m)))))
+        let n : xs ≡ [] = chain-zero w (getD w (NEXT + j) 0) xs (ap (λ (y : ℕ). getD w (NEXT + y) 0) e ∙ e0) (c .1 .1) in (
+          c .0,
+          (
+            c .1 .0,
+            (
+              g j (List·Memᴰ·head refl),
+              subst (λ (ys : List ℕ). Seg w' h (getD w' (NEXT + j) 0) ys) (sym n) (ap (λ (y : ℕ). getD w' (NEXT + y) 0) e ∙ e1),
+            ),
+          ),
+        )
+    go r (no n) = (
+      c .0,
+      (
+        c .1 .0,
+        (
+          g j (List·Memᴰ·head refl),
+          subst (λ (y : ℕ). Seg w' h y xs) (sym (f j (c .1 .0) n)) (⊎-elim (λ e. absurd (n (sym e))) r (List·Memᴰ·cases-cons m)),
+        ),
+      ),
+    )
 
 pub seg-chain : (w : List ℕ) (b x : ℕ) (zs ys : List ℕ) → Seg w b x zs → Chain w b ys → Chain w x (zs ++ ys)
 seg-chain w b x [] ys s c = subst (λ (z : ℕ). Chain w z ys) (sym s) c
@@ -65,8 +93,18 @@ seg-chain w b x (j ∷ zs) ys s c = (s .0, (s .1 .0, seg-chain w b (getD w (NEXT
 
 pub seg-grow : (w w' : List ℕ) (b x : ℕ) (zs : List ℕ) → (b ≡ 0 → ⊥) → Grow w w' → Seg w b x zs → Seg w' b x zs
 seg-grow w w' b x [] n g s = s
-seg-grow w w' b x (j ∷ zs) n g s =
-    (s .0, (s .1 .0, (s .1 .1 .0, subst (λ (z : ℕ). Seg w' b z zs) (sym (g j (s .1 .0) (λ e. away zs (subst (λ (z : ℕ). Seg w b z zs) e (s .1 .1 .1))))) (seg-grow w w' b (getD w (NEXT + j) 0) zs n g (s .1 .1 .1)))))
+seg-grow w w' b x (j ∷ zs) n g s = (
+  s .0,
+  (
+    s .1 .0,
+    (
+      s .1 .1 .0,
+      subst (λ (z : ℕ). Seg w' b z zs)
+          (sym (g j (s .1 .0) (λ e. away zs (subst (λ (z : ℕ). Seg w b z zs) e (s .1 .1 .1)))))
+          (seg-grow w w' b (getD w (NEXT + j) 0) zs n g (s .1 .1 .1)),
+    ),
+  ),
+)
   where
     away : (ys : List ℕ) → Seg w b 0 ys → ⊥
     away [] e = n (sym e)
@@ -117,20 +155,35 @@ none-first F f (j ∷ xs) i n (inr p) = none-first F f xs i (n .1) (p .1)
 pub first-way : (w F : List ℕ) (f x : ℕ) (xs : List ℕ) (i : ℕ) → Chain w x xs → First F f xs i → (js : List ℕ) × Way w F f x js i
 first-way w F f x [] i c p = absurd p
 first-way w F f x (j ∷ xs) i c (inl p) = ([], (c .0 ∙ ap suc (sym (p .1)), ap (λ (z : ℕ). getD F z 0) (p .1) ∙ p .0))
-first-way w F f x (j ∷ xs) i c (inr p) = let r = first-way w F f (getD w (NEXT + j) 0) xs i (c .1 .1) (p .1) in (j ∷ r .0, (c .0, (c .1 .0, (p .0, r .1))))
+first-way w F f x (j ∷ xs) i c (inr p) = let r = first-way w F f (getD w (NEXT + j) 0) xs i (c .1 .1) (p .1) in
+    (j ∷ r .0, (c .0, (c .1 .0, (p .0, r .1))))
 
 pub way-first : (w F : List ℕ) (f x : ℕ) (js : List ℕ) (i : ℕ) (xs : List ℕ) → Way w F f x js i → Chain w x xs → First F f xs i
 way-first w F f x [] i [] p c = let e = p .0 in absurd (omega arith)
-way-first w F f x [] i (y ∷ xs) p c = let e : i ≡ y = let a = p .0 in let b = c .0 in omega arith in inl (ap (λ (z : ℕ). getD F z 0) (sym e) ∙ p .1, e)
+way-first w F f x [] i (y ∷ xs) p c = let e : i ≡ y = let a = p .0 in let b = c .0 in omega arith in
+    inl (ap (λ (z : ℕ). getD F z 0) (sym e) ∙ p .1, e)
 way-first w F f x (j ∷ js) i [] p c = let e = p .0 in absurd (omega arith)
 way-first w F f x (j ∷ js) i (y ∷ xs) p c =
     let e : j ≡ y = let a = p .0 in let b = c .0 in omega arith in
-    inr (subst (λ (z : ℕ). getD F z 0 ≡ f → ⊥) e (p .1 .1 .0), way-first w F f (getD w (NEXT + y) 0) js i xs (subst (λ (z : ℕ). Way w F f (getD w (NEXT + z) 0) js i) e (p .1 .1 .1)) (c .1 .1))
+    inr (
+      subst (λ (z : ℕ). getD F z 0 ≡ f → ⊥) e (p .1 .1 .0),
+      way-first w F f (getD w (NEXT + y) 0) js i xs (subst (λ (z : ℕ). Way w F f (getD w (NEXT + z) 0) js i) e (p .1 .1 .1)) (c .1 .1),
+    )
 
 pub way-grow : (w w' F : List ℕ) (f x : ℕ) (js : List ℕ) (i : ℕ) → Grow w w' → Way w F f x js i → Way w' F f x js i
 way-grow w w' F f x [] i g p = p
-way-grow w w' F f x (j ∷ js) i g p =
-    (p .0, (p .1 .0, (p .1 .1 .0, subst (λ (z : ℕ). Way w' F f z js i) (sym (g j (p .1 .0) (λ e. away js (subst (λ (z : ℕ). Way w F f z js i) e (p .1 .1 .1))))) (way-grow w w' F f (getD w (NEXT + j) 0) js i g (p .1 .1 .1)))))
+way-grow w w' F f x (j ∷ js) i g p = (
+  p .0,
+  (
+    p .1 .0,
+    (
+      p .1 .1 .0,
+      subst (λ (z : ℕ). Way w' F f z js i)
+          (sym (g j (p .1 .0) (λ e. away js (subst (λ (z : ℕ). Way w F f z js i) e (p .1 .1 .1)))))
+          (way-grow w w' F f (getD w (NEXT + j) 0) js i g (p .1 .1 .1)),
+    ),
+  ),
+)
   where
     away : (l : List ℕ) → Way w F f 0 l i → ⊥
     away [] q = let u = q .0 in omega arith
@@ -158,7 +211,8 @@ pub total-set : (C : List (List ℕ)) (i : ℕ) (v : List ℕ) → i < length C 
 unfolding total
 total-set [] i v h = absurd (omega arith)
 total-set (x ∷ C) zero v h = omega arith
-total-set (x ∷ C) (suc i) v h = let r : total (set C i v) + length (getD C i []) ≡ total C + length v = total-set C i v (omega arith) in omega arith
+total-set (x ∷ C) (suc i) v h = let r : total (set C i v) + length (getD C i []) ≡ total C + length v = total-set C i v (omega arith) in
+    omega arith
 
 pub total-one : (C : List (List ℕ)) (i : ℕ) → length (getD C i []) ≤ total C
 unfolding total

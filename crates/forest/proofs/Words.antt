@@ -15,7 +15,8 @@ unfolding targets
 target-at w j h = getD-region (WORDS + 1) 2047 w j h
 
 -- they are the same where the area is
-module _ (w w' : List ℕ) (hw : SIZE ≤ length w) (len : length w' ≡ length w) (same : (j : ℕ) → WORDS ≤ j → j < MARKS → getD w' j 0 ≡ getD w j 0) where
+module _ (w w' : List ℕ) (hw : SIZE ≤ length w) (len : length w' ≡ length w) (same : (j : ℕ) → WORDS ≤ j → j < MARKS →
+    getD w' j 0 ≡ getD w j 0) where
   pub targets-same : targets w' ≡ targets w
   unfolding targets
   targets-same = region-ext (WORDS + 1) 2047 w' w (omega arith) len (λ j h. same (WORDS + 1 + j) (omega arith) (omega arith))

@@ -1,4 +1,5 @@
--- `Labels` are classes as labels, `Forest` says what a forest of parents is, `State` what stands for the graphs that are pushed and how it changes, `Order` what chains whose features rise are good for.
+-- `Labels` are classes as labels, `Forest` says what a forest of parents is, `State` what stands for the graphs that are pushed and
+-- how it changes, `Order` what chains whose features rise are good for.
 pub mod Labels
 pub mod Forest
 pub mod State

@@ -31,11 +31,13 @@ pub data Same (G : Pile) (F T : List ℕ) : ℕ → ℕ → Type 0 where
   self : (x : ℕ) → Same G F T x x
   back : {x y : ℕ} → Same G F T x y → Same G F T y x
   on : {x y z : ℕ} → Same G F T x y → Same G F T y z → Same G F T x z
-  along : {p q : ℕ} → List·Memᴰ p (G .B) → List·Memᴰ q (G .B) → getD F p 0 ≡ getD F q 0 → Same G F T (G .S p) (G .S q) → Same G F T (getD T p 0) (getD T q 0)
+  along : {p q : ℕ} → List·Memᴰ p (G .B) → List·Memᴰ q (G .B) → getD F p 0 ≡ getD F q 0 → Same G F T (G .S p) (G .S q) →
+      Same G F T (getD T p 0) (getD T q 0)
 
 -- "There is a clash when a class holds two different atoms, or an atom and an arc."
 pub data Clashes (G : Pile) (F T : List ℕ) : Type 0 where
-  atoms : {x y : ℕ} → List·Memᴰ x (G .N) → List·Memᴰ y (G .N) → Same G F T x y → (G .A x ≡ 0 → ⊥) → (G .A y ≡ 0 → ⊥) → (G .A x ≡ G .A y → ⊥) → Clashes G F T
+  atoms : {x y : ℕ} → List·Memᴰ x (G .N) → List·Memᴰ y (G .N) → Same G F T x y → (G .A x ≡ 0 → ⊥) → (G .A y ≡ 0 → ⊥) →
+      (G .A x ≡ G .A y → ⊥) → Clashes G F T
   mixed : {x q : ℕ} → List·Memᴰ x (G .N) → (G .A x ≡ 0 → ⊥) → List·Memᴰ q (G .B) → Same G F T x (G .S q) → Clashes G F T
 
 -- what is done: the arcs K are on chains or stand for one that is, the atoms of the nodes U are met, and the pairs E are in one class
@@ -95,7 +97,8 @@ frames w (suc s) = (getD w (STACK + s) 0 % 4096, getD w (STACK + s) 0 / 4096) �
 -- the pair of targets of an arc of a frame's part and of its first match from b on is still to be merged
 pub data Near (F T M w : List ℕ) (fs : List (ℕ × ℕ)) : ℕ → ℕ → Type 0 where
   old : {i j : ℕ} → Eq M i j → Near F T M w fs i j
-  owe : {x y q : ℕ} (q' : ℕ) (zs js : List ℕ) → List·Memᴰ (x, y) fs → Seg w y x zs → List·Memᴰ q zs → Way w F (getD F q 0) y js q' → Near F T M w fs (getD T q 0) (getD T q' 0)
+  owe : {x y q : ℕ} (q' : ℕ) (zs js : List ℕ) → List·Memᴰ (x, y) fs → Seg w y x zs → List·Memᴰ q zs → Way w F (getD F q 0) y js q' →
+      Near F T M w fs (getD T q 0) (getD T q' 0)
   sym : {i j : ℕ} → Near F T M w fs i j → Near F T M w fs j i
   trans : {i j l : ℕ} → Near F T M w fs i j → Near F T M w fs j l → Near F T M w fs i l
 
@@ -143,8 +146,10 @@ pub record State (G : Pile) (H : Done) (F T : List ℕ) (n k s : ℕ) (fs : List
   -- an arc is on the chain of its source's class
   pub home : (c q : ℕ) → c < n → List·Memᴰ q (getD C c []) → List·Memᴰ q (H .K) × (getD M (G .S q) 0 ≡ c)
   pub known : (j : ℕ) → List·Memᴰ j (H .K) → List·Memᴰ j (G .B)
-  -- for each arc that is done, the first of its feature on its class's chain has a target that is in one class with its own, or will be when the frames are worked off
-  pub cover : (j : ℕ) → List·Memᴰ j (H .K) → (i : ℕ) × (First F (getD F j 0) (getD C (getD M (G .S j) 0) []) i × Near F T M w fs (getD T i 0) (getD T j 0))
+  -- for each arc that is done, the first of its feature on its class's chain has a target that is in one class with its own, or will
+  -- be when the frames are worked off
+  pub cover : (j : ℕ) → List·Memᴰ j (H .K) →
+      (i : ℕ) × (First F (getD F j 0) (getD C (getD M (G .S j) 0) []) i × Near F T M w fs (getD T i 0) (getD T j 0))
   -- the atoms that are done stand at their classes
   pub nodes : (i : ℕ) → List·Memᴰ i (H .U) → (i < n) × List·Memᴰ i (G .N)
   pub met : (i : ℕ) → List·Memᴰ i (H .U) → (G .A i ≡ 0 → ⊥) → getD w (getD M i 0) 0 ≡ G .A i
@@ -183,8 +188,10 @@ pub record Met (n k s : ℕ) (w : List ℕ) (x y k' s' : ℕ) (bad : Bool) (w' :
   pub count : s' + tops 0 (region PARENT n w') ≤ s + tops 0 (region PARENT n w)
   pub grow : Grow w w'
   pub calm : k' ≤ k + 2 → (s' ≡ s) × Calm w w'
-  pub fine : bad ≡ false → (G : Pile) (H : Done) (F T : List ℕ) (fs : List (ℕ × ℕ)) → State G H F T n k s fs w → Same G F T x y → State G (withPair H x y) F T n k' s' (new ++ fs) w'
-  pub clash : bad ≡ true → (G : Pile) (H : Done) (F T : List ℕ) (fs : List (ℕ × ℕ)) → State G H F T n k s fs w → Same G F T x y → Clashes G F T
+  pub fine : bad ≡ false → (G : Pile) (H : Done) (F T : List ℕ) (fs : List (ℕ × ℕ)) → State G H F T n k s fs w → Same G F T x y →
+      State G (withPair H x y) F T n k' s' (new ++ fs) w'
+  pub clash : bad ≡ true → (G : Pile) (H : Done) (F T : List ℕ) (fs : List (ℕ × ℕ)) → State G H F T n k s fs w → Same G F T x y →
+      Clashes G F T
 
 -- a walk along a frame's part, from x to x'
 pub record Walk (F T : List ℕ) (n k s : ℕ) (w : List ℕ) (x to k' s' : ℕ) (w' : List ℕ) (x' : ℕ) : Type 0 where
@@ -192,7 +199,8 @@ pub record Walk (F T : List ℕ) (n k s : ℕ) (w : List ℕ) (x to k' s' : ℕ)
   pub new : List (ℕ × ℕ)
   pub stack : frames w' s' ≡ new ++ frames w s
   pub count : s' + tops 0 (region PARENT n w') ≤ s + tops 0 (region PARENT n w)
-  pub go : (G : Pile) (H : Done) (fs : List (ℕ × ℕ)) → State G H F T n k s ((x, to) ∷ fs) w → State G H F T n k' s' ((x', to) ∷ (new ++ fs)) w'
+  pub go : (G : Pile) (H : Done) (fs : List (ℕ × ℕ)) → State G H F T n k s ((x, to) ∷ fs) w →
+      State G H F T n k' s' ((x', to) ∷ (new ++ fs)) w'
 
 -- a frame is being worked off
 pub record Working (F T : List ℕ) (n k s x to : ℕ) (w : List ℕ) : Type 0 where

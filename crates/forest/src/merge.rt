@@ -1,4 +1,5 @@
-// A merge of two classes. The word c of the area has what the class c holds: nothing (0), the first arc of its chain, counted from 1, or an atom's head.
+// A merge of two classes. The word c of the area has what the class c holds: nothing (0), the first arc of its chain, counted from 1,
+// or an atom's head.
 // A merge puts one chain before the other and leaves a frame on the stack: the part of the chain that came, up to what was there,
 // whose arcs have yet to be compared with those after it.
 use crate::chain::last;

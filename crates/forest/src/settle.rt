@@ -20,7 +20,8 @@ fn step(w: &mut [u32], k: usize, s: usize, n: usize, x: usize, to: usize) -> Mad
     requires { ⌜ (n ≤ 1024) × (SIZE ≤ length (now w)) ⌝ }
     requires { ⌜ (x ≡ to → ⊥) ⌝ }
     requires { ⌜ Working (words (now w)) (targets (now w)) n k s x to (now w) ⌝ }
-    ensures { λ r. ⌜ Turned (words (now (w .entry))) (targets (now (w .entry))) n k s (now (w .entry)) x to (r .k) (r .s) (r .bad) (now (w .exit)) ⌝ }
+    ensures { λ r. ⌜ Turned (words (now (w .entry))) (targets (now (w .entry))) n k s (now (w .entry)) x to (r .k) (r .s) (r .bad)
+        (now (w .exit)) ⌝ }
 {
     let j = x - 1;
     let f = loaded(w, j);
@@ -42,7 +43,8 @@ fn step(w: &mut [u32], k: usize, s: usize, n: usize, x: usize, to: usize) -> Mad
 fn drain(w: &mut [u32], k: usize, s: usize, n: usize, from: usize, to: usize) -> Made
     requires { ⌜ (n ≤ 1024) × (SIZE ≤ length (now w)) ⌝ }
     requires { ⌜ Working (words (now w)) (targets (now w)) n k s from to (now w) ⌝ }
-    ensures { λ r. ⌜ Drained (words (now (w .entry))) (targets (now (w .entry))) n k s (now (w .entry)) from to (r .k) (r .s) (r .bad) (now (w .exit)) ⌝ }
+    ensures { λ r. ⌜ Drained (words (now (w .entry))) (targets (now (w .entry))) n k s (now (w .entry)) from to (r .k) (r .s) (r .bad)
+        (now (w .exit)) ⌝ }
 {
     let mut e = k;
     let mut h = s;

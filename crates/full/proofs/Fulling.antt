@@ -45,9 +45,11 @@ left-none : (m : Marking) (d : Placed) → length (engine.search (keep m d)) ≡
 unfolding Rattle.modes_by_marks.specs.Search.full-left
 left-none m d e = ap (λ (c : ℕ). elim c [ zero ↦ none | suc k ↦ some (strip (keep (lit (engine.search (keep m d))) d)) ]) e
 
-left-some : (m : Marking) (d : Placed) (k : ℕ) → length (engine.search (keep m d)) ≡ suc k → full-left m d ≡ some (strip (keep (lit (engine.search (keep m d))) d))
+left-some : (m : Marking) (d : Placed) (k : ℕ) → length (engine.search (keep m d)) ≡ suc k →
+    full-left m d ≡ some (strip (keep (lit (engine.search (keep m d))) d))
 unfolding Rattle.modes_by_marks.specs.Search.full-left
-left-some m d k e = ap {B = Option Desc} (λ (c : ℕ). elim c [ zero ↦ none | suc k ↦ some (strip (keep (lit (engine.search (keep m d))) d)) ]) e
+left-some m d k e = ap {B = Option Desc}
+    (λ (c : ℕ). elim c [ zero ↦ none | suc k ↦ some (strip (keep (lit (engine.search (keep m d))) d)) ]) e
 
 over-true : (L x : ℕ) → L < x → ltb L x ≡ true
 over-true L x h = go (ltb L x) refl
@@ -66,10 +68,33 @@ over-false L x h = go (ltb L x) refl
 module _ (n k : ℕ) (w : List ℕ) where
   module _ (c : Fulling n k w) where
     abbrev first : Countable w 0 depth-limit
-    first = record { room = c .stage .ready .holds .long; d = c .p .inputs .a; n = 0; q = c .p .inputs .end-a; m = c .p .inputs .half; at = subst (λ (t : List ℕ). At t 0 0 (c .p .inputs .a) (c .p .inputs .end-a) (c .p .inputs .half)) (sym (c .stage .ready .loaded)) (c .p .inputs .at-a); low = omega (arith, half-low n (c .t) (c .p .inputs), c .p .inputs .ground .few); nests = c .p .inputs .nests-a }
+    first = record {
+      room = c .stage .ready .holds .long;
+      d = c .p .inputs .a;
+      n = 0;
+      q = c .p .inputs .end-a;
+      m = c .p .inputs .half;
+      at =
+          subst (λ (t : List ℕ). At t 0 0 (c .p .inputs .a) (c .p .inputs .end-a) (c .p .inputs .half)) (sym (c .stage .ready .loaded))
+          (c .p .inputs .at-a);
+      low = omega (arith, half-low n (c .t) (c .p .inputs), c .p .inputs .ground .few);
+      nests =
+          c .p .inputs .nests-a;
+    }
 
     abbrev second : Countable w SECOND depth-limit
-    second = record { room = c .stage .ready .holds .long; d = c .p .inputs .b; n = c .p .inputs .half; q = c .p .inputs .end-b; m = n; at = subst (λ (t : List ℕ). At t SECOND (c .p .inputs .half) (c .p .inputs .b) (c .p .inputs .end-b) n) (sym (c .stage .ready .loaded)) (c .p .inputs .at-b); low = c .p .inputs .ground .few; nests = c .p .inputs .nests-b }
+    second = record {
+      room = c .stage .ready .holds .long;
+      d = c .p .inputs .b;
+      n = c .p .inputs .half;
+      q = c .p .inputs .end-b;
+      m = n;
+      at =
+          subst (λ (t : List ℕ). At t SECOND (c .p .inputs .half) (c .p .inputs .b) (c .p .inputs .end-b) n) (sym (c .stage .ready .loaded))
+          (c .p .inputs .at-b);
+      low = c .p .inputs .ground .few;
+      nests = c .p .inputs .nests-b;
+    }
 
     pub full-counts : Countable w 0 depth-limit × Countable w SECOND depth-limit
     full-counts = (first, second)
@@ -128,13 +153,22 @@ module _ (n k : ℕ) (w : List ℕ) where
             room₁ = omega (arith, v .moved .len, c .stage .ready .holds .long)
 
             loaded₂ : words w₂ ≡ c .t
-            loaded₂ = words-same w₁ w₂ room₁ (l .len) (λ j a b. l .rest j (inl b)) ∙ moved-words k w k w₁ (c .stage .ready .holds .long) (v .moved) ∙ c .stage .ready .loaded
+            loaded₂ = words-same w₁ w₂ room₁ (l .len) (λ j a b. l .rest j (inl b))
+                ∙ moved-words k w k w₁ (c .stage .ready .holds .long) (v .moved) ∙ c .stage .ready .loaded
 
             undoable₂ : Undoable n k w₂
-            undoable₂ = undoable-frame n k w₁ (undoable-on n k w (c .stage .undoable) k w₁ (v .moved .since)) w₂ (l .len) (λ j h. l .rest j (inl h))
+            undoable₂ = undoable-frame n k w₁ (undoable-on n k w (c .stage .undoable) k w₁ (v .moved .since)) w₂ (l .len)
+                (λ j h. l .rest j (inl h))
 
             abbrev restarting : Restarting n k w₂
-            restarting = record { room = omega (arith, l .len, room₁); t = c .t; loaded = loaded₂; inputs = c .p .inputs; undoable = undoable₂ }
+            restarting = record {
+              room = omega (arith, l .len, room₁);
+              t = c .t;
+              loaded = loaded₂;
+              inputs = c .p .inputs;
+              undoable =
+                  undoable₂;
+            }
 
             pub full-restarts : Restarting n k w₂
             full-restarts = restarting
@@ -147,7 +181,8 @@ module _ (n k : ℕ) (w : List ℕ) where
             keeps = pair-keeps n (c .t) (c .p) (marking w₂) (lit (found c)) lit-marks
 
             folds : Can (strip (keep (marking w₂) (c .p .j))) × Sane (strip (keep (marking w₂) (c .p .j)))
-            folds = subst (λ (d : Placed). Can (strip d) × Sane (strip d)) (sym keeps) (pair-full n (c .t) (c .p) (marking w) (c .left) (one-more c .0) (one-more c .1))
+            folds = subst (λ (d : Placed). Can (strip d) × Sane (strip d)) (sym keeps)
+                (pair-full n (c .t) (c .p) (marking w) (c .left) (one-more c .0) (one-more c .1))
 
           module _ (o : Pushed) (w₃ : List ℕ) (q : Restarts n k w₂ o w₃) where
             -- every consistent choice takes what is certain: there is no clash
@@ -165,7 +200,8 @@ module _ (n k : ℕ) (w : List ℕ) where
                   let (held, undoable₃) = q .pushed log z (restarting c) in
                   record {
                     readings-are = readings-is c;
-                    left-is = left-some (marking w) (c .p .j) (one-more c .0) (one-more c .1) ∙ ap (λ (d : Placed). some (strip d)) (sym (same ∙ keeps c));
+                    left-is = left-some (marking w) (c .p .j) (one-more c .0) (one-more c .1)
+                        ∙ ap (λ (d : Placed). some (strip d)) (sym (same ∙ keeps c));
                     stage = both-stage n (c .t) (c .p) (marking w₂) log w₃ (words₃ ∙ loaded₂ c) marks₃ held undoable₃;
                     can = subst (λ (d : Placed). Can (strip d)) (sym same) (folds c .0);
                     sane = subst (λ (d : Placed). Sane (strip d)) (sym same) (folds c .1);
@@ -179,6 +215,9 @@ module _ (n k : ℕ) (w : List ℕ) where
                 nothing = λ y c. let x : _≡_ {A = ℕ} 0 1 = cc in absurd (omega arith);
                 leaves = λ a b y c.
                     let e : log ≡ a = cc in
-                    let f : r ≡ b = cc in
-                    (few-is c, subst (λ (a : ℕ). Leaving n (c .t) (c .p) (marking w) a b w₃) e (subst (λ (b : ℕ). Leaving n (c .t) (c .p) (marking w) log b w₃) f (left c)));
+                    let f : r ≡ b = cc in (
+                      few-is c,
+                      subst (λ (a : ℕ). Leaving n (c .t) (c .p) (marking w) a b w₃) e
+                          (subst (λ (b : ℕ). Leaving n (c .t) (c .p) (marking w) log b w₃) f (left c)),
+                    );
               }

@@ -29,7 +29,10 @@ use Rattle.full.specs.Restarted.{Restarting, certain-both, Restarts}
 
 -- what is certain in both is among the graphs that lie in the words
 pub certain-inside : (n : ℕ) (t : List ℕ) (i : Inputs n t) (m : Marking) → Inside (i .U) (certain-both i m)
-certain-inside n t i m = inside-append (i .U) (taken t m 0 0 (i .a) (i .end-a) (i .half) (i .at-a)) (taken t m SECOND (i .half) (i .b) (i .end-b) n (i .at-b)) (taken-inside t m (i .U) 0 0 (i .a) (i .end-a) (i .half) (i .at-a) (i .among-a)) (taken-inside t m (i .U) SECOND (i .half) (i .b) (i .end-b) n (i .at-b) (i .among-b))
+certain-inside n t i m = inside-append (i .U) (taken t m 0 0 (i .a) (i .end-a) (i .half) (i .at-a))
+    (taken t m SECOND (i .half) (i .b) (i .end-b) n (i .at-b))
+    (taken-inside t m (i .U) 0 0 (i .a) (i .end-a) (i .half) (i .at-a) (i .among-a))
+    (taken-inside t m (i .U) SECOND (i .half) (i .b) (i .end-b) n (i .at-b) (i .among-b))
 
 pub restart-back : (n k : ℕ) (w : List ℕ) → Restarting n k w → Remembers 0 k w
 restart-back n k w c = undoable-asks n k w (c .undoable)
@@ -83,7 +86,9 @@ module _ (n k : ℕ) (w w₁ : List ℕ) (s : Backs 0 k w w₁) where
       len = u .len ∙ s .len;
       rest = λ j h. u .rest j h ∙ s .rest j h;
       pushed = λ log y c. let x : _≡_ {A = ℕ} 0 1 = cc in absurd (omega arith);
-      clashed = λ y c. clash-more n (c .t) (c .inputs .U) (one c) (two c) (c .inputs .ground) (certain-inside n (c .t) (c .inputs) (marking w)) (subst (λ (l : List Entry). Clash (graphs l)) (first-is c) (u .clashed z .1 (first c) .0));
+      clashed = λ y c. clash-more n (c .t) (c .inputs .U) (one c) (two c) (c .inputs .ground)
+          (certain-inside n (c .t) (c .inputs) (marking w))
+          (subst (λ (l : List Entry). Clash (graphs l)) (first-is c) (u .clashed z .1 (first c) .0));
     }
 
     module _ (j : ℕ) (z : o ≡ In j) where
@@ -113,8 +118,10 @@ module _ (n k : ℕ) (w w₁ : List ℕ) (s : Backs 0 k w w₁) where
           among = c .inputs .among-b;
           es = one c;
           holds = subst (λ (l : List Entry). Holds n l j w₂) (first-is c) (u .pushed j z .1 (first c));
-          inside = taken-inside (c .t) (marking w) (c .inputs .U) 0 0 (c .inputs .a) (c .inputs .end-a) (c .inputs .half) (c .inputs .at-a) (c .inputs .among-a);
-          free = λ o i. inl (taken-between (c .t) (marking w) 0 0 (c .inputs .a) (c .inputs .end-a) (c .inputs .half) (c .inputs .at-a) o i .1);
+          inside = taken-inside (c .t) (marking w) (c .inputs .U) 0 0 (c .inputs .a) (c .inputs .end-a) (c .inputs .half) (c .inputs .at-a)
+              (c .inputs .among-a);
+          free = λ o i. inl (taken-between (c .t) (marking w) 0 0 (c .inputs .a) (c .inputs .end-a) (c .inputs .half)
+              (c .inputs .at-a) o i .1);
         }
 
         pub restart-second : Entering n j w₂ SECOND depth-limit
@@ -124,12 +131,16 @@ module _ (n k : ℕ) (w w₁ : List ℕ) (s : Backs 0 k w w₁) where
         undoable₂ = undoable-on n 0 w₁ (undoable-start n w₁ (empty c)) j w₂ (u .pushed j z .0)
 
         second-is : entered second ≡ certain-both (c .inputs) (marking w)
-        second-is = ap (λ (m : Marking). one c ++ taken (c .t) m SECOND (c .inputs .half) (c .inputs .b) (c .inputs .end-b) n (c .inputs .at-b)) marks₂
+        second-is = ap (λ (m : Marking). one c
+            ++ taken (c .t) m SECOND (c .inputs .half) (c .inputs .b) (c .inputs .end-b) n (c .inputs .at-b)) marks₂
 
       pub restarts : (r : Pushed) (w₃ : List ℕ) → Enters n j w₂ SECOND depth-limit r w₃ → Restarts n k w r w₃
       restarts r w₃ v = record {
         len = v .len ∙ u .len ∙ s .len;
         rest = λ i h. v .rest i h ∙ u .rest i h ∙ s .rest i h;
-        pushed = λ log y c. (subst (λ (l : List Entry). Holds n l log w₃) (second-is c) (v .pushed log y .1 (second c)), undoable-on n j w₂ (undoable₂ c) log w₃ (v .pushed log y .0));
+        pushed = λ log y c. (
+          subst (λ (l : List Entry). Holds n l log w₃) (second-is c) (v .pushed log y .1 (second c)),
+          undoable-on n j w₂ (undoable₂ c) log w₃ (v .pushed log y .0),
+        );
         clashed = λ y c. subst (λ (l : List Entry). Clash (graphs l)) (second-is c) (v .clashed y .1 (second c) .0);
       }

@@ -43,13 +43,17 @@ use Rattle.entering.proofs.Pairs.{first-can, second-can, half-low}
 use Rattle.full.proofs.Restarting.{certain-inside}
 
 -- ---- what is certain in both says what is certain in the joined description
-both-same : (a b j : Placed) → joined-placed a b ≡ some j → Can (strip a) → Can (strip b) → (m : Marking) → Same (flat (strip (keep m a)) ++ flat (strip (keep m b))) (flat (strip (keep m j)))
+both-same : (a b j : Placed) → joined-placed a b ≡ some j → Can (strip a) → Can (strip b) → (m : Marking) →
+    Same (flat (strip (keep m a)) ++ flat (strip (keep m b))) (flat (strip (keep m j)))
 both-same (place g ds) (place h es) j e ca cb m =
     let x = joined-is (place g ds) (place h es) j e in
     let cx = keep-can m (place g ds) ca .1 in
     let cy = keep-can m (place h es) cb .1 in
-    subst (λ (z : Placed). Same (flat (strip (keep m (place g ds))) ++ flat (strip (keep m (place h es)))) (flat (strip (keep m z)))) (x .is)
-    (subst (λ (l : List Graph). Same (flat (strip (keep m (place g ds))) ++ flat (strip (keep m (place h es)))) (x .k ∷ l)) (sym (certain-next m ds es)) (joined-same g h (x .k) (certain m ds) (certain m es) (ca .0) (cb .0) (sure-can (strip-all (keep-all m ds)) cx) (sure-can (strip-all (keep-all m es)) cy) (x .joins)))
+    subst (λ (z : Placed). Same (flat (strip (keep m (place g ds))) ++ flat (strip (keep m (place h es)))) (flat (strip (keep m z))))
+    (x .is)
+    (subst (λ (l : List Graph). Same (flat (strip (keep m (place g ds))) ++ flat (strip (keep m (place h es)))) (x .k ∷ l))
+    (sym (certain-next m ds es)) (joined-same g h (x .k) (certain m ds) (certain m es) (ca .0) (cb .0)
+    (sure-can (strip-all (keep-all m ds)) cx) (sure-can (strip-all (keep-all m es)) cy) (x .joins)))
 
 sane-agrees : (d : Desc) → Can d → Sane d → Agrees (flat d)
 sane-agrees (desc g ds) c s = (s .0 .0, glue-joins g (c .0) (sure ds) (s .0 .0) (s .0 .1))
@@ -62,7 +66,8 @@ no-clash gs e a = go (agree gs) (agreeing-view gs) e
     go false (cannot z) e = not-none gs a z
 
 -- ---- marks that are the same below n keep the same
-keep-both : (a b j : Placed) → joined-placed a b ≡ some j → (m m′ : Marking) → keep m a ≡ keep m′ a → keep m b ≡ keep m′ b → keep m j ≡ keep m′ j
+keep-both : (a b j : Placed) → joined-placed a b ≡ some j → (m m′ : Marking) → keep m a ≡ keep m′ a → keep m b ≡ keep m′ b →
+    keep m j ≡ keep m′ j
 keep-both (place g ds) (place h es) j e m m′ p q =
     let x = joined-is (place g ds) (place h es) j e in
     let same : keep-all m ds next keep-all m es ≡ keep-all m′ ds next keep-all m′ es = ap₂ {C = Places} _next_ (ap inner p) (ap inner q) in
@@ -71,8 +76,14 @@ keep-both (place g ds) (place h es) j e m m′ p q =
 module _ (n : ℕ) (t : List ℕ) (p : Pair n t) where
   pub pair-keeps : (m m′ : Marking) → ((y : ℕ) → y < n → m y ≡ m′ y) → keep m (p .j) ≡ keep m′ (p .j)
   pair-keeps m m′ h = keep-both (p .inputs .a) (p .inputs .b) (p .j) (p .joined) m m′
-      (keep-same (p .inputs .a) m m′ (λ y i. h y (omega (arith, at-names t (p .inputs .a) 0 0 (p .inputs .end-a) (p .inputs .half) (p .inputs .at-a) y i .1, half-low n t (p .inputs)))))
-      (keep-same (p .inputs .b) m m′ (λ y i. h y (at-names t (p .inputs .b) SECOND (p .inputs .half) (p .inputs .end-b) n (p .inputs .at-b) y i .1)))
+      (keep-same (p .inputs .a) m m′
+      (λ y i. h y (omega (
+        arith,
+        at-names t (p .inputs .a) 0 0 (p .inputs .end-a) (p .inputs .half) (p .inputs .at-a) y i .1,
+        half-low n t (p .inputs),
+      ))))
+      (keep-same (p .inputs .b) m m′
+      (λ y i. h y (at-names t (p .inputs .b) SECOND (p .inputs .half) (p .inputs .end-b) n (p .inputs .at-b) y i .1)))
 
   module _ (m : Marking) where
     abbrev both : List Entry
@@ -80,14 +91,19 @@ module _ (n : ℕ) (t : List ℕ) (p : Pair n t) where
 
     both-graphs : graphs both ≡ flat (strip (keep m (p .inputs .a))) ++ flat (strip (keep m (p .inputs .b)))
     both-graphs =
-        graphs-append (taken t m 0 0 (p .inputs .a) (p .inputs .end-a) (p .inputs .half) (p .inputs .at-a)) (taken t m SECOND (p .inputs .half) (p .inputs .b) (p .inputs .end-b) n (p .inputs .at-b))
-        ∙ ap₂ {C = List Graph} _++_ (taken-flat t m 0 0 (p .inputs .a) (p .inputs .end-a) (p .inputs .half) (p .inputs .at-a)) (taken-flat t m SECOND (p .inputs .half) (p .inputs .b) (p .inputs .end-b) n (p .inputs .at-b))
+        graphs-append (taken t m 0 0 (p .inputs .a) (p .inputs .end-a) (p .inputs .half) (p .inputs .at-a))
+        (taken t m SECOND (p .inputs .half) (p .inputs .b) (p .inputs .end-b) n (p .inputs .at-b))
+        ∙ ap₂ {C = List Graph} _++_ (taken-flat t m 0 0 (p .inputs .a) (p .inputs .end-a) (p .inputs .half) (p .inputs .at-a))
+        (taken-flat t m SECOND (p .inputs .half) (p .inputs .b) (p .inputs .end-b) n (p .inputs .at-b))
 
     same : Same (graphs both) (flat (strip (keep m (p .j))))
-    same = subst (λ (l : List Graph). Same l (flat (strip (keep m (p .j))))) (sym both-graphs) (both-same (p .inputs .a) (p .inputs .b) (p .j) (p .joined) (first-can n t p) (second-can n t p) m)
+    same = subst (λ (l : List Graph). Same l (flat (strip (keep m (p .j))))) (sym both-graphs)
+        (both-same (p .inputs .a) (p .inputs .b) (p .j) (p .joined) (first-can n t p) (second-can n t p) m)
 
     pub both-agrees : Can (strip (keep m (p .j))) → Sane (strip (keep m (p .j))) → Clash (graphs both) → ⊥
-    both-agrees c s z = no-clash (graphs both) (clash-false (graphs both) (same .fine₁) z) (agrees-says (flat (strip (keep m (p .j)))) (graphs both) (same .fine₂) (same .fine₁) (same .from) (sane-agrees (strip (keep m (p .j))) c s))
+    both-agrees c s z = no-clash (graphs both) (clash-false (graphs both) (same .fine₁) z)
+        (agrees-says (flat (strip (keep m (p .j)))) (graphs both) (same .fine₂) (same .fine₁) (same .from)
+        (sane-agrees (strip (keep m (p .j))) c s))
 
     pub both-stage : (k : ℕ) (w : List ℕ) → words w ≡ t → marking w ≡ m → Holds n both k w → Undoable n k w → Stage n t p k w
     both-stage k w loaded marks holds undoable = record {
@@ -96,10 +112,16 @@ module _ (n : ℕ) (t : List ℕ) (p : Pair n t) where
         loaded = loaded;
         holds = holds;
         inside = certain-inside n t (p .inputs) m;
-        clear-a = subst (λ (x : Marking). Clear both t x 0 0 (p .inputs .a) (p .inputs .end-a) (p .inputs .half) (p .inputs .at-a)) (sym marks) (clear-taken t m both 0 0 (p .inputs .a) (p .inputs .end-a) (p .inputs .half) (p .inputs .at-a)
-            (λ o i. ⊎-elim (λ j. inr j) (λ j. inl (inr (taken-between t m SECOND (p .inputs .half) (p .inputs .b) (p .inputs .end-b) n (p .inputs .at-b) o j .0))) (List·Memᴰ·append-cases (taken t m 0 0 (p .inputs .a) (p .inputs .end-a) (p .inputs .half) (p .inputs .at-a)) i)));
-        clear-b = subst (λ (x : Marking). Clear both t x SECOND (p .inputs .half) (p .inputs .b) (p .inputs .end-b) n (p .inputs .at-b)) (sym marks) (clear-taken t m both SECOND (p .inputs .half) (p .inputs .b) (p .inputs .end-b) n (p .inputs .at-b)
-            (λ o i. ⊎-elim (λ j. inl (inl (taken-between t m 0 0 (p .inputs .a) (p .inputs .end-a) (p .inputs .half) (p .inputs .at-a) o j .1))) (λ j. inr j) (List·Memᴰ·append-cases (taken t m 0 0 (p .inputs .a) (p .inputs .end-a) (p .inputs .half) (p .inputs .at-a)) i)));
+        clear-a = subst (λ (x : Marking). Clear both t x 0 0 (p .inputs .a) (p .inputs .end-a) (p .inputs .half) (p .inputs .at-a))
+            (sym marks) (clear-taken t m both 0 0 (p .inputs .a) (p .inputs .end-a) (p .inputs .half) (p .inputs .at-a)
+            (λ o i. ⊎-elim (λ j. inr j) (λ j. inl
+            (inr (taken-between t m SECOND (p .inputs .half) (p .inputs .b) (p .inputs .end-b) n (p .inputs .at-b) o j .0)))
+            (List·Memᴰ·append-cases (taken t m 0 0 (p .inputs .a) (p .inputs .end-a) (p .inputs .half) (p .inputs .at-a)) i)));
+        clear-b = subst (λ (x : Marking). Clear both t x SECOND (p .inputs .half) (p .inputs .b) (p .inputs .end-b) n (p .inputs .at-b))
+            (sym marks) (clear-taken t m both SECOND (p .inputs .half) (p .inputs .b) (p .inputs .end-b) n (p .inputs .at-b)
+            (λ o i. ⊎-elim (λ j. inl (inl (taken-between t m 0 0 (p .inputs .a) (p .inputs .end-a) (p .inputs .half)
+            (p .inputs .at-a) o j .1))) (λ j. inr j)
+            (List·Memᴰ·append-cases (taken t m 0 0 (p .inputs .a) (p .inputs .end-a) (p .inputs .half) (p .inputs .at-a)) i)));
       };
       undoable = undoable;
       same = subst (λ (x : Marking). Same (graphs both) (flat (strip (keep x (p .j))))) (sym marks) same;

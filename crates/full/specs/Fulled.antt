@@ -36,7 +36,8 @@ too-many m d = ltb choice-limit (count-at choice-stop m d) ≡ true
 abbrev pub few-enough : Marking → Placed → Type 0
 few-enough m d = ltb choice-limit (count-at choice-stop m d) ≡ false
 
--- "drop every alternative that stands in no consistent choice of the whole": the marks of w' leave what is left, which can be folded, and what is certain in it is pushed
+-- "drop every alternative that stands in no consistent choice of the whole": the marks of w' leave what is left, which can be folded,
+-- and what is certain in it is pushed
 pub record Leaving (n : ℕ) (t : List ℕ) (p : Pair n t) (m : Marking) (log readings : ℕ) (w' : List ℕ) : Type 0 where
   pub readings-are : readings ≡ full-readings-by m (p .j)
   pub left-is : full-left m (p .j) ≡ some (strip (keep (marking w') (p .j)))
@@ -49,4 +50,5 @@ pub record Fulls (n k : ℕ) (w : List ℕ) (r : Fully) (w' : List ℕ) : Type 0
   pub rest : (j : ℕ) → RESULT ≤ j → getD w' j 0 ≡ getD w j 0
   pub over : r ≡ Over → (c : Fulling n k w) → too-many (marking w) (c .p .j)
   pub nothing : r ≡ Nothing → (c : Fulling n k w) → few-enough (marking w) (c .p .j) × (full-left (marking w) (c .p .j) ≡ none)
-  pub leaves : (log readings : ℕ) → r ≡ Left log readings → (c : Fulling n k w) → few-enough (marking w) (c .p .j) × Leaving n (c .t) (c .p) (marking w) log readings w'
+  pub leaves : (log readings : ℕ) → r ≡ Left log readings → (c : Fulling n k w) →
+      few-enough (marking w) (c .p .j) × Leaving n (c .t) (c .p) (marking w) log readings w'

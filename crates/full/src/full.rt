@@ -11,7 +11,8 @@ use search::search::search;
 ghost use Rattle.full.specs.Restarted.{Restarting, Restarts};
 ghost use Rattle.full.specs.Fulled.{Fulling, Fulls};
 
-// There are too many choices; or none is consistent; or only alternatives in consistent choices are left, with so many entries in the log and so many readings.
+// There are too many choices; or none is consistent; or only alternatives in consistent choices are left, with so many entries in the
+// log and so many readings.
 pub enum Fully {
     Over,
     Nothing,

@@ -72,7 +72,8 @@ module _ (ws : List ℕ) (n : ℕ) where
   arcs-done zero low met p h = refl
   arcs-done (suc k) low met p h = absurd (not-suc-le-zero h)
 
-  pub arcs-stop : (k low met p : ℕ) → 0 < k → Misplaced ≡ readArc n low met (getD ws p 0) (getD ws (p + 1) 0) → Stopped ≡ arcsFrom ws n k low met p
+  pub arcs-stop : (k low met p : ℕ) → 0 < k → Misplaced ≡ readArc n low met (getD ws p 0) (getD ws (p + 1) 0) →
+      Stopped ≡ arcsFrom ws n k low met p
   unfolding arcsFrom
   arcs-stop zero low met p h e = absurd (not-suc-le-zero h)
   arcs-stop (suc k) low met p h e = rw (← e)
@@ -115,7 +116,8 @@ module _ (ws : List ℕ) (n : ℕ) where
   nodes-stop zero i met p h e = absurd (not-suc-le-zero h)
   nodes-stop (suc k) i met p h e = rw (← e)
 
-  pub nodes-step : (k k′ i met p q met′ : ℕ) → k ≡ k′ + 1 → Went q met′ ≡ readNode ws n i met p → readNodes ws n k i met p ≡ readNodes ws n k′ (i + 1) met′ q
+  pub nodes-step : (k k′ i met p q met′ : ℕ) → k ≡ k′ + 1 → Went q met′ ≡ readNode ws n i met p →
+      readNodes ws n k i met p ≡ readNodes ws n k′ (i + 1) met′ q
   unfolding readNodes
   nodes-step k k′ i met p q met′ h e = rw (h, add-one, ← e)
 

@@ -1,4 +1,5 @@
--- What reading the words of a graph at a position finds: the grammar of document 01's section "Word layout", as a function of the words and the position.
+-- What reading the words of a graph at a position finds: the grammar of document 01's section "Word layout", as a function of the
+-- words and the position.
 -- Assumes nothing: these are definitions.
 use Prim.Native.Nat.{ℕ, zero, suc, _+_, _-_}
 use mathlib.Core.List.{List}
@@ -32,24 +33,29 @@ abbrev pub walk : Walk → (ℕ → ℕ → Read) → Read
 walk (Went q met) f = f q met
 walk Stopped f = Wrong
 
--- "feature 0..65,535", "Features rise strictly within a node": here from low on. "a target is either a number already met or the next unused one (0 counts as met), and below the node count" n
+-- "feature 0..65,535", "Features rise strictly within a node": here from low on. "a target is either a number already met or the next
+-- unused one (0 counts as met), and below the node count" n
 unfoldable pub readArc : ℕ → ℕ → ℕ → ℕ → ℕ → Arc
 readArc n low met f t =
-    pick (leb low f) (pick (ltb f code-limit) (pick (ltb t met) (Meets met) (pick (leb t met) (pick (ltb t n) (Meets (t + 1)) Misplaced) Misplaced)) Misplaced) Misplaced
+    pick (leb low f) (pick (ltb f code-limit)
+    (pick (ltb t met) (Meets met) (pick (leb t met) (pick (ltb t n) (Meets (t + 1)) Misplaced) Misplaced)) Misplaced) Misplaced
 
 -- k arcs whose words are there
 unfoldable pub arcsFrom : List ℕ → ℕ → ℕ → ℕ → ℕ → ℕ → Walk
 arcsFrom ws n zero low met p = Went p met
-arcsFrom ws n (suc k) low met p = past (readArc n low met (getD ws p 0) (getD ws (p + 1) 0)) (λ after. arcsFrom ws n k (getD ws p 0 + 1) after (p + 2))
+arcsFrom ws n (suc k) low met p =
+    past (readArc n low met (getD ws p 0) (getD ws (p + 1) 0)) (λ after. arcsFrom ws n k (getD ws p 0 + 1) after (p + 2))
 
 -- "An arc is two words": the k arcs of a node
 unfoldable pub readArcs : List ℕ → ℕ → ℕ → ℕ → ℕ → Walk
 readArcs ws n k met p = pick (leb (p + (k + k)) (length ws)) (arcsFrom ws n k 0 met p) Stopped
 
--- "each node has been met before its own head is read". "Head 0..65,535 is the number of arcs; head 65,536..131,071 is the atom numbered head - 65,536, with no arcs": node i
+-- "each node has been met before its own head is read". "Head 0..65,535 is the number of arcs; head 65,536..131,071 is the atom
+-- numbered head - 65,536, with no arcs": node i
 unfoldable pub readNode : List ℕ → ℕ → ℕ → ℕ → ℕ → Walk
 readNode ws n i met p =
-    pick (ltb i met) (word ws p Stopped (λ h q. pick (ltb h code-limit) (readArcs ws n h met q) (pick (ltb (h - code-limit) code-limit) (Went q met) Stopped))) Stopped
+    pick (ltb i met) (word ws p Stopped
+    (λ h q. pick (ltb h code-limit) (readArcs ws n h met q) (pick (ltb (h - code-limit) code-limit) (Went q met) Stopped))) Stopped
 
 -- k nodes from node i on
 unfoldable pub readNodes : List ℕ → ℕ → ℕ → ℕ → ℕ → ℕ → Read

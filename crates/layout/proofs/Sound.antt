@@ -12,7 +12,8 @@ use borrow.Author.Tests.{ltb-true, ltb-false, leb-true}
 use Rattle.theory.specs.Limits.{code-limit}
 use Rattle.theory.specs.Net.{Node, atom, arcs, Graph, arcsOf, met, Rising, InOrder, Numbered, Canonical}
 use Rattle.theory.specs.Descr.{Desc, desc, Disjs, end, _and_, Alts, fail, _or_, disjs, alts}
-use Rattle.theory.specs.Layout.{arc-words, node-words, nodes-words, words, disjs-words, alts-words, ArcsFit, NodeFits, GraphFits, WellFormed, WellAll, WellAny}
+use Rattle.theory.specs.Layout.{arc-words, node-words, nodes-words, words, disjs-words, alts-words, ArcsFit, NodeFits, GraphFits}
+use Rattle.theory.specs.Layout.{WellFormed, WellAll, WellAny}
 use Rattle.theory.proofs.Instance.{met-ge}
 use Rattle.graphs.specs.declared.graph.Arc.{Arc}
 use Rattle.graphs.specs.declared.graph.Arc.the-variants.{Meets, Misplaced}
@@ -24,7 +25,8 @@ use Rattle.layout.specs.Reading.{then, times, disjunctionOf, description
 use Rattle.graphs.specs.Graph.{pick, past, walk, readArc, arcsFrom, readArcs, readNode, readNodes, readGraph}
 use Rattle.layout.specs.Standing.{Stands, graph-words, disjunction-words}
 use Rattle.graphs.proofs.Laws.{pick-meets}
-use Rattle.layout.proofs.Standing.{stands-nil, stands-cons, stands-arc, stands-nodes, stands-description, stands-disjunctions, stands-alternatives}
+use Rattle.layout.proofs.Standing.{stands-nil, stands-cons, stands-arc, stands-nodes, stands-description, stands-disjunctions}
+use Rattle.layout.proofs.Standing.{stands-alternatives}
 
 -- a reading that went well took the good way at each test
 stopped : {q m : ℕ} → Stopped ≡ Went q m → ⊥
@@ -53,7 +55,8 @@ then-fine : (r : Read) (f : ℕ → Read) {q : ℕ} → then r f ≡ Fine q → 
 then-fine (Fine p) f e = (p, refl)
 then-fine Wrong f e = absurd (wrong e)
 
-arc-sound : (n low m f t after : ℕ) → readArc n low m f t ≡ Meets after → (low ≤ f) × (f < code-limit) × (t ≤ m) × (after ≡ max m (suc t)) × (m ≤ n → after ≤ n)
+arc-sound : (n low m f t after : ℕ) → readArc n low m f t ≡ Meets after →
+    (low ≤ f) × (f < code-limit) × (t ≤ m) × (after ≡ max m (suc t)) × (m ≤ n → after ≤ n)
 unfolding readArc
 arc-sound n low m f t after e =
     let a = pick-meets (leb low f) _ e in
@@ -61,7 +64,8 @@ arc-sound n low m f t after e =
     let c = go (ltb t m) refl (b .1) in
     (leb-true _ _ (a .0), ltb-true _ _ (b .0), c .0, c .1, c .2)
   where
-    go : (b : Bool) → ltb t m ≡ b → pick b (Meets m) (pick (leb t m) (pick (ltb t n) (Meets (t + 1)) Misplaced) Misplaced) ≡ Meets after → (t ≤ m) × (after ≡ max m (suc t)) × (m ≤ n → after ≤ n)
+    go : (b : Bool) → ltb t m ≡ b → pick b (Meets m) (pick (leb t m) (pick (ltb t n) (Meets (t + 1)) Misplaced) Misplaced) ≡ Meets after →
+        (t ≤ m) × (after ≡ max m (suc t)) × (m ≤ n → after ≤ n)
     go true h e = let l : t < m = ltb-true _ _ h in let k : m ≡ after = cc in (omega arith, omega arith, λ g. omega arith)
     go false h e =
         let l : m ≤ t = ltb-false _ _ h in
@@ -75,9 +79,11 @@ arc-sound n low m f t after e =
 
 module _ (ws : List ℕ) where
   arcs-sound : (n k low m p q after : ℕ) → m ≤ n → p + (k + k) ≤ length ws → arcsFrom ws n k low m p ≡ Went q after
-      → (l : List (ℕ × ℕ)) × (length l ≡ k) × Rising low l × InOrder m l × ArcsFit l × (after ≡ met m l) × (after ≤ n) × Stands ws p (arc-words l) q
+      → (l : List (ℕ × ℕ)) × (length l ≡ k) × Rising low l × InOrder m l × ArcsFit l × (after ≡ met m l) × (after ≤ n)
+      × Stands ws p (arc-words l) q
   unfolding arcsFrom
-  arcs-sound n zero low m p q after h room e = let g : m ≡ after = cc in ([], refl, tt, tt, tt, sym g, omega arith, stands-nil ws p q .1 (cc))
+  arcs-sound n zero low m p q after h room e = let g : m ≡ after = cc in
+      ([], refl, tt, tt, tt, sym g, omega arith, stands-nil ws p q .1 (cc))
   arcs-sound n (suc k) low m p q after h room e =
       let f = getD ws p 0 in
       let t = getD ws (p + 1) 0 in
@@ -95,23 +101,39 @@ module _ (ws : List ℕ) where
       )
 
   NodeSound : ℕ → ℕ → ℕ → ℕ → ℕ → Type 0
-  NodeSound n m p q after = (v : Node) × NodeFits v × Rising 0 (arcsOf v) × InOrder m (arcsOf v) × (after ≡ met m (arcsOf v)) × (after ≤ n) × Stands ws p (node-words v) q
+  NodeSound n m p q after = (v : Node) × NodeFits v × Rising 0 (arcsOf v) × InOrder m (arcsOf v) × (after ≡ met m (arcsOf v)) × (after ≤ n)
+      × Stands ws p (node-words v) q
 
   node-head : (n m p q after : ℕ) (b : Bool) → ltb (getD ws p 0) code-limit ≡ b → m ≤ n → p < length ws
-      → pick b (readArcs ws n (getD ws p 0) m (p + 1)) (pick (ltb (getD ws p 0 - code-limit) code-limit) (Went (p + 1) m) Stopped) ≡ Went q after → NodeSound n m p q after
+      → pick b (readArcs ws n (getD ws p 0) m (p + 1)) (pick (ltb (getD ws p 0 - code-limit) code-limit) (Went (p + 1) m) Stopped)
+      ≡ Went q after → NodeSound n m p q after
   unfolding NodeSound readArcs
   node-head n m p q after true h g there e =
       let a = pick-went (leb (p + 1 + (getD ws p 0 + getD ws p 0)) (length ws)) _ e in
       let l = arcs-sound n (getD ws p 0) 0 m (p + 1) q after g (leb-true _ _ (a .0)) (a .1) in
-      let small : getD ws p 0 < code-limit = ltb-true _ _ h in
-      (arcs (l .0), (rw (l .1) small, l .4), l .2, l .3, l .5, l .6, stands-cons ws (length (l .0)) (arc-words (l .0)) p q .1 (there, sym (l .1), l .7))
+      let small : getD ws p 0 < code-limit = ltb-true _ _ h in (
+        arcs (l .0),
+        (rw (l .1) small, l .4),
+        l .2,
+        l .3,
+        l .5,
+        l .6,
+        stands-cons ws (length (l .0)) (arc-words (l .0)) p q .1 (there, sym (l .1), l .7),
+      )
   node-head n m p q after false h g there e =
       let a = pick-went (ltb (getD ws p 0 - code-limit) code-limit) _ e in
       let big : code-limit ≤ getD ws p 0 = ltb-false _ _ h in
       let small : getD ws p 0 - code-limit < code-limit = ltb-true _ _ (a .0) in
       let f = a .1 in
-      let k : m ≡ after = cc in
-      (atom (getD ws p 0 - code-limit), small, tt, tt, sym k, omega arith, stands-cons ws (code-limit + (getD ws p 0 - code-limit)) [] p q .1 (there, omega arith, stands-nil ws (p + 1) q .1 (cc)))
+      let k : m ≡ after = cc in (
+        atom (getD ws p 0 - code-limit),
+        small,
+        tt,
+        tt,
+        sym k,
+        omega arith,
+        stands-cons ws (code-limit + (getD ws p 0 - code-limit)) [] p q .1 (there, omega arith, stands-nil ws (p + 1) q .1 (cc)),
+      )
 
   node-sound : (n i m p q after : ℕ) → m ≤ n → readNode ws n i m p ≡ Went q after → (i < m) × NodeSound n m p q after
   unfolding readNode
@@ -131,8 +153,14 @@ module _ (ws : List ℕ) where
       let less = s .0 in
       let x = s .1 .4 in
       let y = s .1 .5 in
-      let r = nodes-sound n k (i + 1) (met m (arcsOf v)) (a .0) q (omega arith) (omega (arith, met-ge m (arcsOf v))) (omega arith) (rw (← x) (rw (a .2) at e)) in
-      (v ∷ r .0, ap suc (r .1), (less, s .1 .2, s .1 .3, subst (λ (k : ℕ). Numbered k (met m (arcsOf v)) (r .0)) (add-one i) (r .2)), (s .1 .1, r .3), stands-nodes ws v (r .0) p q .1 (a .0, s .1 .6, r .4))
+      let r = nodes-sound n k (i + 1) (met m (arcsOf v)) (a .0) q (omega arith) (omega (arith, met-ge m (arcsOf v))) (omega arith)
+      (rw (← x) (rw (a .2) at e)) in (
+        v ∷ r .0,
+        ap suc (r .1),
+        (less, s .1 .2, s .1 .3, subst (λ (k : ℕ). Numbered k (met m (arcsOf v)) (r .0)) (add-one i) (r .2)),
+        (s .1 .1, r .3),
+        stands-nodes ws v (r .0) p q .1 (a .0, s .1 .6, r .4),
+      )
 
   graph-sound : (p q : ℕ) → readGraph ws p ≡ Fine q → (g : Graph) × Canonical g × GraphFits g × Stands ws p (graph-words g) q
   unfolding readGraph
@@ -144,7 +172,8 @@ module _ (ws : List ℕ) where
       (x .0, x .2, x .3, stands-cons ws (length (x .0)) (nodes-words (x .0)) p q .1 (ltb-true _ _ (a .0), sym (x .1), x .4))
 
   abbrev DisjunctionSound : ℕ → Type 0
-  DisjunctionSound left = (p q : ℕ) → readDisjunction left ws p ≡ Fine q → (a : Alts) × WellAll (a and end) left × Stands ws p (disjunction-words a) q
+  DisjunctionSound left = (p q : ℕ) → readDisjunction left ws p ≡ Fine q →
+      (a : Alts) × WellAll (a and end) left × Stands ws p (disjunction-words a) q
 
   abbrev DescriptionSound : ℕ → Type 0
   DescriptionSound left = (p q : ℕ) → readDescription left ws p ≡ Fine q → (d : Desc) × WellFormed d left × Stands ws p (words d) q
@@ -160,8 +189,12 @@ module _ (ws : List ℕ) where
   disjunctions-sound left S (suc k) p q e =
       let a = then-fine (readDisjunction left ws p) _ e in
       let x = S p (a .0) (a .1) in
-      let r = disjunctions-sound left S k (a .0) q (rw (a .1) at e) in
-      (x .0 and r .0, ap suc (r .1), well-and (x .0) (r .0) left (x .1) (r .2), stands-disjunctions ws (x .0) (r .0) p q .1 (a .0, x .2, r .3))
+      let r = disjunctions-sound left S k (a .0) q (rw (a .1) at e) in (
+        x .0 and r .0,
+        ap suc (r .1),
+        well-and (x .0) (r .0) left (x .1) (r .2),
+        stands-disjunctions ws (x .0) (r .0) p q .1 (a .0, x .2, r .3),
+      )
 
   alternatives-sound : (left : ℕ) → DescriptionSound left → (k p q : ℕ) → times (readDescription left ws) k p ≡ Fine q
       → (a : Alts) × (alts a ≡ k) × WellAny a left × Stands ws p (alts-words a) q
@@ -179,8 +212,11 @@ module _ (ws : List ℕ) where
       let a = then-fine (readGraph ws p) _ e in
       let g = graph-sound p (a .0) (a .1) in
       let b = pick-fine (ltb (a .0) (length ws)) _ (rw (a .1) at e) in
-      let ds = disjunctions-sound left S (getD ws (a .0) 0) (a .0 + 1) q (b .1) in
-      (desc (g .0) (ds .0), (g .1, g .2, ds .2), stands-description ws (g .0) (ds .0) p q .1 (a .0, g .3, ltb-true _ _ (b .0), sym (ds .1), ds .3))
+      let ds = disjunctions-sound left S (getD ws (a .0) 0) (a .0 + 1) q (b .1) in (
+        desc (g .0) (ds .0),
+        (g .1, g .2, ds .2),
+        stands-description ws (g .0) (ds .0) p q .1 (a .0, g .3, ltb-true _ _ (b .0), sym (ds .1), ds .3),
+      )
 
   disjunction-sound : (left : ℕ) → DisjunctionSound left
   unfolding readDisjunction disjunctionOf readDescription

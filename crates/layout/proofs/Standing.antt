@@ -28,7 +28,8 @@ module _ (ws : List ℕ) where
   pub stands-append : (xs ys : List ℕ) (p r : ℕ) → Stands ws p (xs ++ ys) r ↔ ((q : ℕ) × Stands ws p xs q × Stands ws q ys r)
   stands-append xs ys p r = (split xs ys p r, λ t. join xs ys p (t .0) r (t .1) (t .2))
 
-  pub stands-cons : (x : ℕ) (xs : List ℕ) (p q : ℕ) → Stands ws p (x ∷ xs) q ↔ ((p < length ws) × (getD ws p 0 ≡ x) × Stands ws (p + 1) xs q)
+  pub stands-cons : (x : ℕ) (xs : List ℕ) (p q : ℕ) →
+      Stands ws p (x ∷ xs) q ↔ ((p < length ws) × (getD ws p 0 ≡ x) × Stands ws (p + 1) xs q)
   unfolding Stands
   stands-cons x xs p q = (λ s. s, λ s. s)
 
@@ -77,37 +78,46 @@ module _ (ws : List ℕ) where
   stands-whole xs = (drop-stands xs 0 (omega arith), λ s. stands-drop xs 0 (length ws) s ∙ rw (drop-length, append-nil))
 
   pub stands-description : (g : Graph) (ds : Disjs) (p q : ℕ)
-      → Stands ws p (words (desc g ds)) q ↔ ((r : ℕ) × Stands ws p (graph-words g) r × (r < length ws) × (getD ws r 0 ≡ disjs ds) × Stands ws (r + 1) (disjs-words ds) q)
+      → Stands ws p (words (desc g ds)) q
+      ↔ ((r : ℕ) × Stands ws p (graph-words g) r × (r < length ws) × (getD ws r 0 ≡ disjs ds) × Stands ws (r + 1) (disjs-words ds) q)
   stands-description g ds p q = (
-    λ s. let t = split (graph-words g) (disjs ds ∷ disjs-words ds) p q s in let u = stands-cons (disjs ds) (disjs-words ds) (t .0) q .0 (t .2) in (t .0, t .1, u .0, u .1, u .2),
-    λ t. join (graph-words g) (disjs ds ∷ disjs-words ds) p (t .0) q (t .1) (stands-cons (disjs ds) (disjs-words ds) (t .0) q .1 (t .2, t .3, t .4)),
+    λ s. let t = split (graph-words g) (disjs ds ∷ disjs-words ds) p q s in
+        let u = stands-cons (disjs ds) (disjs-words ds) (t .0) q .0 (t .2) in (t .0, t .1, u .0, u .1, u .2),
+    λ t. join (graph-words g) (disjs ds ∷ disjs-words ds) p (t .0) q (t .1)
+        (stands-cons (disjs ds) (disjs-words ds) (t .0) q .1 (t .2, t .3, t .4)),
   )
 
   pub stands-disjunctions : (a : Alts) (ds : Disjs) (p q : ℕ)
       → Stands ws p (disjs-words (a and ds)) q ↔ ((r : ℕ) × Stands ws p (disjunction-words a) r × Stands ws r (disjs-words ds) q)
   stands-disjunctions a ds p q = stands-append (disjunction-words a) (disjs-words ds) p q
 
-  pub stands-disjunction : (a : Alts) (p q : ℕ) → Stands ws p (disjunction-words a) q ↔ ((p < length ws) × (getD ws p 0 ≡ alts a) × Stands ws (p + 1) (alts-words a) q)
+  pub stands-disjunction : (a : Alts) (p q : ℕ) →
+      Stands ws p (disjunction-words a) q ↔ ((p < length ws) × (getD ws p 0 ≡ alts a) × Stands ws (p + 1) (alts-words a) q)
   stands-disjunction a p q = stands-cons (alts a) (alts-words a) p q
 
-  pub stands-alternatives : (d : Desc) (a : Alts) (p q : ℕ) → Stands ws p (alts-words (d or a)) q ↔ ((r : ℕ) × Stands ws p (words d) r × Stands ws r (alts-words a) q)
+  pub stands-alternatives : (d : Desc) (a : Alts) (p q : ℕ) →
+      Stands ws p (alts-words (d or a)) q ↔ ((r : ℕ) × Stands ws p (words d) r × Stands ws r (alts-words a) q)
   stands-alternatives d a p q = stands-append (words d) (alts-words a) p q
 
-  pub stands-graph : (g : Graph) (p q : ℕ) → Stands ws p (graph-words g) q ↔ ((p < length ws) × (getD ws p 0 ≡ length g) × Stands ws (p + 1) (nodes-words g) q)
+  pub stands-graph : (g : Graph) (p q : ℕ) →
+      Stands ws p (graph-words g) q ↔ ((p < length ws) × (getD ws p 0 ≡ length g) × Stands ws (p + 1) (nodes-words g) q)
   stands-graph g p q = stands-cons (length g) (nodes-words g) p q
 
-  pub stands-nodes : (v : Node) (vs : Graph) (p q : ℕ) → Stands ws p (nodes-words (v ∷ vs)) q ↔ ((r : ℕ) × Stands ws p (node-words v) r × Stands ws r (nodes-words vs) q)
+  pub stands-nodes : (v : Node) (vs : Graph) (p q : ℕ) →
+      Stands ws p (nodes-words (v ∷ vs)) q ↔ ((r : ℕ) × Stands ws p (node-words v) r × Stands ws r (nodes-words vs) q)
   stands-nodes v vs p q = stands-append (node-words v) (nodes-words vs) p q
 
   pub stands-atom : (a p q : ℕ) → Stands ws p (node-words (atom a)) q ↔ ((p < length ws) × (getD ws p 0 ≡ code-limit + a) × (p + 1 ≡ q))
   unfolding Stands
   stands-atom a p q = (λ s. s, λ s. s)
 
-  pub stands-node : (l : List (ℕ × ℕ)) (p q : ℕ) → Stands ws p (node-words (arcs l)) q ↔ ((p < length ws) × (getD ws p 0 ≡ length l) × Stands ws (p + 1) (arc-words l) q)
+  pub stands-node : (l : List (ℕ × ℕ)) (p q : ℕ) →
+      Stands ws p (node-words (arcs l)) q ↔ ((p < length ws) × (getD ws p 0 ≡ length l) × Stands ws (p + 1) (arc-words l) q)
   stands-node l p q = stands-cons (length l) (arc-words l) p q
 
   pub stands-arc : (e : ℕ × ℕ) (l : List (ℕ × ℕ)) (p q : ℕ)
-      → Stands ws p (arc-words (e ∷ l)) q ↔ ((p < length ws) × (getD ws p 0 ≡ e .0) × (p + 1 < length ws) × (getD ws (p + 1) 0 ≡ e .1) × Stands ws (p + 2) (arc-words l) q)
+      → Stands ws p (arc-words (e ∷ l)) q
+      ↔ ((p < length ws) × (getD ws p 0 ≡ e .0) × (p + 1 < length ws) × (getD ws (p + 1) 0 ≡ e .1) × Stands ws (p + 2) (arc-words l) q)
   unfolding Stands
   stands-arc e l p q =
       let h : p + 1 + 1 ≡ p + 2 = omega arith in

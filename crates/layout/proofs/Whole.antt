@@ -1,4 +1,5 @@
--- The whole of some words is read as a description exactly when they are the image of a well-formed one, and what an answer of the reader says of them.
+-- The whole of some words is read as a description exactly when they are the image of a well-formed one, and what an answer of the
+-- reader says of them.
 -- Assumes nothing.
 use Prim.Native.Nat.{ℕ}
 use native.Mathlib.Omega.{arith}
@@ -55,14 +56,19 @@ module _ (ws : List ℕ) where
     accepted-decodes = (λ e. image-decodes .0 (j .sound e), λ d. j .complete (image-decodes .1 d))
 
     pub refused-decodes : (¬ (r ≡ Accepted)) ↔ (decode ws ≡ none)
-    refused-decodes = (λ n. go (decode ws) (decoded ws) n, λ e a. let d = accepted-decodes .0 a in let h = d .1 in let z : _≡_ {A = ℕ} 0 1 = cc in omega arith)
+    refused-decodes = (
+      λ n. go (decode ws) (decoded ws) n,
+      λ e a. let d = accepted-decodes .0 a in let h = d .1 in
+          let z : _≡_ {A = ℕ} 0 1 = cc in omega arith,
+    )
       where
         go : (o : Option Desc) → Decoded ws o → ¬ (r ≡ Accepted) → o ≡ none
         go none m n = refl
         go (some d) (is b w s) n = absurd (n (j .complete (b, w, s)))
 
     -- accepted words are the image of exactly one description
-    pub accepted-one : r ≡ Accepted → (d : Desc) × WellFormed d depth-limit × (ws ≡ words d) × ((e : Desc) → WellFormed e depth-limit → ws ≡ words e → e ≡ d)
+    pub accepted-one : r ≡ Accepted →
+        (d : Desc) × WellFormed d depth-limit × (ws ≡ words d) × ((e : Desc) → WellFormed e depth-limit → ws ≡ words e → e ≡ d)
     accepted-one a = let i = j .sound a in (i .0, i .1, i .2, λ e w s. one-image e (i .0) w (i .1) (sym s ∙ i .2))
 
 -- an answer that does not accept is the one for malformed words

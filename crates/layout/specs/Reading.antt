@@ -25,7 +25,8 @@ disjunctionOf alternative ws p = word ws p Wrong (λ m q. pick (leb 2 m) (times 
 unfoldable pub descriptionOf : (ℕ → Read) → List ℕ → ℕ → Read
 descriptionOf disjunction ws p = then (readGraph ws p) (λ q. word ws q Wrong (λ k r. times disjunction k r))
 
--- "reading goes back and forth between the two, down to that depth": a disjunction under which alternatives nest at most `left` deep, so its own take one of them
+-- "reading goes back and forth between the two, down to that depth": a disjunction under which alternatives nest at most `left` deep,
+-- so its own take one of them
 unfoldable pub readDisjunction : ℕ → List ℕ → ℕ → Read
 readDisjunction zero ws p = Wrong
 readDisjunction (suc left) ws p = disjunctionOf (descriptionOf (readDisjunction left ws) ws) ws p

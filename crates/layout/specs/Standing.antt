@@ -17,6 +17,7 @@ Stands ws p (x ∷ xs) q = (p < length ws) × (getD ws p 0 ≡ x) × Stands ws (
 abbrev pub graph-words : Graph → List ℕ
 graph-words g = length g ∷ nodes-words g
 
--- "each disjunction: number of alternatives (at least 2), then each alternative as a description": the part of theory's `words` that one disjunction is
+-- "each disjunction: number of alternatives (at least 2), then each alternative as a description": the part of theory's `words` that
+-- one disjunction is
 abbrev pub disjunction-words : Alts → List ℕ
 disjunction-words a = alts a ∷ alts-words a

@@ -1,10 +1,12 @@
--- The graphs of a loaded description in the order of the words: where each lies and from which number on its nodes are numbered, none reaching into another.
+-- The graphs of a loaded description in the order of the words: where each lies and from which number on its nodes are numbered, none
+-- reaching into another.
 -- Assumes nothing.
 use Prim.Native.Nat.{ℕ, suc, _+_, _≤_, _<_}
 use native.Mathlib.Omega.{arith}
 use mathlib.Core.Path.{_≡_, refl, sym, ap, subst, _∙_}
 use mathlib.Core.Logic.{⊎-elim}
-use mathlib.Core.List.{List, [], _∷_, _++_, List·Memᴰ, List·Memᴰ·tail, List·Memᴰ·head, List·Memᴰ·not-nil, List·Memᴰ·cases-cons, List·Memᴰ·append-cases}
+use mathlib.Core.List.{List, [], _∷_, _++_, List·Memᴰ, List·Memᴰ·tail, List·Memᴰ·head, List·Memᴰ·not-nil, List·Memᴰ·cases-cons}
+use mathlib.Core.List.{List·Memᴰ·append-cases}
 use lib.ListN.{length, length-append}
 use Rattle.theory.specs.Net.{Graph}
 use Rattle.theory.specs.Descr.{Desc, desc, Disjs, end, _and_, Alts, fail, _or_, disjs, alts}
@@ -32,26 +34,35 @@ abbrev mutual
 
 -- each lies from p up to q, with numbers from n up to m
 abbrev pub Inside : ℕ → ℕ → ℕ → ℕ → List Entry → Type 0
-Inside p q n m es = (e : Entry) → List·Memᴰ e es → (p ≤ e .at) × (e .at + extent (e .graph) < q) × (n ≤ e .number) × (e .number + length (e .graph) ≤ m)
+Inside p q n m es = (e : Entry) → List·Memᴰ e es →
+    (p ≤ e .at) × (e .at + extent (e .graph) < q) × (n ≤ e .number) × (e .number + length (e .graph) ≤ m)
 
-pub inside-append : (p r q n l m : ℕ) (xs ys : List Entry) → p ≤ r → r ≤ q → n ≤ l → l ≤ m → Inside p r n l xs → Inside r q l m ys → Inside p q n m (xs ++ ys)
+pub inside-append : (p r q n l m : ℕ) (xs ys : List Entry) → p ≤ r → r ≤ q → n ≤ l → l ≤ m → Inside p r n l xs → Inside r q l m ys →
+    Inside p q n m (xs ++ ys)
 inside-append p r q n l m xs ys h h′ k k′ a b e i = ⊎-elim
     (λ j. let u = a e j in let v = u .1 in let w = u .3 in (u .0, omega arith, u .2, omega arith))
     (λ j. let u = b e j in let v = u .0 in let w = u .2 in (omega arith, u .1, omega arith, u .3))
     (List·Memᴰ·append-cases xs i)
 
-pub inside-wide : (p p′ q q′ n n′ m m′ : ℕ) (es : List Entry) → p′ ≤ p → q ≤ q′ → n′ ≤ n → m ≤ m′ → Inside p q n m es → Inside p′ q′ n′ m′ es
-inside-wide p p′ q q′ n n′ m m′ es h h′ k k′ a e i = let u = a e i in let v = u .0 in let w = u .1 in let x = u .2 in let y = u .3 in (omega arith, omega arith, omega arith, omega arith)
+pub inside-wide : (p p′ q q′ n n′ m m′ : ℕ) (es : List Entry) → p′ ≤ p → q ≤ q′ → n′ ≤ n → m ≤ m′ → Inside p q n m es →
+    Inside p′ q′ n′ m′ es
+inside-wide p p′ q q′ n n′ m m′ es h h′ k k′ a e i = let u = a e i in let v = u .0 in let w = u .1 in let x = u .2 in let y = u .3 in
+    (omega arith, omega arith, omega arith, omega arith)
 
 inside-one : (p n : ℕ) (g : Graph) → Inside p (p + extent g + 1) n (n + length g) (entry p n g ∷ [])
-inside-one p n g e i = ⊎-elim (λ s. subst (λ (f : Entry). (p ≤ f .at) × (f .at + extent (f .graph) < p + extent g + 1) × (n ≤ f .number) × (f .number + length (f .graph) ≤ n + length g)) (sym s) (omega arith, omega arith, omega arith, omega arith)) (λ j. absurd (List·Memᴰ·not-nil j)) (List·Memᴰ·cases-cons i)
+inside-one p n g e i = ⊎-elim (λ s. subst (λ (f : Entry). (p ≤ f .at) × (f .at + extent (f .graph) < p + extent g + 1) × (n ≤ f .number)
+    × (f .number + length (f .graph) ≤ n + length g)) (sym s) (omega arith, omega arith, omega arith, omega arith))
+    (λ j. absurd (List·Memᴰ·not-nil j)) (List·Memᴰ·cases-cons i)
 
 mutual
   pub entries-inside : (p n : ℕ) (d : Desc) → Inside p (p + length (words d)) n (n + nodes-in d) (entries p n d)
   entries-inside p n (desc g ds) =
       let size = length-append (nodes-words g) (disjs ds ∷ disjs-words ds) in
-      inside-append p (p + extent g + 1) (p + length (words (desc g ds))) n (n + length g) (n + nodes-in (desc g ds)) (entry p n g ∷ []) _ (omega arith) (omega arith) (omega arith) (omega arith) (inside-one p n g)
-      (inside-wide (p + extent g + 1) (p + extent g + 1) (p + extent g + 1 + length (disjs-words ds)) (p + length (words (desc g ds))) (n + length g) (n + length g) (n + length g + nodes-all ds) (n + nodes-in (desc g ds)) _ (omega arith) (omega arith) (omega arith) (omega arith) (all-inside (p + extent g + 1) (n + length g) ds))
+      inside-append p (p + extent g + 1) (p + length (words (desc g ds))) n (n + length g) (n + nodes-in (desc g ds)) (entry p n g ∷ []) _
+      (omega arith) (omega arith) (omega arith) (omega arith) (inside-one p n g)
+      (inside-wide (p + extent g + 1) (p + extent g + 1) (p + extent g + 1 + length (disjs-words ds)) (p + length (words (desc g ds)))
+      (n + length g) (n + length g) (n + length g + nodes-all ds) (n + nodes-in (desc g ds)) _ (omega arith) (omega arith) (omega arith)
+      (omega arith) (all-inside (p + extent g + 1) (n + length g) ds))
 
   all-inside : (p n : ℕ) (ds : Disjs) → Inside p (p + length (disjs-words ds)) n (n + nodes-all ds) (entries-all p n ds)
   all-inside p n end = λ e i. absurd (List·Memᴰ·not-nil i)
@@ -59,9 +70,12 @@ mutual
       let r = p + suc (length (alts-words a)) in
       let l = n + nodes-any a in
       let size = length-append (alts-words a) (disjs-words ds) in
-      inside-append p r (p + length (disjs-words (a and ds))) n l (n + nodes-all (a and ds)) (entries-any (p + 1) n a) _ (omega arith) (omega arith) (omega arith) (omega arith)
-      (inside-wide (p + 1) p (p + 1 + length (alts-words a)) r n n l l _ (omega arith) (omega arith) (omega arith) (omega arith) (any-inside (p + 1) n a))
-      (inside-wide r r (r + length (disjs-words ds)) (p + length (disjs-words (a and ds))) l l (l + nodes-all ds) (n + nodes-all (a and ds)) _ (omega arith) (omega arith) (omega arith) (omega arith) (all-inside r l ds))
+      inside-append p r (p + length (disjs-words (a and ds))) n l (n + nodes-all (a and ds)) (entries-any (p + 1) n a) _ (omega arith)
+      (omega arith) (omega arith) (omega arith)
+      (inside-wide (p + 1) p (p + 1 + length (alts-words a)) r n n l l _ (omega arith) (omega arith) (omega arith) (omega arith)
+      (any-inside (p + 1) n a))
+      (inside-wide r r (r + length (disjs-words ds)) (p + length (disjs-words (a and ds))) l l (l + nodes-all ds)
+      (n + nodes-all (a and ds)) _ (omega arith) (omega arith) (omega arith) (omega arith) (all-inside r l ds))
 
   any-inside : (p n : ℕ) (a : Alts) → Inside p (p + length (alts-words a)) n (n + nodes-any a) (entries-any p n a)
   any-inside p n fail = λ e i. absurd (List·Memᴰ·not-nil i)
@@ -69,18 +83,23 @@ mutual
       let r = p + length (words d) in
       let l = n + nodes-in d in
       let size = length-append (words d) (alts-words a) in
-      inside-append p r (p + length (alts-words (d or a))) n l (n + nodes-any (d or a)) (entries p n d) _ (omega arith) (omega arith) (omega arith) (omega arith) (entries-inside p n d)
-      (inside-wide r r (r + length (alts-words a)) (p + length (alts-words (d or a))) l l (l + nodes-any a) (n + nodes-any (d or a)) _ (omega arith) (omega arith) (omega arith) (omega arith) (any-inside r l a))
+      inside-append p r (p + length (alts-words (d or a))) n l (n + nodes-any (d or a)) (entries p n d) _ (omega arith) (omega arith)
+      (omega arith) (omega arith) (entries-inside p n d)
+      (inside-wide r r (r + length (alts-words a)) (p + length (alts-words (d or a))) l l (l + nodes-any a) (n + nodes-any (d or a)) _
+      (omega arith) (omega arith) (omega arith) (omega arith) (any-inside r l a))
 
 -- each entry's words and numbers end before those of the entries after it begin
 abbrev pub Ordered : List Entry → Type 0
 Ordered [] = Unit {0}
-Ordered (e ∷ es) = ((f : Entry) → List·Memᴰ f es → (e .at + extent (e .graph) < f .at) × (e .number + length (e .graph) ≤ f .number)) × Ordered es
+Ordered (e ∷ es) = ((f : Entry) → List·Memᴰ f es → (e .at + extent (e .graph) < f .at) × (e .number + length (e .graph) ≤ f .number))
+    × Ordered es
 
-pub ordered-append : (p r q n l m : ℕ) (xs ys : List Entry) → Inside p r n l xs → Inside r q l m ys → Ordered xs → Ordered ys → Ordered (xs ++ ys)
+pub ordered-append : (p r q n l m : ℕ) (xs ys : List Entry) → Inside p r n l xs → Inside r q l m ys → Ordered xs → Ordered ys →
+    Ordered (xs ++ ys)
 ordered-append p r q n l m [] ys a b x y = y
 ordered-append p r q n l m (e ∷ xs) ys a b x y = (
-  λ f i. ⊎-elim (x .0 f) (λ j. let u = a e (List·Memᴰ·head refl) in let v = b f j in let s = u .1 in let w = u .3 in let z = v .0 in let o = v .2 in (omega arith, omega arith)) (List·Memᴰ·append-cases xs i),
+  λ f i. ⊎-elim (x .0 f) (λ j. let u = a e (List·Memᴰ·head refl) in let v = b f j in let s = u .1 in let w = u .3 in let z = v .0 in
+      let o = v .2 in (omega arith, omega arith)) (List·Memᴰ·append-cases xs i),
   ordered-append p r q n l m xs ys (λ f i. a f (List·Memᴰ·tail i)) b (x .1) y,
 )
 
@@ -89,7 +108,8 @@ mutual
   entries-ordered p n (desc g ds) =
       let r = p + extent g + 1 in
       let l = n + length g in
-      ordered-append p r (r + length (disjs-words ds)) n l (l + nodes-all ds) (entry p n g ∷ []) _ (inside-one p n g) (all-inside r l ds) ((λ f i. absurd (List·Memᴰ·not-nil i)), tt) (all-ordered r l ds)
+      ordered-append p r (r + length (disjs-words ds)) n l (l + nodes-all ds) (entry p n g ∷ []) _ (inside-one p n g) (all-inside r l ds)
+      ((λ f i. absurd (List·Memᴰ·not-nil i)), tt) (all-ordered r l ds)
 
   all-ordered : (p n : ℕ) (ds : Disjs) → Ordered (entries-all p n ds)
   all-ordered p n end = tt
@@ -97,14 +117,16 @@ mutual
       let r = p + suc (length (alts-words a)) in
       let l = n + nodes-any a in
       ordered-append (p + 1) r (r + length (disjs-words ds)) n l (l + nodes-all ds) (entries-any (p + 1) n a) _
-      (inside-wide (p + 1) (p + 1) (p + 1 + length (alts-words a)) r n n l l _ (omega arith) (omega arith) (omega arith) (omega arith) (any-inside (p + 1) n a)) (all-inside r l ds) (any-ordered (p + 1) n a) (all-ordered r l ds)
+      (inside-wide (p + 1) (p + 1) (p + 1 + length (alts-words a)) r n n l l _ (omega arith) (omega arith) (omega arith) (omega arith)
+      (any-inside (p + 1) n a)) (all-inside r l ds) (any-ordered (p + 1) n a) (all-ordered r l ds)
 
   any-ordered : (p n : ℕ) (a : Alts) → Ordered (entries-any p n a)
   any-ordered p n fail = tt
   any-ordered p n (d or a) =
       let r = p + length (words d) in
       let l = n + nodes-in d in
-      ordered-append p r (r + length (alts-words a)) n l (l + nodes-any a) (entries p n d) _ (entries-inside p n d) (any-inside r l a) (entries-ordered p n d) (any-ordered r l a)
+      ordered-append p r (r + length (alts-words a)) n l (l + nodes-any a) (entries p n d) _ (entries-inside p n d) (any-inside r l a)
+      (entries-ordered p n d) (any-ordered r l a)
 
 -- an entry's graph lies at its place, with its numbers
 abbrev pub Lies : List ℕ → Entry → Type 0
@@ -123,10 +145,13 @@ module _ (t : List ℕ) where
         let word = closing (disjs ds) (p + length (words (desc g ds))) in
         let inner = loaded-all (p + extent g + 1) (n + length g) ds in
         let parts = stands-append t (header n g ∷ located n g) (word ∷ inner) p q .0 s in
-        let far : parts .0 ≡ p + extent g = stands-length t (header n g ∷ located n g) p (parts .0) (parts .1) ∙ ap (λ (k : ℕ). p + suc k) (located-length n g) in
+        let far : parts .0 ≡ p + extent g = stands-length t (header n g ∷ located n g) p (parts .0) (parts .1)
+        ∙ ap (λ (k : ℕ). p + suc k) (located-length n g) in
         let rest = stands-cons t word inner (p + extent g) q .0 (subst (λ (k : ℕ). Stands t k (word ∷ inner) q) far (parts .2)) in
         let own : Lies t (entry p n g) = subst (λ (k : ℕ). Stands t p (header n g ∷ located n g) k) far (parts .1) in
-        lie-append (entry p n g ∷ []) _ (λ e i. ⊎-elim (λ h. subst (λ (f : Entry). Lies t f) (sym h) own) (λ j. absurd (List·Memᴰ·not-nil j)) (List·Memᴰ·cases-cons i)) (all-lie (p + extent g + 1) (n + length g) q ds (rest .2))
+        lie-append (entry p n g ∷ []) _
+        (λ e i. ⊎-elim (λ h. subst (λ (f : Entry). Lies t f) (sym h) own) (λ j. absurd (List·Memᴰ·not-nil j)) (List·Memᴰ·cases-cons i))
+        (all-lie (p + extent g + 1) (n + length g) q ds (rest .2))
 
     all-lie : (p n q : ℕ) (ds : Disjs) → Stands t p (loaded-all p n ds) q → Lie (entries-all p n ds)
     all-lie p n q end s = λ e i. absurd (List·Memᴰ·not-nil i)
@@ -134,8 +159,11 @@ module _ (t : List ℕ) where
         let r = p + suc (length (alts-words a)) in
         let inner = loaded-all r (n + nodes-any a) ds in
         let parts = stands-append t (alts a ∷ loaded-any (p + 1) n a) inner p q .0 s in
-        let far : parts .0 ≡ r = stands-length t (alts a ∷ loaded-any (p + 1) n a) p (parts .0) (parts .1) ∙ ap (λ (k : ℕ). p + suc k) (any-length (p + 1) n a) in
-        lie-append (entries-any (p + 1) n a) _ (any-lie (p + 1) n (parts .0) a (stands-cons t (alts a) (loaded-any (p + 1) n a) p (parts .0) .0 (parts .1) .2)) (all-lie r (n + nodes-any a) q ds (subst (λ (k : ℕ). Stands t k inner q) far (parts .2)))
+        let far : parts .0 ≡ r = stands-length t (alts a ∷ loaded-any (p + 1) n a) p (parts .0) (parts .1)
+        ∙ ap (λ (k : ℕ). p + suc k) (any-length (p + 1) n a) in
+        lie-append (entries-any (p + 1) n a) _
+        (any-lie (p + 1) n (parts .0) a (stands-cons t (alts a) (loaded-any (p + 1) n a) p (parts .0) .0 (parts .1) .2))
+        (all-lie r (n + nodes-any a) q ds (subst (λ (k : ℕ). Stands t k inner q) far (parts .2)))
 
     any-lie : (p n q : ℕ) (a : Alts) → Stands t p (loaded-any p n a) q → Lie (entries-any p n a)
     any-lie p n q fail s = λ e i. absurd (List·Memᴰ·not-nil i)
@@ -144,4 +172,5 @@ module _ (t : List ℕ) where
         let inner = loaded-any r (n + nodes-in d) a in
         let parts = stands-append t (loaded p n d) inner p q .0 s in
         let far : parts .0 ≡ r = stands-length t (loaded p n d) p (parts .0) (parts .1) ∙ ap (λ (k : ℕ). p + k) (loaded-length p n d) in
-        lie-append (entries p n d) _ (entries-lie p n (parts .0) d (parts .1)) (any-lie r (n + nodes-in d) q a (subst (λ (k : ℕ). Stands t k inner q) far (parts .2)))
+        lie-append (entries p n d) _ (entries-lie p n (parts .0) d (parts .1))
+        (any-lie r (n + nodes-in d) q a (subst (λ (k : ℕ). Stands t k inner q) far (parts .2)))

@@ -39,7 +39,9 @@ abbrev pub Between : ℕ → ℕ → List ℕ → Type 0
 Between n m l = (y : ℕ) → List·Memᴰ y l → (n ≤ y) × (y < m)
 
 pub between-append : (n m k : ℕ) (l s : List ℕ) → n ≤ m → m ≤ k → Between n m l → Between m k s → Between n k (l ++ s)
-between-append n m k l s h h′ a b y i = ⊎-elim (λ j. let u = a y j in (u .0, let v = u .1 in omega arith)) (λ j. let u = b y j in ((let v = u .0 in omega arith), u .1)) (List·Memᴰ·append-cases l i)
+between-append n m k l s h h′ a b y i =
+    ⊎-elim (λ j. let u = a y j in (u .0, let v = u .1 in omega arith)) (λ j. let u = b y j in
+    ((let v = u .0 in omega arith), u .1)) (List·Memᴰ·append-cases l i)
 
 pub between-wide : (n n′ m m′ : ℕ) (l : List ℕ) → n′ ≤ n → m ≤ m′ → Between n m l → Between n′ m′ l
 between-wide n n′ m m′ l h h′ a y i = let u = a y i in let v = u .0 in let w = u .1 in (omega arith, omega arith)
@@ -55,12 +57,15 @@ between-apart n m k l s a b y i j = let u = a y i .1 in let v = b y j .0 in omeg
 
 mutual
   pub names-between : (n : ℕ) (d : Desc) → Can d → Between (n + 1) (n + nodes-in d) (names (numbered n d))
-  names-between n (desc g ds) c = between-wide (n + length g) (n + 1) (n + length g + nodes-all ds) (n + nodes-in (desc g ds)) _ (let h = canonical-some g (c .0) in omega arith) (omega arith) (names-all-between (n + length g) ds (c .1))
+  names-between n (desc g ds) c =
+      between-wide (n + length g) (n + 1) (n + length g + nodes-all ds) (n + nodes-in (desc g ds)) _ (let h = canonical-some g (c .0) in
+      omega arith) (omega arith) (names-all-between (n + length g) ds (c .1))
 
   pub names-all-between : (n : ℕ) (ds : Disjs) → CanAll ds → Between n (n + nodes-all ds) (names-all (numbered-all n ds))
   names-all-between n end c = between-none _ _
   names-all-between n (a and ds) c = let m = n + nodes-any a in
-      between-append n m (n + nodes-all (a and ds)) _ _ (omega arith) (omega arith) (names-any-between n a (c .0)) (between-wide m m (m + nodes-all ds) (n + nodes-all (a and ds)) _ (omega arith) (omega arith) (names-all-between m ds (c .1)))
+      between-append n m (n + nodes-all (a and ds)) _ _ (omega arith) (omega arith) (names-any-between n a (c .0))
+      (between-wide m m (m + nodes-all ds) (n + nodes-all (a and ds)) _ (omega arith) (omega arith) (names-all-between m ds (c .1)))
 
   pub names-any-between : (n : ℕ) (a : Alts) → CanAny a → Between n (n + nodes-any a) (names-any (numbered-any n a))
   names-any-between n fail c = between-none _ _
@@ -82,8 +87,11 @@ mutual
   numbered-distinct-all : (n : ℕ) (ds : Disjs) → CanAll ds → DistinctAll (numbered-all n ds)
   numbered-distinct-all n end c = tt
   numbered-distinct-all n (a and ds) c =
-      let m = n + nodes-any a in
-      (numbered-distinct-any n a (c .0), numbered-distinct-all m ds (c .1), between-apart n m (m + nodes-all ds) _ _ (names-any-between n a (c .0)) (names-all-between m ds (c .1)))
+      let m = n + nodes-any a in (
+        numbered-distinct-any n a (c .0),
+        numbered-distinct-all m ds (c .1),
+        between-apart n m (m + nodes-all ds) _ _ (names-any-between n a (c .0)) (names-all-between m ds (c .1)),
+      )
 
   numbered-distinct-any : (n : ℕ) (a : Alts) → CanAny a → DistinctAny (numbered-any n a)
   numbered-distinct-any n fail c = tt
@@ -92,11 +100,17 @@ mutual
       let some = nodes-some d (c .0) in
       let own = between-one n (n + 1) (omega arith) in
       let inner = names-between n d (c .0) in
-      let later = names-any-between m a (c .1) in
-      (numbered-distinct n d (c .0), numbered-distinct-any m a (c .1), between-apart n (n + 1) m _ _ own inner, between-apart n m (m + nodes-any a) _ _ (between-wide n n (n + 1) m _ (omega arith) (omega arith) own) later, between-apart (n + 1) m (m + nodes-any a) _ _ inner later)
+      let later = names-any-between m a (c .1) in (
+        numbered-distinct n d (c .0),
+        numbered-distinct-any m a (c .1),
+        between-apart n (n + 1) m _ _ own inner,
+        between-apart n m (m + nodes-any a) _ _ (between-wide n n (n + 1) m _ (omega arith) (omega arith) own) later,
+        between-apart (n + 1) m (m + nodes-any a) _ _ inner later,
+      )
 
 -- of two inputs, the second numbered after the first
 pub numbered-apart : (a b : Desc) → Can a → Can b → Apart (names (numbered 0 a)) (names (numbered (nodes-in a) b))
 numbered-apart a b c d =
     let m = nodes-in a in
-    between-apart 1 m (m + nodes-in b) _ _ (between-wide 1 1 (0 + m) m _ (omega arith) (omega arith) (names-between 0 a c)) (between-wide (m + 1) m (m + nodes-in b) (m + nodes-in b) _ (omega arith) (omega arith) (names-between m b d))
+    between-apart 1 m (m + nodes-in b) _ _ (between-wide 1 1 (0 + m) m _ (omega arith) (omega arith) (names-between 0 a c))
+    (between-wide (m + 1) m (m + nodes-in b) (m + nodes-in b) _ (omega arith) (omega arith) (names-between m b d))

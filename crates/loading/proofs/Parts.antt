@@ -12,9 +12,12 @@ use Rattle.theory.specs.Descr.{desc, disjs, alts}
 use Rattle.theory.specs.Layout.{arc-words, nodes-words, words, disjs-words}
 use Rattle.theory.proofs.Reading.{well-can}
 use Rattle.layout.specs.Standing.{Stands, graph-words}
-use Rattle.layout.proofs.Standing.{stands-nil, stands-length, stands-order, stands-within, stands-whole, stands-atom, stands-node, stands-arc, stands-graph, stands-disjunction, stands-description}
-use Rattle.loading.specs.Loaded.{extent, number-step, extent-step, end-step, header, closing, moved-arcs, located, loaded, loaded-all, loaded-any}
-use Rattle.loading.specs.Loading.{Put, Kind, AllLow, its-arcs, a-node, its-nodes, a-graph, a-disjunction, a-description, Room, Asked, Loads, Loadable, LoadedAt}
+use Rattle.layout.proofs.Standing.{stands-nil, stands-length, stands-order, stands-within, stands-whole, stands-atom, stands-node}
+use Rattle.layout.proofs.Standing.{stands-arc, stands-graph, stands-disjunction, stands-description}
+use Rattle.loading.specs.Loaded.{extent, number-step, extent-step, end-step, header, closing, moved-arcs, located, loaded, loaded-all}
+use Rattle.loading.specs.Loaded.{loaded-any}
+use Rattle.loading.specs.Loading.{Put, Kind, AllLow, its-arcs, a-node, its-nodes, a-graph, a-disjunction, a-description, Room, Asked}
+use Rattle.loading.specs.Loading.{Loads, Loadable, LoadedAt}
 use Rattle.loading.proofs.Sequels.{an-arc, its-disjunctions, its-alternatives}
 use Rattle.loading.proofs.Sizes.{moved-length, graph-extent, numbered-low, nodes-few, weights-fit-all}
 use Rattle.loading.proofs.Putting.{put-append, put-one, put-before, put-then}
@@ -29,7 +32,8 @@ room-keeps t u ws shift e r = record { few = r .few; near = r .near; room = (let
 pub loads-keeps : (K : Kind) (t u ws : List ℕ) (shift p n r m : ℕ) → Asked K ws p n → Loads K ws p shift n t u r m → length u ≡ length t
 loads-keeps K t u ws shift p n r m a loads = loads (a .0) (a .1) (a .2) (a .3) .2 .same
 
-pub loads-reach : (K : Kind) (t u ws : List ℕ) (shift p n r m : ℕ) → p ≤ length ws → Asked K ws p n → Loads K ws p shift n t u r m → (p ≤ r) × (r ≤ length ws)
+pub loads-reach : (K : Kind) (t u ws : List ℕ) (shift p n r m : ℕ) → p ≤ length ws → Asked K ws p n → Loads K ws p shift n t u r m →
+    (p ≤ r) × (r ≤ length ws)
 loads-reach K t u ws shift p n r m h a loads =
     let e = loads (a .0) (a .1) (a .2) (a .3) .0 in
     let near = stands-order ws (K .text (a .0)) p (a .1) (a .3) in
@@ -38,7 +42,8 @@ loads-reach K t u ws shift p n r m h a loads =
 
 module _ (ws : List ℕ) (p n : ℕ) where
   pub arc-there : Asked an-arc ws p n → (p + 1 < length ws) × (getD ws (p + 1) 0 < input-limit) × (n ≤ input-limit)
-  arc-there a = let s = stands-arc ws (a .0) [] p (a .1) .0 (a .3) in let low = a .2 in let e = s .3 in let room = a .4 in (s .2, omega arith, omega arith)
+  arc-there a = let s = stands-arc ws (a .0) [] p (a .1) .0 (a .3) in let low = a .2 in let e = s .3 in let room = a .4 in
+      (s .2, omega arith, omega arith)
 
   pub node-there : Asked a-node ws p n → p < length ws
   node-there (atom a, q, f, s, h) = stands-atom ws a p q .0 s .0
@@ -79,13 +84,23 @@ module _ (t ws : List ℕ) (shift p n : ℕ) (room : shift + length ws ≤ lengt
       let same = length-set t (shift + p) x in
       let far : shift + p + 1 + 1 ≡ shift + q = omega arith in
       let value : y ≡ n + e .1 = omega arith in
-      let two : Put t (set u (shift + p + 1) y) (shift + p) (x ∷ y ∷ []) (shift + p + 1 + 1) = put-then t (set u (shift + p + 1) y) x (y ∷ []) (shift + p) (shift + p + 1 + 1) (omega arith) (put-one u y (shift + p + 1) (omega arith)) in
-      (last, omega arith, subst (λ (xs : List ℕ). Put t (set u (shift + p + 1) y) (shift + p) xs (shift + q)) (ap₂ (λ (a b : ℕ). a ∷ b ∷ []) (parts .1) value) (subst (λ (k : ℕ). Put t (set u (shift + p + 1) y) (shift + p) (x ∷ y ∷ []) k) far two))
+      let two : Put t (set u (shift + p + 1) y) (shift + p) (x ∷ y ∷ []) (shift + p + 1 + 1) =
+      put-then t (set u (shift + p + 1) y) x (y ∷ []) (shift + p) (shift + p + 1 + 1) (omega arith)
+      (put-one u y (shift + p + 1) (omega arith)) in (
+        last,
+        omega arith,
+        subst (λ (xs : List ℕ). Put t (set u (shift + p + 1) y) (shift + p) xs (shift + q))
+            (ap₂ (λ (a b : ℕ). a ∷ b ∷ []) (parts .1) value)
+            (subst (λ (k : ℕ). Put t (set u (shift + p + 1) y) (shift + p) (x ∷ y ∷ []) k) far two),
+      )
 
   -- a word as it is, and what comes after it
-  word-then : (u : List ℕ) (x : ℕ) (xs : List ℕ) (q : ℕ) → p < length ws → getD ws p 0 ≡ x → Put (set t (shift + p) (getD ws p 0)) u (shift + (p + 1)) xs q → Put t u (shift + p) (x ∷ xs) q
+  word-then : (u : List ℕ) (x : ℕ) (xs : List ℕ) (q : ℕ) → p < length ws → getD ws p 0 ≡ x →
+      Put (set t (shift + p) (getD ws p 0)) u (shift + (p + 1)) xs q → Put t u (shift + p) (x ∷ xs) q
   word-then u x xs q h e a =
-      subst (λ (y : ℕ). Put t u (shift + p) (y ∷ xs) q) e (put-then t u (getD ws p 0) xs (shift + p) q (omega arith) (subst (λ (k : ℕ). Put (set t (shift + p) (getD ws p 0)) u k xs q) (shifted shift p) a))
+      subst (λ (y : ℕ). Put t u (shift + p) (y ∷ xs) q) e
+      (put-then t u (getD ws p 0) xs (shift + p) q (omega arith)
+      (subst (λ (k : ℕ). Put (set t (shift + p) (getD ws p 0)) u k xs q) (shifted shift p) a))
 
   pub atom-loads : code-limit ≤ getD ws p 0 → Loads a-node ws p shift n t (set t (shift + p) (getD ws p 0)) (p + 1) n
   atom-loads k (atom a) q f s =
@@ -93,18 +108,28 @@ module _ (t ws : List ℕ) (shift p n : ℕ) (room : shift + length ws ≤ lengt
       let there = parts .0 in
       let far : shift + p + 1 ≡ shift + q = sym (shifted shift p) ∙ ap (λ (j : ℕ). shift + j) (parts .2) in
       let x = getD ws p 0 in
-      let one = put-one t x (shift + p) (omega arith) in
-      (parts .2, omega arith, subst (λ (y : ℕ). Put t (set t (shift + p) x) (shift + p) (y ∷ []) (shift + q)) (parts .1) (subst (λ (j : ℕ). Put t (set t (shift + p) x) (shift + p) (x ∷ []) j) far one))
+      let one = put-one t x (shift + p) (omega arith) in (
+        parts .2,
+        omega arith,
+        subst (λ (y : ℕ). Put t (set t (shift + p) x) (shift + p) (y ∷ []) (shift + q)) (parts .1)
+            (subst (λ (j : ℕ). Put t (set t (shift + p) x) (shift + p) (x ∷ []) j) far one),
+      )
   atom-loads k (arcs l) q f s = let e = stands-node ws l p q .0 s .1 in let few = f .0 .0 in absurd (omega arith)
 
-  pub node-loads : (u : List ℕ) (r : ℕ) → getD ws p 0 < code-limit → Loads (its-arcs (getD ws p 0)) ws (p + 1) shift n (set t (shift + p) (getD ws p 0)) u r n → Loads a-node ws p shift n t u r n
+  pub node-loads : (u : List ℕ) (r : ℕ) → getD ws p 0 < code-limit →
+      Loads (its-arcs (getD ws p 0)) ws (p + 1) shift n (set t (shift + p) (getD ws p 0)) u r n → Loads a-node ws p shift n t u r n
   node-loads u r k loads (atom a) q f s = let e = stands-atom ws a p q .0 s .1 in absurd (omega arith)
   node-loads u r k loads (arcs l) q f s =
       let parts = stands-node ws l p q .0 s in
-      let done = loads l q (sym (parts .1), f .1) (parts .2) in
-      (done .0, done .1, word-then u (length (moved-arcs n l)) (arc-words (moved-arcs n l)) (shift + q) (parts .0) (parts .1 ∙ sym (moved-length n l)) (done .2))
+      let done = loads l q (sym (parts .1), f .1) (parts .2) in (
+        done .0,
+        done .1,
+        word-then u (length (moved-arcs n l)) (arc-words (moved-arcs n l)) (shift + q) (parts .0) (parts .1
+            ∙ sym (moved-length n l)) (done .2),
+      )
 
-  pub graph-loads : (u : List ℕ) (r w : ℕ) → Loads (its-nodes (getD ws p 0)) ws (p + 1) shift n t u r n → w ≡ getD ws p 0 + number-step * n + extent-step * (r - p) → Loads a-graph ws p shift n t (set u (shift + p) w) r (n + getD ws p 0)
+  pub graph-loads : (u : List ℕ) (r w : ℕ) → Loads (its-nodes (getD ws p 0)) ws (p + 1) shift n t u r n →
+      w ≡ getD ws p 0 + number-step * n + extent-step * (r - p) → Loads a-graph ws p shift n t (set u (shift + p) w) r (n + getD ws p 0)
   unfolding header
   graph-loads u r w loads e g q f s =
       let parts = stands-graph ws g p q .0 s in
@@ -113,19 +138,31 @@ module _ (t ws : List ℕ) (shift p n : ℕ) (room : shift + length ws ≤ lengt
       let done = loads g q (sym count, f .0, f .1) (parts .2) in
       let here = done .0 in
       let far = stands-length ws (nodes-words g) (p + 1) q (parts .2) in
-      let value : w ≡ header n g = omega arith in
-      (here, omega arith, subst (λ (y : ℕ). Put t (set u (shift + p) w) (shift + p) (y ∷ located n g) (shift + q)) value (put-before t u w (located n g) (shift + p) (shift + q) (omega arith) (subst (λ (k : ℕ). Put t u k (located n g) (shift + q)) (shifted shift p) (done .2))))
+      let value : w ≡ header n g = omega arith in (
+        here,
+        omega arith,
+        subst (λ (y : ℕ). Put t (set u (shift + p) w) (shift + p) (y ∷ located n g) (shift + q)) value
+            (put-before t u w (located n g) (shift + p) (shift + q) (omega arith)
+            (subst (λ (k : ℕ). Put t u k (located n g) (shift + q)) (shifted shift p) (done .2))),
+      )
 
-  pub disjunction-loads : (left : ℕ) (u : List ℕ) (r m : ℕ) → Loads (its-alternatives (left - 1) (getD ws p 0)) ws (p + 1) shift n (set t (shift + p) (getD ws p 0)) u r m → Loads (a-disjunction left) ws p shift n t u r m
+  pub disjunction-loads : (left : ℕ) (u : List ℕ) (r m : ℕ) →
+      Loads (its-alternatives (left - 1) (getD ws p 0)) ws (p + 1) shift n (set t (shift + p) (getD ws p 0)) u r m →
+      Loads (a-disjunction left) ws p shift n t u r m
   disjunction-loads left u r m loads a q f s =
       let parts = stands-disjunction ws a p q .0 s in
-      let done = loads a q (sym (parts .1), f .1) (parts .2) in
-      (done .0, done .1, subst (λ (k : ℕ). Put t u (shift + p) (alts a ∷ loaded-any k n a) (shift + q)) (shifted shift p) (word-then u (alts a) (loaded-any (shift + (p + 1)) n a) (shift + q) (parts .0) (parts .1) (done .2)))
+      let done = loads a q (sym (parts .1), f .1) (parts .2) in (
+        done .0,
+        done .1,
+        subst (λ (k : ℕ). Put t u (shift + p) (alts a ∷ loaded-any k n a) (shift + q)) (shifted shift p)
+            (word-then u (alts a) (loaded-any (shift + (p + 1)) n a) (shift + q) (parts .0) (parts .1) (done .2)),
+      )
 
 module _ (ws : List ℕ) (few : length ws ≤ input-limit) where
   -- the targets of a graph that stands in an input
   low : (g : Graph) (p q : ℕ) → Canonical g → p < length ws → Stands ws p (graph-words g) q → AllLow g
-  low g p q c h s = numbered-low 0 1 g c (omega (arith, graph-extent g, stands-length ws (graph-words g) p q s, stands-within ws (graph-words g) p q (omega arith) s))
+  low g p q c h s = numbered-low 0 1 g c
+      (omega (arith, graph-extent g, stands-length ws (graph-words g) p q s, stands-within ws (graph-words g) p q (omega arith) s))
 
   pub description-asks : (left p n : ℕ) → Asked (a-description left) ws p n → Asked a-graph ws p n
   description-asks left p n (desc g ds, q, f, s, h) =
@@ -141,11 +178,21 @@ module _ (ws : List ℕ) (few : length ws ≤ input-limit) where
         let done = graph g (parts .0) (f .1, low g p (parts .0) (f .0) there (parts .1)) (parts .1) in
         let here = done .0 in
         let next = done .1 in
-        let far = parts .2 in
-        (omega arith, (ds, q, (rw here (sym (parts .3)), f .2), subst (λ (j : ℕ). Stands ws (j + 1) (disjs-words ds) q) (sym here) (parts .4), omega arith))
+        let far = parts .2 in (
+          omega arith,
+          (
+            ds,
+            q,
+            (rw here (sym (parts .3)), f .2),
+            subst (λ (j : ℕ). Stands ws (j + 1) (disjs-words ds) q) (sym here) (parts .4),
+            omega arith,
+          ),
+        )
 
     -- the disjunctions end within the words, and are no more than these
-    pub description-ends : (v : List ℕ) (e m : ℕ) → Asked (a-description left) ws p n → Loads (its-disjunctions left (getD ws r 0)) ws (r + 1) shift k u v e m → (e ≤ length ws) × (getD ws r 0 ≤ length ws) × (r < length ws)
+    pub description-ends : (v : List ℕ) (e m : ℕ) → Asked (a-description left) ws p n →
+        Loads (its-disjunctions left (getD ws r 0)) ws (r + 1) shift k u v e m →
+        (e ≤ length ws) × (getD ws r 0 ≤ length ws) × (r < length ws)
     description-ends v e m a loads =
         let goes = description-goes a in
         let there = goes .0 in
@@ -157,7 +204,9 @@ module _ (ws : List ℕ) (few : length ws ≤ input-limit) where
         let far = reach .1 in
         (far, omega (arith, weights-fit-all ds, stands-length ws (disjs-words ds) (r + 1) (ask .1) (ask .3)), there)
 
-    pub description-loads : (v : List ℕ) (e m w : ℕ) → shift + length ws ≤ length t → Loads (its-disjunctions left (getD ws r 0)) ws (r + 1) shift k u v e m → w ≡ getD ws r 0 + end-step * (shift + e) → Loads (a-description left) ws p shift n t (set v (shift + r) w) e m
+    pub description-loads : (v : List ℕ) (e m w : ℕ) → shift + length ws ≤ length t →
+        Loads (its-disjunctions left (getD ws r 0)) ws (r + 1) shift k u v e m → w ≡ getD ws r 0 + end-step * (shift + e) →
+        Loads (a-description left) ws p shift n t (set v (shift + r) w) e m
     unfolding closing
     description-loads v e m w room others value (desc g ds) q f s =
         let parts = stands-description ws g ds p q .0 s in
@@ -178,10 +227,17 @@ module _ (ws : List ℕ) (few : length ws ≤ input-limit) where
         let word : w ≡ closing (disjs ds) (shift + p + length (words (desc g ds))) = omega arith in
         let x = set v (shift + r) w in
         let others′ : Put u v (shift + r + 1) inner (shift + q) =
-        subst (λ (j : ℕ). Put u v j inner (shift + q)) (shifted shift r) (subst (λ (xs : List ℕ). Put u v (shift + (r + 1)) xs (shift + q)) (ap₂ (λ (a b : ℕ). loaded-all a b ds) place next) (rest .2))
+        subst (λ (j : ℕ). Put u v j inner (shift + q)) (shifted shift r)
+        (subst (λ (xs : List ℕ). Put u v (shift + (r + 1)) xs (shift + q)) (ap₂ (λ (a b : ℕ). loaded-all a b ds) place next) (rest .2))
         in
-        let closed : Put u x (shift + parts .0) (w ∷ inner) (shift + q) = subst (λ (j : ℕ). Put u x (shift + j) (w ∷ inner) (shift + q)) here (put-before u v w inner (shift + r) (shift + q) (omega arith) others′) in
-        (end, omega arith, subst (λ (y : ℕ). Put t x (shift + p) ((header n g ∷ located n g) ++ y ∷ inner) (shift + q)) word (put-append t u x (header n g ∷ located n g) (w ∷ inner) (shift + p) (shift + parts .0) (shift + q) (done .2) closed))
+        let closed : Put u x (shift + parts .0) (w ∷ inner) (shift + q) =
+        subst (λ (j : ℕ). Put u x (shift + j) (w ∷ inner) (shift + q)) here
+        (put-before u v w inner (shift + r) (shift + q) (omega arith) others′) in (
+          end,
+          omega arith,
+          subst (λ (y : ℕ). Put t x (shift + p) ((header n g ∷ located n g) ++ y ∷ inner) (shift + q)) word
+              (put-append t u x (header n g ∷ located n g) (w ∷ inner) (shift + p) (shift + parts .0) (shift + q) (done .2) closed),
+        )
 
 module _ (t ws : List ℕ) (shift n : ℕ) where
   pub load-room : Loadable t ws shift n → Room t ws shift

@@ -25,7 +25,12 @@ module _ (t t′ : List ℕ) where
       let parts = stands-cons t x xs p q .0 s in
       let far = stands-order t xs (p + 1) q (parts .2) in
       let here = same p (omega arith) (omega arith) (parts .0) in
-      stands-cons t′ x xs p q .1 (here .0, here .1 ∙ parts .1, stands-frame xs (p + 1) q (agrees-part p (p + 1) q q (omega arith) (omega arith) same) (parts .2))
+      stands-cons t′ x xs p q .1 (
+        here .0,
+        here .1
+            ∙ parts .1,
+        stands-frame xs (p + 1) q (agrees-part p (p + 1) q q (omega arith) (omega arith) same) (parts .2),
+      )
 
 pub put-nil : (t : List ℕ) (p : ℕ) → Put t t p [] p
 put-nil t p = record { same = refl; stands = stands-nil t p p .1 refl; rest = λ j h. refl }
@@ -37,7 +42,11 @@ put-append t u v xs ys p q r a b =
     let far = stands-order v ys q r (b .stands) in
     record {
       same = b .same ∙ a .same;
-      stands = stands-append v xs ys p r .1 (q, stands-frame u v xs p q (λ j h k l. (omega arith, b .rest j (inl k))) (a .stands), b .stands);
+      stands = stands-append v xs ys p r .1 (
+        q,
+        stands-frame u v xs p q (λ j h k l. (omega arith, b .rest j (inl k))) (a .stands),
+        b .stands,
+      );
       rest = λ j. ⊎-elim (λ h. b .rest j (inl (omega arith)) ∙ a .rest j (inl h)) (λ h. b .rest j (inr h) ∙ a .rest j (inr (omega arith)));
     }
 
@@ -49,8 +58,13 @@ put-before t u x xs p q h a =
     let far = stands-order u xs (p + 1) q (a .stands) in
     record {
       same = same ∙ size;
-      stands = stands-cons (set u p x) x xs p q .1 (omega arith, getD-set-same u p x 0 (omega arith), stands-frame u (set u p x) xs (p + 1) q (λ j h k l. (omega arith, getD-set-other u p j x 0 (λ e. omega arith))) (a .stands));
-      rest = λ j. ⊎-elim (λ h. getD-set-other u p j x 0 (λ e. omega arith) ∙ a .rest j (inl (omega arith))) (λ h. getD-set-other u p j x 0 (λ e. omega arith) ∙ a .rest j (inr h));
+      stands = stands-cons (set u p x) x xs p q .1 (
+        omega arith,
+        getD-set-same u p x 0 (omega arith),
+        stands-frame u (set u p x) xs (p + 1) q (λ j h k l. (omega arith, getD-set-other u p j x 0 (λ e. omega arith))) (a .stands),
+      );
+      rest = λ j. ⊎-elim (λ h. getD-set-other u p j x 0 (λ e. omega arith)
+          ∙ a .rest j (inl (omega arith))) (λ h. getD-set-other u p j x 0 (λ e. omega arith) ∙ a .rest j (inr h));
     }
 
 pub put-one : (t : List ℕ) (x p : ℕ) → p < length t → Put t (set t p x) p (x ∷ []) (p + 1)

@@ -15,37 +15,91 @@ use Rattle.loading.proofs.Series.{Steps, Ends}
 
 -- an arc
 abbrev pub an-arc : Kind
-an-arc = record { Thing = ℕ × ℕ; Fine = λ e. e .1 < input-limit; text = λ e. e .0 ∷ e .1 ∷ []; image = λ p n e. e .0 ∷ (n + e .1) ∷ []; nodes = λ e. 0 }
+an-arc = record {
+  Thing = ℕ × ℕ;
+  Fine = λ e. e .1 < input-limit;
+  text = λ e. e .0 ∷ e .1 ∷ [];
+  image = λ p n e. e .0 ∷ (n + e .1) ∷ [];
+  nodes = λ e. 0;
+}
 
 -- k disjunctions under which alternatives nest at most `left` deep
 abbrev pub its-disjunctions : ℕ → ℕ → Kind
-its-disjunctions left k = record { Thing = Disjs; Fine = λ ds. (disjs ds ≡ k) × WellAll ds left; text = disjs-words; image = loaded-all; nodes = nodes-all }
+its-disjunctions left k = record {
+  Thing = Disjs;
+  Fine = λ ds. (disjs ds ≡ k) × WellAll ds left;
+  text = disjs-words;
+  image = loaded-all;
+  nodes = nodes-all;
+}
 
 -- k alternatives
 abbrev pub its-alternatives : ℕ → ℕ → Kind
-its-alternatives left k = record { Thing = Alts; Fine = λ a. (alts a ≡ k) × WellAny a left; text = alts-words; image = loaded-any; nodes = nodes-any }
+its-alternatives left k = record {
+  Thing = Alts;
+  Fine = λ a. (alts a ≡ k) × WellAny a left;
+  text = alts-words;
+  image = loaded-any;
+  nodes =
+      nodes-any;
+}
 
 module _ (k : ℕ) (some : 0 < k) where
   pub arcs-step : Steps (its-arcs k) an-arc (its-arcs (k - 1))
   arcs-step [] f = let e = f .0 in absurd (omega arith)
   arcs-step (e ∷ l) f = let n = f .0 in
-      record { first = e; others = l; fine = f .1 .0; well = (omega arith, f .1 .1); text-is = refl; image-is = λ p n. rw add-zero; nodes-is = refl }
+      record {
+        first = e;
+        others = l;
+        fine = f .1 .0;
+        well = (omega arith, f .1 .1);
+        text-is = refl;
+        image-is = λ p n. rw add-zero;
+        nodes-is = refl;
+      }
 
   pub nodes-step : Steps (its-nodes k) a-node (its-nodes (k - 1))
   nodes-step [] f = let e = f .0 in absurd (omega arith)
   nodes-step (v ∷ vs) f = let n = f .0 in
-      record { first = v; others = vs; fine = (f .1 .0, f .2 .0); well = (omega arith, f .1 .1, f .2 .1); text-is = refl; image-is = λ p n. rw add-zero; nodes-is = refl }
+      record {
+        first = v;
+        others = vs;
+        fine = (f .1 .0, f .2 .0);
+        well = (omega arith, f .1 .1, f .2 .1);
+        text-is = refl;
+        image-is =
+            λ p n. rw add-zero;
+        nodes-is = refl;
+      }
 
   pub disjunctions-step : (left : ℕ) → Steps (its-disjunctions left k) (a-disjunction left) (its-disjunctions left (k - 1))
   disjunctions-step left end f = let e = f .0 in absurd (omega arith)
   disjunctions-step zero (a and ds) f = absurd (f .1)
   disjunctions-step (suc left) (a and ds) f = let n = f .0 in
-      record { first = a; others = ds; fine = (omega arith, rw sub-one (f .1 .1)); well = (omega arith, f .1 .2); text-is = refl; image-is = λ p n. refl; nodes-is = refl }
+      record {
+        first = a;
+        others = ds;
+        fine = (omega arith, rw sub-one (f .1 .1));
+        well = (omega arith, f .1 .2);
+        text-is = refl;
+        image-is =
+            λ p n. refl;
+        nodes-is = refl;
+      }
 
   pub alternatives-step : (left : ℕ) → Steps (its-alternatives left k) (a-description left) (its-alternatives left (k - 1))
   alternatives-step left fail f = let e = f .0 in absurd (omega arith)
   alternatives-step left (d or a) f = let n = f .0 in
-      record { first = d; others = a; fine = f .1 .0; well = (omega arith, f .1 .1); text-is = refl; image-is = λ p n. refl; nodes-is = refl }
+      record {
+        first = d;
+        others = a;
+        fine = f .1 .0;
+        well = (omega arith, f .1 .1);
+        text-is = refl;
+        image-is = λ p n. refl;
+        nodes-is =
+            refl;
+      }
 
 module _ (k : ℕ) (none : k ≤ 0) where
   pub arcs-end : Ends (its-arcs k)

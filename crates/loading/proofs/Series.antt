@@ -39,7 +39,8 @@ module _ (ws : List ℕ) (shift p n : ℕ) where
     pub fine : L .Fine left
     pub there : Stands ws at (L .text left) q
     pub sum : m + L .nodes left ≡ n + K .nodes x
-    pub onward : (t′ : List ℕ) → Put t t′ (shift + at) (L .image (shift + at) m left) (shift + q) → Put t₀ t′ (shift + p) (K .image (shift + p) n x) (shift + q)
+    pub onward : (t′ : List ℕ) → Put t t′ (shift + at) (L .image (shift + at) m left) (shift + q) →
+        Put t₀ t′ (shift + p) (K .image (shift + p) n x) (shift + q)
 
   abbrev pub Onward : Kind → Kind → List ℕ → List ℕ → ℕ → ℕ → Type 0
   Onward K L t₀ t at m = (x : K .Thing) (q : ℕ) → K .Fine x → Stands ws p (K .text x) q → Going K L x q t₀ t at m
@@ -56,7 +57,8 @@ module _ (ws : List ℕ) (shift p n : ℕ) where
         let none = e .nodes-is in
         let sum = g .sum in
         let last : Put t t (shift + at) (L .image (shift + at) m (g .left)) (shift + q) =
-        subst (λ (xs : List ℕ). Put t t (shift + at) xs (shift + q)) (sym (e .image-is (shift + at) m)) (subst (λ (k : ℕ). Put t t (shift + at) [] (shift + k)) here (put-nil t (shift + at)))
+        subst (λ (xs : List ℕ). Put t t (shift + at) xs (shift + q)) (sym (e .image-is (shift + at) m))
+        (subst (λ (k : ℕ). Put t t (shift + at) [] (shift + k)) here (put-nil t (shift + at)))
         in
         (here, omega arith, g .onward t last)
 
@@ -72,7 +74,8 @@ module _ (ws : List ℕ) (shift p n : ℕ) where
     go-on I M u r k steps loads x q f s =
         let g = going x q f s in
         let e = steps (g .left) (g .fine) in
-        let parts = stands-append ws (I .text (e .first)) (M .text (e .others)) at q .0 (subst (λ (xs : List ℕ). Stands ws at xs q) (e .text-is) (g .there)) in
+        let parts = stands-append ws (I .text (e .first)) (M .text (e .others)) at q .0
+        (subst (λ (xs : List ℕ). Stands ws at xs q) (e .text-is) (g .there)) in
         let done = loads (e .first) (parts .0) (e .fine) (parts .1) in
         let here = done .0 in
         let next = done .1 in
@@ -86,11 +89,14 @@ module _ (ws : List ℕ) (shift p n : ℕ) where
           there = subst (λ (j : ℕ). Stands ws j (M .text (e .others)) q) (sym here) (parts .2);
           sum = omega arith;
           onward = λ t′ h.
-              let others : Put u t′ (shift + parts .0) (M .image (shift + at + length (I .text (e .first))) (m + I .nodes (e .first)) (e .others)) (shift + q) =
-              subst (λ (j : ℕ). Put u t′ (shift + j) (M .image (shift + at + length (I .text (e .first))) (m + I .nodes (e .first)) (e .others)) (shift + q)) here
+              let others : Put u t′ (shift + parts .0)
+              (M .image (shift + at + length (I .text (e .first))) (m + I .nodes (e .first)) (e .others)) (shift + q) =
+              subst (λ (j : ℕ). Put u t′ (shift + j)
+              (M .image (shift + at + length (I .text (e .first))) (m + I .nodes (e .first)) (e .others)) (shift + q)) here
               (subst (λ (xs : List ℕ). Put u t′ (shift + r) xs (shift + q)) (ap₂ (λ (a b : ℕ). M .image a b (e .others)) place next) h)
               in
-              g .onward t′ (subst (λ (xs : List ℕ). Put t t′ (shift + at) xs (shift + q)) (sym (e .image-is (shift + at) m)) (put-append t u t′ _ _ (shift + at) (shift + parts .0) (shift + q) (done .2) others));
+              g .onward t′ (subst (λ (xs : List ℕ). Put t t′ (shift + at) xs (shift + q)) (sym (e .image-is (shift + at) m))
+              (put-append t u t′ _ _ (shift + at) (shift + parts .0) (shift + q) (done .2) others));
         }
 
 -- of things that stand somewhere, the first does
@@ -99,5 +105,6 @@ asks-first L I M ws at m steps a =
     let room = a .4 in
     let e = steps (a .0) (a .2) in
     let split = e .nodes-is in
-    let parts = stands-append ws (I .text (e .first)) (M .text (e .others)) at (a .1) .0 (subst (λ (xs : List ℕ). Stands ws at xs (a .1)) (e .text-is) (a .3)) in
+    let parts = stands-append ws (I .text (e .first)) (M .text (e .others)) at (a .1) .0
+    (subst (λ (xs : List ℕ). Stands ws at xs (a .1)) (e .text-is) (a .3)) in
     (e .first, parts .0, e .fine, parts .1, omega arith)

@@ -12,7 +12,8 @@ use Rattle.theory.specs.Layout.{arc-words, node-words, nodes-words, words, disj
 use Rattle.theory.proofs.Mean.{Can, CanAll, CanAny}
 use Rattle.theory.proofs.Weight.{weight, weights, weights-append}
 use Rattle.theory.proofs.Instance.{met-ge, met-few, numbered-ge}
-use Rattle.loading.specs.Loaded.{extent, moved-arcs, moved-node, located, nodes-in, nodes-all, nodes-any, loaded, loaded-all, loaded-any}
+use Rattle.loading.specs.Loaded.{extent, moved-arcs, moved-node, located, nodes-in, nodes-all, nodes-any, loaded, loaded-all}
+use Rattle.loading.specs.Loaded.{loaded-any}
 use Rattle.loading.specs.Loading.{Low, AllLow}
 
 -- lists as long as each other, one after the other
@@ -37,19 +38,25 @@ node-length n (arcs l) = omega (arith, arcs-twice l, arcs-twice (moved-arcs n l)
 
 pub located-length : (n : ℕ) (g : Graph) → length (located n g) ≡ length (nodes-words g)
 located-length n [] = refl
-located-length n (v ∷ vs) = both-length (node-words (moved-node n v)) (node-words v) (located n vs) (nodes-words vs) (node-length n v) (located-length n vs)
+located-length n (v ∷ vs) = both-length (node-words (moved-node n v)) (node-words v) (located n vs) (nodes-words vs) (node-length n v)
+    (located-length n vs)
 
 mutual
   pub loaded-length : (p n : ℕ) (d : Desc) → length (loaded p n d) ≡ length (words d)
-  loaded-length p n (desc g ds) = ap suc (both-length (located n g) (nodes-words g) _ (disjs ds ∷ disjs-words ds) (located-length n g) (ap suc (all-length (p + extent g + 1) (n + length g) ds)))
+  loaded-length p n (desc g ds) =
+      ap suc (both-length (located n g) (nodes-words g) _ (disjs ds ∷ disjs-words ds) (located-length n g)
+      (ap suc (all-length (p + extent g + 1) (n + length g) ds)))
 
   pub all-length : (p n : ℕ) (ds : Disjs) → length (loaded-all p n ds) ≡ length (disjs-words ds)
   all-length p n end = refl
-  all-length p n (a and ds) = ap suc (both-length (loaded-any (p + 1) n a) (alts-words a) _ (disjs-words ds) (any-length (p + 1) n a) (all-length (p + suc (length (alts-words a))) (n + nodes-any a) ds))
+  all-length p n (a and ds) = ap suc
+      (both-length (loaded-any (p + 1) n a) (alts-words a) _ (disjs-words ds) (any-length (p + 1) n a)
+      (all-length (p + suc (length (alts-words a))) (n + nodes-any a) ds))
 
   pub any-length : (p n : ℕ) (a : Alts) → length (loaded-any p n a) ≡ length (alts-words a)
   any-length p n fail = refl
-  any-length p n (d or a) = both-length (loaded p n d) (words d) _ (alts-words a) (loaded-length p n d) (any-length (p + length (words d)) (n + nodes-in d) a)
+  any-length p n (d or a) = both-length (loaded p n d) (words d) _ (alts-words a) (loaded-length p n d)
+      (any-length (p + length (words d)) (n + nodes-in d) a)
 
 -- each node has a word at least
 pub graph-extent : (g : Graph) → length g < extent g
@@ -63,7 +70,13 @@ graph-extent (v ∷ vs) = let h = graph-extent vs in let k = node-some v in omeg
 numbered-few : (k m : ℕ) (g : Graph) → Numbered k m g → 2 * k + 3 * length g ≤ 2 * m + length (nodes-words g)
 numbered-few k m [] c = omega arith
 numbered-few k m (v ∷ vs) c =
-    omega (arith, numbered-few (suc k) (met m (arcsOf v)) vs (c .3), met-few m (arcsOf v) (c .2), node-twice v, length-append (node-words v) (nodes-words vs))
+    omega (
+      arith,
+      numbered-few (suc k) (met m (arcsOf v)) vs (c .3),
+      met-few m (arcsOf v) (c .2),
+      node-twice v,
+      length-append (node-words v) (nodes-words vs),
+    )
 
 met-low : (m : ℕ) (l : List (ℕ × ℕ)) → met m l ≤ input-limit → Low l
 met-low m [] h = tt
@@ -79,7 +92,12 @@ numbered-low k m (v ∷ vs) c h =
 mutual
   -- a node has its head, and but for a root the arc that meets it; a root has the counts of nodes and of disjunctions
   pub nodes-few : (d : Desc) → Can d → 3 * nodes-in d ≤ length (words d)
-  nodes-few (desc g ds) c = omega (arith, numbered-few 0 1 g (c .0), nodes-few-all ds (c .1), length-append (nodes-words g) (disjs ds ∷ disjs-words ds))
+  nodes-few (desc g ds) c = omega (
+    arith,
+    numbered-few 0 1 g (c .0),
+    nodes-few-all ds (c .1),
+    length-append (nodes-words g) (disjs ds ∷ disjs-words ds),
+  )
 
   nodes-few-all : (ds : Disjs) → CanAll ds → 3 * nodes-all ds ≤ length (disjs-words ds)
   nodes-few-all end c = omega arith
@@ -112,9 +130,23 @@ mutual
   pub weights-fit-all : (ds : Disjs) → weights (graphs-all ds) + 2 * length (graphs-all ds) + disjs ds ≤ length (disjs-words ds)
   weights-fit-all end = omega arith
   weights-fit-all (a and ds) =
-      omega (arith, weights-fit-any a, weights-fit-all ds, weights-append (graphs-any a) (graphs-all ds), length-append (graphs-any a) (graphs-all ds), length-append (alts-words a) (disjs-words ds))
+      omega (
+        arith,
+        weights-fit-any a,
+        weights-fit-all ds,
+        weights-append (graphs-any a) (graphs-all ds),
+        length-append (graphs-any a) (graphs-all ds),
+        length-append (alts-words a) (disjs-words ds),
+      )
 
   weights-fit-any : (a : Alts) → weights (graphs-any a) + 2 * length (graphs-any a) ≤ length (alts-words a)
   weights-fit-any fail = omega arith
   weights-fit-any (d or a) =
-      omega (arith, weights-fit d, weights-fit-any a, weights-append (graphs d) (graphs-any a), length-append (graphs d) (graphs-any a), length-append (words d) (alts-words a))
+      omega (
+        arith,
+        weights-fit d,
+        weights-fit-any a,
+        weights-append (graphs d) (graphs-any a),
+        length-append (graphs d) (graphs-any a),
+        length-append (words d) (alts-words a),
+      )

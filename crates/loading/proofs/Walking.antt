@@ -54,7 +54,8 @@ module _ (t : List ℕ) where
     pub at-names : (d : Placed) (p n q m : ℕ) → At t p n d q m → Between (n + 1) m (names d)
     at-names (place g ds) p n q m w =
         let some = w .0 in
-        between-wide (n + length g) (n + 1) m m (names-all ds) (omega arith) (omega arith) (all-names ds (p + extent g + 1) (n + length g) q m (let room = w .4 in omega arith) (w .6))
+        between-wide (n + length g) (n + 1) m m (names-all ds) (omega arith) (omega arith)
+        (all-names ds (p + extent g + 1) (n + length g) q m (let room = w .4 in omega arith) (w .6))
 
     pub all-names : (ds : Places) (p n q m : ℕ) → p ≤ length t → AtAll t p n ds q m → Between n m (names-all ds)
     all-names stop p n q m h w = between-none n m
@@ -62,7 +63,8 @@ module _ (t : List ℕ) where
         let there = w .2 in
         let first = any-bounds a (p + 1) n (w .0) (w .1) (omega arith) (w .4) in
         let rest = all-bounds ds (w .0) (w .1) q m (first .1) (w .5) in
-        between-append n (w .1) m (names-any a) (names-all ds) (first .2) (rest .2) (any-names a (p + 1) n (w .0) (w .1) (omega arith) (w .4)) (all-names ds (w .0) (w .1) q m (first .1) (w .5))
+        between-append n (w .1) m (names-any a) (names-all ds) (first .2) (rest .2)
+        (any-names a (p + 1) n (w .0) (w .1) (omega arith) (w .4)) (all-names ds (w .0) (w .1) q m (first .1) (w .5))
 
     pub any-names : (a : Options) (p n q m : ℕ) → p ≤ length t → AtAny t p n a q m → Between n m (names-any a)
     any-names no-more p n q m h w = between-none n m
@@ -72,8 +74,10 @@ module _ (t : List ℕ) where
         let rest = any-bounds a (w .0) (w .1) q m (first .1) (w .4) in
         let more = first .2 in
         let last = rest .2 in
-        between-append n (n + 1) m (k ∷ []) (names d ++ names-any a) (omega arith) (omega arith) (rw own (between-one n (n + 1) (omega arith)))
-        (between-append (n + 1) (w .1) m (names d) (names-any a) (omega arith) (omega arith) (at-names d p n (w .0) (w .1) (w .3)) (any-names a (w .0) (w .1) q m (first .1) (w .4)))
+        between-append n (n + 1) m (k ∷ []) (names d ++ names-any a) (omega arith) (omega arith)
+        (rw own (between-one n (n + 1) (omega arith)))
+        (between-append (n + 1) (w .1) m (names d) (names-any a) (omega arith) (omega arith) (at-names d p n (w .0) (w .1) (w .3))
+        (any-names a (w .0) (w .1) q m (first .1) (w .4)))
 
   pub all-counts : (ds : Places) (p n q m : ℕ) → p ≤ length t → AtAll t p n ds q m → p + places ds ≤ q
   all-counts stop p n q m h w = let e = w .0 in omega arith
@@ -97,7 +101,8 @@ module _ (t : List ℕ) where
         (graph-extent g, omega (arith, all-counts ds (p + extent g + 1) (n + length g) q m (omega arith) (at .6)), last)
 
     -- what code reads at a graph, where numbers and positions are as small as the working area keeps them
-    pub at-header : m < number-step → (getD t p 0 % number-step ≡ length g) × (getD t p 0 / number-step % number-step ≡ n) × (getD t p 0 / extent-step ≡ extent g)
+    pub at-header : m < number-step →
+        (getD t p 0 % number-step ≡ length g) × (getD t p 0 / number-step % number-step ≡ n) × (getD t p 0 / extent-step ≡ extent g)
     at-header h =
         let few : length g < number-step = omega (arith, at-counts .2) in
         let low : n < number-step = omega (arith, at-counts .2) in

@@ -1,4 +1,5 @@
--- The words that a description is loaded as: those of the word layout, with targets by numbers that run through all graphs, and with what saves walking.
+-- The words that a description is loaded as: those of the word layout, with targets by numbers that run through all graphs, and with
+-- what saves walking.
 -- Assumes nothing: these are definitions.
 use Prim.Native.Nat.{ℕ, suc, _+_, _*_}
 use mathlib.Core.List.{List, [], _∷_, _++_}
@@ -63,7 +64,8 @@ abbrev mutual
 -- a description loaded at position p, its nodes numbered from n on in the order of the words
 abbrev mutual
   pub loaded : ℕ → ℕ → Desc → List ℕ
-  loaded p n (desc g ds) = (header n g ∷ located n g) ++ closing (disjs ds) (p + length (words (desc g ds))) ∷ loaded-all (p + extent g + 1) (n + length g) ds
+  loaded p n (desc g ds) = (header n g ∷ located n g) ++ closing (disjs ds) (p + length (words (desc g ds)))
+      ∷ loaded-all (p + extent g + 1) (n + length g) ds
 
   pub loaded-all : ℕ → ℕ → Disjs → List ℕ
   loaded-all p n end = []

@@ -38,21 +38,55 @@ AllLow (v ∷ vs) = Low (arcsOf v) × AllLow vs
 
 -- k arcs
 abbrev pub its-arcs : ℕ → Kind
-its-arcs k = record { Thing = List (ℕ × ℕ); Fine = λ l. (length l ≡ k) × Low l; text = arc-words; image = λ p n l. arc-words (moved-arcs n l); nodes = λ l. 0 }
+its-arcs k = record {
+  Thing = List (ℕ × ℕ);
+  Fine = λ l. (length l ≡ k) × Low l;
+  text = arc-words;
+  image =
+      λ p n l. arc-words (moved-arcs n l);
+  nodes = λ l. 0;
+}
 
 abbrev pub a-node : Kind
-a-node = record { Thing = Node; Fine = λ v. NodeFits v × Low (arcsOf v); text = node-words; image = λ p n v. node-words (moved-node n v); nodes = λ v. 0 }
+a-node = record {
+  Thing = Node;
+  Fine = λ v. NodeFits v × Low (arcsOf v);
+  text = node-words;
+  image = λ p n v. node-words (moved-node n v);
+  nodes = λ v. 0;
+}
 
 -- k nodes
 abbrev pub its-nodes : ℕ → Kind
-its-nodes k = record { Thing = Graph; Fine = λ g. (length g ≡ k) × GraphFits g × AllLow g; text = nodes-words; image = λ p. located; nodes = λ g. 0 }
+its-nodes k = record {
+  Thing = Graph;
+  Fine = λ g. (length g ≡ k) × GraphFits g × AllLow g;
+  text = nodes-words;
+  image = λ p. located;
+  nodes =
+      λ g. 0;
+}
 
 abbrev pub a-graph : Kind
-a-graph = record { Thing = Graph; Fine = λ g. GraphFits g × AllLow g; text = graph-words; image = λ p n g. header n g ∷ located n g; nodes = length }
+a-graph = record {
+  Thing = Graph;
+  Fine = λ g. GraphFits g × AllLow g;
+  text = graph-words;
+  image = λ p n g. header n g ∷ located n g;
+  nodes =
+      length;
+}
 
 -- a disjunction whose own alternatives are one of the `left` levels
 abbrev pub a-disjunction : ℕ → Kind
-a-disjunction left = record { Thing = Alts; Fine = λ a. (0 < left) × WellAny a (left - 1); text = disjunction-words; image = λ p n a. alts a ∷ loaded-any (p + 1) n a; nodes = nodes-any }
+a-disjunction left = record {
+  Thing = Alts;
+  Fine = λ a. (0 < left) × WellAny a (left - 1);
+  text = disjunction-words;
+  image =
+      λ p n a. alts a ∷ loaded-any (p + 1) n a;
+  nodes = nodes-any;
+}
 
 -- a description under which alternatives nest at most `left` deep
 abbrev pub a-description : ℕ → Kind
@@ -71,7 +105,8 @@ Asked K ws p n = (x : K .Thing) × (q : ℕ) × K .Fine x × Stands ws p (K .tex
 -- whatever thing of the kind stands at p: it ends at r, the next number is m, and it is loaded
 abbrev pub Loads : Kind → List ℕ → ℕ → ℕ → ℕ → List ℕ → List ℕ → ℕ → ℕ → Type 0
 Loads K ws p shift n t t′ r m =
-    (x : K .Thing) (q : ℕ) → K .Fine x → Stands ws p (K .text x) q → (r ≡ q) × (m ≡ n + K .nodes x) × Put t t′ (shift + p) (K .image (shift + p) n x) (shift + q)
+    (x : K .Thing) (q : ℕ) → K .Fine x → Stands ws p (K .text x) q →
+    (r ≡ q) × (m ≡ n + K .nodes x) × Put t t′ (shift + p) (K .image (shift + p) n x) (shift + q)
 
 -- what loading an input asks: it is the image of a description, and there is room for its words and its numbers
 pub record Loadable (t ws : List ℕ) (shift n : ℕ) : Type 0 where
@@ -83,4 +118,5 @@ pub record Loadable (t ws : List ℕ) (shift n : ℕ) : Type 0 where
 
 -- and what it promises: the description is loaded at the shift with numbers from n up to m, and no other word has changed
 abbrev pub LoadedAt : List ℕ → ℕ → ℕ → List ℕ → List ℕ → ℕ → Type 0
-LoadedAt ws shift n t t′ m = (d : Desc) → WellFormed d depth-limit → ws ≡ words d → (m ≡ n + nodes-in d) × Put t t′ shift (loaded shift n d) (shift + length ws)
+LoadedAt ws shift n t t′ m = (d : Desc) → WellFormed d depth-limit → ws ≡ words d →
+    (m ≡ n + nodes-in d) × Put t t′ shift (loaded shift n d) (shift + length ws)

@@ -4,7 +4,8 @@ use crate::packing::EXTENT_STEP;
 use crate::packing::NUMBER_STEP;
 use limits::CODE_LIMIT;
 use limits::DEPTH_LIMIT;
-ghost use Rattle.loading.specs.Loading.{its-arcs, a-node, its-nodes, a-graph, a-disjunction, a-description, Room, Asked, Loads, Loadable, LoadedAt};
+ghost use Rattle.loading.specs.Loading.{its-arcs, a-node, its-nodes, a-graph, a-disjunction, a-description, Room, Asked, Loads};
+ghost use Rattle.loading.specs.Loading.{Loadable, LoadedAt};
 
 // Where a thing ends, and the number of the next node.
 struct Reach {

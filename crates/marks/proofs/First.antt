@@ -37,8 +37,26 @@ first-kept m no-more h = absurd (omega arith)
 first-kept m (option x d a) h = go (first-kept m a) (m x) refl
   where
     go : (0 < kept-of m a → First m a) → (t : Bool) → m x ≡ t → First m (option x d a)
-    go on true e = record { x = x; d = d; b = a; is = from-true m x d a e; kept = e; count = kept-true m x d a e; left = keep-true m x d a e }
+    go on true e = record {
+      x = x;
+      d = d;
+      b = a;
+      is = from-true m x d a e;
+      kept = e;
+      count = kept-true m x d a e;
+      left =
+          keep-true m x d a e;
+    }
     go on false e =
         let same = kept-false m x d a e in
         let f = on (omega arith) in
-        record { x = f .x; d = f .d; b = f .b; is = from-false m x d a e ∙ f .is; kept = f .kept; count = same ∙ f .count; left = keep-false m x d a e ∙ f .left }
+        record {
+          x = f .x;
+          d = f .d;
+          b = f .b;
+          is = from-false m x d a e ∙ f .is;
+          kept = f .kept;
+          count = same
+              ∙ f .count;
+          left = keep-false m x d a e ∙ f .left;
+        }

@@ -1,4 +1,5 @@
--- `Reading` says what is read of a description that stands loaded, `Marks` what a store does to the marks, `First` which alternative is the first kept one, `Tallying` how the kept ones are counted, `Lighting` how all marks are changed in one way.
+-- `Reading` says what is read of a description that stands loaded, `Marks` what a store does to the marks, `First` which alternative
+-- is the first kept one, `Tallying` how the kept ones are counted, `Lighting` how all marks are changed in one way.
 pub mod Reading
 pub mod Marks
 pub mod First

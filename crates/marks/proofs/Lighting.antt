@@ -1,4 +1,5 @@
--- The marks of the alternatives below a number are changed in one way, from the last down: all are kept, only those found are kept, or none is found.
+-- The marks of the alternatives below a number are changed in one way, from the last down: all are kept, only those found are kept, or
+-- none is found.
 -- Assumes nothing.
 use Prim.Native.Nat.{ℕ, _+_, _-_, _≤_, _<_}
 use native.Mathlib.Omega.{arith}
@@ -68,7 +69,8 @@ module _ (f : ℕ → ℕ) (w : List ℕ) (n : ℕ) (few : n ≤ 1024) (room : 1
   pub change-none : Changing f w n n w
   change-none = record { near = omega arith; len = refl; done = λ x h l. absurd (omega arith); rest = λ j h. refl }
 
-  pub change-one : (left : ℕ) (w' : List ℕ) (v : ℕ) → Changing f w n left w' → 0 < left → v ≡ f (getD w' (MARKS + (left - 1)) 0) → Changing f w n (left - 1) (set w' (MARKS + (left - 1)) v)
+  pub change-one : (left : ℕ) (w' : List ℕ) (v : ℕ) → Changing f w n left w' → 0 < left → v ≡ f (getD w' (MARKS + (left - 1)) 0) →
+      Changing f w n (left - 1) (set w' (MARKS + (left - 1)) v)
   change-one left w' v c h is =
       let near = c .near in
       let len = c .len in
@@ -91,14 +93,16 @@ module _ (f : ℕ → ℕ) (w : List ℕ) (n : ℕ) (few : n ≤ 1024) (room : 1
           let same : MARKS + x ≡ here = omega arith in
           let near = c .near in
           let len = c .len in
-          ap (λ (j : ℕ). getD (set w' here v) j 0) same ∙ getD-set-same w' here v 0 (omega arith) ∙ is ∙ ap f (c .rest here (inl (omega arith)) ∙ ap (λ (j : ℕ). getD w j 0) (sym same))
+          ap (λ (j : ℕ). getD (set w' here v) j 0) same ∙ getD-set-same w' here v 0 (omega arith) ∙ is
+          ∙ ap f (c .rest here (inl (omega arith)) ∙ ap (λ (j : ℕ). getD w j 0) (sym same))
       changed x false e a b = let high = ltb-false x left e in getD-set-other w' here (MARKS + x) v 0 (omega arith) ∙ c .done x high b
 
 module _ (w : List ℕ) (n : ℕ) (few : n ≤ 1024) (room : 16384 ≤ length w) where
   pub light-all : (left : ℕ) (w' : List ℕ) → Changing dimmed w n left w' → left ≤ 0 → LitKept w n w'
   light-all left w' c h = record {
     len = c .len;
-    marks = λ y l. mark-at w' y (omega arith) ∙ ap (λ (v : ℕ). not (eqb v 1)) (c .done y (omega arith) l) ∙ dimmed-kept (getD w (MARKS + y) 0) ∙ sym (light-at w y (omega arith));
+    marks = λ y l. mark-at w' y (omega arith) ∙ ap (λ (v : ℕ). not (eqb v 1)) (c .done y (omega arith) l)
+        ∙ dimmed-kept (getD w (MARKS + y) 0) ∙ sym (light-at w y (omega arith));
     rest = λ j o. c .rest j (⊎-elim (λ a. inl (omega arith)) (λ a. inr a) o);
   }
 

@@ -62,13 +62,23 @@ module _ (w : List ℕ) (room : 16384 ≤ length w) where
         let e = tail-is in
         let there = within .0 in
         let tail = within .1 in
-        record { here = omega arith; low = omega arith; number = number-is; inside = omega arith; after = after-is; on = omega arith; end = within .2 }
+        record {
+          here = omega arith;
+          low = omega arith;
+          number = number-is;
+          inside = omega arith;
+          after = after-is;
+          on = omega arith;
+          end =
+              within .2;
+        }
 
   pub read-at : (d : Placed) (p n q m : ℕ) → At (words w) p n d q m → m < number-step → Read w p n q
   read-at (place g ds) p n q m at low = read-place g ds p n q m at low
 
   -- at an alternative; numbers stay low in it
-  pub read-option : (x : ℕ) (d : Placed) (a : Options) (p n q m : ℕ) (o : AtAny (words w) p n (option x d a) q m) → m < number-step → Read w p x (o .0) × (o .1 < number-step)
+  pub read-option : (x : ℕ) (d : Placed) (a : Options) (p n q m : ℕ) (o : AtAny (words w) p n (option x d a) q m) → m < number-step →
+      Read w p x (o .0) × (o .1 < number-step)
   read-option x d a p n q m o low =
       let bounds = at-bounds (words w) d p n (o .0) (o .1) (o .3) in
       let more = any-bounds (words w) a (o .0) (o .1) q m (bounds .1) (o .4) .2 in
@@ -76,7 +86,8 @@ module _ (w : List ℕ) (room : 16384 ≤ length w) where
       (rw (o .2) (read-at d p n (o .0) (o .1) (o .3) small), small)
 
   -- the first of some alternatives
-  pub read-first : (a : Options) (p n q m k : ℕ) → AtAny (words w) p n a q m → m < number-step → options a ≡ k → 0 < k → (p < 2048) × (number-at w p < 1024) × (tail-at w p < 2048)
+  pub read-first : (a : Options) (p n q m k : ℕ) → AtAny (words w) p n a q m → m < number-step → options a ≡ k → 0 < k →
+      (p < 2048) × (number-at w p < 1024) × (tail-at w p < 2048)
   read-first no-more p n q m k o low many h = absurd (omega arith)
   read-first (option x d a) p n q m k o low many h =
       let r = read-option x d a p n q m o low .0 in
@@ -84,6 +95,7 @@ module _ (w : List ℕ) (room : 16384 ≤ length w) where
       let e = r .number in
       (r .here, omega arith, r .inside)
 
-pub alternatives-is : (w : List ℕ) (a : Options) (ds : Places) (p n q m : ℕ) → AtAll (words w) p n (a also ds) q m → alternatives-at w p ≡ options a
+pub alternatives-is : (w : List ℕ) (a : Options) (ds : Places) (p n q m : ℕ) → AtAll (words w) p n (a also ds) q m →
+    alternatives-at w p ≡ options a
 unfolding alternatives-at
 alternatives-is w a ds p n q m at = at .3

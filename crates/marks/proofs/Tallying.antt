@@ -43,16 +43,19 @@ module _ (w : List ℕ) (p count : ℕ) (s : Alternatives w p count) where
   pub tally-none : Tallying count p p 0
   tally-none = record { rest = s .a; k = s .n; stand = s .at; many = s .many; total = omega arith; mark = inl (refl, refl, refl) }
 
-  pub tally-read : (left at first found : ℕ) → Tallying left at first found → 0 < left → (at < 2048) × (number-at w at < 1024) × (tail-at w at < 2048)
+  pub tally-read : (left at first found : ℕ) → Tallying left at first found → 0 < left →
+      (at < 2048) × (number-at w at < 1024) × (tail-at w at < 2048)
   tally-read left at first found t h = read-first w (s .room) (t .rest) at (t .k) (s .q) (s .m) left (t .stand) (s .low) (t .many) h
 
-  pub tally-step : (left at first found next first' found' : ℕ) → Tallying left at first found → 0 < left → next ≡ after-at w at → Turn at next first found first' found' → Tallying (left - 1) next first' found'
+  pub tally-step : (left at first found next first' found' : ℕ) → Tallying left at first found → 0 < left → next ≡ after-at w at →
+      Turn at next first found first' found' → Tallying (left - 1) next first' found'
   tally-step left at first found next first' found' t h e turn = go (t .rest) (t .stand) (t .many) (t .total) (t .mark)
     where
       m : Marking
       m = marking w
 
-      go : (a : Options) → AtAny (words w) at (t .k) a (s .q) (s .m) → options a ≡ left → kept-of m (s .a) ≡ found + kept-of m a → Before a at first found ⊎ Since first found → Tallying (left - 1) next first' found'
+      go : (a : Options) → AtAny (words w) at (t .k) a (s .q) (s .m) → options a ≡ left → kept-of m (s .a) ≡ found + kept-of m a →
+          Before a at first found ⊎ Since first found → Tallying (left - 1) next first' found'
       go no-more o many total mark = absurd (omega arith)
       go (option x d a) o many total mark =
           let r = read-option w (s .room) x d a at (t .k) (s .q) (s .m) o (s .low) .0 in
@@ -74,8 +77,16 @@ module _ (w : List ℕ) (p count : ℕ) (s : Alternatives w p count) where
           totals (none f z g h) = omega (arith, kept-false m x d a (own false f))
           totals (more f z g h) = omega (arith, kept-false m x d a (own false f))
 
-          marks : Turn at next first found first' found' → Before (option x d a) at first found ⊎ Since first found → Before a next first' found' ⊎ Since first' found'
-          marks (one f g h) (inl b) = inr (omega arith, (t .k, subst (λ (c : Options). AtAny (words w) first' (t .k) c (s .q) (s .m)) (sym (b .2 ∙ from-true m x d a (own true f))) (subst (λ (j : ℕ). AtAny (words w) j (t .k) (option x d a) (s .q) (s .m)) (sym (g ∙ b .1)) o)))
+          marks : Turn at next first found first' found' → Before (option x d a) at first found ⊎ Since first found →
+              Before a next first' found' ⊎ Since first' found'
+          marks (one f g h) (inl b) = inr (
+            omega arith,
+            (
+              t .k,
+              subst (λ (c : Options). AtAny (words w) first' (t .k) c (s .q) (s .m)) (sym (b .2 ∙ from-true m x d a (own true f)))
+                  (subst (λ (j : ℕ). AtAny (words w) j (t .k) (option x d a) (s .q) (s .m)) (sym (g ∙ b .1)) o),
+            ),
+          )
           marks (one f g h) (inr b) = inr (omega arith, rw g (b .1))
           marks (none f z g h) (inl b) = inl (h ∙ z, g, b .2 ∙ from-false m x d a (own false f))
           marks (none f z g h) (inr b) = let l = b .0 in absurd (omega arith)
@@ -85,7 +96,9 @@ module _ (w : List ℕ) (p count : ℕ) (s : Alternatives w p count) where
   pub tally-all : (left at first found : ℕ) → Tallying left at first found → left ≤ 0 → Tallied w s found first at
   tally-all left at first found t h = go (t .rest) (t .stand) (t .many) (t .total) (t .mark)
     where
-      go : (a : Options) → AtAny (words w) at (t .k) a (s .q) (s .m) → options a ≡ left → kept-of (marking w) (s .a) ≡ found + kept-of (marking w) a → Before a at first found ⊎ Since first found → Tallied w s found first at
+      go : (a : Options) → AtAny (words w) at (t .k) a (s .q) (s .m) → options a ≡ left →
+          kept-of (marking w) (s .a) ≡ found + kept-of (marking w) a → Before a at first found ⊎ Since first found →
+          Tallied w s found first at
       go no-more o many total mark = record {
         kept-are = omega arith;
         first-is = ⊎-elim (λ b. (t .k, rw (b .2) (b .1 ∙ o .0, o .1))) (λ b. b .1) mark;

@@ -58,16 +58,20 @@ module _ {Graph : Type 0} (J : Joining Graph) where
   unfolding dive
   each-none S k = refl
 
-  pub each-more : (S : List Graph) (x : ℕ) (d : Placed Graph) (a : Options Graph) (k : List Graph → Found) → dive-each J S (option x d a) k ≡ taking x (dive J S d k) ++ dive-each J S a k
+  pub each-more : (S : List Graph) (x : ℕ) (d : Placed Graph) (a : Options Graph) (k : List Graph → Found) →
+      dive-each J S (option x d a) k ≡ taking x (dive J S d k) ++ dive-each J S a k
   unfolding dive
   each-more S x d a k = refl
 
   -- an alternative: it clashes with the stack, or is pushed
-  pub dive-clash : (S : List Graph) (g : Graph) (es : Places Graph) (fs : List (Places Graph)) → agree J (S ++ g ∷ sure (strip-all es)) ≡ false → dive J S (place g es) (resume J fs) ≡ []
+  pub dive-clash : (S : List Graph) (g : Graph) (es : Places Graph) (fs : List (Places Graph)) →
+      agree J (S ++ g ∷ sure (strip-all es)) ≡ false → dive J S (place g es) (resume J fs) ≡ []
   unfolding resume dive
   dive-clash S g es fs e = ap (λ (t : Bool). elim t [ false ↦ [] | true ↦ dive-all J (S ++ g ∷ sure (strip-all es)) es (resume J fs) ]) e
 
-  pub dive-push : (S : List Graph) (g : Graph) (es : Places Graph) (fs : List (Places Graph)) → agree J (S ++ g ∷ sure (strip-all es)) ≡ true → dive J S (place g es) (resume J fs) ≡ resume J (es ∷ fs) (S ++ g ∷ sure (strip-all es))
+  pub dive-push : (S : List Graph) (g : Graph) (es : Places Graph) (fs : List (Places Graph)) →
+      agree J (S ++ g ∷ sure (strip-all es)) ≡ true →
+      dive J S (place g es) (resume J fs) ≡ resume J (es ∷ fs) (S ++ g ∷ sure (strip-all es))
   unfolding resume dive
   dive-push S g es fs e = ap (λ (t : Bool). elim t [ false ↦ [] | true ↦ dive-all J (S ++ g ∷ sure (strip-all es)) es (resume J fs) ]) e
 
@@ -87,7 +91,8 @@ module _ {Graph : Type 0} (J : Joining Graph) where
     abbrev pub choose-at : List Graph → Options Graph → List (Places Graph) → Found
     choose-at S a fs = dive-any J S (keep-any m a) (resume-at J m fs)
 
-    pub resume-at-more : (a : Options Graph) (ds : Places Graph) (fs : List (Places Graph)) (S : List Graph) → resume-at J m ((a also ds) ∷ fs) S ≡ choose-at S a (ds ∷ fs)
+    pub resume-at-more : (a : Options Graph) (ds : Places Graph) (fs : List (Places Graph)) (S : List Graph) →
+        resume-at J m ((a also ds) ∷ fs) S ≡ choose-at S a (ds ∷ fs)
     unfolding resume dive
     resume-at-more a ds fs S = refl
 
@@ -100,14 +105,18 @@ module _ {Graph : Type 0} (J : Joining Graph) where
       pub each-at-dropped : (d : Placed Graph) → m x ≡ false → each-at J m S (option x d a) fs ≡ each-at J m S a fs
       each-at-dropped d e = ap (λ (z : Options Graph). dive-each J S z (resume-at J m fs)) (keep-false m x d a e)
 
-      pub each-at-kept : (d : Placed Graph) → m x ≡ true → each-at J m S (option x d a) fs ≡ taking x (dive-at J m S d fs) ++ each-at J m S a fs
-      each-at-kept d e = ap (λ (z : Options Graph). dive-each J S z (resume-at J m fs)) (keep-true m x d a e) ∙ each-more S x (keep m d) (keep-any m a) (resume-at J m fs)
+      pub each-at-kept : (d : Placed Graph) → m x ≡ true →
+          each-at J m S (option x d a) fs ≡ taking x (dive-at J m S d fs) ++ each-at J m S a fs
+      each-at-kept d e = ap (λ (z : Options Graph). dive-each J S z (resume-at J m fs)) (keep-true m x d a e)
+          ∙ each-more S x (keep m d) (keep-any m a) (resume-at J m fs)
 
     pub each-at-none : (S : List Graph) (fs : List (Places Graph)) → each-at J m S no-more fs ≡ []
     each-at-none S fs = each-none S (resume-at J m fs)
 
-    pub dive-at-clash : (S : List Graph) (g : Graph) (es : Places Graph) (fs : List (Places Graph)) → agree J (S ++ g ∷ certain m es) ≡ false → dive-at J m S (place g es) fs ≡ []
+    pub dive-at-clash : (S : List Graph) (g : Graph) (es : Places Graph) (fs : List (Places Graph)) →
+        agree J (S ++ g ∷ certain m es) ≡ false → dive-at J m S (place g es) fs ≡ []
     dive-at-clash S g es fs e = dive-clash S g (keep-all m es) (map (keep-all m) fs) e
 
-    pub dive-at-push : (S : List Graph) (g : Graph) (es : Places Graph) (fs : List (Places Graph)) → agree J (S ++ g ∷ certain m es) ≡ true → dive-at J m S (place g es) fs ≡ resume-at J m (es ∷ fs) (S ++ g ∷ certain m es)
+    pub dive-at-push : (S : List Graph) (g : Graph) (es : Places Graph) (fs : List (Places Graph)) →
+        agree J (S ++ g ∷ certain m es) ≡ true → dive-at J m S (place g es) fs ≡ resume-at J m (es ∷ fs) (S ++ g ∷ certain m es)
     dive-at-push S g es fs e = dive-push S g (keep-all m es) (map (keep-all m) fs) e

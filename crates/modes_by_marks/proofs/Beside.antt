@@ -17,11 +17,16 @@ module _ {Graph : Type 0} where
   strip-next stop es = refl
   strip-next (a also ds) es = ap (λ (z : Disjs Graph). strip-any a and z) (strip-next ds es)
 
-  names-next : (ds es : Places Graph) (y : ℕ) → List·Memᴰ y (names-all (ds next es)) → List·Memᴰ y (names-all ds) ⊎ List·Memᴰ y (names-all es)
+  names-next : (ds es : Places Graph) (y : ℕ) → List·Memᴰ y (names-all (ds next es)) →
+      List·Memᴰ y (names-all ds) ⊎ List·Memᴰ y (names-all es)
   names-next stop es y i = inr i
-  names-next (a also ds) es y i = ⊎-elim (λ h. inl (Memᴰ·append-left (names-all ds) h)) (λ h. ⊎-elim (λ k. inl (Memᴰ·append-right (names-any a) k)) (λ k. inr k) (names-next ds es y h)) (List·Memᴰ·append-cases (names-any a) i)
+  names-next (a also ds) es y i =
+      ⊎-elim (λ h. inl (Memᴰ·append-left (names-all ds) h))
+      (λ h. ⊎-elim (λ k. inl (Memᴰ·append-right (names-any a) k)) (λ k. inr k) (names-next ds es y h))
+      (List·Memᴰ·append-cases (names-any a) i)
 
-  pub distinct-next : (ds es : Places Graph) → DistinctAll ds → DistinctAll es → Apart (names-all ds) (names-all es) → DistinctAll (ds next es)
+  pub distinct-next : (ds es : Places Graph) → DistinctAll ds → DistinctAll es → Apart (names-all ds) (names-all es) →
+      DistinctAll (ds next es)
   distinct-next stop es p q w = q
   distinct-next (a also ds) es p q w = (
     p .0,
@@ -45,7 +50,9 @@ module _ {Graph : Type 0} (J : Joining Graph) where
   unfolding joined
   joined-strip (place g ds) (place h es) = go (join (g ∷ h ∷ []))
     where
-      go : (o : Option Graph) → _≡_ {A = Option (Desc Graph)} (elim o [ none ↦ none | some k ↦ some (desc k (strip-all ds then strip-all es)) ]) (strip-some {Graph = Graph} (elim o [ none ↦ none | some k ↦ some (place k (ds next es)) ]))
+      go : (o : Option Graph) → _≡_ {A = Option (Desc Graph)}
+          (elim o [ none ↦ none | some k ↦ some (desc k (strip-all ds then strip-all es)) ])
+          (strip-some {Graph = Graph} (elim o [ none ↦ none | some k ↦ some (place k (ds next es)) ]))
       go none = refl
       go (some k) = ap (λ (z : Disjs Graph). some (desc k z)) (sym (strip-next ds es))
 

@@ -1,4 +1,5 @@
--- The quick step on descriptions: alternatives are dropped and none is folded. What is left may have disjunctions with one alternative: that one counts as folded.
+-- The quick step on descriptions: alternatives are dropped and none is folded. What is left may have disjunctions with one
+-- alternative: that one counts as folded.
 -- Assumes nothing.
 use mathlib.Core.Bool.{true, false}
 use mathlib.Core.Option.{Option, none, some}
@@ -22,20 +23,33 @@ module _ {Graph : Type 0} (J : Joining Graph) where
   settle S (d or fail) = elim (agree J (S ++ flat d)) [ false ↦ none | true ↦ some (record { stack = S ++ flat d; left = d or fail }) ]
   settle S (d or (e or b)) = some (record { stack = S; left = d or (e or b) })
 
-  -- one pass. An alternative is tried on the stack: its graph and all that is certain in it are pushed, then its own disjunctions are gone through, then all of it is taken back
+  -- one pass. An alternative is tried on the stack: its graph and all that is certain in it are pushed, then its own disjunctions are
+  -- gone through, then all of it is taken back
   unfoldable mutual
     pub try : List Graph → Desc Graph → Option (Desc Graph)
-    try S (desc g ds) = elim (agree J (S ++ g ∷ sure ds)) [ false ↦ none | true ↦ elim (narrow (S ++ g ∷ sure ds) ds) [ none ↦ none | some r ↦ some (desc g (r .left)) ] ]
+    try S (desc g ds) = elim (agree J (S ++ g ∷ sure ds)) [
+      | false ↦ none
+      | true ↦ elim (narrow (S ++ g ∷ sure ds) ds) [ none ↦ none | some r ↦ some (desc g (r .left)) ]
+    ]
 
     -- the disjunctions in order
     pub narrow : List Graph → Disjs Graph → Option (Left Graph (Disjs Graph))
     narrow S end = some (record { stack = S; left = end })
-    narrow S (a and ds) = elim (narrow-any S a) [ none ↦ none | some r ↦ elim (narrow (r .stack) ds) [ none ↦ none | some q ↦ some (record { stack = q .stack; left = r .left and q .left }) ] ]
+    narrow S (a and ds) = elim (narrow-any S a) [
+      | none ↦ none
+      | some r ↦ elim (narrow (r .stack) ds) [ none ↦ none | some q ↦ some (record { stack = q .stack; left = r .left and q .left }) ]
+    ]
 
     -- one disjunction: an alternative that stands alone is on the stack already
     pub narrow-any : List Graph → Alts Graph → Option (Left Graph (Alts Graph))
     narrow-any S fail = none
-    narrow-any S (d or a) = elim a [ fail ↦ elim (inside S d) [ none ↦ none | some r ↦ some (record { stack = r .stack; left = r .left or fail }) ] | e or b ↦ settle S (elim (try S d) [ none ↦ sift S a | some f ↦ f or sift S a ]) ]
+    narrow-any S (d or a) = elim a [
+      | fail ↦ elim (inside S d) [
+        | none ↦ none
+        | some r ↦ some (record { stack = r .stack; left = r .left or fail })
+      ]
+      | e or b ↦ settle S (elim (try S d) [ none ↦ sift S a | some f ↦ f or sift S a ])
+    ]
 
     pub inside : List Graph → Desc Graph → Option (Left Graph (Desc Graph))
     inside S (desc g ds) = elim (narrow S ds) [ none ↦ none | some r ↦ some (record { stack = r .stack; left = desc g (r .left) }) ]

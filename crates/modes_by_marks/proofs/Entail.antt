@@ -1,14 +1,17 @@
--- What a list of graphs says: a graph that may be joined to it with no effect. Order and repetition do not count, and a join stands for what it joins.
+-- What a list of graphs says: a graph that may be joined to it with no effect. Order and repetition do not count, and a join stands
+-- for what it joins.
 -- Assumes nothing.
 use mathlib.Core.Path.{_≡_, refl, ap, sym, _∙_, subst}
 use mathlib.Core.Logic.{⊎-elim}
 use mathlib.Core.Option.{Option, none, some}
-use mathlib.Core.List.{[], _∷_, _++_, append-nil, List·Memᴰ, List·Memᴰ·head, List·Memᴰ·tail, List·Memᴰ·cases-cons, List·Memᴰ·not-nil, List·Memᴰ·append-cases, Memᴰ·append-left, Memᴰ·append-right, List}
+use mathlib.Core.List.{[], _∷_, _++_, append-nil, List·Memᴰ, List·Memᴰ·head, List·Memᴰ·tail, List·Memᴰ·cases-cons, List·Memᴰ·not-nil}
+use mathlib.Core.List.{List·Memᴰ·append-cases, Memᴰ·append-left, Memᴰ·append-right, List}
 use Prim.Native.Nat.{ℕ}
 use native.Mathlib.Omega.{arith}
 use lib.ListN.{length-append}
 use Rattle.descriptions.proofs.Laws.{All, Laws, Within}
-use Rattle.descriptions.proofs.Mean.{Alike, Fine, alike-flat, canon-append, clash-stays, fine-append, in-l, in-r, join-canonical, within-both}
+use Rattle.descriptions.proofs.Mean.{Alike, Fine, alike-flat, canon-append, clash-stays, fine-append, in-l, in-r, join-canonical}
+use Rattle.descriptions.proofs.Mean.{within-both}
 use Rattle.descriptions.proofs.Live.{Agrees}
 use Rattle.descriptions.proofs.Modes.{join-order}
 use Rattle.descriptions.specs.Joining.{Joining}
@@ -24,7 +27,8 @@ module _ {Graph : Type 0} where
   w-right a b c w g m = Memᴰ·append-right b (w g m)
 
   pub w-cons : (x : Graph) (a b : List Graph) → List·Memᴰ x b → Within a b → Within (x ∷ a) b
-  w-cons x a b m w = within-both (x ∷ []) a b (λ g i. ⊎-elim (λ e. subst (λ (z : Graph). List·Memᴰ z b) (sym e) m) (λ j. absurd (List·Memᴰ·not-nil j)) (List·Memᴰ·cases-cons i)) w
+  w-cons x a b m w = within-both (x ∷ []) a b
+      (λ g i. ⊎-elim (λ e. subst (λ (z : Graph). List·Memᴰ z b) (sym e) m) (λ j. absurd (List·Memᴰ·not-nil j)) (List·Memᴰ·cases-cons i)) w
 
   pub w-tail : (x : Graph) (a b : List Graph) → Within a b → Within a (x ∷ b)
   w-tail x a b w g m = List·Memᴰ·tail (w g m)
@@ -64,17 +68,23 @@ module _ {Graph : Type 0} {J : Joining Graph} (𝓛 : Laws J) where
 
   pub says-list : (A B hs : List Graph) → All Canonical B → All Canonical hs → SaysAll A B → join (A ++ hs) ≡ join (A ++ (B ++ hs))
   says-list A [] hs p h s = refl
-  says-list A (b ∷ B) hs p h s = says-list A B hs (p .1) h (λ g m. s g (List·Memᴰ·tail m)) ∙ s b (List·Memᴰ·head refl) (B ++ hs) (canon-append 𝓛 B hs (p .1) h)
+  says-list A (b ∷ B) hs p h s = says-list A B hs (p .1) h (λ g m. s g (List·Memᴰ·tail m))
+      ∙ s b (List·Memᴰ·head refl) (B ++ hs) (canon-append 𝓛 B hs (p .1) h)
 
   -- more graphs say more
   pub says-more : (A B : List Graph) (g : Graph) → Fine 𝓛 A → Fine 𝓛 B → Canonical g → Within A B → Says A g → Says B g
   says-more A B g fa fb c w s hs h =
       let bh : All Canonical (B ++ hs) = canon-append 𝓛 B hs (fb .1) h in
-      join-order 𝓛 (B ++ hs) (A ++ (B ++ hs)) (fine-append 𝓛 B hs fb h) (fine-append 𝓛 A (B ++ hs) fa bh) (in-r A (B ++ hs)) (within-both A (B ++ hs) (B ++ hs) (w-left A B hs w) (w-self (B ++ hs)))
+      join-order 𝓛 (B ++ hs) (A ++ (B ++ hs)) (fine-append 𝓛 B hs fb h) (fine-append 𝓛 A (B ++ hs) fa bh) (in-r A (B ++ hs))
+      (within-both A (B ++ hs) (B ++ hs) (w-left A B hs w) (w-self (B ++ hs)))
       ∙ s (B ++ hs) bh
       ∙ join-order 𝓛 (A ++ g ∷ (B ++ hs)) (B ++ g ∷ hs) (fine-append 𝓛 A (g ∷ (B ++ hs)) fa (c, bh)) (fine-append 𝓛 B (g ∷ hs) fb (c, h))
-      (within-both A (g ∷ (B ++ hs)) (B ++ g ∷ hs) (w-left A B (g ∷ hs) w) (w-cons g (B ++ hs) (B ++ g ∷ hs) (Memᴰ·append-right B (List·Memᴰ·head refl)) (within-both B hs (B ++ g ∷ hs) (in-l B (g ∷ hs)) (w-right hs B (g ∷ hs) (w-tail g hs hs (w-self hs))))))
-      (within-both B (g ∷ hs) (A ++ g ∷ (B ++ hs)) (w-right B A (g ∷ (B ++ hs)) (w-tail g B (B ++ hs) (in-l B hs))) (w-cons g hs (A ++ g ∷ (B ++ hs)) (Memᴰ·append-right A (List·Memᴰ·head refl)) (w-right hs A (g ∷ (B ++ hs)) (w-tail g hs (B ++ hs) (in-r B hs)))))
+      (within-both A (g ∷ (B ++ hs)) (B ++ g ∷ hs) (w-left A B (g ∷ hs) w)
+      (w-cons g (B ++ hs) (B ++ g ∷ hs) (Memᴰ·append-right B (List·Memᴰ·head refl))
+      (within-both B hs (B ++ g ∷ hs) (in-l B (g ∷ hs)) (w-right hs B (g ∷ hs) (w-tail g hs hs (w-self hs))))))
+      (within-both B (g ∷ hs) (A ++ g ∷ (B ++ hs)) (w-right B A (g ∷ (B ++ hs)) (w-tail g B (B ++ hs) (in-l B hs)))
+      (w-cons g hs (A ++ g ∷ (B ++ hs)) (Memᴰ·append-right A (List·Memᴰ·head refl))
+      (w-right hs A (g ∷ (B ++ hs)) (w-tail g hs (B ++ hs) (in-r B hs)))))
 
   -- what is said by what A says, A says
   pub says-cut : (A B : List Graph) (g : Graph) → Fine 𝓛 A → Fine 𝓛 B → Canonical g → SaysAll A B → Says B g → Says A g
@@ -83,15 +93,24 @@ module _ {Graph : Type 0} {J : Joining Graph} (𝓛 : Laws J) where
       let bh : All Canonical (B ++ hs) = canon-append 𝓛 B hs (fb .1) h in
       let bgh : All Canonical (B ++ g ∷ hs) = canon-append 𝓛 B (g ∷ hs) (fb .1) (c, h) in
       says-list A B hs (fb .1) h s
-      ∙ join-order 𝓛 (A ++ (B ++ hs)) (B ++ (A ++ hs)) (fine-append 𝓛 A (B ++ hs) fa bh) (fine-append 𝓛 B (A ++ hs) fb ah) (move A B hs) (move B A hs)
+      ∙ join-order 𝓛 (A ++ (B ++ hs)) (B ++ (A ++ hs)) (fine-append 𝓛 A (B ++ hs) fa bh) (fine-append 𝓛 B (A ++ hs) fb ah) (move A B hs)
+      (move B A hs)
       ∙ t (A ++ hs) ah
-      ∙ join-order 𝓛 (B ++ g ∷ (A ++ hs)) (A ++ (B ++ g ∷ hs)) (fine-append 𝓛 B (g ∷ (A ++ hs)) fb (c, ah)) (fine-append 𝓛 A (B ++ g ∷ hs) fa bgh)
-      (within-both B (g ∷ (A ++ hs)) (A ++ (B ++ g ∷ hs)) (w-right B A (B ++ g ∷ hs) (in-l B (g ∷ hs))) (w-cons g (A ++ hs) (A ++ (B ++ g ∷ hs)) (Memᴰ·append-right A (Memᴰ·append-right B (List·Memᴰ·head refl))) (within-both A hs (A ++ (B ++ g ∷ hs)) (in-l A (B ++ g ∷ hs)) (w-right hs A (B ++ g ∷ hs) (w-right hs B (g ∷ hs) (w-tail g hs hs (w-self hs)))))))
-      (within-both A (B ++ g ∷ hs) (B ++ g ∷ (A ++ hs)) (w-right A B (g ∷ (A ++ hs)) (w-tail g A (A ++ hs) (in-l A hs))) (within-both B (g ∷ hs) (B ++ g ∷ (A ++ hs)) (in-l B (g ∷ (A ++ hs))) (w-cons g hs (B ++ g ∷ (A ++ hs)) (Memᴰ·append-right B (List·Memᴰ·head refl)) (w-right hs B (g ∷ (A ++ hs)) (w-tail g hs (A ++ hs) (in-r A hs))))))
+      ∙ join-order 𝓛 (B ++ g ∷ (A ++ hs)) (A ++ (B ++ g ∷ hs)) (fine-append 𝓛 B (g ∷ (A ++ hs)) fb (c, ah))
+      (fine-append 𝓛 A (B ++ g ∷ hs) fa bgh)
+      (within-both B (g ∷ (A ++ hs)) (A ++ (B ++ g ∷ hs)) (w-right B A (B ++ g ∷ hs) (in-l B (g ∷ hs)))
+      (w-cons g (A ++ hs) (A ++ (B ++ g ∷ hs)) (Memᴰ·append-right A (Memᴰ·append-right B (List·Memᴰ·head refl)))
+      (within-both A hs (A ++ (B ++ g ∷ hs)) (in-l A (B ++ g ∷ hs))
+      (w-right hs A (B ++ g ∷ hs) (w-right hs B (g ∷ hs) (w-tail g hs hs (w-self hs)))))))
+      (within-both A (B ++ g ∷ hs) (B ++ g ∷ (A ++ hs)) (w-right A B (g ∷ (A ++ hs)) (w-tail g A (A ++ hs) (in-l A hs)))
+      (within-both B (g ∷ hs) (B ++ g ∷ (A ++ hs)) (in-l B (g ∷ (A ++ hs)))
+      (w-cons g hs (B ++ g ∷ (A ++ hs)) (Memᴰ·append-right B (List·Memᴰ·head refl))
+      (w-right hs B (g ∷ (A ++ hs)) (w-tail g hs (A ++ hs) (in-r A hs))))))
       ∙ sym (says-list A B (g ∷ hs) (fb .1) (c, h) s)
     where
       move : (x y z : List Graph) → Within (x ++ (y ++ z)) (y ++ (x ++ z))
-      move x y z = within-both x (y ++ z) (y ++ (x ++ z)) (w-right x y (x ++ z) (in-l x z)) (within-both y z (y ++ (x ++ z)) (in-l y (x ++ z)) (w-right z y (x ++ z) (in-r x z)))
+      move x y z = within-both x (y ++ z) (y ++ (x ++ z)) (w-right x y (x ++ z) (in-l x z))
+          (within-both y z (y ++ (x ++ z)) (in-l y (x ++ z)) (w-right z y (x ++ z) (in-r x z)))
 
   pub says-trans : (A B C : List Graph) → Fine 𝓛 A → Fine 𝓛 B → All Canonical C → SaysAll A B → SaysAll B C → SaysAll A C
   says-trans A B C fa fb fc s t g m = says-cut A B g fa fb (canon-in C fc g m) s (t g m)
@@ -127,11 +146,14 @@ module _ {Graph : Type 0} {J : Joining Graph} (𝓛 : Laws J) where
   pub says-stands : (gs : List Graph) → Fine 𝓛 gs → (K : Graph) → Canonical K → Alike 𝓛 (K ∷ []) gs → Says gs K
   says-stands gs f K cK a hs h =
       let gh : All Canonical (gs ++ hs) = canon-append 𝓛 gs hs (f .1) h in
-      join-order 𝓛 (gs ++ hs) (gs ++ (gs ++ hs)) (fine-append 𝓛 gs hs f h) (fine-append 𝓛 gs (gs ++ hs) f gh) (in-r gs (gs ++ hs)) (within-both gs (gs ++ hs) (gs ++ hs) (in-l gs hs) (w-self (gs ++ hs)))
+      join-order 𝓛 (gs ++ hs) (gs ++ (gs ++ hs)) (fine-append 𝓛 gs hs f h) (fine-append 𝓛 gs (gs ++ hs) f gh) (in-r gs (gs ++ hs))
+      (within-both gs (gs ++ hs) (gs ++ hs) (in-l gs hs) (w-self (gs ++ hs)))
       ∙ sym (a (gs ++ hs) gh)
       ∙ join-order 𝓛 (K ∷ (gs ++ hs)) (gs ++ K ∷ hs) (fine-cons K (gs ++ hs) cK gh) (fine-append 𝓛 gs (K ∷ hs) f (cK, h))
-      (w-cons K (gs ++ hs) (gs ++ K ∷ hs) (Memᴰ·append-right gs (List·Memᴰ·head refl)) (within-both gs hs (gs ++ K ∷ hs) (in-l gs (K ∷ hs)) (w-right hs gs (K ∷ hs) (w-tail K hs hs (w-self hs)))))
-      (within-both gs (K ∷ hs) (K ∷ (gs ++ hs)) (w-tail K gs (gs ++ hs) (in-l gs hs)) (w-cons K hs (K ∷ (gs ++ hs)) (List·Memᴰ·head refl) (w-tail K hs (gs ++ hs) (in-r gs hs))))
+      (w-cons K (gs ++ hs) (gs ++ K ∷ hs) (Memᴰ·append-right gs (List·Memᴰ·head refl))
+      (within-both gs hs (gs ++ K ∷ hs) (in-l gs (K ∷ hs)) (w-right hs gs (K ∷ hs) (w-tail K hs hs (w-self hs)))))
+      (within-both gs (K ∷ hs) (K ∷ (gs ++ hs)) (w-tail K gs (gs ++ hs) (in-l gs hs))
+      (w-cons K hs (K ∷ (gs ++ hs)) (List·Memᴰ·head refl) (w-tail K hs (gs ++ hs) (in-r gs hs))))
 
   -- a join stands for what it joins
   pub join-says : (gs : List Graph) → Fine 𝓛 gs → (K : Graph) → join gs ≡ some K → SaysAll (K ∷ []) gs
@@ -152,7 +174,8 @@ module _ {Graph : Type 0} {J : Joining Graph} (𝓛 : Laws J) where
 
       go : (o : Option Graph) → join B ≡ o → Agrees J B
       go none h =
-          let n : join (A ++ (B ++ [])) ≡ none = clash-stays 𝓛 B (A ++ (B ++ [])) fb (fine-append 𝓛 A (B ++ []) fa bn) (w-right B A (B ++ []) (in-l B [])) h in
+          let n : join (A ++ (B ++ [])) ≡ none =
+          clash-stays 𝓛 B (A ++ (B ++ [])) fb (fine-append 𝓛 A (B ++ []) fa bn) (w-right B A (B ++ []) (in-l B [])) h in
           let p : some (a .0) ≡ none = sym (a .1) ∙ e ∙ n in
           let z : _≡_ {A = ℕ} 0 1 = cc in absurd (omega arith)
       go (some K) h = (K, h)
@@ -161,5 +184,6 @@ module _ {Graph : Type 0} {J : Joining Graph} (𝓛 : Laws J) where
   pub join-both : (A B : List Graph) → Fine 𝓛 A → Fine 𝓛 B → SaysAll A B → SaysAll B A → join A ≡ join B
   join-both A B fa fb s t =
       sym (ap join (append-nil A)) ∙ says-list A B [] (fb .1) tt s ∙ ap (λ (z : List Graph). join (A ++ z)) (append-nil B)
-      ∙ join-order 𝓛 (A ++ B) (B ++ A) (fine-append 𝓛 A B fa (fb .1)) (fine-append 𝓛 B A fb (fa .1)) (within-both A B (B ++ A) (in-r B A) (in-l B A)) (within-both B A (A ++ B) (in-r A B) (in-l A B))
+      ∙ join-order 𝓛 (A ++ B) (B ++ A) (fine-append 𝓛 A B fa (fb .1)) (fine-append 𝓛 B A fb (fa .1))
+      (within-both A B (B ++ A) (in-r B A) (in-l B A)) (within-both B A (A ++ B) (in-r A B) (in-l A B))
       ∙ sym (ap (λ (z : List Graph). join (B ++ z)) (append-nil A)) ∙ sym (says-list B A [] (fa .1) tt t) ∙ ap join (append-nil B)

@@ -4,19 +4,24 @@ use mathlib.Core.Path.{_≡_, refl, ap, ap₂, sym, _∙_, subst}
 use mathlib.Core.Logic.{⊎-elim}
 use mathlib.Core.Bool.{Bool, true, false}
 use mathlib.Core.Option.{Option, none, some}
-use mathlib.Core.List.{List, [], _∷_, _++_, append-assoc, append-nil, List·Memᴰ, List·Memᴰ·head, List·Memᴰ·tail, List·Memᴰ·cases-cons, List·Memᴰ·not-nil, List·Memᴰ·append-cases, Memᴰ·append-left, Memᴰ·append-right}
+use mathlib.Core.List.{List, [], _∷_, _++_, append-assoc, append-nil, List·Memᴰ, List·Memᴰ·head, List·Memᴰ·tail, List·Memᴰ·cases-cons}
+use mathlib.Core.List.{List·Memᴰ·not-nil, List·Memᴰ·append-cases, Memᴰ·append-left, Memᴰ·append-right}
 use Prim.Native.Nat.{ℕ, suc}
 use native.Mathlib.Omega.{arith}
 use lib.ListN.{length}
-use Rattle.descriptions.specs.Descr.{Alts, Desc, Disjs, _and_, _or_, agree, agreeing, answers, choices, choices-all, choices-any, desc, each, end, fail, pairs, readings}
+use Rattle.descriptions.specs.Descr.{Alts, Desc, Disjs, _and_, _or_, agree, agreeing, answers, choices, choices-all, choices-any, desc}
+use Rattle.descriptions.specs.Descr.{each, end, fail, pairs, readings}
 use Rattle.descriptions.proofs.Laws.{All, Laws, Within}
-use Rattle.descriptions.proofs.Mean.{Can, CanAll, CanAny, Fine, choices-all-fine, choices-any-fine, clash-stays, fine-append, in-l, in-r, within-both}
+use Rattle.descriptions.proofs.Mean.{Can, CanAll, CanAny, Fine, choices-all-fine, choices-any-fine, clash-stays, fine-append, in-l, in-r}
+use Rattle.descriptions.proofs.Mean.{within-both}
 use Rattle.descriptions.proofs.Full.{each-from, pairs-from}
 use Rattle.descriptions.proofs.Live.{Agrees}
 use Rattle.modes_by_marks.specs.Placed.{Options, Placed, Places, _also_, no-more, option, place, stop, strip, strip-all, strip-any}
 use Rattle.modes_by_marks.specs.Certain.{flat, sure, sure-any}
 use Rattle.modes_by_marks.specs.Search.{Found, dive, dive-all, dive-any, dive-each, dive-in, leaf-found, search, taking}
-use Rattle.modes_by_marks.proofs.Entail.{SaysAll, canon-in, fine-before, fine-cons, join-both, says-append, says-cons, says-first, says-here, says-more, says-none, says-second, says-there, says-trans, says-within, w-cons, w-left, w-right, w-self, w-tail}
+use Rattle.modes_by_marks.proofs.Entail.{SaysAll, canon-in, fine-before, fine-cons, join-both, says-append, says-cons, says-first}
+use Rattle.modes_by_marks.proofs.Entail.{says-here, says-more, says-none, says-second, says-there, says-trans, says-within, w-cons}
+use Rattle.modes_by_marks.proofs.Entail.{w-left, w-right, w-self, w-tail}
 use Rattle.modes_by_marks.proofs.Stable.{flat-can, says-left, sure-can}
 use Rattle.modes_by_marks.proofs.Passes.{Agreeing, agreeing-view, can, cannot}
 use Rattle.descriptions.specs.Joining.{Joining}
@@ -60,7 +65,9 @@ module _ {Graph : Type 0} where
     pub sure-in : (ds : Disjs Graph) (r : List Graph) → List·Memᴰ r (choices-all ds) → Within (sure ds) r
     sure-in end r m = λ g i. absurd (List·Memᴰ·not-nil i)
     sure-in (a and ds) r m = let (x, y, i, j, e) = pairs-from (choices-any a) (choices-all ds) r m in
-        subst (Within (sure-any a ++ sure ds)) (sym e) (within-both (sure-any a) (sure ds) (x ++ y) (w-left (sure-any a) x y (sure-any-in a x i)) (w-right (sure ds) x y (sure-in ds y j)))
+        subst (Within (sure-any a ++ sure ds)) (sym e)
+        (within-both (sure-any a) (sure ds) (x ++ y) (w-left (sure-any a) x y (sure-any-in a x i))
+        (w-right (sure ds) x y (sure-in ds y j)))
 
     pub sure-any-in : (a : Alts Graph) (r : List Graph) → List·Memᴰ r (choices-any a) → Within (sure-any a) r
     sure-any-in fail r m = λ g i. absurd (List·Memᴰ·not-nil i)
@@ -99,35 +106,49 @@ module _ {Graph : Type 0} where
   go-through [] S k = []
   go-through (p ∷ l) S k = put (p .1) (k (S ++ p .0)) ++ go-through l S k
 
-  through-append : (l m : List (Pick Graph)) (S : List Graph) (k : List Graph → Found) → go-through (l ++ m) S k ≡ go-through l S k ++ go-through m S k
+  through-append : (l m : List (Pick Graph)) (S : List Graph) (k : List Graph → Found) →
+      go-through (l ++ m) S k ≡ go-through l S k ++ go-through m S k
   through-append [] m S k = refl
-  through-append (p ∷ l) m S k = ap (λ (z : Found). put (p .1) (k (S ++ p .0)) ++ z) (through-append l m S k) ∙ sym (append-assoc (put (p .1) (k (S ++ p .0))) (go-through l S k) (go-through m S k))
+  through-append (p ∷ l) m S k = ap (λ (z : Found). put (p .1) (k (S ++ p .0)) ++ z) (through-append l m S k)
+      ∙ sym (append-assoc (put (p .1) (k (S ++ p .0))) (go-through l S k) (go-through m S k))
 
-  through-each : (g : Graph) (l : List (Pick Graph)) (S : List Graph) (k : List Graph → Found) → go-through (pick-each g l) S k ≡ go-through l (S ++ g ∷ []) k
+  through-each : (g : Graph) (l : List (Pick Graph)) (S : List Graph) (k : List Graph → Found) →
+      go-through (pick-each g l) S k ≡ go-through l (S ++ g ∷ []) k
   through-each g [] S k = refl
-  through-each g (p ∷ l) S k = ap₂ {C = Found} _++_ (ap (λ (z : List Graph). put (p .1) (k z)) (sym (append-assoc S (g ∷ []) (p .0)))) (through-each g l S k)
+  through-each g (p ∷ l) S k = ap₂ {C = Found} _++_ (ap (λ (z : List Graph). put (p .1) (k z)) (sym (append-assoc S (g ∷ []) (p .0))))
+      (through-each g l S k)
 
-  through-as : (x : ℕ) (l : List (Pick Graph)) (S : List Graph) (k : List Graph → Found) → go-through (pick-as x l) S k ≡ taking x (go-through l S k)
+  through-as : (x : ℕ) (l : List (Pick Graph)) (S : List Graph) (k : List Graph → Found) →
+      go-through (pick-as x l) S k ≡ taking x (go-through l S k)
   through-as x [] S k = refl
-  through-as x (p ∷ l) S k = ap₂ {C = Found} _++_ (sym (taking-put x (p .1) (k (S ++ p .0)))) (through-as x l S k) ∙ sym (taking-append x (put (p .1) (k (S ++ p .0))) (go-through l S k))
+  through-as x (p ∷ l) S k = ap₂ {C = Found} _++_ (sym (taking-put x (p .1) (k (S ++ p .0)))) (through-as x l S k)
+      ∙ sym (taking-append x (put (p .1) (k (S ++ p .0))) (go-through l S k))
 
-  through-after : (p : Pick Graph) (l : List (Pick Graph)) (S : List Graph) (k : List Graph → Found) → go-through (pick-after p l) S k ≡ put (p .1) (go-through l (S ++ p .0) k)
+  through-after : (p : Pick Graph) (l : List (Pick Graph)) (S : List Graph) (k : List Graph → Found) →
+      go-through (pick-after p l) S k ≡ put (p .1) (go-through l (S ++ p .0) k)
   through-after p [] S k = refl
   through-after p (q ∷ l) S k =
-      ap₂ {C = Found} _++_ (sym (put-put (p .1) (q .1) (k (S ++ (p .0 ++ q .0)))) ∙ ap (λ (z : List Graph). put (p .1) (put (q .1) (k z))) (sym (append-assoc S (p .0) (q .0)))) (through-after p l S k)
+      ap₂ {C = Found} _++_ (sym (put-put (p .1) (q .1) (k (S ++ (p .0 ++ q .0))))
+      ∙ ap (λ (z : List Graph). put (p .1) (put (q .1) (k z))) (sym (append-assoc S (p .0) (q .0)))) (through-after p l S k)
       ∙ sym (put-append (p .1) (put (q .1) (k ((S ++ p .0) ++ q .0))) (go-through l (S ++ p .0) k))
 
-  through-pairs : (l m : List (Pick Graph)) (S : List Graph) (k : List Graph → Found) → go-through (pick-pairs l m) S k ≡ go-through l S (λ T. go-through m T k)
+  through-pairs : (l m : List (Pick Graph)) (S : List Graph) (k : List Graph → Found) →
+      go-through (pick-pairs l m) S k ≡ go-through l S (λ T. go-through m T k)
   through-pairs [] m S k = refl
-  through-pairs (p ∷ l) m S k = through-append (pick-after p m) (pick-pairs l m) S k ∙ ap₂ {C = Found} _++_ (through-after p m S k) (through-pairs l m S k)
+  through-pairs (p ∷ l) m S k = through-append (pick-after p m) (pick-pairs l m) S k
+      ∙ ap₂ {C = Found} _++_ (through-after p m S k) (through-pairs l m S k)
 
-  pub through-cong : (l : List (Pick Graph)) (S T : List Graph) (k h : List Graph → Found) → ((p : Pick Graph) → List·Memᴰ p l → k (S ++ p .0) ≡ h (T ++ p .0)) → go-through l S k ≡ go-through l T h
+  pub through-cong : (l : List (Pick Graph)) (S T : List Graph) (k h : List Graph → Found) →
+      ((p : Pick Graph) → List·Memᴰ p l → k (S ++ p .0) ≡ h (T ++ p .0)) → go-through l S k ≡ go-through l T h
   through-cong [] S T k h e = refl
-  through-cong (p ∷ l) S T k h e = ap₂ {C = Found} _++_ (ap (put (p .1)) (e p (List·Memᴰ·head refl))) (through-cong l S T k h (λ q m. e q (List·Memᴰ·tail m)))
+  through-cong (p ∷ l) S T k h e =
+      ap₂ {C = Found} _++_ (ap (put (p .1)) (e p (List·Memᴰ·head refl))) (through-cong l S T k h (λ q m. e q (List·Memᴰ·tail m)))
 
-  through-none : (l : List (Pick Graph)) (S : List Graph) (k : List Graph → Found) → ((p : Pick Graph) → List·Memᴰ p l → k (S ++ p .0) ≡ []) → go-through l S k ≡ []
+  through-none : (l : List (Pick Graph)) (S : List Graph) (k : List Graph → Found) →
+      ((p : Pick Graph) → List·Memᴰ p l → k (S ++ p .0) ≡ []) → go-through l S k ≡ []
   through-none [] S k e = refl
-  through-none (p ∷ l) S k e = ap₂ {C = Found} _++_ (ap (put (p .1)) (e p (List·Memᴰ·head refl))) (through-none l S k (λ q m. e q (List·Memᴰ·tail m)))
+  through-none (p ∷ l) S k e = ap₂ {C = Found} _++_ (ap (put (p .1)) (e p (List·Memᴰ·head refl)))
+      (through-none l S k (λ q m. e q (List·Memᴰ·tail m)))
 
   -- the graphs of a pick are a choice
   abbrev pub graphs : List (Pick Graph) → List (List Graph)
@@ -152,7 +173,8 @@ module _ {Graph : Type 0} where
 
   graphs-pairs : (l m : List (Pick Graph)) → graphs (pick-pairs l m) ≡ pairs (graphs l) (graphs m)
   graphs-pairs [] m = refl
-  graphs-pairs (p ∷ l) m = graphs-append (pick-after p m) (pick-pairs l m) ∙ ap₂ {C = List (List Graph)} _++_ (graphs-after p m) (graphs-pairs l m)
+  graphs-pairs (p ∷ l) m = graphs-append (pick-after p m) (pick-pairs l m)
+      ∙ ap₂ {C = List (List Graph)} _++_ (graphs-after p m) (graphs-pairs l m)
 
   mutual
     pub graphs-are : (d : Placed Graph) → graphs (picks d) ≡ choices (strip d)
@@ -160,15 +182,18 @@ module _ {Graph : Type 0} where
 
     pub graphs-all-are : (ds : Places Graph) → graphs (picks-all ds) ≡ choices-all (strip-all ds)
     graphs-all-are stop = refl
-    graphs-all-are (a also ds) = graphs-pairs (picks-any a) (picks-all ds) ∙ ap₂ {C = List (List Graph)} pairs (graphs-any-are a) (graphs-all-are ds)
+    graphs-all-are (a also ds) = graphs-pairs (picks-any a) (picks-all ds)
+        ∙ ap₂ {C = List (List Graph)} pairs (graphs-any-are a) (graphs-all-are ds)
 
     pub graphs-any-are : (a : Options Graph) → graphs (picks-any a) ≡ choices-any (strip-any a)
     graphs-any-are no-more = refl
-    graphs-any-are (option x d a) = graphs-append (pick-as x (picks d)) (picks-any a) ∙ ap₂ {C = List (List Graph)} _++_ (graphs-as x (picks d) ∙ graphs-are d) (graphs-any-are a)
+    graphs-any-are (option x d a) = graphs-append (pick-as x (picks d)) (picks-any a)
+        ∙ ap₂ {C = List (List Graph)} _++_ (graphs-as x (picks d) ∙ graphs-are d) (graphs-any-are a)
 
   pub graph-in : (l : List (Pick Graph)) (p : Pick Graph) → List·Memᴰ p l → List·Memᴰ (p .0) (graphs l)
   graph-in [] p m = absurd (List·Memᴰ·not-nil m)
-  graph-in (q ∷ l) p m = ⊎-elim (λ e. List·Memᴰ·head (ap (λ (z : Pick Graph). z .0) e)) (λ i. List·Memᴰ·tail (graph-in l p i)) (List·Memᴰ·cases-cons m)
+  graph-in (q ∷ l) p m = ⊎-elim (λ e. List·Memᴰ·head (ap (λ (z : Pick Graph). z .0) e)) (λ i. List·Memᴰ·tail (graph-in l p i))
+      (List·Memᴰ·cases-cons m)
 
   pub choice-of : (d : Placed Graph) (p : Pick Graph) → List·Memᴰ p (picks d) → List·Memᴰ (p .0) (choices (strip d))
   choice-of d p m = subst (List·Memᴰ (p .0)) (graphs-are d) (graph-in (picks d) p m)
@@ -185,33 +210,45 @@ module _ {Graph : Type 0} (J : Joining Graph) where
   leaf-asked S = elim (agree J S) [ true ↦ [] ∷ [] | false ↦ [] ]
 
   module _ (k h : List Graph → Found) (E : (T : List Graph) → Agrees J T → k T ≡ h T) where
-    dive-cong-desc : (S : List Graph) (g : Graph) (ds : Places Graph) → (Agrees J (S ++ g ∷ sure (strip-all ds)) → dive-all J (S ++ g ∷ sure (strip-all ds)) ds k ≡ dive-all J (S ++ g ∷ sure (strip-all ds)) ds h) → (t : Bool) → Agreeing J (S ++ g ∷ sure (strip-all ds)) t →
-        _≡_ {A = Found} (elim t [ false ↦ [] | true ↦ dive-all J (S ++ g ∷ sure (strip-all ds)) ds k ]) (elim t [ false ↦ [] | true ↦ dive-all J (S ++ g ∷ sure (strip-all ds)) ds h ])
+    dive-cong-desc : (S : List Graph) (g : Graph) (ds : Places Graph) →
+        (Agrees J (S ++ g ∷ sure (strip-all ds)) →
+        dive-all J (S ++ g ∷ sure (strip-all ds)) ds k ≡ dive-all J (S ++ g ∷ sure (strip-all ds)) ds h) → (t : Bool) →
+        Agreeing J (S ++ g ∷ sure (strip-all ds)) t →
+        _≡_ {A = Found} (elim t [ false ↦ [] | true ↦ dive-all J (S ++ g ∷ sure (strip-all ds)) ds k ])
+        (elim t [ false ↦ [] | true ↦ dive-all J (S ++ g ∷ sure (strip-all ds)) ds h ])
     dive-cong-desc S g ds e false (cannot z) = refl
     dive-cong-desc S g ds e true (can a) = e a
 
   mutual
     unfolding dive
 
-    dive-cong : (d : Placed Graph) (k h : List Graph → Found) → ((T : List Graph) → Agrees J T → k T ≡ h T) → (S : List Graph) → dive J S d k ≡ dive J S d h
-    dive-cong (place g ds) k h E S = dive-cong-desc k h E S g ds (λ a. all-cong ds k h E (S ++ g ∷ sure (strip-all ds)) a) (agree J (S ++ g ∷ sure (strip-all ds))) (agreeing-view J (S ++ g ∷ sure (strip-all ds)))
+    dive-cong : (d : Placed Graph) (k h : List Graph → Found) → ((T : List Graph) → Agrees J T → k T ≡ h T) → (S : List Graph) →
+        dive J S d k ≡ dive J S d h
+    dive-cong (place g ds) k h E S =
+        dive-cong-desc k h E S g ds (λ a. all-cong ds k h E (S ++ g ∷ sure (strip-all ds)) a) (agree J (S ++ g ∷ sure (strip-all ds)))
+        (agreeing-view J (S ++ g ∷ sure (strip-all ds)))
 
-    all-cong : (ds : Places Graph) (k h : List Graph → Found) → ((T : List Graph) → Agrees J T → k T ≡ h T) → (S : List Graph) → Agrees J S → dive-all J S ds k ≡ dive-all J S ds h
+    all-cong : (ds : Places Graph) (k h : List Graph → Found) → ((T : List Graph) → Agrees J T → k T ≡ h T) → (S : List Graph) →
+        Agrees J S → dive-all J S ds k ≡ dive-all J S ds h
     all-cong stop k h E S a = E S a
     all-cong (o also ds) k h E S a = any-cong o (λ T. dive-all J T ds k) (λ T. dive-all J T ds h) (λ T t. all-cong ds k h E T t) S a
 
-    any-cong : (a : Options Graph) (k h : List Graph → Found) → ((T : List Graph) → Agrees J T → k T ≡ h T) → (S : List Graph) → Agrees J S → dive-any J S a k ≡ dive-any J S a h
+    any-cong : (a : Options Graph) (k h : List Graph → Found) → ((T : List Graph) → Agrees J T → k T ≡ h T) → (S : List Graph) →
+        Agrees J S → dive-any J S a k ≡ dive-any J S a h
     any-cong no-more k h E S a = refl
     any-cong (option x d o) k h E S a = go o (in-cong d k h E S a) (dive-cong d k h E S) (each-cong o k h E S)
       where
-        go : (o : Options Graph) → dive-in J S d k ≡ dive-in J S d h → dive J S d k ≡ dive J S d h → dive-each J S o k ≡ dive-each J S o h → dive-any J S (option x d o) k ≡ dive-any J S (option x d o) h
+        go : (o : Options Graph) → dive-in J S d k ≡ dive-in J S d h → dive J S d k ≡ dive J S d h → dive-each J S o k ≡ dive-each J S o h →
+            dive-any J S (option x d o) k ≡ dive-any J S (option x d o) h
         go no-more i t r = ap (taking x) i
         go (option y e b) i t r = ap₂ {C = Found} _++_ (ap (taking x) t) r
 
-    in-cong : (d : Placed Graph) (k h : List Graph → Found) → ((T : List Graph) → Agrees J T → k T ≡ h T) → (S : List Graph) → Agrees J S → dive-in J S d k ≡ dive-in J S d h
+    in-cong : (d : Placed Graph) (k h : List Graph → Found) → ((T : List Graph) → Agrees J T → k T ≡ h T) → (S : List Graph) → Agrees J S →
+        dive-in J S d k ≡ dive-in J S d h
     in-cong (place g ds) k h E S a = all-cong ds k h E S a
 
-    each-cong : (a : Options Graph) (k h : List Graph → Found) → ((T : List Graph) → Agrees J T → k T ≡ h T) → (S : List Graph) → dive-each J S a k ≡ dive-each J S a h
+    each-cong : (a : Options Graph) (k h : List Graph → Found) → ((T : List Graph) → Agrees J T → k T ≡ h T) → (S : List Graph) →
+        dive-each J S a k ≡ dive-each J S a h
     each-cong no-more k h E S = refl
     each-cong (option x d a) k h E S = ap₂ {C = Found} _++_ (ap (taking x) (dive-cong d k h E S)) (each-cong a k h E S)
 
@@ -222,9 +259,11 @@ module _ {Graph : Type 0} (J : Joining Graph) where
 
   through-found : (l : List (Pick Graph)) → go-through l [] leaf-asked ≡ found l
   through-found [] = refl
-  through-found (p ∷ l) = step (agree J (p .0)) ∙ ap (λ (z : Found). elim (agree J (p .0)) [ true ↦ p .1 ∷ z | false ↦ z ]) (through-found l)
+  through-found (p ∷ l) = step (agree J (p .0))
+      ∙ ap (λ (z : Found). elim (agree J (p .0)) [ true ↦ p .1 ∷ z | false ↦ z ]) (through-found l)
     where
-      step : (t : Bool) → put (p .1) (elim t [ true ↦ [] ∷ [] | false ↦ [] ]) ++ go-through l [] leaf-asked ≡ elim t [ true ↦ p .1 ∷ go-through l [] leaf-asked | false ↦ go-through l [] leaf-asked ]
+      step : (t : Bool) → put (p .1) (elim t [ true ↦ [] ∷ [] | false ↦ [] ])
+          ++ go-through l [] leaf-asked ≡ elim t [ true ↦ p .1 ∷ go-through l [] leaf-asked | false ↦ go-through l [] leaf-asked ]
       step true = ap (λ (z : List ℕ). z ∷ go-through l [] leaf-asked) (append-nil (p .1))
       step false = refl
 
@@ -240,7 +279,9 @@ module _ {Graph : Type 0} (J : Joining Graph) where
   found-count [] = refl
   found-count (p ∷ l) = go (agree J (p .0)) (found-count l)
     where
-      go : (t : Bool) → length (found l) ≡ agreeing J (graphs l) → length {A = List ℕ} (elim t [ true ↦ p .1 ∷ found l | false ↦ found l ]) ≡ elim t [ true ↦ suc (agreeing J (graphs l)) | false ↦ agreeing J (graphs l) ]
+      go : (t : Bool) → length (found l) ≡ agreeing J (graphs l) →
+          length {A = List ℕ} (elim t [ true ↦ p .1 ∷ found l | false ↦ found l ])
+          ≡ elim t [ true ↦ suc (agreeing J (graphs l)) | false ↦ agreeing J (graphs l) ]
       go true e = ap suc e
       go false e = e
 
@@ -257,11 +298,13 @@ module _ {Graph : Type 0} {J : Joining Graph} (𝓛 : Laws J) where
   says-on : (S : List Graph) (r B : List Graph) → Fine 𝓛 S → All Canonical r → All Canonical B → SaysAll 𝓛 S B → SaysAll 𝓛 (S ++ r) B
   says-on S r B f p q s g m = says-more 𝓛 S (S ++ r) g f (fine-append 𝓛 S r f p) (canon-in 𝓛 B q g m) (in-l S r) (s g m)
 
-  follows-through : (ds : Places Graph) → CanAll 𝓛 (strip-all ds) → (B : List Graph) → All Canonical B → (k : List Graph → Found) → Follows B k → Follows B (λ T. go-through (picks-all ds) T k)
+  follows-through : (ds : Places Graph) → CanAll 𝓛 (strip-all ds) → (B : List Graph) → All Canonical B → (k : List Graph → Found) →
+      Follows B k → Follows B (λ T. go-through (picks-all ds) T k)
   follows-through ds c B cB k K = record {
     same = λ x y fx fy s t u. through-cong (picks-all ds) x y k k (λ p m.
         let fp = choices-all-fine 𝓛 (strip-all ds) c (p .0) (choice-all-of ds p m) in
-        K .same (x ++ p .0) (y ++ p .0) (fine-append 𝓛 x (p .0) fx fp) (fine-append 𝓛 y (p .0) fy fp) (says-on x (p .0) B fx fp cB s) (says-left 𝓛 x y (p .0) fx fy fp t) (says-left 𝓛 y x (p .0) fy fx fp u));
+        K .same (x ++ p .0) (y ++ p .0) (fine-append 𝓛 x (p .0) fx fp) (fine-append 𝓛 y (p .0) fy fp) (says-on x (p .0) B fx fp cB s)
+        (says-left 𝓛 x y (p .0) fx fy fp t) (says-left 𝓛 y x (p .0) fy fx fp u));
     dead = λ x fx s e. through-none (picks-all ds) x k (λ p m.
         let fp = choices-all-fine 𝓛 (strip-all ds) c (p .0) (choice-all-of ds p m) in
         let fxp = fine-append 𝓛 x (p .0) fx fp in
@@ -269,8 +312,10 @@ module _ {Graph : Type 0} {J : Joining Graph} (𝓛 : Laws J) where
   }
 
   -- an alternative, its disjunctions gone through
-  dive-desc : (S : List Graph) → All Canonical S → (g : Graph) (ds : Places Graph) → Can 𝓛 (strip (place g ds)) → (B : List Graph) → All Canonical B → SaysAll 𝓛 (S ++ g ∷ sure (strip-all ds)) B → (k : List Graph → Found) → Follows B k →
-      dive-all J (S ++ g ∷ sure (strip-all ds)) ds k ≡ go-through (picks-all ds) (S ++ g ∷ sure (strip-all ds)) k → (t : Bool) → Agreeing J (S ++ g ∷ sure (strip-all ds)) t →
+  dive-desc : (S : List Graph) → All Canonical S → (g : Graph) (ds : Places Graph) → Can 𝓛 (strip (place g ds)) → (B : List Graph) →
+      All Canonical B → SaysAll 𝓛 (S ++ g ∷ sure (strip-all ds)) B → (k : List Graph → Found) → Follows B k →
+      dive-all J (S ++ g ∷ sure (strip-all ds)) ds k ≡ go-through (picks-all ds) (S ++ g ∷ sure (strip-all ds)) k → (t : Bool) →
+      Agreeing J (S ++ g ∷ sure (strip-all ds)) t →
       elim t [ false ↦ [] | true ↦ dive-all J (S ++ g ∷ sure (strip-all ds)) ds k ] ≡ go-through (pick-each g (picks-all ds)) S k
   dive-desc S cS g ds c B cB s k K ih t v = go t v ∙ sym (through-each g (picks-all ds) S k)
     where
@@ -295,7 +340,8 @@ module _ {Graph : Type 0} {J : Joining Graph} (𝓛 : Laws J) where
       -- the certain graphs come again in each choice
       T-in : (p : Pick Graph) → List·Memᴰ p (picks-all ds) → Within T (U ++ p .0)
       T-in p m = within-both S (g ∷ sure es) (U ++ p .0) (w-left S U (p .0) (in-l S (g ∷ [])))
-          (w-cons g (sure es) (U ++ p .0) (Memᴰ·append-left (p .0) (Memᴰ·append-right S (List·Memᴰ·head refl))) (w-right (sure es) U (p .0) (sure-in es (p .0) (choice-all-of ds p m))))
+          (w-cons g (sure es) (U ++ p .0) (Memᴰ·append-left (p .0) (Memᴰ·append-right S (List·Memᴰ·head refl)))
+          (w-right (sure es) U (p .0) (sure-in es (p .0) (choice-all-of ds p m))))
 
       U-in : Within U T
       U-in = within-both S (g ∷ []) T (in-l S (g ∷ sure es)) (w-right (g ∷ []) S (g ∷ sure es) (in-l (g ∷ []) (sure es)))
@@ -307,7 +353,8 @@ module _ {Graph : Type 0} {J : Joining Graph} (𝓛 : Laws J) where
       sUp p m = says-trans 𝓛 (U ++ p .0) T B (fUp p m) fT cB (says-within 𝓛 (U ++ p .0) T (fUp p m) (T-in p m)) s
 
       go : (t : Bool) → Agreeing J T t → elim t [ false ↦ [] | true ↦ dive-all J T ds k ] ≡ go-through (picks-all ds) U k
-      go false (cannot z) = sym (through-none (picks-all ds) U k (λ p m. K .dead (U ++ p .0) (fUp p m) (sUp p m) (clash-stays 𝓛 T (U ++ p .0) fT (fUp p m) (T-in p m) z)))
+      go false (cannot z) = sym (through-none (picks-all ds) U k
+          (λ p m. K .dead (U ++ p .0) (fUp p m) (sUp p m) (clash-stays 𝓛 T (U ++ p .0) fT (fUp p m) (T-in p m) z)))
       go true (can a) = ih ∙ through-cong (picks-all ds) T U k k (λ p m.
           let fTp = fine-append 𝓛 T (p .0) fT (fp p m) in
           K .same (T ++ p .0) (U ++ p .0) fTp (fUp p m) (says-on T (p .0) B fT (fp p m) cB s)
@@ -317,15 +364,21 @@ module _ {Graph : Type 0} {J : Joining Graph} (𝓛 : Laws J) where
   mutual
     unfolding dive
 
-    pub dive-ok : (d : Placed Graph) → Can 𝓛 (strip d) → (S : List Graph) → All Canonical S → (B : List Graph) → All Canonical B → SaysAll 𝓛 (S ++ flat (strip d)) B → (k : List Graph → Found) → Follows B k → dive J S d k ≡ go-through (picks d) S k
+    pub dive-ok : (d : Placed Graph) → Can 𝓛 (strip d) → (S : List Graph) → All Canonical S → (B : List Graph) → All Canonical B →
+        SaysAll 𝓛 (S ++ flat (strip d)) B → (k : List Graph → Found) → Follows B k → dive J S d k ≡ go-through (picks d) S k
     dive-ok (place g ds) c S cS B cB s k K =
         let T = S ++ g ∷ sure (strip-all ds) in
-        let fT : Fine 𝓛 T = fine-before 𝓛 S (g ∷ sure (strip-all ds)) cS (fine-cons 𝓛 g (sure (strip-all ds)) (c .0) (sure-can 𝓛 (strip-all ds) (c .1))) in
+        let fT : Fine 𝓛 T = fine-before 𝓛 S (g ∷ sure (strip-all ds)) cS
+        (fine-cons 𝓛 g (sure (strip-all ds)) (c .0) (sure-can 𝓛 (strip-all ds) (c .1))) in
         dive-desc S cS g ds c B cB s k K
-        (all-ok ds (c .1) T fT B cB s (says-within 𝓛 T (sure (strip-all ds)) fT (w-right (sure (strip-all ds)) S (g ∷ sure (strip-all ds)) (w-tail g (sure (strip-all ds)) (sure (strip-all ds)) (w-self (sure (strip-all ds)))))) k K)
+        (all-ok ds (c .1) T fT B cB s (says-within 𝓛 T (sure (strip-all ds)) fT
+        (w-right (sure (strip-all ds)) S (g ∷ sure (strip-all ds))
+        (w-tail g (sure (strip-all ds)) (sure (strip-all ds)) (w-self (sure (strip-all ds)))))) k K)
         (agree J T) (agreeing-view J T)
 
-    pub all-ok : (ds : Places Graph) → CanAll 𝓛 (strip-all ds) → (S : List Graph) → Fine 𝓛 S → (B : List Graph) → All Canonical B → SaysAll 𝓛 S B → SaysAll 𝓛 S (sure (strip-all ds)) → (k : List Graph → Found) → Follows B k → dive-all J S ds k ≡ go-through (picks-all ds) S k
+    pub all-ok : (ds : Places Graph) → CanAll 𝓛 (strip-all ds) → (S : List Graph) → Fine 𝓛 S → (B : List Graph) → All Canonical B →
+        SaysAll 𝓛 S B → SaysAll 𝓛 S (sure (strip-all ds)) → (k : List Graph → Found) → Follows B k →
+        dive-all J S ds k ≡ go-through (picks-all ds) S k
     all-ok stop c S f B cB s u k K = sym (append-nil (put [] (k (S ++ []))) ∙ put-nil (k (S ++ [])) ∙ ap k (append-nil S))
     all-ok (a also ds) c S f B cB s u k K =
         let es : Disjs Graph = strip-all ds in
@@ -336,39 +389,52 @@ module _ {Graph : Type 0} {J : Joining Graph} (𝓛 : Laws J) where
         λ x fx t. all-ok ds (c .1) x fx B cB (says-trans 𝓛 x S B fx f cB t s) (says-trans 𝓛 x S (sure es) fx f ce t ud) k K in
         let F : Follows B (λ T. go-through (picks-all ds) T k) = follows-through ds (c .1) B cB k K in
         let K′ : Follows S (λ T. dive-all J T ds k) = record {
-          same = λ x y fx fy t p q. here x fx t ∙ F .same x y fx fy (says-trans 𝓛 x S B fx f cB t s) p q ∙ sym (here y fy (says-trans 𝓛 y x S fy fx (f .1) q t));
+          same = λ x y fx fy t p q. here x fx t ∙ F .same x y fx fy (says-trans 𝓛 x S B fx f cB t s) p q
+              ∙ sym (here y fy (says-trans 𝓛 y x S fy fx (f .1) q t));
           dead = λ x fx t e. here x fx t ∙ F .dead x fx (says-trans 𝓛 x S B fx f cB t s) e;
         } in
         any-ok a (c .0) S f S (f .1) (says-within 𝓛 S S f (w-self S)) ua (λ T. dive-all J T ds k) K′
         ∙ through-cong (picks-any a) S S (λ T. dive-all J T ds k) (λ T. go-through (picks-all ds) T k)
-        (λ p m. let fp = choices-any-fine 𝓛 (strip-any a) (c .0) (p .0) (choice-any-of a p m) in here (S ++ p .0) (fine-append 𝓛 S (p .0) f fp) (says-within 𝓛 (S ++ p .0) S (fine-append 𝓛 S (p .0) f fp) (in-l S (p .0))))
+        (λ p m. let fp = choices-any-fine 𝓛 (strip-any a) (c .0) (p .0) (choice-any-of a p m) in
+        here (S ++ p .0) (fine-append 𝓛 S (p .0) f fp) (says-within 𝓛 (S ++ p .0) S (fine-append 𝓛 S (p .0) f fp) (in-l S (p .0))))
         ∙ sym (through-pairs (picks-any a) (picks-all ds) S k)
 
-    pub any-ok : (a : Options Graph) → CanAny 𝓛 (strip-any a) → (S : List Graph) → Fine 𝓛 S → (B : List Graph) → All Canonical B → SaysAll 𝓛 S B → SaysAll 𝓛 S (sure-any (strip-any a)) → (k : List Graph → Found) → Follows B k → dive-any J S a k ≡ go-through (picks-any a) S k
+    pub any-ok : (a : Options Graph) → CanAny 𝓛 (strip-any a) → (S : List Graph) → Fine 𝓛 S → (B : List Graph) → All Canonical B →
+        SaysAll 𝓛 S B → SaysAll 𝓛 S (sure-any (strip-any a)) → (k : List Graph → Found) → Follows B k →
+        dive-any J S a k ≡ go-through (picks-any a) S k
     any-ok no-more c S f B cB s u k K = refl
     any-ok (option x d a) c S f B cB s u k K = go a c u
         (λ v. in-ok d (c .0) S f B cB s v k K)
         (dive-ok d (c .0) S (f .1) B cB (says-on S (flat (strip d)) B f (flat-can 𝓛 (strip d) (c .0)) cB s) k K)
         (each-ok a (c .1) S f B cB s k K)
       where
-        go : (a : Options Graph) → CanAny 𝓛 (strip-any (option x d a)) → SaysAll 𝓛 S (sure-any (strip-any (option x d a))) → (SaysAll 𝓛 S (flat (strip d)) → dive-in J S d k ≡ go-through (picks d) S k) → dive J S d k ≡ go-through (picks d) S k →
+        go : (a : Options Graph) → CanAny 𝓛 (strip-any (option x d a)) → SaysAll 𝓛 S (sure-any (strip-any (option x d a))) →
+            (SaysAll 𝓛 S (flat (strip d)) → dive-in J S d k ≡ go-through (picks d) S k) → dive J S d k ≡ go-through (picks d) S k →
             dive-each J S a k ≡ go-through (picks-any a) S k → dive-any J S (option x d a) k ≡ go-through (picks-any (option x d a)) S k
-        go no-more c u i t r = ap (taking x) (i u) ∙ sym (through-append (pick-as x (picks d)) [] S k ∙ append-nil (go-through (pick-as x (picks d)) S k) ∙ through-as x (picks d) S k)
-        go (option y e b) c u i t r = ap₂ {C = Found} _++_ (ap (taking x) t ∙ sym (through-as x (picks d) S k)) r ∙ sym (through-append (pick-as x (picks d)) (picks-any (option y e b)) S k)
+        go no-more c u i t r = ap (taking x) (i u)
+            ∙ sym (through-append (pick-as x (picks d)) [] S k ∙ append-nil (go-through (pick-as x (picks d)) S k)
+            ∙ through-as x (picks d) S k)
+        go (option y e b) c u i t r = ap₂ {C = Found} _++_ (ap (taking x) t ∙ sym (through-as x (picks d) S k)) r
+            ∙ sym (through-append (pick-as x (picks d)) (picks-any (option y e b)) S k)
 
-    pub in-ok : (d : Placed Graph) → Can 𝓛 (strip d) → (S : List Graph) → Fine 𝓛 S → (B : List Graph) → All Canonical B → SaysAll 𝓛 S B → SaysAll 𝓛 S (flat (strip d)) → (k : List Graph → Found) → Follows B k → dive-in J S d k ≡ go-through (picks d) S k
+    pub in-ok : (d : Placed Graph) → Can 𝓛 (strip d) → (S : List Graph) → Fine 𝓛 S → (B : List Graph) → All Canonical B → SaysAll 𝓛 S B →
+        SaysAll 𝓛 S (flat (strip d)) → (k : List Graph → Found) → Follows B k → dive-in J S d k ≡ go-through (picks d) S k
     in-ok (place g ds) c S f B cB s u k K =
         let fU : Fine 𝓛 (S ++ g ∷ []) = fine-append 𝓛 S (g ∷ []) f (c .0, tt) in
         all-ok ds (c .1) S f B cB s (says-there 𝓛 S g (sure (strip-all ds)) u) k K
         ∙ follows-through ds (c .1) B cB k K .same S (S ++ g ∷ []) f fU s
-        (says-append 𝓛 S S (g ∷ []) (says-within 𝓛 S S f (w-self S)) (says-cons 𝓛 S g [] (says-here 𝓛 S g (sure (strip-all ds)) u) (says-none 𝓛 S)))
+        (says-append 𝓛 S S (g ∷ []) (says-within 𝓛 S S f (w-self S))
+        (says-cons 𝓛 S g [] (says-here 𝓛 S g (sure (strip-all ds)) u) (says-none 𝓛 S)))
         (says-within 𝓛 (S ++ g ∷ []) S fU (in-l S (g ∷ [])))
         ∙ sym (through-each g (picks-all ds) S k)
 
-    pub each-ok : (a : Options Graph) → CanAny 𝓛 (strip-any a) → (S : List Graph) → Fine 𝓛 S → (B : List Graph) → All Canonical B → SaysAll 𝓛 S B → (k : List Graph → Found) → Follows B k → dive-each J S a k ≡ go-through (picks-any a) S k
+    pub each-ok : (a : Options Graph) → CanAny 𝓛 (strip-any a) → (S : List Graph) → Fine 𝓛 S → (B : List Graph) → All Canonical B →
+        SaysAll 𝓛 S B → (k : List Graph → Found) → Follows B k → dive-each J S a k ≡ go-through (picks-any a) S k
     each-ok no-more c S f B cB s k K = refl
     each-ok (option x d a) c S f B cB s k K =
-        ap₂ {C = Found} _++_ (ap (taking x) (dive-ok d (c .0) S (f .1) B cB (says-on S (flat (strip d)) B f (flat-can 𝓛 (strip d) (c .0)) cB s) k K) ∙ sym (through-as x (picks d) S k)) (each-ok a (c .1) S f B cB s k K)
+        ap₂ {C = Found} _++_ (ap (taking x)
+        (dive-ok d (c .0) S (f .1) B cB (says-on S (flat (strip d)) B f (flat-can 𝓛 (strip d) (c .0)) cB s) k K)
+        ∙ sym (through-as x (picks d) S k)) (each-ok a (c .1) S f B cB s k K)
         ∙ sym (through-append (pick-as x (picks d)) (picks-any a) S k)
 
   leaf-follows : Follows [] (leaf-asked J)
@@ -381,7 +447,8 @@ module _ {Graph : Type 0} {J : Joining Graph} (𝓛 : Laws J) where
   -- the search finds each consistent choice, once and in order
   pub search-ok : (d : Placed Graph) → Can 𝓛 (strip d) → search J d ≡ found J (picks d)
   unfolding search
-  search-ok d c = dive-cong J d leaf-found (leaf-asked J) (leaf-same J) [] ∙ dive-ok d c [] tt [] tt (says-none 𝓛 (flat (strip d))) (leaf-asked J) leaf-follows ∙ through-found J (picks d)
+  search-ok d c = dive-cong J d leaf-found (leaf-asked J) (leaf-same J) []
+      ∙ dive-ok d c [] tt [] tt (says-none 𝓛 (flat (strip d))) (leaf-asked J) leaf-follows ∙ through-found J (picks d)
 
   -- as many as there are readings
   pub search-count : (d : Placed Graph) → Can 𝓛 (strip d) → length (search J d) ≡ readings J (strip d)

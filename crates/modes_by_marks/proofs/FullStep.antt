@@ -44,7 +44,8 @@ module _ {Graph : Type 0} (J : Joining Graph) where
   agreeing-some [] = refl
   agreeing-some (c ∷ l) = go (agree J c) (agreeing-some l)
     where
-      go : (t : Bool) → any-left (agreeing J l) ≡ some-agree J l → any-left (elim t [ true ↦ suc (agreeing J l) | false ↦ agreeing J l ]) ≡ elim t [ true ↦ true | false ↦ some-agree J l ]
+      go : (t : Bool) → any-left (agreeing J l) ≡ some-agree J l →
+          any-left (elim t [ true ↦ suc (agreeing J l) | false ↦ agreeing J l ]) ≡ elim t [ true ↦ true | false ↦ some-agree J l ]
       go true e = refl
       go false e = e
 
@@ -57,7 +58,12 @@ module _ {Graph : Type 0} (J : Joining Graph) where
   unfolding full full-of
   full-joined a b = go (joined J a b)
     where
-      go : (o : Option (Desc Graph)) → _≡_ {A = Option (Desc Graph)} (elim o [ none ↦ none | some d ↦ elim (some-agree J (choices d)) [ true ↦ some (fold J (prune J whole d)) | false ↦ none ] ]) (elim o [ none ↦ none | some d ↦ elim (some-agree J (choices d)) [ true ↦ some (fold J (prune J whole d)) | false ↦ none ] ])
+      go : (o : Option (Desc Graph)) →
+          _≡_ {A = Option (Desc Graph)} (elim o [
+            | none ↦ none
+            | some d ↦ elim (some-agree J (choices d)) [ true ↦ some (fold J (prune J whole d)) | false ↦ none ]
+          ])
+          (elim o [ none ↦ none | some d ↦ elim (some-agree J (choices d)) [ true ↦ some (fold J (prune J whole d)) | false ↦ none ] ])
       go o = refl
 
 module _ {Graph : Type 0} {J : Joining Graph} (𝓛 : Laws J) where
@@ -76,11 +82,15 @@ module _ {Graph : Type 0} {J : Joining Graph} (𝓛 : Laws J) where
   best-readings d e c p b =
       let s : fold J d ≡ d = proper-fold 𝓛 d c p in
       let n : ℕ = size d in
-      let t : TidiedBest J (nil ∷ []) d (tidy J n nil d) = subst (λ (z : Desc Graph). TidiedBest J (nil ∷ []) d (tidy J n nil z)) s (tidy-best 𝓛 n nil nil-canonical d c (proper-sane 𝓛 d c p) (subst (λ (z : Desc Graph). size z ≤ n) (sym s) (omega arith))) in
+      let t : TidiedBest J (nil ∷ []) d (tidy J n nil d) =
+      subst (λ (z : Desc Graph). TidiedBest J (nil ∷ []) d (tidy J n nil z)) s
+      (tidy-best 𝓛 n nil nil-canonical d c (proper-sane 𝓛 d c p) (subst (λ (z : Desc Graph). size z ≤ n) (sym s) (omega arith))) in
       let k : tidy J n nil d ≡ some (fold J e) = tidies-passed J d (tidy J n nil d) (some e) t b in
-      readings-count J e ∙ ap length (fold-ok 𝓛 e (part-can 𝓛 d e (b .part) c) .1 [] tt (leaf J) (good-leaf 𝓛)) ∙ sym (readings-count J (fold J e)) ∙ quick-readings 𝓛 n d (fold J e) c k
+      readings-count J e ∙ ap length (fold-ok 𝓛 e (part-can 𝓛 d e (b .part) c) .1 [] tt (leaf J) (good-leaf 𝓛))
+      ∙ sym (readings-count J (fold J e)) ∙ quick-readings 𝓛 n d (fold J e) c k
 
-  module _ (d : Placed Graph) (c : Can 𝓛 (strip d)) (p : Proper (strip d)) (w : Distinct d) (m : Marking) (b : Best J (nil ∷ []) (strip d) (strip (keep m d))) where
+  module _ (d : Placed Graph) (c : Can 𝓛 (strip d)) (p : Proper (strip d)) (w : Distinct d) (m : Marking)
+      (b : Best J (nil ∷ []) (strip d) (strip (keep m d))) where
     ck : Can 𝓛 (strip (keep m d))
     ck = part-can 𝓛 (strip d) (strip (keep m d)) (b .part) c
 
@@ -89,7 +99,8 @@ module _ {Graph : Type 0} {J : Joining Graph} (𝓛 : Laws J) where
     unfolding full-readings-by
     full-count = search-count 𝓛 (keep m d) ck ∙ best-readings (strip d) (strip (keep m d)) c p b
 
-    marks-left : (r : List Graph) → List·Memᴰ r (choices (strip d)) → Agrees J r → strip (keep (lit (search J (keep m d))) d) ≡ prune J whole (strip d)
+    marks-left : (r : List Graph) → List·Memᴰ r (choices (strip d)) → Agrees J r →
+        strip (keep (lit (search J (keep m d))) d) ≡ prune J whole (strip d)
     marks-left r i a =
         ap strip (keep-keep d (lit (search J (keep m d))) m (λ y e. keep-names d m y (search-marks (keep m d) ck y e) .0))
         ∙ search-prune 𝓛 (keep m d) ck (keep-distinct d m w)
@@ -98,9 +109,12 @@ module _ {Graph : Type 0} {J : Joining Graph} (𝓛 : Laws J) where
     -- the result
     pub full-result : fold-some J (full-left J m d) ≡ full-of J (strip d)
     unfolding full-left full-of full-readings-by readings
-    full-result = go (length (search J (keep m d))) (some-agree J (choices (strip d))) (some-view J (choices (strip d))) (ap any-left full-count ∙ agreeing-some J (choices (strip d)))
+    full-result = go (length (search J (keep m d))) (some-agree J (choices (strip d))) (some-view J (choices (strip d)))
+        (ap any-left full-count ∙ agreeing-some J (choices (strip d)))
       where
-        go : (n : ℕ) (t : Bool) → Some J (choices (strip d)) t → any-left n ≡ t → fold-some J (elim n [ zero ↦ none | suc k ↦ some (strip (keep (lit (search J (keep m d))) d)) ]) ≡ elim t [ true ↦ some (fold J (prune J whole (strip d))) | false ↦ none ]
+        go : (n : ℕ) (t : Bool) → Some J (choices (strip d)) t → any-left n ≡ t →
+            fold-some J (elim n [ zero ↦ none | suc k ↦ some (strip (keep (lit (search J (keep m d))) d)) ])
+            ≡ elim t [ true ↦ some (fold J (prune J whole (strip d))) | false ↦ none ]
         go zero true v e = absurd (false-true e)
         go zero false v e = refl
         go (suc n) true (one-does r i a) e = ap (λ (x : Desc Graph). some (fold J x)) (marks-left r i a)
@@ -109,29 +123,40 @@ module _ {Graph : Type 0} {J : Joining Graph} (𝓛 : Laws J) where
     -- and as a writer puts it out
     pub full-writes : fold-some J (full-left J m d) ≡ shown-some J (full-left J m d)
     unfolding full-left full-readings-by readings
-    full-writes = go (length (search J (keep m d))) (some-agree J (choices (strip d))) (some-view J (choices (strip d))) (ap any-left full-count ∙ agreeing-some J (choices (strip d)))
+    full-writes = go (length (search J (keep m d))) (some-agree J (choices (strip d))) (some-view J (choices (strip d)))
+        (ap any-left full-count ∙ agreeing-some J (choices (strip d)))
       where
-        pruned-shown : (e : Desc Graph) → e ≡ prune J whole (strip d) → (r : List Graph) → List·Memᴰ r (choices (strip d)) → Agrees J r → fold J e ≡ shown J e
+        pruned-shown : (e : Desc Graph) → e ≡ prune J whole (strip d) → (r : List Graph) → List·Memᴰ r (choices (strip d)) → Agrees J r →
+            fold J e ≡ shown J e
         pruned-shown e q r i a =
             let p : Desc Graph = prune J whole (strip d) in
             let cp : Can 𝓛 p = prune-can 𝓛 (strip d) c whole in
-            subst (λ (z : Desc Graph). fold J z ≡ shown J z) (sym q) (shown-ok 𝓛 p cp (stable-sane 𝓛 p (nil ∷ []) cp (fine-cons 𝓛 nil [] nil-canonical tt) (pruned-stable 𝓛 (strip d) c r i a)))
+            subst (λ (z : Desc Graph). fold J z ≡ shown J z) (sym q)
+            (shown-ok 𝓛 p cp (stable-sane 𝓛 p (nil ∷ []) cp (fine-cons 𝓛 nil [] nil-canonical tt) (pruned-stable 𝓛 (strip d) c r i a)))
 
-        go : (n : ℕ) (t : Bool) → Some J (choices (strip d)) t → any-left n ≡ t → fold-some J (elim n [ zero ↦ none | suc k ↦ some (strip (keep (lit (search J (keep m d))) d)) ]) ≡ shown-some J (elim n [ zero ↦ none | suc k ↦ some (strip (keep (lit (search J (keep m d))) d)) ])
+        go : (n : ℕ) (t : Bool) → Some J (choices (strip d)) t → any-left n ≡ t →
+            fold-some J (elim n [ zero ↦ none | suc k ↦ some (strip (keep (lit (search J (keep m d))) d)) ])
+            ≡ shown-some J (elim n [ zero ↦ none | suc k ↦ some (strip (keep (lit (search J (keep m d))) d)) ])
         go zero t v e = refl
         go (suc n) true (one-does r i a) e = ap some (pruned-shown (strip (keep (lit (search J (keep m d))) d)) (marks-left r i a) r i a)
         go (suc n) false v e = absurd (false-true (sym e))
 
     -- what is left can be folded
-    pub full-sane : (n : ℕ) → length (search J (keep m d)) ≡ suc n → Can 𝓛 (strip (keep (lit (search J (keep m d))) d)) × Sane J (strip (keep (lit (search J (keep m d))) d))
+    pub full-sane : (n : ℕ) → length (search J (keep m d)) ≡ suc n →
+        Can 𝓛 (strip (keep (lit (search J (keep m d))) d)) × Sane J (strip (keep (lit (search J (keep m d))) d))
     unfolding full-readings-by readings
-    full-sane n found = go (some-agree J (choices (strip d))) (some-view J (choices (strip d))) (ap any-left (sym found ∙ full-count) ∙ agreeing-some J (choices (strip d)))
+    full-sane n found = go (some-agree J (choices (strip d))) (some-view J (choices (strip d))) (ap any-left (sym found ∙ full-count)
+        ∙ agreeing-some J (choices (strip d)))
       where
-        go : (t : Bool) → Some J (choices (strip d)) t → true ≡ t → Can 𝓛 (strip (keep (lit (search J (keep m d))) d)) × Sane J (strip (keep (lit (search J (keep m d))) d))
+        go : (t : Bool) → Some J (choices (strip d)) t → true ≡ t →
+            Can 𝓛 (strip (keep (lit (search J (keep m d))) d)) × Sane J (strip (keep (lit (search J (keep m d))) d))
         go true (one-does r i a) e =
             let p : Desc Graph = prune J whole (strip d) in
             let cp : Can 𝓛 p = prune-can 𝓛 (strip d) c whole in
-            subst (λ (z : Desc Graph). Can 𝓛 z × Sane J z) (sym (marks-left r i a)) (cp, stable-sane 𝓛 p (nil ∷ []) cp (fine-cons 𝓛 nil [] nil-canonical tt) (pruned-stable 𝓛 (strip d) c r i a))
+            subst (λ (z : Desc Graph). Can 𝓛 z × Sane J z) (sym (marks-left r i a)) (
+              cp,
+              stable-sane 𝓛 p (nil ∷ []) cp (fine-cons 𝓛 nil [] nil-canonical tt) (pruned-stable 𝓛 (strip d) c r i a),
+            )
         go false v e = absurd (false-true (sym e))
 
   -- where the quick step fails, no choice agrees
@@ -139,6 +164,7 @@ module _ {Graph : Type 0} {J : Joining Graph} (𝓛 : Laws J) where
   unfolding full-of
   hopeless-full d c h = go (some-agree J (choices d)) (some-view J (choices d))
     where
-      go : (t : Bool) → Some J (choices d) t → _≡_ {A = Option (Desc Graph)} (elim t [ true ↦ some (fold J (prune J whole d)) | false ↦ none ]) none
+      go : (t : Bool) → Some J (choices d) t →
+          _≡_ {A = Option (Desc Graph)} (elim t [ true ↦ some (fold J (prune J whole d)) | false ↦ none ]) none
       go true (one-does r i a) = absurd (h (prune J whole d) (prune-part J d whole) (pruned-stable 𝓛 d c r i a))
       go false v = refl

@@ -52,15 +52,20 @@ module _ {Graph : Type 0} {J : Joining Graph} (𝓛 : Laws J) where
       abbrev D : Disjs Graph
       D = strip-all (keep-all m ds)
 
-      tries : (o : Option (Left Graph (Disjs Graph))) → narrow J T D ≡ o → try J [] (strip (keep m d)) ≡ elim o [ none ↦ none | some r ↦ some (desc g (r .left)) ]
-      tries o e = standing-try 𝓛 g D (l .can) T (l .same) (l .agrees) ∙ ap {B = Option (Desc Graph)} (λ (o : Option (Left Graph (Disjs Graph))). elim o [ none ↦ none | some r ↦ some (desc g (r .left)) ]) e
+      tries : (o : Option (Left Graph (Disjs Graph))) → narrow J T D ≡ o →
+          try J [] (strip (keep m d)) ≡ elim o [ none ↦ none | some r ↦ some (desc g (r .left)) ]
+      tries o e = standing-try 𝓛 g D (l .can) T (l .same) (l .agrees)
+          ∙ ap {B = Option (Desc Graph)}
+          (λ (o : Option (Left Graph (Disjs Graph))). elim o [ none ↦ none | some r ↦ some (desc g (r .left)) ]) e
 
       settled : (o : Option (Desc Graph)) → Passed J (strip (keep m d)) o → left-by d (quick-at J d) ≡ o
       settled o p = passed-one J (strip d) (left-by d (quick-at J d)) o (quick-passed 𝓛 d c w) (l .toward o p)
 
       -- a pass that fails
       pub loop-fails : (n : Marking) → narrow-at J T m ds ≡ fails n → quick-at J d ≡ none
-      loop-fails n e = none-left d (quick-at J d) (settled none (pass-fails 𝓛 (strip (keep m d)) (l .can) (tries none (subst (NarrowedAt J T m ds) e (narrow-at-ok J ds w T m) .0))))
+      loop-fails n e = none-left d (quick-at J d)
+          (settled none (pass-fails 𝓛 (strip (keep m d)) (l .can)
+          (tries none (subst (NarrowedAt J T m ds) e (narrow-at-ok J ds w T m) .0))))
 
       module _ (U : List Graph) (n : Marking) (e : narrow-at J T m ds ≡ stands U n) where
         abbrev next : Left Graph (Disjs Graph)
@@ -80,10 +85,12 @@ module _ {Graph : Type 0} {J : Joining Graph} (𝓛 : Laws J) where
 
         -- a pass that drops nothing is the last
         pub loop-last : size (strip (keep m d)) ≤ size (strip (keep n d)) → Leaves J d n
-        loop-last h = settled (some (strip (keep n d))) (pass-last 𝓛 (strip (keep m d)) (strip (keep n d)) (l .can) (tries (some next) narrowed) h)
+        loop-last h = settled (some (strip (keep n d)))
+            (pass-last 𝓛 (strip (keep m d)) (strip (keep n d)) (l .can) (tries (some next) narrowed) h)
 
         pub loop-still : ((y : ℕ) → List·Memᴰ y (names (place g ds)) → n y ≡ m y) → Leaves J d n
         loop-still h = loop-last (same-size (keep-same d n m h))
           where
             same-size : keep n d ≡ keep m d → size (strip (keep m d)) ≤ size (strip (keep n d))
-            same-size q = let z : size (strip (keep n d)) ≡ size (strip (keep m d)) = ap (λ (x : Placed Graph). size (strip x)) q in omega arith
+            same-size q = let z : size (strip (keep n d)) ≡ size (strip (keep m d)) = ap (λ (x : Placed Graph). size (strip x)) q in
+                omega arith

@@ -33,4 +33,5 @@ module _ {Graph : Type 0} where
 
     pub DistinctAny : Options Graph → Type 0
     DistinctAny no-more = Unit {0}
-    DistinctAny (option x d a) = Distinct d × DistinctAny a × Apart (x ∷ []) (names d) × Apart (x ∷ []) (names-any a) × Apart (names d) (names-any a)
+    DistinctAny (option x d a) = Distinct d × DistinctAny a × Apart (x ∷ []) (names d) × Apart (x ∷ []) (names-any a)
+        × Apart (names d) (names-any a)

@@ -1,4 +1,5 @@
--- Descriptions as they come in have two or more alternatives everywhere, so they are folded already, and mode 1 is the greatest stable part of the joined description, folded.
+-- Descriptions as they come in have two or more alternatives everywhere, so they are folded already, and mode 1 is the greatest stable
+-- part of the joined description, folded.
 -- Assumes nothing.
 use mathlib.Core.Path.{_≡_, refl, ap, ap₂, sym, _∙_, subst}
 use mathlib.Core.Option.{Option, none, some}
@@ -85,7 +86,8 @@ module _ {Graph : Type 0} {J : Joining Graph} (𝓛 : Laws J) where
     proper-fold-all : (ds : Disjs Graph) → CanAll 𝓛 ds → ProperAll ds → fold-all J ds ≡ record { folded = []; left = ds }
     proper-fold-all end c p = refl
     proper-fold-all (a and ds) c p =
-        ap₂ {C = Round Graph} (in-place J) (proper-fold-any a (c .0) (p .1)) (proper-fold-all ds (c .1) (p .2)) ∙ many-in-place J a (record { folded = []; left = ds }) (p .0)
+        ap₂ {C = Round Graph} (in-place J) (proper-fold-any a (c .0) (p .1)) (proper-fold-all ds (c .1) (p .2))
+        ∙ many-in-place J a (record { folded = []; left = ds }) (p .0)
 
     proper-fold-any : (a : Alts Graph) → CanAny 𝓛 a → ProperAny a → fold-any J a ≡ a
     proper-fold-any fail c p = refl
@@ -102,14 +104,22 @@ module _ {Graph : Type 0} {J : Joining Graph} (𝓛 : Laws J) where
     where
       go : (o : Option Graph) → join (g ∷ h ∷ []) ≡ o → Comes (elim o [ none ↦ none | some k ↦ some (desc k (ds then es)) ])
       go none z = tt
-      go (some k) z = ((join-canonical 𝓛 (g ∷ h ∷ []) (fine-cons 𝓛 g (h ∷ []) (c .0) (e .0, tt)) k z, can-then 𝓛 ds es (c .1) (e .1)), proper-then ds es p q)
+      go (some k) z = (
+        (join-canonical 𝓛 (g ∷ h ∷ []) (fine-cons 𝓛 g (h ∷ []) (c .0) (e .0, tt)) k z, can-then 𝓛 ds es (c .1) (e .1)),
+        proper-then ds es p q,
+      )
 
   -- whatever comes to the greatest stable part, in whatever order it drops, has the result of mode 1
-  pub quick-best : (a b : Desc Graph) → Can 𝓛 a → Can 𝓛 b → Proper a → Proper b → (d : Desc Graph) → joined J a b ≡ some d → (o : Option (Desc Graph)) → Passed J d o → quick J a b ≡ fold-some J o
+  pub quick-best : (a b : Desc Graph) → Can 𝓛 a → Can 𝓛 b → Proper a → Proper b → (d : Desc Graph) → joined J a b ≡ some d →
+      (o : Option (Desc Graph)) → Passed J d o → quick J a b ≡ fold-some J o
   unfolding quick
   quick-best a b c e p q d j o h =
       let z : Comes (some d) = subst Comes j (joined-comes a b c e p q) in
       let s : fold J d ≡ d = proper-fold d (z .0) (z .1) in
       let n : ℕ = suc (size d) in
-      let t : TidiedBest J (nil ∷ []) d (tidy J n nil d) = subst (λ (y : Desc Graph). TidiedBest J (nil ∷ []) d (tidy J n nil y)) s (tidy-best 𝓛 n nil nil-canonical d (z .0) (proper-sane d (z .0) (z .1)) (subst (λ (y : Desc Graph). size y ≤ n) (sym s) (omega arith))) in
-      ap (λ (x : Option (Desc Graph)). elim x [ none ↦ none | some d ↦ tidy J (suc (size d)) nil d ]) j ∙ tidies-passed J d (tidy J n nil d) o t h
+      let t : TidiedBest J (nil ∷ []) d (tidy J n nil d) =
+      subst (λ (y : Desc Graph). TidiedBest J (nil ∷ []) d (tidy J n nil y)) s
+      (tidy-best 𝓛 n nil nil-canonical d (z .0) (proper-sane d (z .0) (z .1))
+      (subst (λ (y : Desc Graph). size y ≤ n) (sym s) (omega arith))) in
+      ap (λ (x : Option (Desc Graph)). elim x [ none ↦ none | some d ↦ tidy J (suc (size d)) nil d ]) j
+      ∙ tidies-passed J d (tidy J n nil d) o t h

@@ -13,11 +13,13 @@ use Rattle.descriptions.proofs.Mean.{Can}
 use Rattle.modes_by_marks.specs.Placed.{Options, Placed, Places, _also_, no-more, option, place, stop, strip, strip-all, strip-any}
 use Rattle.modes_by_marks.specs.Marks.{Marking, all-kept, drop, keep, keep-all, keep-any, kept-of, left-by}
 use Rattle.modes_by_marks.specs.Certain.{certain, certain-any, sure-any}
-use Rattle.modes_by_marks.specs.Quickly.{Step, any-at, fails, inside-at, narrow-at, passes-at, quick-at, settle-at, sift-at, stands, tried, try-at}
+use Rattle.modes_by_marks.specs.Quickly.{Step, any-at, fails, inside-at, narrow-at, passes-at, quick-at, settle-at, sift-at, stands}
+use Rattle.modes_by_marks.specs.Quickly.{tried, try-at}
 use Rattle.modes_by_marks.proofs.Names.{Apart, Distinct, DistinctAll, DistinctAny, names, names-all, names-any}
 use Rattle.modes_by_marks.proofs.Dropping.{Left, inside, narrow, narrow-any, passes, settle, sift, try}
 use Rattle.modes_by_marks.proofs.Passes.{Passed, passes-ok}
-use Rattle.modes_by_marks.proofs.Marks.{drop-other, drop-self, keep-all-marked, keep-all-same, keep-any-same, keep-false, keep-same, keep-true, kept-alts}
+use Rattle.modes_by_marks.proofs.Marks.{drop-other, drop-self, keep-all-marked, keep-all-same, keep-any-same, keep-false, keep-same}
+use Rattle.modes_by_marks.proofs.Marks.{keep-true, kept-alts}
 use Rattle.descriptions.proofs.Laws.{Laws}
 use Rattle.descriptions.specs.Joining.{Joining}
 
@@ -50,11 +52,13 @@ module _ {Graph : Type 0} (J : Joining Graph) where
 
   abbrev pub NarrowedAt : List Graph → Marking → Places Graph → Step Graph → Type 0
   NarrowedAt S m ds (fails n) = (narrow J S (strip-all (keep-all m ds)) ≡ none) × Only (names-all ds) m n
-  NarrowedAt S m ds (stands T n) = (narrow J S (strip-all (keep-all m ds)) ≡ some (record { stack = T; left = strip-all (keep-all n ds) })) × Only (names-all ds) m n
+  NarrowedAt S m ds (stands T n) = (narrow J S (strip-all (keep-all m ds)) ≡ some (record { stack = T; left = strip-all (keep-all n ds) }))
+      × Only (names-all ds) m n
 
   abbrev AnyAt : List Graph → Marking → Options Graph → Step Graph → Type 0
   AnyAt S m a (fails n) = (narrow-any J S (strip-any (keep-any m a)) ≡ none) × Only (names-any a) m n
-  AnyAt S m a (stands T n) = (narrow-any J S (strip-any (keep-any m a)) ≡ some (record { stack = T; left = strip-any (keep-any n a) })) × Only (names-any a) m n
+  AnyAt S m a (stands T n) = (narrow-any J S (strip-any (keep-any m a)) ≡ some (record { stack = T; left = strip-any (keep-any n a) }))
+      × Only (names-any a) m n
 
   abbrev InAt : List Graph → Marking → Placed Graph → Step Graph → Type 0
   InAt S m d (fails n) = (inside J S (strip (keep m d)) ≡ none) × Only (names d) m n
@@ -63,7 +67,8 @@ module _ {Graph : Type 0} (J : Joining Graph) where
   abbrev pub SiftedAt : List Graph → Marking → Options Graph → Marking → Type 0
   SiftedAt S m a n = (sift J S (strip-any (keep-any m a)) ≡ strip-any (keep-any n a)) × Only (names-any a) m n
 
-  try-at-desc : (S : List Graph) (m : Marking) (g : Graph) (ds : Places Graph) (t : Bool) (o : Step Graph) → NarrowedAt (S ++ g ∷ certain m ds) m ds o → agree J (S ++ g ∷ certain m ds) ≡ t →
+  try-at-desc : (S : List Graph) (m : Marking) (g : Graph) (ds : Places Graph) (t : Bool) (o : Step Graph) →
+      NarrowedAt (S ++ g ∷ certain m ds) m ds o → agree J (S ++ g ∷ certain m ds) ≡ t →
       TriedAt S m (place g ds) (elim t [ false ↦ fails m | true ↦ o ])
   unfolding try
   try-at-desc S m g ds t o N e = go t o N e
@@ -71,12 +76,14 @@ module _ {Graph : Type 0} (J : Joining Graph) where
       ask : Bool → Option (Left Graph (Disjs Graph)) → Option (Desc Graph)
       ask t o = elim t [ false ↦ none | true ↦ elim o [ none ↦ none | some r ↦ some (desc g (r .left)) ] ]
 
-      go : (t : Bool) (o : Step Graph) → NarrowedAt (S ++ g ∷ certain m ds) m ds o → agree J (S ++ g ∷ certain m ds) ≡ t → TriedAt S m (place g ds) (elim t [ false ↦ fails m | true ↦ o ])
+      go : (t : Bool) (o : Step Graph) → NarrowedAt (S ++ g ∷ certain m ds) m ds o → agree J (S ++ g ∷ certain m ds) ≡ t →
+          TriedAt S m (place g ds) (elim t [ false ↦ fails m | true ↦ o ])
       go false o N e = (ap (λ (t : Bool). ask t (narrow J (S ++ g ∷ certain m ds) (strip-all (keep-all m ds)))) e, λ y h. refl)
       go true (fails n) N e = (ap₂ {C = Option (Desc Graph)} ask e (N .0), N .1)
       go true (stands T n) N e = (ap₂ {C = Option (Desc Graph)} ask e (N .0), N .1)
 
-  in-at-desc : (S : List Graph) (m : Marking) (g : Graph) (ds : Places Graph) (o : Step Graph) → NarrowedAt S m ds o → InAt S m (place g ds) o
+  in-at-desc : (S : List Graph) (m : Marking) (g : Graph) (ds : Places Graph) (o : Step Graph) → NarrowedAt S m ds o →
+      InAt S m (place g ds) o
   unfolding try
   in-at-desc S m g ds o N = go o N
     where
@@ -91,11 +98,20 @@ module _ {Graph : Type 0} (J : Joining Graph) where
     here-first : (n : Marking) → Only (names-any a) m n → Only (names-any a ++ names-all ds) m n
     here-first n u = only-more (names-any a) (names-any a ++ names-all ds) m n (λ y i. Memᴰ·append-left (names-all ds) i) u
 
-    narrow-at-more : (o : Step Graph) → AnyAt S m a o → (q : List Graph → Marking → Step Graph) → ((T : List Graph) (n : Marking) → NarrowedAt T n ds (q T n)) →
+    narrow-at-more : (o : Step Graph) → AnyAt S m a o → (q : List Graph → Marking → Step Graph) →
+        ((T : List Graph) (n : Marking) → NarrowedAt T n ds (q T n)) →
         NarrowedAt S m (a also ds) (elim o [ fails n ↦ fails n | stands T n ↦ q T n ])
     unfolding try
-    narrow-at-more (fails n) A q Q =
-        (ap (λ (o : Option (Left Graph (Alts Graph))). elim o [ none ↦ none | some r ↦ elim (narrow J (r .stack) (strip-all (keep-all m ds))) [ none ↦ none | some q ↦ some (record { stack = q .stack; left = r .left and q .left }) ] ]) (A .0), here-first n (A .1))
+    narrow-at-more (fails n) A q Q = (
+      ap (λ (o : Option (Left Graph (Alts Graph))). elim o [
+        | none ↦ none
+        | some r ↦ elim (narrow J (r .stack) (strip-all (keep-all m ds))) [
+          | none ↦ none
+          | some q ↦ some (record { stack = q .stack; left = r .left and q .left })
+        ]
+      ]) (A .0),
+      here-first n (A .1),
+    )
     narrow-at-more (stands T n) A q Q = go (q T n) (Q T n)
       where
         D : Disjs Graph
@@ -108,22 +124,31 @@ module _ {Graph : Type 0} (J : Joining Graph) where
         before o = elim o [ none ↦ none | some q ↦ some (record { stack = q .stack; left = strip-any (keep-any n a) and q .left }) ]
 
         first : narrow J S (strip-any (keep-any m a) and D) ≡ before (narrow J T (strip-all (keep-all n ds)))
-        first = ap (λ (o : Option (Left Graph (Alts Graph))). elim o [ none ↦ none | some r ↦ elim (narrow J (r .stack) D) [ none ↦ none | some q ↦ some (record { stack = q .stack; left = r .left and q .left }) ] ]) (A .0)
+        first = ap (λ (o : Option (Left Graph (Alts Graph))). elim o [
+          | none ↦ none
+          | some r ↦ elim (narrow J (r .stack) D) [
+            | none ↦ none
+            | some q ↦ some (record { stack = q .stack; left = r .left and q .left })
+          ]
+        ]) (A .0)
             ∙ ap (λ (z : Disjs Graph). before (narrow J T z)) (sym D-same)
 
         only : (k : Marking) → Only (names-all ds) n k → Only (names-any a ++ names-all ds) m k
-        only k u = only-trans (names-any a ++ names-all ds) m n k (here-first n (A .1)) (only-more (names-all ds) (names-any a ++ names-all ds) n k (λ y i. Memᴰ·append-right (names-any a) i) u)
+        only k u = only-trans (names-any a ++ names-all ds) m n k (here-first n (A .1))
+            (only-more (names-all ds) (names-any a ++ names-all ds) n k (λ y i. Memᴰ·append-right (names-any a) i) u)
 
         go : (o : Step Graph) → NarrowedAt T n ds o → NarrowedAt S m (a also ds) o
         go (fails k) N = (first ∙ ap before (N .0), only k (N .1))
         go (stands U k) N = (
           first ∙ ap before (N .0)
-              ∙ ap (λ (z : Options Graph). some (record { stack = U; left = strip-any z and strip-all (keep-all k ds) })) (keep-any-same a n k (λ y i. sym (apart-back (names-any a) (names-all ds) n k w (N .1) y i))),
+              ∙ ap (λ (z : Options Graph). some (record { stack = U; left = strip-any z and strip-all (keep-all k ds) }))
+              (keep-any-same a n k (λ y i. sym (apart-back (names-any a) (names-all ds) n k w (N .1) y i))),
           only k (N .1),
         )
 
   -- one alternative tried, the later ones sifted
-  module _ (S : List Graph) (x : ℕ) (d : Placed Graph) (a : Options Graph) (w : DistinctAny (option x d a)) (q : Marking → Marking) (Q : (n : Marking) → SiftedAt S n a (q n)) where
+  module _ (S : List Graph) (x : ℕ) (d : Placed Graph) (a : Options Graph) (w : DistinctAny (option x d a)) (q : Marking →
+      Marking) (Q : (n : Marking) → SiftedAt S n a (q n)) where
     off-any : ¬ (List·Memᴰ x (names-any a))
     off-any i = w .3 x (List·Memᴰ·head refl) i
 
@@ -141,7 +166,10 @@ module _ {Graph : Type 0} (J : Joining Graph) where
 
     -- an alternative that failed is dropped; whatever the failed attempt did to the marks inside it does not count
     step-dropped : (m n : Marking) → try J S (strip (keep m d)) ≡ none → Only (names d) m n →
-        (elim (try J S (strip (keep m d))) [ none ↦ sift J S (strip-any (keep-any m a)) | some f ↦ f or sift J S (strip-any (keep-any m a)) ] ≡ strip-any (keep-any (q (drop x n)) (option x d a)))
+        (elim (try J S (strip (keep m d))) [
+          | none ↦ sift J S (strip-any (keep-any m a))
+          | some f ↦ f or sift J S (strip-any (keep-any m a))
+        ] ≡ strip-any (keep-any (q (drop x n)) (option x d a)))
         × Only here m (q (drop x n))
     step-dropped m n T u =
         let k : Marking = drop x n in
@@ -152,38 +180,60 @@ module _ {Graph : Type 0} (J : Joining Graph) where
           ap (λ (o : Option (Desc Graph)). elim o [ none ↦ sift J S A | some f ↦ f or sift J S A ]) T
               ∙ ap (λ (z : Options Graph). sift J S (strip-any z)) (sym s) ∙ Q k .0
               ∙ ap strip-any (sym (keep-false (q k) x d a (Q k .1 x off-any ∙ drop-self x n))),
-          only-trans here m n (q k) (in-here m n u) (only-trans here n k (q k) (λ y h. drop-other x n y (λ z. h (List·Memᴰ·head z))) (any-here k (q k) (Q k .1))),
+          only-trans here m n (q k) (in-here m n u)
+              (only-trans here n k (q k) (λ y h. drop-other x n y (λ z. h (List·Memᴰ·head z))) (any-here k (q k) (Q k .1))),
         )
 
     step-at : (m : Marking) → (o : Step Graph) → TriedAt S m d o → m x ≡ true →
-        (elim (try J S (strip (keep m d))) [ none ↦ sift J S (strip-any (keep-any m a)) | some f ↦ f or sift J S (strip-any (keep-any m a)) ] ≡ strip-any (keep-any (q (tried x o)) (option x d a)))
+        (elim (try J S (strip (keep m d))) [
+          | none ↦ sift J S (strip-any (keep-any m a))
+          | some f ↦ f or sift J S (strip-any (keep-any m a))
+        ] ≡ strip-any (keep-any (q (tried x o)) (option x d a)))
         × Only here m (q (tried x o))
     step-at m (fails n) T e = step-dropped m n (T .0) (T .1)
     step-at m (stands U n) T e =
         let A : Alts Graph = strip-any (keep-any m a) in
         let s : keep-any n a ≡ keep-any m a = keep-any-same a n m (apart-same (names d) (names-any a) m n (w .4) (T .1)) in
-        let k : keep n d ≡ keep (q n) d = keep-same d n (q n) (λ y i. sym (apart-back (names d) (names-any a) n (q n) (w .4) (Q n .1) y i)) in (
+        let k : keep n d ≡ keep (q n) d =
+        keep-same d n (q n) (λ y i. sym (apart-back (names d) (names-any a) n (q n) (w .4) (Q n .1) y i)) in (
           ap (λ (o : Option (Desc Graph)). elim o [ none ↦ sift J S A | some f ↦ f or sift J S A ]) (T .0)
-              ∙ ap₂ {C = Alts Graph} (λ (u : Placed Graph) (v : Alts Graph). strip u or v) k (ap (λ (z : Options Graph). sift J S (strip-any z)) (sym s) ∙ Q n .0)
+              ∙ ap₂ {C = Alts Graph} (λ (u : Placed Graph) (v : Alts Graph). strip u or v) k
+              (ap (λ (z : Options Graph). sift J S (strip-any z)) (sym s) ∙ Q n .0)
               ∙ ap strip-any (sym (keep-true (q n) x d a (Q n .1 x off-any ∙ T .1 x off-in ∙ e))),
           only-trans here m n (q n) (in-here m n (T .1)) (any-here n (q n) (Q n .1)),
         )
 
-    sift-at-more : (m : Marking) (o : Step Graph) → TriedAt S m d o → (t : Bool) → m x ≡ t → SiftedAt S m (option x d a) (elim t [ false ↦ q m | true ↦ q (tried x o) ])
+    sift-at-more : (m : Marking) (o : Step Graph) → TriedAt S m d o → (t : Bool) → m x ≡ t →
+        SiftedAt S m (option x d a) (elim t [ false ↦ q m | true ↦ q (tried x o) ])
     unfolding try
-    sift-at-more m o T false e =
-        (ap (λ (z : Options Graph). sift J S (strip-any z)) (keep-false m x d a e) ∙ Q m .0 ∙ ap strip-any (sym (keep-false (q m) x d a (Q m .1 x off-any ∙ e))), any-here m (q m) (Q m .1))
-    sift-at-more m o T true e = let r = step-at m o T e in (ap (λ (z : Options Graph). sift J S (strip-any z)) (keep-true m x d a e) ∙ r .0, r .1)
+    sift-at-more m o T false e = (
+      ap (λ (z : Options Graph). sift J S (strip-any z)) (keep-false m x d a e) ∙ Q m .0
+          ∙ ap strip-any (sym (keep-false (q m) x d a (Q m .1 x off-any ∙ e))),
+      any-here m (q m) (Q m .1),
+    )
+    sift-at-more m o T true e = let r = step-at m o T e in
+        (ap (λ (z : Options Graph). sift J S (strip-any z)) (keep-true m x d a e) ∙ r .0, r .1)
 
   -- after the alternatives were tried
-  settle-by : (S : List Graph) (B : Alts Graph) → settle J S B ≡ elim (alts B) [ zero ↦ none | suc k ↦ elim k [ zero ↦ elim (agree J (S ++ sure-any B)) [ false ↦ none | true ↦ some (record { stack = S ++ sure-any B; left = B }) ] | suc l ↦ some (record { stack = S; left = B }) ] ]
+  settle-by : (S : List Graph) (B : Alts Graph) →
+      settle J S B ≡ elim (alts B) [
+        | zero ↦ none
+        | suc k ↦ elim k [
+          | zero ↦ elim (agree J (S ++ sure-any B)) [
+            | false ↦ none
+            | true ↦ some (record { stack = S ++ sure-any B; left = B })
+          ]
+          | suc l ↦ some (record { stack = S; left = B })
+        ]
+      ]
   settle-by S fail = refl
   settle-by S (d or fail) = refl
   settle-by S (d or (e or b)) = refl
 
   abbrev SettledAt : List Graph → Marking → Options Graph → Step Graph → Type 0
   SettledAt S n a (fails k) = (settle J S (strip-any (keep-any n a)) ≡ none) × (k ≡ n)
-  SettledAt S n a (stands T k) = (settle J S (strip-any (keep-any n a)) ≡ some (record { stack = T; left = strip-any (keep-any k a) })) × (k ≡ n)
+  SettledAt S n a (stands T k) = (settle J S (strip-any (keep-any n a)) ≡ some (record { stack = T; left = strip-any (keep-any k a) }))
+      × (k ≡ n)
 
   settle-at-ok : (S : List Graph) (n : Marking) (a : Options Graph) → SettledAt S n a (settle-at J S n a)
   settle-at-ok S n a = go (kept-of n a) (kept-alts n a) (agree J (S ++ certain-any n a)) refl
@@ -191,24 +241,46 @@ module _ {Graph : Type 0} (J : Joining Graph) where
       B : Alts Graph
       B = strip-any (keep-any n a)
 
-      by : (k : ℕ) → k ≡ alts B → settle J S B ≡ elim k [ zero ↦ none | suc k ↦ elim k [ zero ↦ elim (agree J (S ++ sure-any B)) [ false ↦ none | true ↦ some (record { stack = S ++ sure-any B; left = B }) ] | suc l ↦ some (record { stack = S; left = B }) ] ]
-      by k e = settle-by S B ∙ ap (λ (k : ℕ). elim k [ zero ↦ none | suc k ↦ elim k [ zero ↦ elim (agree J (S ++ sure-any B)) [ false ↦ none | true ↦ some (record { stack = S ++ sure-any B; left = B }) ] | suc l ↦ some (record { stack = S; left = B }) ] ]) (sym e)
+      by : (k : ℕ) → k ≡ alts B → settle J S B
+          ≡ elim k [
+            | zero ↦ none
+            | suc k ↦
+                elim k [
+                  | zero ↦ elim (agree J (S ++ sure-any B)) [ false ↦ none | true ↦ some (record { stack = S ++ sure-any B; left = B }) ]
+                  | suc l ↦ some (record { stack = S; left = B })
+                ]
+          ]
+      by k e = settle-by S B ∙ ap (λ
+          (k : ℕ). elim k [
+            | zero ↦ none
+            | suc k ↦
+                elim k [
+                  | zero ↦ elim (agree J (S ++ sure-any B)) [ false ↦ none | true ↦ some (record { stack = S ++ sure-any B; left = B }) ]
+                  | suc l ↦ some (record { stack = S; left = B })
+                ]
+          ]) (sym e)
 
       ask : Bool → Option (Left Graph (Alts Graph))
       ask t = elim t [ false ↦ none | true ↦ some (record { stack = S ++ sure-any B; left = B }) ]
 
-      go : (k : ℕ) → k ≡ alts B → (t : Bool) → agree J (S ++ sure-any B) ≡ t → SettledAt S n a (elim k [ zero ↦ fails n | suc k ↦ elim k [ zero ↦ elim t [ false ↦ fails n | true ↦ stands (S ++ sure-any B) n ] | suc l ↦ stands S n ] ])
+      go : (k : ℕ) → k ≡ alts B → (t : Bool) → agree J (S ++ sure-any B) ≡ t →
+          SettledAt S n a (elim k [
+            | zero ↦ fails n
+            | suc k ↦ elim k [ zero ↦ elim t [ false ↦ fails n | true ↦ stands (S ++ sure-any B) n ] | suc l ↦ stands S n ]
+          ])
       go zero e t h = (by zero e, refl)
       go (suc zero) e false h = (by (suc zero) e ∙ ap ask h, refl)
       go (suc zero) e true h = (by (suc zero) e ∙ ap ask h, refl)
       go (suc (suc l)) e t h = (by (suc (suc l)) e, refl)
 
-  many-any : (S : List Graph) (d : Desc Graph) (b : Alts Graph) (k : ℕ) → suc k ≡ alts b → narrow-any J S (d or b) ≡ settle J S (elim (try J S d) [ none ↦ sift J S b | some f ↦ f or sift J S b ])
+  many-any : (S : List Graph) (d : Desc Graph) (b : Alts Graph) (k : ℕ) → suc k ≡ alts b →
+      narrow-any J S (d or b) ≡ settle J S (elim (try J S d) [ none ↦ sift J S b | some f ↦ f or sift J S b ])
   unfolding try
   many-any S d fail k e = absurd (omega arith)
   many-any S d (f or b) k e = refl
 
-  any-at-more : (S : List Graph) (x : ℕ) (d : Placed Graph) (a : Options Graph) → DistinctAny (option x d a) → (m : Marking) → (o : Step Graph) → TriedAt S m d o → (i : Step Graph) → InAt S m d i → (l : Step Graph) → AnyAt S m a l →
+  any-at-more : (S : List Graph) (x : ℕ) (d : Placed Graph) (a : Options Graph) → DistinctAny (option x d a) → (m : Marking) →
+      (o : Step Graph) → TriedAt S m d o → (i : Step Graph) → InAt S m d i → (l : Step Graph) → AnyAt S m a l →
       (q : Marking → Marking) → ((n : Marking) → SiftedAt S n a (q n)) → (t : Bool) → m x ≡ t → (k : ℕ) → kept-of m a ≡ k →
       AnyAt S m (option x d a) (elim t [ false ↦ l | true ↦ elim k [ zero ↦ i | suc k ↦ settle-at J S (q (tried x o)) (option x d a) ] ])
   unfolding try
@@ -222,7 +294,12 @@ module _ {Graph : Type 0} (J : Joining Graph) where
 
       go : (l : Step Graph) → AnyAt S m a l → AnyAt S m (option x d a) l
       go (fails n) z = (start ∙ z .0, only n (z .1))
-      go (stands U n) z = (start ∙ z .0 ∙ ap (λ (y : Options Graph). some (record { stack = U; left = strip-any y })) (sym (keep-false n x d a (z .1 x (λ j. w .3 x (List·Memᴰ·head refl) j) ∙ e))), only n (z .1))
+      go (stands U n) z = (
+        start ∙ z .0
+            ∙ ap (λ (y : Options Graph). some (record { stack = U; left = strip-any y }))
+            (sym (keep-false n x d a (z .1 x (λ j. w .3 x (List·Memᴰ·head refl) j) ∙ e))),
+        only n (z .1),
+      )
   any-at-more S x d a w m o T i I l L q Q true e zero h = go i I
     where
       A : Alts Graph
@@ -235,7 +312,8 @@ module _ {Graph : Type 0} (J : Joining Graph) where
       lone o = elim o [ none ↦ none | some r ↦ some (record { stack = r .stack; left = r .left or fail }) ]
 
       start : narrow-any J S (strip-any (keep-any m (option x d a))) ≡ lone (inside J S (strip (keep m d)))
-      start = ap (λ (y : Options Graph). narrow-any J S (strip-any y)) (keep-true m x d a e) ∙ ap (λ (y : Alts Graph). narrow-any J S (strip (keep m d) or y)) none-else
+      start = ap (λ (y : Options Graph). narrow-any J S (strip-any y)) (keep-true m x d a e)
+          ∙ ap (λ (y : Alts Graph). narrow-any J S (strip (keep m d) or y)) none-else
 
       only : (n : Marking) → Only (names d) m n → Only (x ∷ (names d ++ names-any a)) m n
       only n u = only-more (names d) (x ∷ (names d ++ names-any a)) m n (λ y j. List·Memᴰ·tail (Memᴰ·append-left (names-any a) j)) u
@@ -244,8 +322,10 @@ module _ {Graph : Type 0} (J : Joining Graph) where
       go (fails n) z = (start ∙ ap lone (z .0), only n (z .1))
       go (stands U n) z = (
         start ∙ ap lone (z .0)
-            ∙ ap (λ (y : Alts Graph). some (record { stack = U; left = strip (keep n d) or y })) (sym (ap strip-any (keep-any-same a n m (apart-same (names d) (names-any a) m n (w .4) (z .1))) ∙ none-else))
-            ∙ ap (λ (y : Options Graph). some (record { stack = U; left = strip-any y })) (sym (keep-true n x d a (z .1 x (λ j. w .2 x (List·Memᴰ·head refl) j) ∙ e))),
+            ∙ ap (λ (y : Alts Graph). some (record { stack = U; left = strip (keep n d) or y }))
+            (sym (ap strip-any (keep-any-same a n m (apart-same (names d) (names-any a) m n (w .4) (z .1))) ∙ none-else))
+            ∙ ap (λ (y : Options Graph). some (record { stack = U; left = strip-any y }))
+            (sym (keep-true n x d a (z .1 x (λ j. w .2 x (List·Memᴰ·head refl) j) ∙ e))),
         only n (z .1),
       )
   any-at-more S x d a w m o T i I l L q Q true e (suc k) h = go (settle-at J S new (option x d a)) (settle-at-ok S new (option x d a))
@@ -253,11 +333,16 @@ module _ {Graph : Type 0} (J : Joining Graph) where
       new : Marking
       new = q (tried x o)
 
-      st : (elim (try J S (strip (keep m d))) [ none ↦ sift J S (strip-any (keep-any m a)) | some f ↦ f or sift J S (strip-any (keep-any m a)) ] ≡ strip-any (keep-any new (option x d a))) × Only (x ∷ (names d ++ names-any a)) m new
+      st : (elim (try J S (strip (keep m d))) [
+        | none ↦ sift J S (strip-any (keep-any m a))
+        | some f ↦ f or sift J S (strip-any (keep-any m a))
+      ] ≡ strip-any (keep-any new (option x d a)))
+          × Only (x ∷ (names d ++ names-any a)) m new
       st = step-at S x d a w q Q m o T e
 
       start : narrow-any J S (strip-any (keep-any m (option x d a))) ≡ settle J S (strip-any (keep-any new (option x d a)))
-      start = ap (λ (y : Options Graph). narrow-any J S (strip-any y)) (keep-true m x d a e) ∙ many-any S (strip (keep m d)) (strip-any (keep-any m a)) k (sym h ∙ kept-alts m a) ∙ ap (settle J S) (st .0)
+      start = ap (λ (y : Options Graph). narrow-any J S (strip-any y)) (keep-true m x d a e)
+          ∙ many-any S (strip (keep m d)) (strip-any (keep-any m a)) k (sym h ∙ kept-alts m a) ∙ ap (settle J S) (st .0)
 
       go : (r : Step Graph) → SettledAt S new (option x d a) r → AnyAt S m (option x d a) r
       go (fails n) z = (start ∙ z .0, subst (Only (x ∷ (names d ++ names-any a)) m) (sym (z .1)) (st .1))
@@ -267,22 +352,29 @@ module _ {Graph : Type 0} (J : Joining Graph) where
     unfolding try-at try
 
     pub try-at-ok : (d : Placed Graph) → Distinct d → (S : List Graph) (m : Marking) → TriedAt S m d (try-at J S m d)
-    try-at-ok (place g ds) w S m = try-at-desc S m g ds (agree J (S ++ g ∷ certain m ds)) (narrow-at J (S ++ g ∷ certain m ds) m ds) (narrow-at-ok ds w (S ++ g ∷ certain m ds) m) refl
+    try-at-ok (place g ds) w S m =
+        try-at-desc S m g ds (agree J (S ++ g ∷ certain m ds)) (narrow-at J (S ++ g ∷ certain m ds) m ds)
+        (narrow-at-ok ds w (S ++ g ∷ certain m ds) m) refl
 
     pub narrow-at-ok : (ds : Places Graph) → DistinctAll ds → (S : List Graph) (m : Marking) → NarrowedAt S m ds (narrow-at J S m ds)
     narrow-at-ok stop w S m = (refl, λ y h. refl)
-    narrow-at-ok (a also ds) w S m = narrow-at-more S m a ds (w .2) (any-at J S m a) (any-at-ok a (w .0) S m) (λ T n. narrow-at J T n ds) (λ T n. narrow-at-ok ds (w .1) T n)
+    narrow-at-ok (a also ds) w S m =
+        narrow-at-more S m a ds (w .2) (any-at J S m a) (any-at-ok a (w .0) S m) (λ T n. narrow-at J T n ds)
+        (λ T n. narrow-at-ok ds (w .1) T n)
 
     pub any-at-ok : (a : Options Graph) → DistinctAny a → (S : List Graph) (m : Marking) → AnyAt S m a (any-at J S m a)
     any-at-ok no-more w S m = (refl, λ y h. refl)
-    any-at-ok (option x d a) w S m = any-at-more S x d a w m (try-at J S m d) (try-at-ok d (w .0) S m) (inside-at J S m d) (inside-at-ok d (w .0) S m) (any-at J S m a) (any-at-ok a (w .1) S m) (λ n. sift-at J S n a) (λ n. sift-at-ok a (w .1) S n) (m x) refl (kept-of m a) refl
+    any-at-ok (option x d a) w S m =
+        any-at-more S x d a w m (try-at J S m d) (try-at-ok d (w .0) S m) (inside-at J S m d) (inside-at-ok d (w .0) S m) (any-at J S m a)
+        (any-at-ok a (w .1) S m) (λ n. sift-at J S n a) (λ n. sift-at-ok a (w .1) S n) (m x) refl (kept-of m a) refl
 
     pub inside-at-ok : (d : Placed Graph) → Distinct d → (S : List Graph) (m : Marking) → InAt S m d (inside-at J S m d)
     inside-at-ok (place g ds) w S m = in-at-desc S m g ds (narrow-at J S m ds) (narrow-at-ok ds w S m)
 
     pub sift-at-ok : (a : Options Graph) → DistinctAny a → (S : List Graph) (m : Marking) → SiftedAt S m a (sift-at J S m a)
     sift-at-ok no-more w S m = (refl, λ y h. refl)
-    sift-at-ok (option x d a) w S m = sift-at-more S x d a w (λ n. sift-at J S n a) (λ n. sift-at-ok a (w .1) S n) m (try-at J S m d) (try-at-ok d (w .0) S m) (m x) refl
+    sift-at-ok (option x d a) w S m =
+        sift-at-more S x d a w (λ n. sift-at J S n a) (λ n. sift-at-ok a (w .1) S n) m (try-at J S m d) (try-at-ok d (w .0) S m) (m x) refl
 
   -- the passes
   pub passes-at-ok : (n : ℕ) (d : Placed Graph) → Distinct d → (m : Marking) → passes J n (strip (keep m d)) ≡ left-by d (passes-at J n m d)
@@ -295,17 +387,30 @@ module _ {Graph : Type 0} (J : Joining Graph) where
 
       go : (o : Step Graph) → TriedAt [] m d o → ((k : Marking) → passes J n (strip (keep k d)) ≡ left-by d (passes-at J n k d)) →
           elim (try J [] now) [ none ↦ none | some e ↦ elim (eqb (size e) (size now)) [ true ↦ some e | false ↦ passes J n e ] ]
-          ≡ left-by d (elim o [ fails k ↦ none | stands U k ↦ elim (eqb (size (strip (keep k d))) (size now)) [ true ↦ some k | false ↦ passes-at J n k d ] ])
-      go (fails k) T ih = ap (λ (o : Option (Desc Graph)). elim o [ none ↦ none | some e ↦ elim (eqb (size e) (size now)) [ true ↦ some e | false ↦ passes J n e ] ]) (T .0)
-      go (stands U k) T ih = ap (λ (o : Option (Desc Graph)). elim o [ none ↦ none | some e ↦ elim (eqb (size e) (size now)) [ true ↦ some e | false ↦ passes J n e ] ]) (T .0) ∙ two (eqb (size (strip (keep k d))) (size now))
+          ≡ left-by d (elim o [
+            | fails k ↦ none
+            | stands U k ↦ elim (eqb (size (strip (keep k d))) (size now)) [ true ↦ some k | false ↦ passes-at J n k d ]
+          ])
+      go (fails k) T ih = ap (λ (o : Option (Desc Graph)). elim o [
+        | none ↦ none
+        | some e ↦ elim (eqb (size e) (size now)) [ true ↦ some e | false ↦ passes J n e ]
+      ]) (T .0)
+      go (stands U k) T ih = ap (λ (o : Option (Desc Graph)). elim o [
+        | none ↦ none
+        | some e ↦ elim (eqb (size e) (size now)) [ true ↦ some e | false ↦ passes J n e ]
+      ]) (T .0)
+          ∙ two (eqb (size (strip (keep k d))) (size now))
         where
-          two : (t : Bool) → _≡_ {A = Option (Desc Graph)} (elim t [ true ↦ some (strip (keep k d)) | false ↦ passes J n (strip (keep k d)) ]) (left-by d (elim t [ true ↦ some k | false ↦ passes-at J n k d ]))
+          two : (t : Bool) → _≡_ {A = Option (Desc Graph)}
+              (elim t [ true ↦ some (strip (keep k d)) | false ↦ passes J n (strip (keep k d)) ])
+              (left-by d (elim t [ true ↦ some k | false ↦ passes-at J n k d ]))
           two true = refl
           two false = ih k
 
   pub quick-at-ok : (d : Placed Graph) → Distinct d → passes J (size (strip d)) (strip d) ≡ left-by d (quick-at J d)
   unfolding quick-at
-  quick-at-ok d w = ap (λ (z : Placed Graph). passes J (size (strip d)) (strip z)) (sym (keep-all-marked d)) ∙ passes-at-ok (size (strip d)) d w all-kept
+  quick-at-ok d w = ap (λ (z : Placed Graph). passes J (size (strip d)) (strip z)) (sym (keep-all-marked d))
+      ∙ passes-at-ok (size (strip d)) d w all-kept
 
 module _ {Graph : Type 0} {J : Joining Graph} (𝓛 : Laws J) where
   -- the marks of the quick step leave the greatest stable part, or there is none

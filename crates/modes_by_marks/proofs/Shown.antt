@@ -26,18 +26,23 @@ module _ {Graph : Type 0} {J : Joining Graph} (𝓛 : Laws J) where
     unfolding shown fold
 
     pub shown-ok : (d : Desc Graph) → Can 𝓛 d → Sane J d → fold J d ≡ shown J d
-    shown-ok (desc g ds) c s = let (k, e, q) = shape 𝓛 (desc g ds) c s in q ∙ ap₂ {C = Desc Graph} desc (ap (or-else g) (sym e)) (shown-all-ok ds (c .1) (s .1))
+    shown-ok (desc g ds) c s = let (k, e, q) = shape 𝓛 (desc g ds) c s in q
+        ∙ ap₂ {C = Desc Graph} desc (ap (or-else g) (sym e)) (shown-all-ok ds (c .1) (s .1))
 
     pub shown-all-ok : (ds : Disjs Graph) → CanAll 𝓛 ds → SaneAll J ds → fold-all J ds .left ≡ shown-all J ds
     shown-all-ok end c s = refl
     shown-all-ok (a and ds) c s = shown-then-ok a (c .0) (s .0) (fold-all J ds) ∙ ap (shown-then J a) (shown-all-ok ds (c .1) (s .1))
 
-    shown-then-ok : (a : Alts Graph) → CanAny 𝓛 a → SaneAny J a → (r : Round Graph) → in-place J (fold-any J a) r .left ≡ shown-then J a (r .left)
+    shown-then-ok : (a : Alts Graph) → CanAny 𝓛 a → SaneAny J a → (r : Round Graph) →
+        in-place J (fold-any J a) r .left ≡ shown-then J a (r .left)
     shown-then-ok fail c s r = refl
-    shown-then-ok (d or a) c s r = go a (c .0) (s .0) (shown-in-ok d (c .0) (s .0)) (shown-ok d (c .0) (s .0)) (shown-any-ok a (c .1) (s .1))
+    shown-then-ok (d or a) c s r =
+        go a (c .0) (s .0) (shown-in-ok d (c .0) (s .0)) (shown-ok d (c .0) (s .0)) (shown-any-ok a (c .1) (s .1))
       where
-        go : (a : Alts Graph) → Can 𝓛 d → Sane J d → rest J d ≡ shown-in J d → fold J d ≡ shown J d → fold-any J a ≡ shown-any J a → in-place J (fold J d or fold-any J a) r .left ≡ shown-then J (d or a) (r .left)
-        go fail c s i e f = let (k, z, q) = shape 𝓛 d c s in ap (λ (y : Round Graph). y .left) (lone-in-place J d r k q) ∙ ap (λ (y : Disjs Graph). y then r .left) i
+        go : (a : Alts Graph) → Can 𝓛 d → Sane J d → rest J d ≡ shown-in J d → fold J d ≡ shown J d → fold-any J a ≡ shown-any J a →
+            in-place J (fold J d or fold-any J a) r .left ≡ shown-then J (d or a) (r .left)
+        go fail c s i e f = let (k, z, q) = shape 𝓛 d c s in ap (λ (y : Round Graph). y .left) (lone-in-place J d r k q)
+            ∙ ap (λ (y : Disjs Graph). y then r .left) i
         go (x or b) c s i e f = ap₂ {C = Disjs Graph} (λ (y : Desc Graph) (z : Alts Graph). (y or z) and r .left) e f
 
     shown-in-ok : (d : Desc Graph) → Can 𝓛 d → Sane J d → rest J d ≡ shown-in J d

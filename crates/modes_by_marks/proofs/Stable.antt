@@ -11,7 +11,8 @@ use Rattle.descriptions.proofs.Laws.{All, Laws, Within}
 use Rattle.descriptions.proofs.Mean.{Can, CanAll, CanAny, Fine, canon-append, fine-append, in-l, in-r, within-both}
 use Rattle.descriptions.proofs.Live.{Agrees}
 use Rattle.modes_by_marks.specs.Certain.{flat, sure, sure-any}
-use Rattle.modes_by_marks.proofs.Entail.{SaysAll, agrees-says, canon-in, says-append, says-more, says-within, w-cons, w-left, w-right, w-self, w-tail}
+use Rattle.modes_by_marks.proofs.Entail.{SaysAll, agrees-says, canon-in, says-append, says-more, says-within, w-cons, w-left}
+use Rattle.modes_by_marks.proofs.Entail.{w-right, w-self, w-tail}
 use Rattle.descriptions.specs.Joining.{Joining}
 
 module _ {Graph : Type 0} where
@@ -91,7 +92,8 @@ module _ {Graph : Type 0} where
   part-both d e p q = part-size d e p .1 (part-size e d q .0)
 
 module _ {Graph : Type 0} (J : Joining Graph) where
-  -- stable under S: each alternative that does not stand alone agrees with S and all that stands for certain around it, and is itself stable there; no disjunction is empty
+  -- stable under S: each alternative that does not stand alone agrees with S and all that stands for certain around it, and is itself
+  -- stable there; no disjunction is empty
   abbrev mutual
     pub Stable : List Graph → Desc Graph → Type 0
     Stable S (desc g ds) = Agrees J (S ++ g ∷ sure ds) × StableAll (S ++ g ∷ sure ds) ds
@@ -126,13 +128,17 @@ module _ {Graph : Type 0} (J : Joining Graph) where
   -- what stands for certain does so in every stable part
   mutual
     pub flat-part : (d e : Desc Graph) (S : List Graph) → Part d e → StableIn S e → Within (flat d) (flat e)
-    flat-part (desc g ds) (desc h es) S p s = w-cons g (sure ds) (h ∷ sure es) (List·Memᴰ·head (p .0)) (w-tail h (sure ds) (sure es) (sure-part ds es S (p .1) s))
+    flat-part (desc g ds) (desc h es) S p s =
+        w-cons g (sure ds) (h ∷ sure es) (List·Memᴰ·head (p .0)) (w-tail h (sure ds) (sure es) (sure-part ds es S (p .1) s))
 
     pub sure-part : (ds es : Disjs Graph) (S : List Graph) → PartAll ds es → StableAll S es → Within (sure ds) (sure es)
     sure-part end end S p s = w-self []
     sure-part end (b and es) S p s = absurd p
     sure-part (a and ds) end S p s = absurd p
-    sure-part (a and ds) (b and es) S p s = within-both (sure-any a) (sure ds) (sure-any b ++ sure es) (w-left (sure-any a) (sure-any b) (sure es) (sure-any-part a b S (p .0) (s .0))) (w-right (sure ds) (sure-any b) (sure es) (sure-part ds es S (p .1) (s .1)))
+    sure-part (a and ds) (b and es) S p s =
+        within-both (sure-any a) (sure ds) (sure-any b ++ sure es)
+        (w-left (sure-any a) (sure-any b) (sure es) (sure-any-part a b S (p .0) (s .0)))
+        (w-right (sure ds) (sure-any b) (sure es) (sure-part ds es S (p .1) (s .1)))
 
     pub sure-any-part : (a b : Alts Graph) (S : List Graph) → PartAny a b → StableSome S b → Within (sure-any a) (sure-any b)
     sure-any-part fail b S p s = λ g m. absurd (List·Memᴰ·not-nil m)
@@ -179,7 +185,8 @@ module _ {Graph : Type 0} {J : Joining Graph} (𝓛 : Laws J) where
   -- under less, stable still
   pub says-left : (S T X : List Graph) → Fine 𝓛 S → Fine 𝓛 T → All Canonical X → SaysAll 𝓛 S T → SaysAll 𝓛 (S ++ X) (T ++ X)
   says-left S T X fs ft fx s = let fsx = fine-append 𝓛 S X fs fx in
-      says-append 𝓛 (S ++ X) T X (λ g m. says-more 𝓛 S (S ++ X) g fs fsx (canon-in 𝓛 T (ft .1) g m) (in-l S X) (s g m)) (says-within 𝓛 (S ++ X) X fsx (in-r S X))
+      says-append 𝓛 (S ++ X) T X (λ g m. says-more 𝓛 S (S ++ X) g fs fsx (canon-in 𝓛 T (ft .1) g m) (in-l S X) (s g m))
+      (says-within 𝓛 (S ++ X) X fsx (in-r S X))
 
   mutual
     pub stable-less : (d : Desc Graph) (S T : List Graph) → Can 𝓛 d → Fine 𝓛 S → Fine 𝓛 T → SaysAll 𝓛 S T → Stable J S d → Stable J T d
@@ -187,37 +194,49 @@ module _ {Graph : Type 0} {J : Joining Graph} (𝓛 : Laws J) where
         let fx : All Canonical (g ∷ sure ds) = (c .0, sure-can ds (c .1)) in
         let s′ = says-left S T (g ∷ sure ds) fs ft fx s in
         let fS = fine-append 𝓛 S (g ∷ sure ds) fs fx in
-        let fT = fine-append 𝓛 T (g ∷ sure ds) ft fx in
-        (agrees-says 𝓛 (S ++ g ∷ sure ds) (T ++ g ∷ sure ds) fS fT s′ (k .0), stable-all-less ds (S ++ g ∷ sure ds) (T ++ g ∷ sure ds) (c .1) fS fT s′ (k .1))
+        let fT = fine-append 𝓛 T (g ∷ sure ds) ft fx in (
+          agrees-says 𝓛 (S ++ g ∷ sure ds) (T ++ g ∷ sure ds) fS fT s′ (k .0),
+          stable-all-less ds (S ++ g ∷ sure ds) (T ++ g ∷ sure ds) (c .1) fS fT s′ (k .1),
+        )
 
-    pub stable-in-less : (d : Desc Graph) (S T : List Graph) → Can 𝓛 d → Fine 𝓛 S → Fine 𝓛 T → SaysAll 𝓛 S T → StableIn J S d → StableIn J T d
+    pub stable-in-less : (d : Desc Graph) (S T : List Graph) → Can 𝓛 d → Fine 𝓛 S → Fine 𝓛 T → SaysAll 𝓛 S T → StableIn J S d →
+        StableIn J T d
     stable-in-less (desc g ds) S T c fs ft s k = stable-all-less ds S T (c .1) fs ft s k
 
-    pub stable-all-less : (ds : Disjs Graph) (S T : List Graph) → CanAll 𝓛 ds → Fine 𝓛 S → Fine 𝓛 T → SaysAll 𝓛 S T → StableAll J S ds → StableAll J T ds
+    pub stable-all-less : (ds : Disjs Graph) (S T : List Graph) → CanAll 𝓛 ds → Fine 𝓛 S → Fine 𝓛 T → SaysAll 𝓛 S T → StableAll J S ds →
+        StableAll J T ds
     stable-all-less end S T c fs ft s k = tt
-    stable-all-less (a and ds) S T c fs ft s k = (stable-some-less a S T (c .0) fs ft s (k .0), stable-all-less ds S T (c .1) fs ft s (k .1))
+    stable-all-less (a and ds) S T c fs ft s k =
+        (stable-some-less a S T (c .0) fs ft s (k .0), stable-all-less ds S T (c .1) fs ft s (k .1))
 
-    pub stable-some-less : (a : Alts Graph) (S T : List Graph) → CanAny 𝓛 a → Fine 𝓛 S → Fine 𝓛 T → SaysAll 𝓛 S T → StableSome J S a → StableSome J T a
+    pub stable-some-less : (a : Alts Graph) (S T : List Graph) → CanAny 𝓛 a → Fine 𝓛 S → Fine 𝓛 T → SaysAll 𝓛 S T → StableSome J S a →
+        StableSome J T a
     stable-some-less fail S T c fs ft s k = absurd k
-    stable-some-less (d or a) S T c fs ft s k = go a (λ x. stable-less d S T (c .0) fs ft s x) (λ x. stable-in-less d S T (c .0) fs ft s x) (λ x. stable-each-less a S T (c .1) fs ft s x) k
+    stable-some-less (d or a) S T c fs ft s k =
+        go a (λ x. stable-less d S T (c .0) fs ft s x) (λ x. stable-in-less d S T (c .0) fs ft s x)
+        (λ x. stable-each-less a S T (c .1) fs ft s x) k
       where
-        go : (a : Alts Graph) → (Stable J S d → Stable J T d) → (StableIn J S d → StableIn J T d) → (StableEach J S a → StableEach J T a) → StableSome J S (d or a) → StableSome J T (d or a)
+        go : (a : Alts Graph) → (Stable J S d → Stable J T d) → (StableIn J S d → StableIn J T d) → (StableEach J S a → StableEach J T a) →
+            StableSome J S (d or a) → StableSome J T (d or a)
         go fail f g h k = g k
         go (e or b) f g h k = (f (k .0), h (k .1))
 
-    pub stable-each-less : (a : Alts Graph) (S T : List Graph) → CanAny 𝓛 a → Fine 𝓛 S → Fine 𝓛 T → SaysAll 𝓛 S T → StableEach J S a → StableEach J T a
+    pub stable-each-less : (a : Alts Graph) (S T : List Graph) → CanAny 𝓛 a → Fine 𝓛 S → Fine 𝓛 T → SaysAll 𝓛 S T → StableEach J S a →
+        StableEach J T a
     stable-each-less fail S T c fs ft s k = tt
     stable-each-less (d or a) S T c fs ft s k = (stable-less d S T (c .0) fs ft s (k .0), stable-each-less a S T (c .1) fs ft s (k .1))
 
   -- one that stands alone is stable by itself
-  pub stable-alone : (d : Desc Graph) (S T : List Graph) → Can 𝓛 d → Fine 𝓛 S → Fine 𝓛 T → SaysAll 𝓛 S T → Agrees J S → Within (flat d) S → StableIn J S d → Stable J T d
+  pub stable-alone : (d : Desc Graph) (S T : List Graph) → Can 𝓛 d → Fine 𝓛 S → Fine 𝓛 T → SaysAll 𝓛 S T → Agrees J S → Within (flat d) S →
+      StableIn J S d → Stable J T d
   stable-alone (desc g ds) S T c fs ft s a w k =
       let fx : All Canonical (g ∷ sure ds) = (c .0, sure-can ds (c .1)) in
       let fT = fine-append 𝓛 T (g ∷ sure ds) ft fx in
       let s′ : SaysAll 𝓛 S (T ++ g ∷ sure ds) = says-append 𝓛 S T (g ∷ sure ds) s (says-within 𝓛 S (g ∷ sure ds) fs w) in
       (agrees-says 𝓛 S (T ++ g ∷ sure ds) fs fT s′ a, stable-all-less ds S (T ++ g ∷ sure ds) (c .1) fs fT s′ k)
 
-  pub stable-each : (a : Alts Graph) (S T : List Graph) → CanAny 𝓛 a → Fine 𝓛 S → Fine 𝓛 T → SaysAll 𝓛 S T → Agrees J S → Within (sure-any a) S → StableSome J S a → StableEach J T a
+  pub stable-each : (a : Alts Graph) (S T : List Graph) → CanAny 𝓛 a → Fine 𝓛 S → Fine 𝓛 T → SaysAll 𝓛 S T → Agrees J S →
+      Within (sure-any a) S → StableSome J S a → StableEach J T a
   stable-each fail S T c fs ft s a w k = tt
   stable-each (d or fail) S T c fs ft s a w k = (stable-alone d S T (c .0) fs ft s a w k, tt)
   stable-each (d or (e or b)) S T c fs ft s a w k = stable-each-less (d or (e or b)) S T c fs ft s k

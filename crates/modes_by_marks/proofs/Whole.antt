@@ -38,7 +38,8 @@ module _ {Graph : Type 0} {J : Joining Graph} (𝓛 : Laws J) where
   open Joining J using (nil)
   open Laws 𝓛 using (nil-canonical)
 
-  module _ (a b : Placed Graph) (ca : Can 𝓛 (strip a)) (cb : Can 𝓛 (strip b)) (pa : Proper (strip a)) (pb : Proper (strip b)) (wa : Distinct a) (wb : Distinct b) (w : Apart (names a) (names b)) where
+  module _ (a b : Placed Graph) (ca : Can 𝓛 (strip a)) (cb : Can 𝓛 (strip b)) (pa : Proper (strip a)) (pb : Proper (strip b))
+      (wa : Distinct a) (wb : Distinct b) (w : Apart (names a) (names b)) where
     module _ (d : Placed Graph) (e : joined-placed J a b ≡ some d) where
       j : joined J (strip a) (strip b) ≡ some (strip d)
       j = joined-strip J a b ∙ ap strip-some e
@@ -61,7 +62,8 @@ module _ {Graph : Type 0} {J : Joining Graph} (𝓛 : Laws J) where
 
       -- where it clashes, mode 2 does
       pub full-none : quick-at J d ≡ none → full J (strip a) (strip b) ≡ none
-      full-none q = full-is ∙ hopeless-full 𝓛 (strip d) (cd .0) (subst (λ (o : Option Marking). Passed J (strip d) (left-by d o)) q (quick-passed 𝓛 d (cd .0) wd))
+      full-none q = full-is ∙ hopeless-full 𝓛 (strip d) (cd .0)
+          (subst (λ (o : Option Marking). Passed J (strip d) (left-by d o)) q (quick-passed 𝓛 d (cd .0) wd))
 
       module _ (m : Marking) (q : Leaves J d m) where
         best : Best J (nil ∷ []) (strip d) (strip (keep m d))
@@ -80,7 +82,8 @@ module _ {Graph : Type 0} {J : Joining Graph} (𝓛 : Laws J) where
         full-consistent = full-number ∙ sym (ap (λ (o : Option (Desc Graph)). elim o [ none ↦ 0 | some e ↦ readings J e ]) j)
 
         -- what it leaves can be folded
-        pub full-can : (n : ℕ) → length (search J (keep m d)) ≡ suc n → Can 𝓛 (strip (keep (lit (search J (keep m d))) d)) × Sane J (strip (keep (lit (search J (keep m d))) d))
+        pub full-can : (n : ℕ) → length (search J (keep m d)) ≡ suc n →
+            Can 𝓛 (strip (keep (lit (search J (keep m d))) d)) × Sane J (strip (keep (lit (search J (keep m d))) d))
         full-can n found = full-sane 𝓛 d (cd .0) (cd .1) wd m best n found
 
         pub left-can : Can 𝓛 (strip (keep m d))

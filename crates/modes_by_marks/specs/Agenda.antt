@@ -1,4 +1,5 @@
--- The search with no function for an argument: what comes after is an agenda, the disjunctions still to go through. Then the same by marks, over the description as it stands.
+-- The search with no function for an argument: what comes after is an agenda, the disjunctions still to go through. Then the same by
+-- marks, over the description as it stands.
 -- Assumes nothing: these are definitions.
 use mathlib.Core.List.{List, [], _∷_, map}
 use Rattle.modes_by_marks.specs.Placed.{Options, Placed, Places}

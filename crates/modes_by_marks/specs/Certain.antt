@@ -6,7 +6,8 @@ use Rattle.modes_by_marks.specs.Placed.{Options, Places, strip-all, stri
 use Rattle.modes_by_marks.specs.Marks.{Marking, keep-all, keep-any}
 
 module _ {Graph : Type 0} where
-  -- "One with exactly one left is folded: its graph is joined to the definite graph": a description's own graph, and those of alternatives that stand alone in it, at every depth
+  -- "One with exactly one left is folded: its graph is joined to the definite graph": a description's own graph, and those of
+  -- alternatives that stand alone in it, at every depth
   abbrev mutual
     pub flat : Desc Graph → List Graph
     flat (desc g ds) = g ∷ sure ds

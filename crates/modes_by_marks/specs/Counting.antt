@@ -6,7 +6,8 @@ use Rattle.modes_by_marks.specs.Placed.{Options, Placed, Places, _also_,
 use Rattle.modes_by_marks.specs.Marks.{Marking}
 
 module _ {Graph : Type 0} where
-  -- "the product over its disjunctions of the sum over their alternatives; it is worked out by descent over the nesting, stopping at 4,097": here at L
+  -- "the product over its disjunctions of the sum over their alternatives; it is worked out by descent over the nesting, stopping at
+  -- 4,097": here at L
   unfoldable mutual
     pub count-at : ℕ → Marking → Placed Graph → ℕ
     count-at L m (place g ds) = count-all-at L m ds

@@ -1,4 +1,5 @@
--- Marks: which alternatives are kept, by their numbers. The description stays as it is, and a mark goes from true to false where its alternative is dropped.
+-- Marks: which alternatives are kept, by their numbers. The description stays as it is, and a mark goes from true to false where its
+-- alternative is dropped.
 -- Assumes nothing: these are definitions.
 use mathlib.Core.Bool.{Bool, true, false}
 use mathlib.Core.Option.{Option, none, some}

@@ -3,7 +3,8 @@
 use Prim.Native.Nat.{ℕ}
 use Rattle.descriptions.specs.Descr.{Alts, Desc, Disjs, _and_, _or_, desc, end, fail}
 
--- "A description is a definite graph and a list of disjunctions; a disjunction is a list of two or more alternatives, each a description." `option x d a` is the alternative d, numbered x, before those of a.
+-- "A description is a definite graph and a list of disjunctions; a disjunction is a list of two or more alternatives, each a
+-- description." `option x d a` is the alternative d, numbered x, before those of a.
 mutual
   pub data Placed (Graph : Type 0) : Type 0 where
     place : Graph → Places Graph → Placed Graph

@@ -1,4 +1,5 @@
--- The quick step by marks: "1, quick" with alternatives dropped and none folded. Of a stack of graphs one thing is asked, whether they agree.
+-- The quick step by marks: "1, quick" with alternatives dropped and none folded. Of a stack of graphs one thing is asked, whether they
+-- agree.
 -- Assumes nothing: these are definitions.
 use mathlib.Core.Path.{_≡_}
 use mathlib.Core.Bool.{true, false}
@@ -13,13 +14,15 @@ use Rattle.modes_by_marks.specs.Marks.{Marking, all-kept, drop, keep, ke
 use Rattle.modes_by_marks.specs.Certain.{certain, certain-any}
 use Rattle.descriptions.specs.Joining.{Joining}
 
--- what a step comes to: it fails, or it stands with these graphs pushed. The marks are as the step leaves them; those inside an alternative that failed are of no account
+-- what a step comes to: it fails, or it stands with these graphs pushed. The marks are as the step leaves them; those inside an
+-- alternative that failed are of no account
 pub data Step (Graph : Type 0) : Type 0 where
   fails : Marking → Step Graph
   stands : List Graph → Marking → Step Graph
 
 module _ {Graph : Type 0} where
-  -- the marks after the alternative numbered x was tried and all that was pushed for it taken back: "drop those that fail, and keep the others in their tidied form"
+  -- the marks after the alternative numbered x was tried and all that was pushed for it taken back: "drop those that fail, and keep
+  -- the others in their tidied form"
   abbrev pub tried : ℕ → Step Graph → Marking
   tried x (fails n) = drop x n
   tried x (stands T n) = n
@@ -27,11 +30,15 @@ module _ {Graph : Type 0} where
 module _ {Graph : Type 0} (J : Joining Graph) where
   open Joining J using (join)
 
-  -- after the alternatives of a disjunction were tried. "A disjunction with none left fails the description. One with exactly one left is folded": all that is certain in it is pushed, and a clash fails
+  -- after the alternatives of a disjunction were tried. "A disjunction with none left fails the description. One with exactly one left
+  -- is folded": all that is certain in it is pushed, and a clash fails
   abbrev pub settle-at : List Graph → Marking → Options Graph → Step Graph
   settle-at S m a = elim (kept-of m a) [
     | zero ↦ fails m
-    | suc k ↦ elim k [ zero ↦ elim (agree J (S ++ certain-any m a)) [ false ↦ fails m | true ↦ stands (S ++ certain-any m a) m ] | suc l ↦ stands S m ]
+    | suc k ↦ elim k [
+      | zero ↦ elim (agree J (S ++ certain-any m a)) [ false ↦ fails m | true ↦ stands (S ++ certain-any m a) m ]
+      | suc l ↦ stands S m
+    ]
   ]
 
   unfoldable mutual
@@ -47,7 +54,10 @@ module _ {Graph : Type 0} (J : Joining Graph) where
     -- one disjunction: an alternative that stands alone is on the stack already
     pub any-at : List Graph → Marking → Options Graph → Step Graph
     any-at S m no-more = fails m
-    any-at S m (option x d a) = elim (m x) [ false ↦ any-at S m a | true ↦ elim (kept-of m a) [ zero ↦ inside-at S m d | suc k ↦ settle-at S (sift-at S (tried x (try-at S m d)) a) (option x d a) ] ]
+    any-at S m (option x d a) = elim (m x) [
+      | false ↦ any-at S m a
+      | true ↦ elim (kept-of m a) [ zero ↦ inside-at S m d | suc k ↦ settle-at S (sift-at S (tried x (try-at S m d)) a) (option x d a) ]
+    ]
 
     -- the disjunctions of the one that stands alone: they "take its place in the list"
     pub inside-at : List Graph → Marking → Placed Graph → Step Graph
@@ -61,7 +71,10 @@ module _ {Graph : Type 0} (J : Joining Graph) where
   -- passes until nothing is dropped; the first argument bounds their number
   unfoldable pub passes-at : ℕ → Marking → Placed Graph → Option Marking
   passes-at zero m d = some m
-  passes-at (suc n) m d = elim (try-at [] m d) [ fails k ↦ none | stands T k ↦ elim (eqb (size (strip (keep k d))) (size (strip (keep m d)))) [ true ↦ some k | false ↦ passes-at n k d ] ]
+  passes-at (suc n) m d = elim (try-at [] m d) [
+    | fails k ↦ none
+    | stands T k ↦ elim (eqb (size (strip (keep k d))) (size (strip (keep m d)))) [ true ↦ some k | false ↦ passes-at n k d ]
+  ]
 
   -- "Take the joined description and tidy it under the graph that says nothing": the marks that mode 1 leaves on it
   unfoldable pub quick-at : Placed Graph → Option Marking

@@ -35,7 +35,8 @@ module _ {Graph : Type 0} where
   leaf-found S = [] ∷ []
 
 module _ {Graph : Type 0} (J : Joining Graph) where
-  -- "A choice takes one alternative of each disjunction and, within it, a choice of that alternative." In the order of the words; k is what comes after. An alternative is pushed with all that is certain in it; one that stands alone is on the stack already
+  -- "A choice takes one alternative of each disjunction and, within it, a choice of that alternative." In the order of the words; k is
+  -- what comes after. An alternative is pushed with all that is certain in it; one that stands alone is on the stack already
   unfoldable mutual
     pub dive : List Graph → Placed Graph → (List Graph → Found) → Found
     dive S (place g ds) k = let T = S ++ g ∷ sure (strip-all ds) in elim (agree J T) [ false ↦ [] | true ↦ dive-all T ds k ]

@@ -1,4 +1,5 @@
--- What is left, as a writer puts it out: all that is certain is joined at once, and the disjunctions of an alternative that stands alone come in its place.
+-- What is left, as a writer puts it out: all that is certain is joined at once, and the disjunctions of an alternative that stands
+-- alone come in its place.
 -- Assumes nothing: these are definitions.
 use mathlib.Core.Option.{Option, none, some}
 use Rattle.descriptions.specs.Descr.{Alts, Desc, Disjs, _and_, _or_, _then_, desc, end, fail}

@@ -37,7 +37,15 @@ module _ (p k : ℕ) (w t : List ℕ) (long : p + k ≤ length w) (size : length
   before = length-take-le p w (omega arith)
 
   pub back-length : length back ≡ length w
-  back-length = omega (arith, length-append (take p w) (t ++ drop k (drop p w)), length-append t (drop k (drop p w)), before, size, length-drop k (drop p w), length-drop p w)
+  back-length = omega (
+    arith,
+    length-append (take p w) (t ++ drop k (drop p w)),
+    length-append t (drop k (drop p w)),
+    before,
+    size,
+    length-drop k (drop p w),
+    length-drop p w,
+  )
 
   pub back-part : take k (drop p back) ≡ t
   back-part = ap (take k) (drop-at (take p w) (t ++ drop k (drop p w)) p before) ∙ take-at t (drop k (drop p w)) k size
@@ -46,7 +54,8 @@ module _ (p k : ℕ) (w t : List ℕ) (long : p + k ≤ length w) (size : length
   after i =
       let a : length (take p w) + (k + i) ≡ p + (k + i) = omega (arith, before) in
       let b : length t + i ≡ k + i = omega (arith, size) in
-      (rw a at (getD-append-add (take p w) (t ++ drop k (drop p w)) (k + i) 0)) ∙ (rw b at (getD-append-add t (drop k (drop p w)) i 0)) ∙ getD-drop k (drop p w) i 0 ∙ getD-drop p w (k + i) 0
+      (rw a at (getD-append-add (take p w) (t ++ drop k (drop p w)) (k + i) 0)) ∙ (rw b at (getD-append-add t (drop k (drop p w)) i 0))
+      ∙ getD-drop k (drop p w) i 0 ∙ getD-drop p w (k + i) 0
 
   pub back-rest : (j : ℕ) → p + k ≤ j → getD back j 0 ≡ getD w j 0
   back-rest j h = let e : p + (k + (j - (p + k))) ≡ j = omega arith in rw e at (after (j - (p + k)))
@@ -59,13 +68,18 @@ pub number-definite : (p n : ℕ) (d : Desc) → definite p n d .number ≡ n
 number-definite p n (desc g ds) = refl
 
 -- a clash of the pushed graphs, as the opening tells it
-both : (w : List ℕ) (d e : Desc) → Clash (definite 0 0 d .graph ∷ definite SECOND (nodes-in d) e .graph ∷ []) → OpenedAs w d e opened.Clashed
+both : (w : List ℕ) (d e : Desc) → Clash (definite 0 0 d .graph ∷ definite SECOND (nodes-in d) e .graph ∷ []) →
+    OpenedAs w d e opened.Clashed
 both w (desc g ds) (desc h es) c = c
 
-alone : (w : List ℕ) (d e : Desc) → WellFormed d depth-limit → WellFormed e depth-limit → Clash (definite 0 0 d .graph ∷ []) → OpenedAs w d e opened.Clashed
-alone w (desc g ds) (desc h es) p q c = clash-within (g ∷ []) (g ∷ h ∷ []) (p .0, tt) (p .0, (q .0, tt)) (λ x i. ⊎-elim (λ m. List·Memᴰ·head m) (λ m. absurd (List·Memᴰ·not-nil m)) (List·Memᴰ·cases-cons i)) c
+alone : (w : List ℕ) (d e : Desc) → WellFormed d depth-limit → WellFormed e depth-limit → Clash (definite 0 0 d .graph ∷ []) →
+    OpenedAs w d e opened.Clashed
+alone w (desc g ds) (desc h es) p q c =
+    clash-within (g ∷ []) (g ∷ h ∷ []) (p .0, tt) (p .0, (q .0, tt))
+    (λ x i. ⊎-elim (λ m. List·Memᴰ·head m) (λ m. absurd (List·Memᴰ·not-nil m)) (List·Memᴰ·cases-cons i)) c
 
-module _ (w a b t : List ℕ) (o : Opening w a b) (n : ℕ) (p : Paired (take 2048 (drop WORDS w)) a b n t) (w₂ : List ℕ) (s : Starts (take WORDS w ++ (t ++ drop 2048 (drop WORDS w))) w₂) where
+module _ (w a b t : List ℕ) (o : Opening w a b) (n : ℕ) (p : Paired (take 2048 (drop WORDS w)) a b n t) (w₂ : List ℕ)
+    (s : Starts (take WORDS w ++ (t ++ drop 2048 (drop WORDS w))) w₂) where
   room : WORDS + 2048 ≤ length w
   room = omega (arith, o .long)
 
@@ -80,7 +94,8 @@ module _ (w a b t : List ℕ) (o : Opening w a b) (n : ℕ) (p : Paired (take 20
 
   words₂ : region WORDS 2048 w₂ ≡ t
   unfolding region
-  words₂ = region-ext WORDS 2048 w₂ (back WORDS 2048 w t room size) (omega (arith, long₂)) (s .len) (λ j h. s .rest (WORDS + j) (omega arith)) ∙ back-part WORDS 2048 w t room size
+  words₂ = region-ext WORDS 2048 w₂ (back WORDS 2048 w t room size) (omega (arith, long₂)) (s .len)
+      (λ j h. s .rest (WORDS + j) (omega arith)) ∙ back-part WORDS 2048 w t room size
 
   pub rest₂ : (j : ℕ) → MARKS ≤ j → getD w₂ j 0 ≡ getD w j 0
   rest₂ j h = s .rest j (omega arith) ∙ back-rest WORDS 2048 w t room size j (omega arith)
@@ -94,7 +109,8 @@ module _ (w a b t : List ℕ) (o : Opening w a b) (n : ℕ) (p : Paired (take 20
 
     -- the loaded words stay where they are
     stand : (w₃ : List ℕ) → length w₃ ≡ length w₂ → ((j : ℕ) → WORDS ≤ j → getD w₃ j 0 ≡ getD w₂ j 0) → Stand (region WORDS 2048 w₃) d e n
-    stand w₃ l f = subst (λ (x : List ℕ). Stand x d e n) (sym (region-ext WORDS 2048 w₃ w₂ (omega (arith, l, long₂)) l (λ j h. f (WORDS + j) (omega arith)) ∙ words₂)) (p .stand d e r)
+    stand w₃ l f = subst (λ (x : List ℕ). Stand x d e n)
+        (sym (region-ext WORDS 2048 w₃ w₂ (omega (arith, l, long₂)) l (λ j h. f (WORDS + j) (omega arith)) ∙ words₂)) (p .stand d e r)
 
     abbrev pub one : Entry
     one = definite 0 0 d
@@ -109,7 +125,8 @@ module _ (w a b t : List ℕ) (o : Opening w a b) (n : ℕ) (p : Paired (take 20
     empty = s .holds n few
 
     first-comes : Comes n [] one w₂
-    first-comes = comes w₂ d e n long₂ (r .first-well) (r .second-well) fd fe (stand w₂ refl (λ j h. refl)) [] 0 empty (λ x i. absurd (List·Memᴰ·not-nil i)) one (in-one d e) (λ x i. absurd (List·Memᴰ·not-nil i))
+    first-comes = comes w₂ d e n long₂ (r .first-well) (r .second-well) fd fe (stand w₂ refl (λ j h. refl)) [] 0 empty
+        (λ x i. absurd (List·Memᴰ·not-nil i)) one (in-one d e) (λ x i. absurd (List·Memᴰ·not-nil i))
 
     pub first-pushing : Pushing n 0 w₂ 0
     first-pushing = record { es = []; e = one; is = at-definite 0 0 d; holds = empty; comes = first-comes }
@@ -135,7 +152,8 @@ module _ (w a b t : List ℕ) (o : Opening w a b) (n : ℕ) (p : Paired (take 20
       only-one x i = ⊎-elim (λ q. q) (λ j. absurd (List·Memᴰ·not-nil j)) (List·Memᴰ·cases-cons i)
 
       apart : two .number ≡ one .number → ⊥
-      apart q = let m = nodes-some d (well-can d (r .first-well)) in omega (arith, sym (number-definite SECOND (nodes-in d) e) ∙ q ∙ number-definite 0 0 d)
+      apart q = let m = nodes-some d (well-can d (r .first-well)) in
+          omega (arith, sym (number-definite SECOND (nodes-in d) e) ∙ q ∙ number-definite 0 0 d)
 
       second-comes : Comes n (one ∷ []) two w₃
       second-comes = comes w₃ d e n long₃ (r .first-well) (r .second-well) fd fe stand₃ (one ∷ []) k held
@@ -158,14 +176,25 @@ module _ (w a b t : List ℕ) (o : Opening w a b) (n : ℕ) (p : Paired (take 20
 
   -- ---- what the function answers
   first : Read a b (o .inputs .first .0) (o .inputs .second .0)
-  first = record { first-well = o .inputs .first .1; second-well = o .inputs .second .1; first-is = o .inputs .first .2; second-is = o .inputs .second .2 }
+  first = record {
+    first-well = o .inputs .first .1;
+    second-well = o .inputs .second .1;
+    first-is = o .inputs .first .2;
+    second-is =
+        o .inputs .second .2;
+  }
 
   pub asks-first : Pushing n 0 w₂ 0
   asks-first = first-pushing (o .inputs .first .0) (o .inputs .second .0) first
 
   module _ (w₃ : List ℕ) (x : Pushed) (u : Pushes n 0 w₂ 0 x w₃) where
     pub opens-clash : x ≡ Clashed → Opens w a b opened.Clashed w₃
-    opens-clash z = record { len = u .len ∙ len₂; rest = λ j h. u .rest j (omega arith) ∙ rest₂ j h; told = λ d e r. first-clashes d e r w₃ x u z }
+    opens-clash z = record {
+      len = u .len ∙ len₂;
+      rest = λ j h. u .rest j (omega arith)
+          ∙ rest₂ j h;
+      told = λ d e r. first-clashes d e r w₃ x u z;
+    }
 
     module _ (k : ℕ) (z : x ≡ In k) where
       pub asks-second : Pushing n k w₃ SECOND

@@ -38,7 +38,13 @@ module _ (t a b t₁ : List ℕ) (m : ℕ) (p : Pairing t a b) (l : LoadedAt a 0
       omega (arith, c, e, loaded₁ .0, p .inputs .first-few)
 
   pub next : Loadable t₁ b SECOND m
-  next = record { image = p .inputs .second; few = p .inputs .second-few; near = omega arith; room = omega (arith, same₁, p .room); numbers = few }
+  next = record {
+    image = p .inputs .second;
+    few = p .inputs .second-few;
+    near = omega arith;
+    room = omega (arith, same₁, p .room);
+    numbers = few;
+  }
 
   module _ (t₂ : List ℕ) (n : ℕ) (k : LoadedAt b SECOND m t₁ t₂ n) where
     put₂ : Put t₁ t₂ SECOND (loaded SECOND m (p .inputs .second .0)) (SECOND + length b)
@@ -57,6 +63,8 @@ module _ (t a b t₁ : List ℕ) (m : ℕ) (p : Pairing t a b) (l : LoadedAt a 0
             record {
               count = s .0 ∙ ap (λ (x : ℕ). x + nodes-in e) z;
               first = subst (λ (q : ℕ). Stands t₂ 0 (loaded 0 0 d) q) la
-                  (stands-frame t₁ t₂ (loaded 0 0 d) 0 (0 + length a) (λ j h i u. (omega (arith, put₂ .same), put₂ .rest j (inl (omega (arith, p .inputs .first-few))))) (f .1 .stands));
-              second = subst (λ (q : ℕ). Stands t₂ SECOND (loaded SECOND (nodes-in d) e) q) lb (subst (λ (x : ℕ). Stands t₂ SECOND (loaded SECOND x e) (SECOND + length b)) z (s .1 .stands));
+                  (stands-frame t₁ t₂ (loaded 0 0 d) 0 (0 + length a)
+                  (λ j h i u. (omega (arith, put₂ .same), put₂ .rest j (inl (omega (arith, p .inputs .first-few))))) (f .1 .stands));
+              second = subst (λ (q : ℕ). Stands t₂ SECOND (loaded SECOND (nodes-in d) e) q) lb
+                  (subst (λ (x : ℕ). Stands t₂ SECOND (loaded SECOND x e) (SECOND + length b)) z (s .1 .stands));
             }

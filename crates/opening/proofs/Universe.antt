@@ -4,7 +4,8 @@ use Prim.Native.Nat.{ℕ, zero, suc, _+_, _*_, _≤_, _<_}
 use native.Mathlib.Omega.{arith}
 use mathlib.Core.Path.{_≡_, refl, sym, ap, subst, _∙_}
 use mathlib.Core.Logic.{_⊎_, inl, inr, ⊎-elim}
-use mathlib.Core.List.{List, [], _∷_, _++_, List·Memᴰ, List·Memᴰ·head, List·Memᴰ·not-nil, List·Memᴰ·cases-cons, List·Memᴰ·append-cases, Memᴰ·append-left, Memᴰ·append-right}
+use mathlib.Core.List.{List, [], _∷_, _++_, List·Memᴰ, List·Memᴰ·head, List·Memᴰ·not-nil, List·Memᴰ·cases-cons, List·Memᴰ·append-cases}
+use mathlib.Core.List.{Memᴰ·append-left, Memᴰ·append-right}
 use lib.ListN.{length, getD}
 use Rattle.theory.specs.Limits.{input-limit, depth-limit}
 use Rattle.theory.specs.Net.{Canonical}
@@ -17,7 +18,8 @@ use Rattle.layout.proofs.Standing.{stands-cons, stands-bounds}
 use Rattle.loading.specs.Entry.{Entry}
 use Rattle.loading.specs.Loaded.{extent, header, located, nodes-in, nodes-any}
 use Rattle.loading.proofs.Sizes.{nodes-few, graph-extent, located-length}
-use Rattle.loading.proofs.Entries.{entry, entries, entries-all, entries-any, Inside, inside-wide, entries-inside, Ordered, ordered-append, entries-ordered, entries-lie}
+use Rattle.loading.proofs.Entries.{entry, entries, entries-all, entries-any, Inside, inside-wide, entries-inside, Ordered, ordered-append}
+use Rattle.loading.proofs.Entries.{entries-ordered, entries-lie}
 use Rattle.area.specs.Map.{WORDS, SIZE, SECOND}
 use Rattle.area.specs.Region.{region}
 use Rattle.area.proofs.Region.{getD-region, length-region}
@@ -30,7 +32,8 @@ use Rattle.opening.specs.Opening.{Stand, definite}
 stands-get : (ws xs : List ℕ) (p q j : ℕ) → Stands ws p xs q → j < length xs → getD ws (p + j) 0 ≡ getD xs j 0
 stands-get ws [] p q j s h = absurd (omega arith)
 stands-get ws (x ∷ xs) p q zero s h = let z : p + 0 ≡ p = omega arith in rw z (stands-cons ws x xs p q .0 s .1)
-stands-get ws (x ∷ xs) p q (suc j) s h = let z : p + suc j ≡ p + 1 + j = omega arith in rw z (stands-get ws xs (p + 1) q j (stands-cons ws x xs p q .0 s .2) (omega arith))
+stands-get ws (x ∷ xs) p q (suc j) s h = let z : p + suc j ≡ p + 1 + j = omega arith in
+    rw z (stands-get ws xs (p + 1) q j (stands-cons ws x xs p q .0 s .2) (omega arith))
 
 -- the graphs of a well-formed description are canonical, and their features and atoms in range
 abbrev Good : Entry → Type 0
@@ -45,17 +48,22 @@ good-append xs ys a b e i = ⊎-elim (a e) (b e) (List·Memᴰ·append-cases xs 
 mutual
   entries-good : (p n left : ℕ) (d : Desc) → WellFormed d left → AllGood (entries p n d)
   entries-good p n left (desc g ds) w =
-      good-append (entry p n g ∷ []) _ (λ e i. ⊎-elim (λ s. subst Good (sym s) (w .0, w .1)) (λ j. absurd (List·Memᴰ·not-nil j)) (List·Memᴰ·cases-cons i)) (entries-all-good (p + extent g + 1) (n + length g) left ds (w .2))
+      good-append (entry p n g ∷ []) _
+      (λ e i. ⊎-elim (λ s. subst Good (sym s) (w .0, w .1)) (λ j. absurd (List·Memᴰ·not-nil j)) (List·Memᴰ·cases-cons i))
+      (entries-all-good (p + extent g + 1) (n + length g) left ds (w .2))
 
   entries-all-good : (p n left : ℕ) (ds : Disjs) → WellAll ds left → AllGood (entries-all p n ds)
   entries-all-good p n left end w = λ e i. absurd (List·Memᴰ·not-nil i)
   entries-all-good p n zero (a and ds) w = absurd w
   entries-all-good p n (suc left) (a and ds) w =
-      good-append (entries-any (p + 1) n a) _ (entries-any-good (p + 1) n left a (w .1)) (entries-all-good (p + suc (length (alts-words a))) (n + nodes-any a) (suc left) ds (w .2))
+      good-append (entries-any (p + 1) n a) _ (entries-any-good (p + 1) n left a (w .1))
+      (entries-all-good (p + suc (length (alts-words a))) (n + nodes-any a) (suc left) ds (w .2))
 
   entries-any-good : (p n left : ℕ) (a : Alts) → WellAny a left → AllGood (entries-any p n a)
   entries-any-good p n left fail w = λ e i. absurd (List·Memᴰ·not-nil i)
-  entries-any-good p n left (d or a) w = good-append (entries p n d) _ (entries-good p n left d (w .0)) (entries-any-good (p + length (words d)) (n + nodes-in d) left a (w .1))
+  entries-any-good p n left (d or a) w =
+      good-append (entries p n d) _ (entries-good p n left d (w .0))
+      (entries-any-good (p + length (words d)) (n + nodes-in d) left a (w .1))
 
 -- one of two entries of an ordered list is before the other, or they are one
 abbrev Before : Entry → Entry → Type 0
@@ -65,7 +73,8 @@ either-way : (es : List Entry) → Ordered es → (e f : Entry) → List·Memᴰ
 either-way [] o e f i j = absurd (List·Memᴰ·not-nil i)
 either-way (x ∷ es) o e f i j = go (List·Memᴰ·cases-cons i) (List·Memᴰ·cases-cons j) (either-way es (o .1) e f)
   where
-    go : (e ≡ x) ⊎ List·Memᴰ e es → (f ≡ x) ⊎ List·Memᴰ f es → (List·Memᴰ e es → List·Memᴰ f es → (e ≡ f) ⊎ (Before e f ⊎ Before f e)) → (e ≡ f) ⊎ (Before e f ⊎ Before f e)
+    go : (e ≡ x) ⊎ List·Memᴰ e es → (f ≡ x) ⊎ List·Memᴰ f es → (List·Memᴰ e es → List·Memᴰ f es → (e ≡ f) ⊎ (Before e f ⊎ Before f e)) →
+        (e ≡ f) ⊎ (Before e f ⊎ Before f e)
     go (inl p) (inl q) r = inl (p ∙ sym q)
     go (inl p) (inr m) r = inr (inl (subst (λ (z : Entry). Before z f) (sym p) (o .0 f m)))
     go (inr m) (inl q) r = inr (inr (subst (λ (z : Entry). Before z e) (sym q) (o .0 e m)))
@@ -93,7 +102,8 @@ in-one d e = Memᴰ·append-left (entries SECOND (nodes-in d) e) (in-entries 0 0
 pub in-two : (d e : Desc) → List·Memᴰ (definite SECOND (nodes-in d) e) (universe d e)
 in-two d e = Memᴰ·append-right (entries 0 0 d) (in-entries SECOND (nodes-in d) e)
 
-module _ (w : List ℕ) (d e : Desc) (n : ℕ) (long : SIZE ≤ length w) (wd : WellFormed d depth-limit) (we : WellFormed e depth-limit) (fd : length (words d) ≤ input-limit) (fe : length (words e) ≤ input-limit) (s : Stand (region WORDS 2048 w) d e n) where
+module _ (w : List ℕ) (d e : Desc) (n : ℕ) (long : SIZE ≤ length w) (wd : WellFormed d depth-limit) (we : WellFormed e depth-limit)
+    (fd : length (words d) ≤ input-limit) (fe : length (words e) ≤ input-limit) (s : Stand (region WORDS 2048 w) d e n) where
   abbrev t : List ℕ
   t = region WORDS 2048 w
 
@@ -102,16 +112,21 @@ module _ (w : List ℕ) (d e : Desc) (n : ℕ) (long : SIZE ≤ length w) (wd : 
   nodes-room = omega (arith, nodes-few d (well-can d wd), nodes-few e (well-can e we), s .count)
 
   first-inside : Inside 0 SECOND 0 (nodes-in d) (entries 0 0 d)
-  first-inside = inside-wide 0 0 (0 + length (words d)) SECOND 0 0 (0 + nodes-in d) (nodes-in d) (entries 0 0 d) (omega arith) (omega arith) (omega arith) (omega arith) (entries-inside 0 0 d)
+  first-inside = inside-wide 0 0 (0 + length (words d)) SECOND 0 0 (0 + nodes-in d) (nodes-in d) (entries 0 0 d) (omega arith) (omega arith)
+      (omega arith) (omega arith) (entries-inside 0 0 d)
 
   second-inside : Inside SECOND 2048 (nodes-in d) n (entries SECOND (nodes-in d) e)
-  second-inside = inside-wide SECOND SECOND (SECOND + length (words e)) 2048 (nodes-in d) (nodes-in d) (nodes-in d + nodes-in e) n (entries SECOND (nodes-in d) e) (omega arith) (omega arith) (omega arith) (omega (arith, s .count)) (entries-inside SECOND (nodes-in d) e)
+  second-inside = inside-wide SECOND SECOND (SECOND + length (words e)) 2048 (nodes-in d) (nodes-in d) (nodes-in d + nodes-in e) n
+      (entries SECOND (nodes-in d) e) (omega arith) (omega arith) (omega arith) (omega (arith, s .count))
+      (entries-inside SECOND (nodes-in d) e)
 
   ordered : Ordered (universe d e)
-  ordered = ordered-append 0 SECOND 2048 0 (nodes-in d) n (entries 0 0 d) (entries SECOND (nodes-in d) e) first-inside second-inside (entries-ordered 0 0 d) (entries-ordered SECOND (nodes-in d) e)
+  ordered = ordered-append 0 SECOND 2048 0 (nodes-in d) n (entries 0 0 d) (entries SECOND (nodes-in d) e) first-inside second-inside
+      (entries-ordered 0 0 d) (entries-ordered SECOND (nodes-in d) e)
 
   pub good : AllGood (universe d e)
-  good = good-append (entries 0 0 d) (entries SECOND (nodes-in d) e) (entries-good 0 0 depth-limit d wd) (entries-good SECOND (nodes-in d) depth-limit e we)
+  good = good-append (entries 0 0 d) (entries SECOND (nodes-in d) e) (entries-good 0 0 depth-limit d wd)
+      (entries-good SECOND (nodes-in d) depth-limit e we)
 
   -- how an entry's graph stands among the words, and that it is not too large
   record Placed (x : Entry) : Type 0 where
@@ -121,8 +136,15 @@ module _ (w : List ℕ) (d e : Desc) (n : ℕ) (long : SIZE ≤ length w) (wd : 
 
   placed : (x : Entry) → List·Memᴰ x (universe d e) → Placed x
   placed x i = ⊎-elim
-      (λ j. let b = first-inside x j in let c = b .1 in let u = b .3 in record { stands = entries-lie t 0 0 (length (words d)) d (s .first) x j; small = omega arith; within = omega (arith, s .count) })
-      (λ j. let b = second-inside x j in let c = b .0 in let u = b .1 in record { stands = entries-lie t SECOND (nodes-in d) (SECOND + length (words e)) e (s .second) x j; small = omega arith; within = b .3 })
+      (λ j. let b = first-inside x j in let c = b .1 in let u = b .3 in
+      record { stands = entries-lie t 0 0 (length (words d)) d (s .first) x j; small = omega arith; within = omega (arith, s .count) })
+      (λ j. let b = second-inside x j in let c = b .0 in let u = b .1 in
+      record {
+        stands = entries-lie t SECOND (nodes-in d) (SECOND + length (words e)) e (s .second) x j;
+        small = omega arith;
+        within =
+            b .3;
+      })
       (List·Memᴰ·append-cases (entries 0 0 d) i)
 
   read : (j : ℕ) → j < 2048 → getD t j 0 ≡ getD w (WORDS + j) 0
@@ -132,8 +154,10 @@ module _ (w : List ℕ) (d e : Desc) (n : ℕ) (long : SIZE ≤ length w) (wd : 
   unfolding weight header
   lies x i =
       let p = placed x i in
-      let parts = stands-cons t (header (x .number) (x .graph)) (located (x .number) (x .graph)) (x .at) (x .at + extent (x .graph)) .0 (p .stands) in
-      let bounds = stands-bounds t (header (x .number) (x .graph)) (located (x .number) (x .graph)) (x .at) (x .at + extent (x .graph)) (p .stands) in
+      let parts = stands-cons t (header (x .number) (x .graph)) (located (x .number) (x .graph)) (x .at) (x .at + extent (x .graph)) .0
+      (p .stands) in
+      let bounds = stands-bounds t (header (x .number) (x .graph)) (located (x .number) (x .graph)) (x .at) (x .at + extent (x .graph))
+      (p .stands) in
       let size = length-region WORDS 2048 w (omega arith) in
       let high = bounds .1 in
       let len = located-length (x .number) (x .graph) in
@@ -144,15 +168,18 @@ module _ (w : List ℕ) (d e : Desc) (n : ℕ) (long : SIZE ≤ length w) (wd : 
         head = sym (read (x .at) (omega arith)) ∙ parts .1;
         nodes = λ j h.
             let z : suc (x .at) + j ≡ x .at + 1 + j = omega arith in
-            rw z (sym (read (x .at + 1 + j) (omega arith)) ∙ stands-get t (located (x .number) (x .graph)) (x .at + 1) (x .at + extent (x .graph)) j (parts .2) (omega arith));
+            rw z (sym (read (x .at + 1 + j) (omega arith))
+            ∙ stands-get t (located (x .number) (x .graph)) (x .at + 1) (x .at + extent (x .graph)) j (parts .2) (omega arith));
       }
 
   -- different graphs lie aside
   pub aside : (x y : Entry) → List·Memᴰ x (universe d e) → List·Memᴰ y (universe d e) → (x .number ≡ y .number → ⊥) → Aside x y
-  aside x y i j h = ⊎-elim (λ p. absurd (h (ap (λ (z : Entry). z .number) p))) (⊎-elim (before-aside x y) (after-aside x y)) (either-way (universe d e) ordered x y i j)
+  aside x y i j h = ⊎-elim (λ p. absurd (h (ap (λ (z : Entry). z .number) p))) (⊎-elim (before-aside x y) (after-aside x y))
+      (either-way (universe d e) ordered x y i j)
 
   -- a graph that is not pushed may be
-  pub comes : (es : List Entry) (k : ℕ) → Holds n es k w → ((o : Entry) → List·Memᴰ o es → List·Memᴰ o (universe d e)) → (x : Entry) → List·Memᴰ x (universe d e) → ((o : Entry) → List·Memᴰ o es → x .number ≡ o .number → ⊥) → Comes n es x w
+  pub comes : (es : List Entry) (k : ℕ) → Holds n es k w → ((o : Entry) → List·Memᴰ o es → List·Memᴰ o (universe d e)) → (x : Entry) →
+      List·Memᴰ x (universe d e) → ((o : Entry) → List·Memᴰ o es → x .number ≡ o .number → ⊥) → Comes n es x w
   comes es k h all x i new =
       let beside : (o : Entry) → List·Memᴰ o es → Aside x o = λ o m. aside x o i (all o m) (new o m) in
       record {

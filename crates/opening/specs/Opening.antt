@@ -56,9 +56,11 @@ pub record Opening (w a b : List ℕ) : Type 0 where
 abbrev pub definite : ℕ → ℕ → Desc → Entry
 definite p n (desc g ds) = record { at = p; number = n; graph = g }
 
--- "0, join. The graph is the join of both definite graphs (a clash there is a clash in all modes).": both are pushed and can be taken back, or they clash
+-- "0, join. The graph is the join of both definite graphs (a clash there is a clash in all modes).": both are pushed and can be taken
+-- back, or they clash
 abbrev pub OpenedAs : List ℕ → Desc → Desc → Opened → Type 0
-OpenedAs w d e (Joined n k) = Stand (region WORDS 2048 w) d e n × Holds n (definite 0 0 d ∷ definite SECOND (nodes-in d) e ∷ []) k w × Undoable n k w
+OpenedAs w d e (Joined n k) = Stand (region WORDS 2048 w) d e n × Holds n (definite 0 0 d ∷ definite SECOND (nodes-in d) e ∷ []) k w
+    × Undoable n k w
 OpenedAs w (desc g ds) (desc h es) Clashed = Clash (g ∷ h ∷ [])
 
 pub record Opens (w a b : List ℕ) (r : Opened) (w′ : List ℕ) : Type 0 where

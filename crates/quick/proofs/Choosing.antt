@@ -60,7 +60,8 @@ module _ (n k : ℕ) (w : List ℕ) (p count left : ℕ) where
     -- ---- the one that stands alone
     module _ (one : kept ≡ 1) where
       lone : (c : Choosing n k w p count left) → Lone (c .U) (c .t) (marking w) left p (c .from) (c .a) (c .end) (c .to) (c .at) first
-      lone c = lone-at (c .U) (c .t) (words w) (marking w) left (c .a) p (c .from) (c .end) (c .to) (c .within) (c .at) (c .among) (c .nests) (kept-is c ∙ one) first (tally (chosen c) .first-is .0) (tally (chosen c) .first-is .1)
+      lone c = lone-at (c .U) (c .t) (words w) (marking w) left (c .a) p (c .from) (c .end) (c .to) (c .within) (c .at) (c .among)
+          (c .nests) (kept-is c ∙ one) first (tally (chosen c) .first-is .0) (tally (chosen c) .first-is .1)
 
       abbrev goes : Choosing n k w p count left → Narrowing n k w first left
       goes c = record {
@@ -79,7 +80,9 @@ module _ (n k : ℕ) (w : List ℕ) (p count left : ℕ) where
         es = c .es;
         holds = c .holds;
         inside = c .inside;
-        clear = lone c .opens (c .es) (subst (λ (j : ℕ). ByCount j (ClearLone (c .es) (c .t) (marking w) p (c .from) (c .a) (c .end) (c .to) (c .at)) (Free (c .from) (c .to) (c .es))) (kept-is c ∙ one) (c .clear));
+        clear = lone c .opens (c .es) (subst
+            (λ (j : ℕ). ByCount j (ClearLone (c .es) (c .t) (marking w) p (c .from) (c .a) (c .end) (c .to) (c .at))
+            (Free (c .from) (c .to) (c .es))) (kept-is c ∙ one) (c .clear));
       }
 
       pub asks-alone : Choosing n k w p count left → Narrowing n k w first left
@@ -94,11 +97,20 @@ module _ (n k : ℕ) (w : List ℕ) (p count left : ℕ) where
               let told = f .2 (goes c) in
               let low = lone c .low in
               let high = lone c .high in
-              let back = lone c .closes (told .es') (marking w') (λ y a b s. told .off y (⊎-elim (λ u. inl (omega arith)) (λ u. inr u) s)) (told .clear') in
+              let back = lone c .closes (told .es') (marking w') (λ y a b s. told .off y (⊎-elim (λ u. inl (omega arith)) (λ u. inr u) s))
+              (told .clear') in
               record {
                 es' = told .es';
-                stood = record { holds = told .stood .holds; inside = told .stood .inside; old = told .stood .old; fresh = λ o i. ⊎-elim (λ a. inl a) (λ b. let u = b .0 in let x = b .1 in inr (omega arith, omega arith)) (told .stood .fresh o i) };
-                clear' = subst (λ (j : ℕ). ByCount j (ClearLone (told .es') (c .t) (marking w') p (c .from) (c .a) (c .end) (c .to) (c .at)) (Free (c .from) (c .to) (told .es'))) (sym (back .0)) (back .1);
+                stood = record {
+                  holds = told .stood .holds;
+                  inside = told .stood .inside;
+                  old = told .stood .old;
+                  fresh =
+                      λ o i. ⊎-elim (λ a. inl a) (λ b. let u = b .0 in let x = b .1 in
+                      inr (omega arith, omega arith)) (told .stood .fresh o i);
+                };
+                clear' = subst (λ (j : ℕ). ByCount j (ClearLone (told .es') (c .t) (marking w') p (c .from) (c .a) (c .end) (c .to) (c .at))
+                    (Free (c .from) (c .to) (told .es'))) (sym (back .0)) (back .1);
                 off = λ y h. told .off y (⊎-elim (λ u. inl (omega arith)) (λ u. inr (omega arith)) h);
                 is = lone c .any (graphs (c .es)) ∙ told .is;
               },
@@ -123,14 +135,36 @@ module _ (n k : ℕ) (w : List ℕ) (p count left : ℕ) where
       free : (c : Choosing n k w p count left) → Free (c .from) (c .to) (c .es)
       free c = go (kept-of (marking w) (c .a)) (kept-is c) (c .clear)
         where
-          go : (j : ℕ) → j ≡ kept → ByCount j (ClearLone (c .es) (c .t) (marking w) p (c .from) (c .a) (c .end) (c .to) (c .at)) (Free (c .from) (c .to) (c .es)) → Free (c .from) (c .to) (c .es)
+          go : (j : ℕ) → j ≡ kept → ByCount j (ClearLone (c .es) (c .t) (marking w) p (c .from) (c .a) (c .end) (c .to) (c .at))
+              (Free (c .from) (c .to) (c .es)) → Free (c .from) (c .to) (c .es)
           go zero e x = absurd (omega arith)
           go (suc zero) e x = absurd (omega arith)
           go (suc (suc l)) e x = x
 
       -- where the graphs are still those of c
-      abbrev these : (c : Choosing n k w p count left) (v : List ℕ) → words v ≡ words w → Holds n (c .es) k v → Alternating n k v p count left
-      these c v e h = record { t = c .t; loaded = e ∙ c .loaded; U = c .U; ground = c .ground; a = c .a; from = c .from; end = c .end; to = c .to; at = c .at; within = c .within; low = c .low; many = c .many; nests = c .nests; among = c .among; es = c .es; holds = h; inside = c .inside; free = free c }
+      abbrev these : (c : Choosing n k w p count left) (v : List ℕ) → words v ≡ words w → Holds n (c .es) k v →
+          Alternating n k v p count left
+      these c v e h = record {
+        t = c .t;
+        loaded = e ∙ c .loaded;
+        U = c .U;
+        ground = c .ground;
+        a = c .a;
+        from = c .from;
+        end = c .end;
+        to =
+            c .to;
+        at = c .at;
+        within = c .within;
+        low = c .low;
+        many = c .many;
+        nests = c .nests;
+        among = c .among;
+        es = c .es;
+        holds = h;
+        inside = c .inside;
+        free = free c;
+      }
 
       pub asks-sift : Choosing n k w p count left → Alternating n k w p count left
       asks-sift c = these c w refl (c .holds)
@@ -145,13 +179,17 @@ module _ (n k : ℕ) (w : List ℕ) (p count left : ℕ) where
         pub asks-settle : Alternating n k w₁ p count left
         asks-settle = after-sift c₀
 
-        sifts : (c : Choosing n k w p count left) → any-at (graphs (c .es)) (marking w) (c .a) ≡ settle-at (graphs (c .es)) (marking w₁) (c .a)
+        sifts : (c : Choosing n k w p count left) →
+            any-at (graphs (c .es)) (marking w) (c .a) ≡ settle-at (graphs (c .es)) (marking w₁) (c .a)
         sifts c = go (kept-of (marking w) (c .a)) refl (kept-is c)
           where
-            go : (j : ℕ) → kept-of (marking w) (c .a) ≡ j → kept-of (marking w) (c .a) ≡ kept → any-at (graphs (c .es)) (marking w) (c .a) ≡ settle-at (graphs (c .es)) (marking w₁) (c .a)
+            go : (j : ℕ) → kept-of (marking w) (c .a) ≡ j → kept-of (marking w) (c .a) ≡ kept →
+                any-at (graphs (c .es)) (marking w) (c .a) ≡ settle-at (graphs (c .es)) (marking w₁) (c .a)
             go zero e f = absurd (omega arith)
             go (suc zero) e f = absurd (omega arith)
-            go (suc (suc l)) e f = any-several (graphs (c .es)) (marking w) (c .a) (any-distinct (c .t) (c .a) p (c .from) (c .end) (c .to) (c .within) (c .at)) l e ∙ ap (λ (m : Marking). settle-at (graphs (c .es)) m (c .a)) (s .sifted (these c w refl (c .holds)) .is)
+            go (suc (suc l)) e f = any-several (graphs (c .es)) (marking w) (c .a)
+                (any-distinct (c .t) (c .a) p (c .from) (c .end) (c .to) (c .within) (c .at)) l e
+                ∙ ap (λ (m : Marking). settle-at (graphs (c .es)) m (c .a)) (s .sifted (these c w refl (c .holds)) .is)
 
         -- nothing was dropped, and several stay
         pub chooses-still : drops ≡ 0 → Chooses n k w p count left (Stands k 0) w₁
@@ -159,7 +197,12 @@ module _ (n k : ℕ) (w : List ℕ) (p count left : ℕ) where
           standing = λ a i y.
               let x : k ≡ a = cc in
               let q : 0 ≡ i = cc in
-              subst (λ (a : ℕ). Moved k w a w₁ × Fewer i (marking w) (marking w₁) × ((c : Choosing n k w p count left) → ChooseStands n k w p count left a w₁ c)) x (s .moved, subst (λ (i : ℕ). Fewer i (marking w) (marking w₁)) (z ∙ q) (s .fewer), stood);
+              subst (λ (a : ℕ). Moved k w a w₁ × Fewer i (marking w) (marking w₁)
+              × ((c : Choosing n k w p count left) → ChooseStands n k w p count left a w₁ c)) x (
+                s .moved,
+                subst (λ (i : ℕ). Fewer i (marking w) (marking w₁)) (z ∙ q) (s .fewer),
+                stood,
+              );
           failing = λ y. let x : _≡_ {A = ℕ} 0 1 = cc in absurd (omega arith);
         }
           where
@@ -172,12 +215,14 @@ module _ (n k : ℕ) (w : List ℕ) (p count left : ℕ) where
                 record {
                   es' = c .es;
                   stood = record { holds = told .holds'; inside = c .inside; old = λ o i. i; fresh = λ o i. inl i };
-                  clear' = subst (λ (m : Marking). ClearAny (c .es) (c .t) m p (c .from) (c .a) (c .end) (c .to) (c .at)) (sym marks₁) (c .clear);
+                  clear' = subst (λ (m : Marking). ClearAny (c .es) (c .t) m p (c .from) (c .a) (c .end) (c .to) (c .at)) (sym marks₁)
+                      (c .clear);
                   off = told .off;
                   is = sifts c ∙ go (kept-of (marking w₁) (c .a)) refl (ap (λ (m : Marking). kept-of m (c .a)) marks₁ ∙ kept-is c);
                 }
               where
-                go : (j : ℕ) → kept-of (marking w₁) (c .a) ≡ j → kept-of (marking w₁) (c .a) ≡ kept → settle-at (graphs (c .es)) (marking w₁) (c .a) ≡ stands (graphs (c .es)) (marking w₁)
+                go : (j : ℕ) → kept-of (marking w₁) (c .a) ≡ j → kept-of (marking w₁) (c .a) ≡ kept →
+                    settle-at (graphs (c .es)) (marking w₁) (c .a) ≡ stands (graphs (c .es)) (marking w₁)
                 go zero e f = absurd (omega arith)
                 go (suc zero) e f = absurd (omega arith)
                 go (suc (suc l)) e f = settle-several (graphs (c .es)) (marking w₁) (c .a) l e
@@ -200,7 +245,8 @@ module _ (n k : ℕ) (w : List ℕ) (p count left : ℕ) where
                 failing = λ y. (
                   moved₂ k (f .0),
                   (let e : total (marking w₂) ≡ total (marking w₁) = ap total marks₂ in let x = s .fewer .fewer in omega arith),
-                  λ c. let told = f .1 (after-sift c) in record { holds' = told .0; off = off₂ c; is = sifts c ∙ told .1 ∙ ap fails (sym marks₂) },
+                  λ c. let told = f .1 (after-sift c) in
+                      record { holds' = told .0; off = off₂ c; is = sifts c ∙ told .1 ∙ ap fails (sym marks₂) },
                 );
               }
 
@@ -209,9 +255,11 @@ module _ (n k : ℕ) (w : List ℕ) (p count left : ℕ) where
             standing = λ a i y.
                 let x : j ≡ a = cc in
                 let q : drops ≡ i = cc in
-                subst (λ (a : ℕ). Moved k w a w₂ × Fewer i (marking w) (marking w₂) × ((c : Choosing n k w p count left) → ChooseStands n k w p count left a w₂ c)) x (
+                subst (λ (a : ℕ). Moved k w a w₂ × Fewer i (marking w) (marking w₂)
+                × ((c : Choosing n k w p count left) → ChooseStands n k w p count left a w₂ c)) x (
                   moved₂ j (u .pushed j z .0),
-                  subst (λ (i : ℕ). Fewer i (marking w) (marking w₂)) q (subst (λ (m : Marking). Fewer drops (marking w) m) (sym marks₂) (s .fewer)),
+                  subst (λ (i : ℕ). Fewer i (marking w) (marking w₂)) q
+                      (subst (λ (m : Marking). Fewer drops (marking w) m) (sym marks₂) (s .fewer)),
                   stood,
                 );
             failing = λ y. let x : _≡_ {A = ℕ} 0 1 = cc in absurd (omega arith);
@@ -227,9 +275,13 @@ module _ (n k : ℕ) (w : List ℕ) (p count left : ℕ) where
                       holds = told .0;
                       inside = settled-inside n k w₁ p count left (after-sift c);
                       old = λ o i. Memᴰ·append-left list i;
-                      fresh = λ o i. ⊎-elim (λ a. inl a) (λ b. inr (taken-any-between (c .t) (marking w₁) p (c .from) (c .a) (c .end) (c .to) (c .within) (c .at) o b)) (List·Memᴰ·append-cases (c .es) i);
+                      fresh = λ o i. ⊎-elim (λ a. inl a)
+                          (λ b. inr (taken-any-between (c .t) (marking w₁) p (c .from) (c .a) (c .end) (c .to) (c .within) (c .at) o b))
+                          (List·Memᴰ·append-cases (c .es) i);
                     };
-                    clear' = subst (λ (m : Marking). ClearAny (settled (after-sift c)) (c .t) m p (c .from) (c .a) (c .end) (c .to) (c .at)) (sym marks₂) (clear-any (c .t) (marking w₁) (settled (after-sift c)) p (c .from) (c .a) (c .end) (c .to) (c .within) (c .at) (λ o i. ⊎-elim (λ a. inl (free c o a)) (λ b. inr b) (List·Memᴰ·append-cases (c .es) i)));
+                    clear' = subst (λ (m : Marking). ClearAny (settled (after-sift c)) (c .t) m p (c .from) (c .a) (c .end) (c .to) (c .at))
+                        (sym marks₂) (clear-any (c .t) (marking w₁) (settled (after-sift c)) p (c .from) (c .a) (c .end) (c .to) (c .within)
+                        (c .at) (λ o i. ⊎-elim (λ a. inl (free c o a)) (λ b. inr b) (List·Memᴰ·append-cases (c .es) i)));
                     off = off₂ c;
                     is = sifts c ∙ told .1 ∙ ap (λ (m : Marking). stands (graphs (settled (after-sift c))) m) (sym marks₂);
                   }

@@ -33,14 +33,16 @@ use Rattle.quick.specs.declared.step.Step.{Step}
 use Rattle.quick.specs.declared.step.Step.the-variants.{Stands, Fails}
 use Rattle.entering.specs.Taken.{Among, AmongAll}
 use Rattle.entering.specs.Clear.{Outside, Clear, ClearAll}
-use Rattle.quick.specs.Stepped.{total, Fewer, Off, Stood, Narrowing, NarrowStands, NarrowFails, Narrows, Choosing, ChooseStands, Chooses}
+use Rattle.quick.specs.Stepped.{total, Fewer, Off, Stood, Narrowing, NarrowStands, NarrowFails, Narrows, Choosing, ChooseStands}
+use Rattle.quick.specs.Stepped.{Chooses}
 use Rattle.entering.specs.Moved.{Moved}
 use Rattle.entering.proofs.Mirror.{Alike}
 use Rattle.entering.proofs.Clearing.{all-alike, any-alike}
 use Rattle.quick.proofs.Choosing.{chosen}
 use Rattle.entering.proofs.Moves.{moved-trans, moved-words}
 
-narrow-more : (S : List Graph) (m : Marking) (a : Options) (ds : Places) (s : quickly.Step) → any-at S m a ≡ s → narrow-at S m (a also ds) ≡ elim s [ fails n ↦ fails n | stands T n ↦ narrow-at T n ds ]
+narrow-more : (S : List Graph) (m : Marking) (a : Options) (ds : Places) (s : quickly.Step) → any-at S m a ≡ s →
+    narrow-at S m (a also ds) ≡ elim s [ fails n ↦ fails n | stands T n ↦ narrow-at T n ds ]
 unfolding Rattle.modes_by_marks.specs.Quickly.narrow-at
 narrow-more S m a ds s e = ap (λ (o : quickly.Step). elim o [ fails n ↦ fails n | stands T n ↦ narrow-at T n ds ]) e
 
@@ -57,7 +59,9 @@ module _ (n k : ℕ) (w : List ℕ) (g left : ℕ) where
     pub es₁ : List Entry
     pub stood : Stood n (c .U) (c .es) (c .from + 1) (c .to) log w₁ es₁
     pub ahead : ClearAll es₁ (c .t) (marking w₁) at l ds (c .end) (c .to) stand
-    pub behind : (E : List Entry) (K : Marking) → Alike (marking w₁) K (c .from + 1) l → ((o : Entry) → List·Memᴰ o E → List·Memᴰ o es₁ ⊎ Outside (c .from + 1) l (o .number)) → ClearAll E (c .t) K at l ds (c .end) (c .to) stand → Clear E (c .t) K g (c .from) (c .d) (c .end) (c .to) (c .at)
+    pub behind : (E : List Entry) (K : Marking) → Alike (marking w₁) K (c .from + 1) l →
+        ((o : Entry) → List·Memᴰ o E → List·Memᴰ o es₁ ⊎ Outside (c .from + 1) l (o .number)) →
+        ClearAll E (c .t) K at l ds (c .end) (c .to) stand → Clear E (c .t) K g (c .from) (c .d) (c .end) (c .to) (c .at)
     pub off : Off (c .from + 1) (c .to) (marking w) (marking w₁)
     pub is : inside-at (graphs (c .es)) (marking w) (c .d) ≡ narrow-at (graphs es₁) (marking w₁) ds
 
@@ -85,8 +89,12 @@ module _ (n k : ℕ) (w : List ℕ) (g left : ℕ) where
     unfolding Rattle.modes_by_marks.specs.Quickly.inside-at
     narrow-begin e more f h = go (c .d) (c .at) here (c .among) (c .nests) (c .clear) refl (λ E K x. x)
       where
-        go : (d : Placed) (at : At (c .t) g (c .from) d (c .end) (c .to)) → At (words w) g (c .from) d (c .end) (c .to) → Among (c .U) (c .t) g (c .from) d (c .end) (c .to) at → Nests d left → Clear (c .es) (c .t) (marking w) g (c .from) d (c .end) (c .to) at →
-            inside-at (graphs (c .es)) (marking w) (c .d) ≡ inside-at (graphs (c .es)) (marking w) d → ((E : List Entry) (K : Marking) → Clear E (c .t) K g (c .from) d (c .end) (c .to) at → Clear E (c .t) K g (c .from) (c .d) (c .end) (c .to) (c .at)) → Going c more (e + 1) k w
+        go : (d : Placed) (at : At (c .t) g (c .from) d (c .end) (c .to)) → At (words w) g (c .from) d (c .end) (c .to) →
+            Among (c .U) (c .t) g (c .from) d (c .end) (c .to) at → Nests d left →
+            Clear (c .es) (c .t) (marking w) g (c .from) d (c .end) (c .to) at →
+            inside-at (graphs (c .es)) (marking w) (c .d) ≡ inside-at (graphs (c .es)) (marking w) d →
+            ((E : List Entry) (K : Marking) → Clear E (c .t) K g (c .from) d (c .end) (c .to) at →
+            Clear E (c .t) K g (c .from) (c .d) (c .end) (c .to) (c .at)) → Going c more (e + 1) k w
         go (place G ds) at loaded u nests clear same whole =
             let tail : e ≡ g + extent G = f ∙ tail-is w (c .holds .long) G ds g (c .from) (c .end) (c .to) loaded low in
             let some = at .0 in
@@ -94,7 +102,8 @@ module _ (n k : ℕ) (w : List ℕ) (g left : ℕ) where
               ds = ds;
               l = c .from + length G;
               stand = at .6;
-              many = sym (h ∙ ap (disjunctions-at w) tail ∙ disjunctions-is w (c .holds .long) G ds g (c .from) (c .end) (c .to) loaded low);
+              many = sym (h ∙ ap (disjunctions-at w) tail
+                  ∙ disjunctions-is w (c .holds .long) G ds g (c .from) (c .end) (c .to) loaded low);
               nests = nests;
               among = u .1;
               above = omega arith;
@@ -109,9 +118,18 @@ module _ (n k : ℕ) (w : List ℕ) (g left : ℕ) where
   module _ (c : Narrowing n k w g left) (more at log : ℕ) (w₁ : List ℕ) (m : Moved k w log w₁) (s : Going c more at log w₁) where
     pub narrow-done : more ≤ 0 → NarrowStands n k w g left log w₁ c
     unfolding Rattle.modes_by_marks.specs.Quickly.narrow-at
-    narrow-done h = record { es' = s .es₁; stood = s .stood; clear' = s .behind (s .es₁) (marking w₁) (λ y a b. refl) (λ o i. inl i) (s .ahead); off = s .off; is = go (s .ds) (s .many) (s .is) }
+    narrow-done h = record {
+      es' = s .es₁;
+      stood = s .stood;
+      clear' =
+          s .behind (s .es₁) (marking w₁) (λ y a b. refl) (λ o i. inl i) (s .ahead);
+      off = s .off;
+      is = go (s .ds) (s .many) (s .is);
+    }
       where
-        go : (ds : Places) → places ds ≡ more → inside-at (graphs (c .es)) (marking w) (c .d) ≡ narrow-at (graphs (s .es₁)) (marking w₁) ds → inside-at (graphs (c .es)) (marking w) (c .d) ≡ stands (graphs (s .es₁)) (marking w₁)
+        go : (ds : Places) → places ds ≡ more →
+            inside-at (graphs (c .es)) (marking w) (c .d) ≡ narrow-at (graphs (s .es₁)) (marking w₁) ds →
+            inside-at (graphs (c .es)) (marking w) (c .d) ≡ stands (graphs (s .es₁)) (marking w₁)
         go stop e f = f
         go (a also ds) e f = absurd (omega arith)
 
@@ -129,15 +147,23 @@ module _ (n k : ℕ) (w : List ℕ) (g left : ℕ) where
         later : places ds + 1 ≡ more
         clear : ClearAll (s .es₁) (c .t) (marking w₁) at (s .l) (a also ds) (c .end) (c .to) o
         whole : inside-at (graphs (c .es)) (marking w) (c .d) ≡ narrow-at (graphs (s .es₁)) (marking w₁) (a also ds)
-        before : (E : List Entry) (K : Marking) → Alike (marking w₁) K (c .from + 1) (s .l) → ((o : Entry) → List·Memᴰ o E → List·Memᴰ o (s .es₁) ⊎ Outside (c .from + 1) (s .l) (o .number)) → ClearAll E (c .t) K at (s .l) (a also ds) (c .end) (c .to) o → Clear E (c .t) K g (c .from) (c .d) (c .end) (c .to) (c .at)
+        before : (E : List Entry) (K : Marking) → Alike (marking w₁) K (c .from + 1) (s .l) →
+            ((o : Entry) → List·Memᴰ o E → List·Memᴰ o (s .es₁) ⊎ Outside (c .from + 1) (s .l) (o .number)) →
+            ClearAll E (c .t) K at (s .l) (a also ds) (c .end) (c .to) o → Clear E (c .t) K g (c .from) (c .d) (c .end) (c .to) (c .at)
 
       next : Next
       next = go (s .ds) (s .stand) (s .many) (s .nests) (s .among) (s .ahead) (s .is) (s .behind)
         where
-          go : (ds : Places) (o : AtAll (c .t) at (s .l) ds (c .end) (c .to)) → places ds ≡ more → NestsAll ds left → AmongAll (c .U) (c .t) at (s .l) ds (c .end) (c .to) o → ClearAll (s .es₁) (c .t) (marking w₁) at (s .l) ds (c .end) (c .to) o → inside-at (graphs (c .es)) (marking w) (c .d) ≡ narrow-at (graphs (s .es₁)) (marking w₁) ds →
-              ((E : List Entry) (K : Marking) → Alike (marking w₁) K (c .from + 1) (s .l) → ((o : Entry) → List·Memᴰ o E → List·Memᴰ o (s .es₁) ⊎ Outside (c .from + 1) (s .l) (o .number)) → ClearAll E (c .t) K at (s .l) ds (c .end) (c .to) o → Clear E (c .t) K g (c .from) (c .d) (c .end) (c .to) (c .at)) → Next
+          go : (ds : Places) (o : AtAll (c .t) at (s .l) ds (c .end) (c .to)) → places ds ≡ more → NestsAll ds left →
+              AmongAll (c .U) (c .t) at (s .l) ds (c .end) (c .to) o →
+              ClearAll (s .es₁) (c .t) (marking w₁) at (s .l) ds (c .end) (c .to) o →
+              inside-at (graphs (c .es)) (marking w) (c .d) ≡ narrow-at (graphs (s .es₁)) (marking w₁) ds →
+              ((E : List Entry) (K : Marking) → Alike (marking w₁) K (c .from + 1) (s .l) →
+              ((o : Entry) → List·Memᴰ o E → List·Memᴰ o (s .es₁) ⊎ Outside (c .from + 1) (s .l) (o .number)) →
+              ClearAll E (c .t) K at (s .l) ds (c .end) (c .to) o → Clear E (c .t) K g (c .from) (c .d) (c .end) (c .to) (c .at)) → Next
           go stop o e f u x q b = absurd (omega arith)
-          go (a also ds) o e f u x q b = record { a = a; ds = ds; o = o; nested = f; amongst = u; later = omega arith; clear = x; whole = q; before = b }
+          go (a also ds) o e f u x q b =
+              record { a = a; ds = ds; o = o; nested = f; amongst = u; later = omega arith; clear = x; whole = q; before = b }
 
       pub narrow-here : at < 2048
       narrow-here = let there = next .o .2 in omega (arith, words-many w (c .holds .long), ap length (c .loaded))
@@ -165,7 +191,8 @@ module _ (n k : ℕ) (w : List ℕ) (g left : ℕ) where
           at = next .o .4;
           within = (let there = next .o .2 in omega arith);
           low = omega (arith, last, c .low);
-          many = sym (e ∙ alternatives-is w₁ (next .a) (next .ds) at (s .l) (c .end) (c .to) (subst (λ (t : List ℕ). AtAll t at (s .l) (next .a also next .ds) (c .end) (c .to)) (sym loaded₁) (next .o)));
+          many = sym (e ∙ alternatives-is w₁ (next .a) (next .ds) at (s .l) (c .end) (c .to)
+              (subst (λ (t : List ℕ). AtAll t at (s .l) (next .a also next .ds) (c .end) (c .to)) (sym loaded₁) (next .o)));
           nests = next .nested .1;
           among = next .amongst .0;
           es = s .es₁;
@@ -190,16 +217,19 @@ module _ (n k : ℕ) (w : List ℕ) (g left : ℕ) where
             runs-after = roots-run n (told .es') j w₂ (told .stood .holds) (some c)
 
             pub sieved-after : (t : List ℕ) → Sieved w₁ t → j ≡ log → Sieved w₂ t
-            sieved-after t u e = sieved-since log w₁ w₂ t (omega (arith, m .len, c .holds .long)) (subst (λ (i : ℕ). Since log w₁ i w₂) e (v .standing j i y .0 .since)) u
+            sieved-after t u e = sieved-since log w₁ w₂ t (omega (arith, m .len, c .holds .long))
+                (subst (λ (i : ℕ). Since log w₁ i w₂) e (v .standing j i y .0 .since)) u
 
-            pub narrow-on : (kept first' after : ℕ) → ((a : Alternatives w₁ (at + 1) count) → Tallied w₁ a kept first' after) → Going c (more - 1) after j w₂
+            pub narrow-on : (kept first' after : ℕ) → ((a : Alternatives w₁ (at + 1) count) → Tallied w₁ a kept first' after) →
+                Going c (more - 1) after j w₂
             narrow-on kept first' after tally =
                 let count' = next .later in
                 let above = s .above in
                 let near = first .2 in
                 let far = last in
                 let there = next .o .2 in
-                subst (λ (p : ℕ). Going c (more - 1) p j w₂) (sym (tally (chosen n log w₁ (at + 1) count (left - 1) asks) .after-is)) (record {
+                subst (λ (p : ℕ). Going c (more - 1) p j w₂) (sym (tally (chosen n log w₁ (at + 1) count (left - 1) asks) .after-is))
+                (record {
                   ds = next .ds;
                   l = next .o .1;
                   stand = next .o .5;
@@ -212,21 +242,31 @@ module _ (n k : ℕ) (w : List ℕ) (g left : ℕ) where
                     holds = told .stood .holds;
                     inside = told .stood .inside;
                     old = λ o i. told .stood .old o (s .stood .old o i);
-                    fresh = λ o i. ⊎-elim (λ b. s .stood .fresh o b) (λ b. let u = b .0 in let x = b .1 in inr (omega arith, omega arith)) (told .stood .fresh o i);
+                    fresh = λ o i. ⊎-elim (λ b. s .stood .fresh o b) (λ b. let u = b .0 in let x = b .1 in
+                        inr (omega arith, omega arith)) (told .stood .fresh o i);
                   };
-                  ahead = all-alike (c .t) (marking w₁) (marking w₂) (s .es₁) (told .es') (next .o .0) (next .o .1) (next .ds) (c .end) (c .to) (first .1) (next .o .5) (λ y a b. told .off y (inr a)) (λ o i. ⊎-elim (λ b. inl b) (λ b. let u = b .1 in inr (inl u)) (told .stood .fresh o i)) (next .clear .1);
+                  ahead = all-alike (c .t) (marking w₁) (marking w₂) (s .es₁) (told .es') (next .o .0) (next .o .1) (next .ds) (c .end)
+                      (c .to) (first .1) (next .o .5) (λ y a b. told .off y (inr a))
+                      (λ o i. ⊎-elim (λ b. inl b) (λ b. let u = b .1 in inr (inl u)) (told .stood .fresh o i)) (next .clear .1);
                   behind = λ E K alike new x. next .before E K
                       (λ y a b. alike y a (omega arith) ∙ told .off y (inl b))
-                      (λ o i. ⊎-elim (λ b. ⊎-elim (λ d. inl d) (λ d. inr (inr (d .0))) (told .stood .fresh o b)) (λ b. inr (⊎-elim (λ d. inl d) (λ d. inr (omega arith)) b)) (new o i))
-                      (any-alike (c .t) (marking w₂) K (told .es') E (at + 1) (s .l) (next .a) (next .o .0) (next .o .1) (omega arith) (next .o .4) (λ y a b. alike y (omega arith) b) (λ o i. ⊎-elim (λ b. inl b) (λ b. inr (⊎-elim (λ d. inl (omega arith)) (λ d. inr d) b)) (new o i)) (told .clear'), x);
+                      (λ o i. ⊎-elim (λ b. ⊎-elim (λ d. inl d) (λ d. inr (inr (d .0))) (told .stood .fresh o b))
+                      (λ b. inr (⊎-elim (λ d. inl d) (λ d. inr (omega arith)) b)) (new o i)) (
+                        any-alike (c .t) (marking w₂) K (told .es') E (at + 1) (s .l) (next .a) (next .o .0) (next .o .1) (omega arith)
+                            (next .o .4) (λ y a b. alike y (omega arith) b)
+                            (λ o i. ⊎-elim (λ b. inl b) (λ b. inr (⊎-elim (λ d. inl (omega arith)) (λ d. inr d) b)) (new o i)) (told .clear'),
+                        x,
+                      );
                   off = λ y h. told .off y (⊎-elim (λ b. inl (omega arith)) (λ b. inr (omega arith)) h) ∙ s .off y h;
-                  is = next .whole ∙ narrow-more (graphs (s .es₁)) (marking w₁) (next .a) (next .ds) (stands (graphs (told .es')) (marking w₂)) (told .is);
+                  is = next .whole ∙ narrow-more (graphs (s .es₁)) (marking w₁) (next .a) (next .ds)
+                      (stands (graphs (told .es')) (marking w₂)) (told .is);
                 })
 
           -- it fails, and all is taken back
           module _ (y : r ≡ Fails) (w₃ : List ℕ) (b : Backs k log w₂ w₃) where
             marks₃ : marking w₃ ≡ marking w₂
-            marks₃ = marking-frame w₂ w₃ (omega (arith, v .failing y .0 .len, m .len, c .holds .long)) (b .len) (λ i h l. b .rest i (omega arith))
+            marks₃ = marking-frame w₂ w₃ (omega (arith, v .failing y .0 .len, m .len, c .holds .long)) (b .len)
+                (λ i h l. b .rest i (omega arith))
 
             pub narrow-fails : NarrowFails n k w g left w₃ c
             narrow-fails =
@@ -236,29 +276,44 @@ module _ (n k : ℕ) (w : List ℕ) (g left : ℕ) where
                 let far = last in
                 record {
                   holds' = b .holds n (c .es) w (c .holds) (since-trans k w log w₁ log w₂ (m .since) (f .0 .since));
-                  off = λ y h. ap (λ (k : Marking). k y) marks₃ ∙ told .off y (⊎-elim (λ b. inl (omega arith)) (λ b. inr (omega arith)) h) ∙ s .off y h;
-                  is = next .whole ∙ narrow-more (graphs (s .es₁)) (marking w₁) (next .a) (next .ds) (fails (marking w₂)) (told .is) ∙ ap fails (sym marks₃);
+                  off = λ y h. ap (λ (k : Marking). k y) marks₃ ∙ told .off y (⊎-elim (λ b. inl (omega arith)) (λ b. inr (omega arith)) h)
+                      ∙ s .off y h;
+                  is = next .whole ∙ narrow-more (graphs (s .es₁)) (marking w₁) (next .a) (next .ds) (fails (marking w₂)) (told .is)
+                      ∙ ap fails (sym marks₃);
                 }
 
             pub moved-back : Moved k w k w₃
             moved-back =
                 let f = v .failing y .0 in
-                record { len = b .len ∙ f .len ∙ m .len; rest = λ i h. b .rest i (omega arith) ∙ f .rest i h ∙ m .rest i h; since = b .since w (since-trans k w log w₁ log w₂ (m .since) (f .since)) }
+                record {
+                  len = b .len ∙ f .len ∙ m .len;
+                  rest = λ i h. b .rest i (omega arith) ∙ f .rest i h
+                      ∙ m .rest i h;
+                  since = b .since w (since-trans k w log w₁ log w₂ (m .since) (f .since));
+                }
 
             pub fewer-back : (drops : ℕ) → Fewer drops (marking w) (marking w₁) → total (marking w₃) ≤ total (marking w)
-            fewer-back drops p = let e : total (marking w₃) ≡ total (marking w₂) = ap total marks₃ in omega (arith, v .failing y .1, p .fewer)
+            fewer-back drops p = let e : total (marking w₃) ≡ total (marking w₂) = ap total marks₃ in
+                omega (arith, v .failing y .1, p .fewer)
 
 -- ---- what the function answers
-pub narrows-stands : (n k : ℕ) (w : List ℕ) (g left log drops : ℕ) (w₁ : List ℕ) → Moved k w log w₁ → Fewer drops (marking w) (marking w₁) → ((c : Narrowing n k w g left) → NarrowStands n k w g left log w₁ c) → Narrows n k w g left (Stands log drops) w₁
+pub narrows-stands : (n k : ℕ) (w : List ℕ) (g left log drops : ℕ) (w₁ : List ℕ) → Moved k w log w₁ → Fewer drops (marking w) (marking w₁) →
+    ((c : Narrowing n k w g left) → NarrowStands n k w g left log w₁ c) → Narrows n k w g left (Stands log drops) w₁
 narrows-stands n k w g left log drops w₁ m f all = record {
   standing = λ j i y.
       let x : log ≡ j = cc in
       let z : drops ≡ i = cc in
-      subst (λ (j : ℕ). Moved k w j w₁ × Fewer i (marking w) (marking w₁) × ((c : Narrowing n k w g left) → NarrowStands n k w g left j w₁ c)) x (m, subst (λ (i : ℕ). Fewer i (marking w) (marking w₁)) z f, all);
+      subst (λ (j : ℕ). Moved k w j w₁ × Fewer i (marking w) (marking w₁)
+      × ((c : Narrowing n k w g left) → NarrowStands n k w g left j w₁ c)) x (
+        m,
+        subst (λ (i : ℕ). Fewer i (marking w) (marking w₁)) z f,
+        all,
+      );
   failing = λ y. let x : _≡_ {A = ℕ} 0 1 = cc in absurd (omega arith);
 }
 
-pub narrows-fails : (n k : ℕ) (w : List ℕ) (g left : ℕ) (w₁ : List ℕ) → Moved k w k w₁ → total (marking w₁) ≤ total (marking w) → ((c : Narrowing n k w g left) → NarrowFails n k w g left w₁ c) → Narrows n k w g left Fails w₁
+pub narrows-fails : (n k : ℕ) (w : List ℕ) (g left : ℕ) (w₁ : List ℕ) → Moved k w k w₁ → total (marking w₁) ≤ total (marking w) →
+    ((c : Narrowing n k w g left) → NarrowFails n k w g left w₁ c) → Narrows n k w g left Fails w₁
 narrows-fails n k w g left w₁ m f all = record {
   standing = λ j i y. let x : _≡_ {A = ℕ} 0 1 = cc in absurd (omega arith);
   failing = λ y. (m, f, all);

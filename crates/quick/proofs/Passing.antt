@@ -32,13 +32,16 @@ use Rattle.entering.proofs.Moves.{moved-trans, moved-words}
 after : quickly.Step → (List Graph → Marking → quickly.Step) → quickly.Step
 after s f = elim s [ fails n ↦ fails n | stands T n ↦ f T n ]
 
-narrow-next : (S : List Graph) (m : Marking) (ds es : Places) → narrow-at S m (ds next es) ≡ after (narrow-at S m ds) (λ T n. narrow-at T n es)
+narrow-next : (S : List Graph) (m : Marking) (ds es : Places) →
+    narrow-at S m (ds next es) ≡ after (narrow-at S m ds) (λ T n. narrow-at T n es)
 unfolding Rattle.modes_by_marks.specs.Quickly.narrow-at after
 narrow-next S m stop es = refl
 narrow-next S m (a also ds) es = go (any-at S m a) (λ T n. narrow-next T n ds es)
   where
-    go : (s : quickly.Step) → ((T : List Graph) (n : Marking) → narrow-at T n (ds next es) ≡ after (narrow-at T n ds) (λ T n. narrow-at T n es)) →
-        _≡_ {A = quickly.Step} (elim s [ fails n ↦ fails n | stands T n ↦ narrow-at T n (ds next es) ]) (after (elim s [ fails n ↦ fails n | stands T n ↦ narrow-at T n ds ]) (λ T n. narrow-at T n es))
+    go : (s : quickly.Step) → ((T : List Graph) (n : Marking) →
+        narrow-at T n (ds next es) ≡ after (narrow-at T n ds) (λ T n. narrow-at T n es)) →
+        _≡_ {A = quickly.Step} (elim s [ fails n ↦ fails n | stands T n ↦ narrow-at T n (ds next es) ])
+        (after (elim s [ fails n ↦ fails n | stands T n ↦ narrow-at T n ds ]) (λ T n. narrow-at T n es))
     go (fails n) on = refl
     go (stands T n) on = on T n
 
@@ -48,14 +51,45 @@ narrow-both S m (place g ds) (place h es) = narrow-next S m ds es
 
 module _ (n k : ℕ) (w : List ℕ) where
   abbrev pub first : Passing n k w → Narrowing n k w 0 depth-limit
-  first c = record { t = c .t; loaded = c .ready .loaded; U = c .inputs .U; ground = c .inputs .ground; d = c .inputs .a; from = 0; end = c .inputs .end-a; to = c .inputs .half; at = c .inputs .at-a; low = (let b = at-bounds (c .t) (c .inputs .b) SECOND (c .inputs .half) (c .inputs .end-b) n (c .inputs .at-b) .2 in omega arith); nests = c .inputs .nests-a; among = c .inputs .among-a; es = c .es; holds = c .ready .holds; inside = c .ready .inside; clear = c .ready .clear-a }
+  first c = record {
+    t = c .t;
+    loaded = c .ready .loaded;
+    U = c .inputs .U;
+    ground = c .inputs .ground;
+    d = c .inputs .a;
+    from = 0;
+    end =
+        c .inputs .end-a;
+    to = c .inputs .half;
+    at = c .inputs .at-a;
+    low =
+        (let b = at-bounds (c .t) (c .inputs .b) SECOND (c .inputs .half) (c .inputs .end-b) n (c .inputs .at-b) .2 in omega arith);
+    nests =
+        c .inputs .nests-a;
+    among = c .inputs .among-a;
+    es = c .es;
+    holds = c .ready .holds;
+    inside = c .ready .inside;
+    clear =
+        c .ready .clear-a;
+  }
 
   module _ (r : Step) (w₁ : List ℕ) (v : Narrows n k w 0 depth-limit r w₁) where
     pub pass-fails : r ≡ Fails → Passes n k w Fails w₁
     unfolding after
     pass-fails y = let f = v .failing y in record {
       standing = λ j i z. let x : _≡_ {A = ℕ} 0 1 = cc in absurd (omega arith);
-      failing = λ z. (f .0, λ c. let told = f .2 (first c) in (told .holds', (marking w₁, narrow-both (graphs (c .es)) (marking w) (c .inputs .a) (c .inputs .b) ∙ ap (λ (s : quickly.Step). after s (λ T n. inside-at T n (c .inputs .b))) (told .is))));
+      failing = λ z. (
+        f .0,
+        λ c. let told = f .2 (first c) in (
+          told .holds',
+          (
+            marking w₁,
+            narrow-both (graphs (c .es)) (marking w) (c .inputs .a) (c .inputs .b)
+                ∙ ap (λ (s : quickly.Step). after s (λ T n. inside-at T n (c .inputs .b))) (told .is),
+          ),
+        ),
+      );
     }
 
     module _ (j i : ℕ) (y : r ≡ Stands j i) where
@@ -79,13 +113,17 @@ module _ (n k : ℕ) (w : List ℕ) where
         es = told c .es';
         holds = told c .stood .holds;
         inside = told c .stood .inside;
-        clear = clear-alike (c .t) (marking w) (marking w₁) (c .es) (told c .es') SECOND (c .inputs .half) (c .inputs .b) (c .inputs .end-b) n (c .inputs .at-b) (λ y a b. told c .off y (inr (omega arith))) (λ o i. ⊎-elim (λ a. inl a) (λ a. inr (inl (a .1))) (told c .stood .fresh o i)) (c .ready .clear-b);
+        clear = clear-alike (c .t) (marking w) (marking w₁) (c .es) (told c .es') SECOND (c .inputs .half) (c .inputs .b)
+            (c .inputs .end-b) n (c .inputs .at-b) (λ y a b. told c .off y (inr (omega arith)))
+            (λ o i. ⊎-elim (λ a. inl a) (λ a. inr (inl (a .1))) (told c .stood .fresh o i)) (c .ready .clear-b);
       }
 
       module _ (r₂ : Step) (w₂ : List ℕ) (u : Narrows n j w₁ SECOND depth-limit r₂ w₂) where
-        through : (c : Passing n k w) (s : quickly.Step) → inside-at (graphs (told c .es')) (marking w₁) (c .inputs .b) ≡ s → narrow-at (graphs (c .es)) (marking w) (beside (c .inputs .a) (c .inputs .b)) ≡ s
+        through : (c : Passing n k w) (s : quickly.Step) → inside-at (graphs (told c .es')) (marking w₁) (c .inputs .b) ≡ s →
+            narrow-at (graphs (c .es)) (marking w) (beside (c .inputs .a) (c .inputs .b)) ≡ s
         unfolding after
-        through c s e = narrow-both (graphs (c .es)) (marking w) (c .inputs .a) (c .inputs .b) ∙ ap (λ (s : quickly.Step). after s (λ T n. inside-at T n (c .inputs .b))) (told c .is) ∙ e
+        through c s e = narrow-both (graphs (c .es)) (marking w) (c .inputs .a) (c .inputs .b)
+            ∙ ap (λ (s : quickly.Step). after s (λ T n. inside-at T n (c .inputs .b))) (told c .is) ∙ e
 
         module _ (z : r₂ ≡ Fails) where
           since₂ : Since k w j w₂
@@ -101,8 +139,16 @@ module _ (n k : ℕ) (w : List ℕ) where
               record {
                 standing = λ j i z. let x : _≡_ {A = ℕ} 0 1 = cc in absurd (omega arith);
                 failing = λ o. (
-                  record { len = b .len ∙ q .len ∙ p .len; rest = λ i h. b .rest i (omega arith) ∙ q .rest i h ∙ p .rest i h; since = b .since w since₂ },
-                  λ c. (b .holds n (c .es) w (c .ready .holds) since₂, (marking w₂, through c (fails (marking w₂)) (u .failing z .2 (second c) .is))),
+                  record {
+                    len = b .len ∙ q .len ∙ p .len;
+                    rest = λ i h. b .rest i (omega arith) ∙ q .rest i h
+                        ∙ p .rest i h;
+                    since = b .since w since₂;
+                  },
+                  λ c. (
+                    b .holds n (c .es) w (c .ready .holds) since₂,
+                    (marking w₂, through c (fails (marking w₂)) (u .failing z .2 (second c) .is)),
+                  ),
                 );
               }
 
@@ -113,7 +159,8 @@ module _ (n k : ℕ) (w : List ℕ) where
               let g : i + d ≡ e = cc in
               subst (λ (a : ℕ). Moved k w a w₂ × Fewer e (marking w) (marking w₂) × ((c : Passing n k w) → PassStands n k w a w₂ c)) f (
                 moved-trans k w j w₁ l w₂ (v .standing j i y .0) (u .standing l d z .0),
-                subst (λ (e : ℕ). Fewer e (marking w) (marking w₂)) g (fewer-trans i d (marking w) (marking w₁) (marking w₂) (v .standing j i y .1) (u .standing l d z .1)),
+                subst (λ (e : ℕ). Fewer e (marking w) (marking w₂)) g
+                    (fewer-trans i d (marking w) (marking w₁) (marking w₂) (v .standing j i y .1) (u .standing l d z .1)),
                 both,
               );
           failing = λ x. let q : _≡_ {A = ℕ} 0 1 = cc in absurd (omega arith);
@@ -125,10 +172,13 @@ module _ (n k : ℕ) (w : List ℕ) where
                 record {
                   es' = s .es';
                   ready' = record {
-                    loaded = moved-words k w l w₂ (c .ready .holds .long) (moved-trans k w j w₁ l w₂ (v .standing j i y .0) (u .standing l d z .0)) ∙ c .ready .loaded;
+                    loaded = moved-words k w l w₂ (c .ready .holds .long)
+                        (moved-trans k w j w₁ l w₂ (v .standing j i y .0) (u .standing l d z .0)) ∙ c .ready .loaded;
                     holds = s .stood .holds;
                     inside = s .stood .inside;
-                    clear-a = clear-alike (c .t) (marking w₁) (marking w₂) (told c .es') (s .es') 0 0 (c .inputs .a) (c .inputs .end-a) (c .inputs .half) (c .inputs .at-a) (λ y a b. s .off y (inl (omega arith))) (λ o i. ⊎-elim (λ a. inl a) (λ a. let b = a .0 in inr (inr (omega arith))) (s .stood .fresh o i)) (told c .clear');
+                    clear-a = clear-alike (c .t) (marking w₁) (marking w₂) (told c .es') (s .es') 0 0 (c .inputs .a) (c .inputs .end-a)
+                        (c .inputs .half) (c .inputs .at-a) (λ y a b. s .off y (inl (omega arith)))
+                        (λ o i. ⊎-elim (λ a. inl a) (λ a. let b = a .0 in inr (inr (omega arith))) (s .stood .fresh o i)) (told c .clear');
                     clear-b = s .clear';
                   };
                   is = through c (stands (graphs (s .es')) (marking w₂)) (s .is);

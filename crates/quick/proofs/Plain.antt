@@ -1,4 +1,5 @@
--- An alternative without disjunctions is tried: it is entered by one push, or what its graph would do is told without one, and there is nothing to narrow.
+-- An alternative without disjunctions is tried: it is entered by one push, or what its graph would do is told without one, and there
+-- is nothing to narrow.
 -- Assumes nothing.
 use Prim.Native.Nat.{ℕ, _+_, _/_, _%_}
 use native.Mathlib.Omega.{arith}
@@ -48,11 +49,15 @@ module _ (n k : ℕ) (w : List ℕ) (g left : ℕ) (o : Pushed) (w₁ : List ℕ
       none₁ = sym (none-same w₁ w g (words-same w w₁ (c .holds .long) (u .len) (λ j a b. u .rest j a)) ∙ none)
 
       enters : Enters n k w g left (In e) w₁
-      enters = enters-all n k w g left e w₁ reached (λ d. walk-done n k w g left d e w₁ reached 0 (tail-at w₁ g + 1) (walk-start n k w g left d e w₁ reached o u z (tail-at w₁ g) 0 refl none₁) (omega arith))
+      enters = enters-all n k w g left e w₁ reached
+          (λ d. walk-done n k w g left d e w₁ reached 0 (tail-at w₁ g + 1)
+          (walk-start n k w g left d e w₁ reached o u z (tail-at w₁ g) 0 refl none₁) (omega arith))
 
       narrows : Narrows n e w₁ g left (Stands e 0) w₁
-      narrows = narrows-stands n e w₁ g left e 0 w₁ (moved-start n e w₁ g left (asks-narrow n k w g left (In e) w₁ enters c e refl)) (fewer-none (marking w₁))
-          (λ d. narrow-done n e w₁ g left d 0 (tail-at w₁ g + 1) e w₁ (moved-start n e w₁ g left d) (narrow-begin n e w₁ g left d (tail-at w₁ g) 0 refl none₁) (omega arith))
+      narrows = narrows-stands n e w₁ g left e 0 w₁ (moved-start n e w₁ g left (asks-narrow n k w g left (In e) w₁ enters c e refl))
+          (fewer-none (marking w₁))
+          (λ d. narrow-done n e w₁ g left d 0 (tail-at w₁ g + 1) e w₁ (moved-start n e w₁ g left d)
+          (narrow-begin n e w₁ g left d (tail-at w₁ g) 0 refl none₁) (omega arith))
 
       pub bare-stands : (w₃ : List ℕ) → Backs k e w₁ w₃ → Tries n k w g left (Stands k 0) w₃
       bare-stands w₃ b = tries-stands n k w g left (In e) w₁ enters c e refl (Stands e 0) w₁ narrows e 0 refl w₃ b
@@ -67,13 +72,23 @@ module _ (n k : ℕ) (w : List ℕ) (g left : ℕ) (c : Entering n k w g left) w
     module _ (s : Guesses n k w g Agrees) where
       bare-stays : try-at (graphs (c .es)) (marking w) (c .d) ≡ stands (graphs (c .es) ++ bare-one n k w g left c none .0 ∷ []) (marking w)
       unfolding Rattle.modes_by_marks.specs.Quickly.try-at
-      bare-stays = ap (try-at (graphs (c .es)) (marking w)) (bare-one n k w g left c none .1 .0) ∙ ap (λ (b : Bool). elim b [ false ↦ fails (marking w) | true ↦ stands (graphs (c .es) ++ bare-one n k w g left c none .0 ∷ []) (marking w) ]) (bare-good n k w g left c none s)
+      bare-stays = ap (try-at (graphs (c .es)) (marking w)) (bare-one n k w g left c none .1 .0)
+          ∙ ap (λ (b : Bool). elim b [
+            | false ↦ fails (marking w)
+            | true ↦ stands (graphs (c .es) ++ bare-one n k w g left c none .0 ∷ []) (marking w)
+          ]) (bare-good n k w g left c none s)
 
-pub told-stands : (n k : ℕ) (w : List ℕ) (g left : ℕ) → Entering n k w g left → disjunctions-at w (tail-at w g) ≡ 0 → Guesses n k w g Agrees → Tries n k w g left (Stands k 0) w
+pub told-stands : (n k : ℕ) (w : List ℕ) (g left : ℕ) → Entering n k w g left → disjunctions-at w (tail-at w g) ≡ 0 →
+    Guesses n k w g Agrees → Tries n k w g left (Stands k 0) w
 told-stands n k w g left c none s = record {
   moved = record { len = refl; rest = λ j h. refl; since = since-refl n (c .es) k w (c .holds) };
   standing = λ j i y.
-      let x : 0 ≡ i = cc in
-      (subst (λ (i : ℕ). Fewer i (marking w) (marking w)) x (fewer-none (marking w)), λ d. (graphs (d .es) ++ bare-one n k w g left d none .0 ∷ [], record { holds' = d .holds; off = λ y h. refl; is = bare-stays n k w g left d none s }));
+      let x : 0 ≡ i = cc in (
+        subst (λ (i : ℕ). Fewer i (marking w) (marking w)) x (fewer-none (marking w)),
+        λ d. (
+          graphs (d .es) ++ bare-one n k w g left d none .0 ∷ [],
+          record { holds' = d .holds; off = λ y h. refl; is = bare-stays n k w g left d none s },
+        ),
+      );
   failing = λ y. let x : _≡_ {A = ℕ} 0 1 = cc in absurd (omega arith);
 }

@@ -63,7 +63,9 @@ module _ (n : ℕ) (t : List ℕ) (p : Pair n t) where
   begin k w s e = record {
     es = s .es;
     ready = s .ready;
-    loop = subst (λ (m : Marking). Loop top both can distinct (graphs (s .es)) m) (sym e) (loop-start top both can distinct (graphs (s .es)) same (agree-joins (graphs (s .es)) (same .fine₁) (holds-agree n (s .es) k w (s .ready .holds))));
+    loop = subst (λ (m : Marking). Loop top both can distinct (graphs (s .es)) m) (sym e)
+        (loop-start top both can distinct (graphs (s .es)) same
+        (agree-joins (graphs (s .es)) (same .fine₁) (holds-agree n (s .es) k w (s .ready .holds))));
   }
     where
       kept : Same (graphs (s .es)) (flat (strip (keep all-kept (p .j))))
@@ -73,7 +75,13 @@ module _ (n : ℕ) (t : List ℕ) (p : Pair n t) where
       same = subst (λ (z : Placed). Same (graphs (s .es)) (flat (strip (keep all-kept z)))) is kept
 
   pub stage : (k : ℕ) (w : List ℕ) → Between k w → Undoable n k w → Stage n t p k w
-  stage k w o u = record { es = o .es; ready = o .ready; undoable = u; same = subst (λ (z : Placed). Same (graphs (o .es)) (flat (strip (keep (marking w) z)))) (sym is) (o .loop .same) }
+  stage k w o u = record {
+    es = o .es;
+    ready = o .ready;
+    undoable = u;
+    same =
+        subst (λ (z : Placed). Same (graphs (o .es)) (flat (strip (keep (marking w) z)))) (sym is) (o .loop .same);
+  }
 
   module _ (k : ℕ) (w : List ℕ) (o : Between k w) where
     abbrev pub asks : Passing n k w
@@ -81,14 +89,25 @@ module _ (n : ℕ) (t : List ℕ) (p : Pair n t) where
 
     module _ (r : Step) (w' : List ℕ) (v : Passes n k w r w') where
       pub fails : r ≡ Fails → quick-at (p .j) ≡ none
-      fails y = let f = v .failing y .1 asks .1 in subst (λ (z : Placed). quick-at z ≡ none) (sym is) (loop-fails top both can distinct (graphs (o .es)) (marking w) (o .loop) (f .0) (f .1))
+      fails y = let f = v .failing y .1 asks .1 in
+          subst (λ (z : Placed). quick-at z ≡ none) (sym is)
+          (loop-fails top both can distinct (graphs (o .es)) (marking w) (o .loop) (f .0) (f .1))
 
       module _ (j i : ℕ) (y : r ≡ Stands j i) where
         pub on : Between j w'
-        on = let q = v .standing j i y .2 asks in record { es = q .es'; ready = q .ready'; loop = loop-pass top both can distinct (graphs (o .es)) (marking w) (o .loop) (graphs (q .es')) (marking w') (q .is) }
+        on = let q = v .standing j i y .2 asks in
+            record {
+              es = q .es';
+              ready = q .ready';
+              loop =
+                  loop-pass top both can distinct (graphs (o .es)) (marking w) (o .loop) (graphs (q .es')) (marking w') (q .is);
+            }
 
         pub last : i ≡ 0 → Leaves (p .j) (marking w')
-        last z = let q = v .standing j i y .2 asks in subst (λ (z : Placed). Leaves z (marking w')) (sym is) (loop-still top both can distinct (graphs (o .es)) (marking w) (o .loop) (graphs (q .es')) (marking w') (q .is) (λ x m. ap (λ (f : Marking). f x) (v .standing j i y .1 .same z)))
+        last z = let q = v .standing j i y .2 asks in
+            subst (λ (z : Placed). Leaves z (marking w')) (sym is)
+            (loop-still top both can distinct (graphs (o .es)) (marking w) (o .loop) (graphs (q .es')) (marking w') (q .is)
+            (λ x m. ap (λ (f : Marking). f x) (v .standing j i y .1 .same z)))
 
 -- ---- in the area
 -- how many passes may follow, at most
@@ -115,7 +134,11 @@ module _ (n k : ℕ) (w₀ : List ℕ) where
 
   pub quick-stands : (log : ℕ) (again : Bool) (w : List ℕ) → Rounds log again w → again ≡ false → Quickens n k w₀ (Stands log 0) w
   quick-stands log again w v z = record {
-    standing = λ a b x. let f : log ≡ a = cc in subst (λ (a : ℕ). Moved k w₀ a w × Each (λ t p. Leaves (p .j) (marking w) × Stage n t p a w)) f (v .moved, λ t p s e. (v .ended z t p s e, stage n t p log w (v .between t p s e) (undoable-on n k w₀ (s .undoable) log w (v .moved .since))));
+    standing = λ a b x. let f : log ≡ a = cc in
+        subst (λ (a : ℕ). Moved k w₀ a w × Each (λ t p. Leaves (p .j) (marking w) × Stage n t p a w)) f (
+          v .moved,
+          λ t p s e. (v .ended z t p s e, stage n t p log w (v .between t p s e) (undoable-on n k w₀ (s .undoable) log w (v .moved .since))),
+        );
     failing = λ x. let q : _≡_ {A = ℕ} 0 1 = cc in absurd (omega arith);
   }
 
@@ -137,7 +160,12 @@ module _ (n k : ℕ) (w₀ : List ℕ) where
           record {
             standing = λ a b x. let z : _≡_ {A = ℕ} 0 1 = cc in absurd (omega arith);
             failing = λ x. (
-              record { len = b .len ∙ q .len ∙ v .moved .len; rest = λ j h. b .rest j (omega arith) ∙ q .rest j h ∙ v .moved .rest j h; since = b .since w₀ since₁ },
+              record {
+                len = b .len ∙ q .len ∙ v .moved .len;
+                rest = λ j h. b .rest j (omega arith) ∙ q .rest j h
+                    ∙ v .moved .rest j h;
+                since = b .since w₀ since₁;
+              },
               λ t p s e. fails n t p log w (v .between t p s e) r w₁ u y,
             );
           }
@@ -155,8 +183,10 @@ module _ (n k : ℕ) (w₀ : List ℕ) where
           still (suc i) z = absurd (false-true (sym z ∙ lt-ltb 0 (suc i) (omega arith)))
 
       pub rounds-less : again ≡ true → rounds-left (ltb 0 i) w₁ < rounds-left again w
-      rounds-less z = let f = u .standing j i y .1 .fewer in subst (λ (b : Bool). rounds-left (ltb 0 i) w₁ < rounds-left b w) (sym z) (go i f)
+      rounds-less z = let f = u .standing j i y .1 .fewer in
+          subst (λ (b : Bool). rounds-left (ltb 0 i) w₁ < rounds-left b w) (sym z) (go i f)
         where
           go : (i : ℕ) → total (marking w₁) + i ≤ total (marking w) → rounds-left (ltb 0 i) w₁ < suc (total (marking w))
           go zero f = omega arith
-          go (suc i) f = subst (λ (b : Bool). rounds-left b w₁ < suc (total (marking w))) (sym (lt-ltb 0 (suc i) (omega arith))) (omega arith)
+          go (suc i) f = subst (λ (b : Bool). rounds-left b w₁ < suc (total (marking w))) (sym (lt-ltb 0 (suc i) (omega arith)))
+              (omega arith)

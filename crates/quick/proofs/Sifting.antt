@@ -40,7 +40,8 @@ use Rattle.entering.proofs.Moves.{moved-trans, moved-words}
 -- ---- how many are kept
 below-same : (k : Marking) (x c : ℕ) → c ≤ x → kept-below (drop x k) c ≡ kept-below k c
 below-same k x zero h = refl
-below-same k x (suc c) h = ap (λ (b : Bool). elim b [ true ↦ suc (kept-below (drop x k) c) | false ↦ kept-below (drop x k) c ]) (drop-other x k c (λ e. omega arith)) ∙ ap (λ (r : ℕ). elim (k c) [ true ↦ suc r | false ↦ r ]) (below-same k x c (omega arith))
+below-same k x (suc c) h = ap (λ (b : Bool). elim b [ true ↦ suc (kept-below (drop x k) c) | false ↦ kept-below (drop x k) c ])
+    (drop-other x k c (λ e. omega arith)) ∙ ap (λ (r : ℕ). elim (k c) [ true ↦ suc r | false ↦ r ]) (below-same k x c (omega arith))
 
 below-drop : (k : Marking) (x c : ℕ) → x < c → k x ≡ true → kept-below (drop x k) c + 1 ≡ kept-below k c
 below-drop k x zero h e = absurd (omega arith)
@@ -50,17 +51,22 @@ below-drop k x (suc c) h e = go (eqb x c) refl (below-drop k x c)
     step true r s f = omega arith
     step false r s f = f
 
-    go : (b : Bool) → eqb x c ≡ b → (x < c → k x ≡ true → kept-below (drop x k) c + 1 ≡ kept-below k c) → kept-below (drop x k) (suc c) + 1 ≡ kept-below k (suc c)
+    go : (b : Bool) → eqb x c ≡ b → (x < c → k x ≡ true → kept-below (drop x k) c + 1 ≡ kept-below k c) →
+        kept-below (drop x k) (suc c) + 1 ≡ kept-below k (suc c)
     go true f on =
         let s : c ≡ x = sym (eqb-true x c f) in
-        let a : kept-below (drop x k) (suc c) ≡ kept-below (drop x k) c = ap (λ (b : Bool). elim b [ true ↦ suc (kept-below (drop x k) c) | false ↦ kept-below (drop x k) c ]) (ap (drop x k) s ∙ drop-self x k) in
-        let b : kept-below k (suc c) ≡ suc (kept-below k c) = ap (λ (b : Bool). elim b [ true ↦ suc (kept-below k c) | false ↦ kept-below k c ]) (ap k s ∙ e) in
+        let a : kept-below (drop x k) (suc c) ≡ kept-below (drop x k) c =
+        ap (λ (b : Bool). elim b [ true ↦ suc (kept-below (drop x k) c) | false ↦ kept-below (drop x k) c ]) (ap (drop x k) s
+        ∙ drop-self x k) in
+        let b : kept-below k (suc c) ≡ suc (kept-below k c) =
+        ap (λ (b : Bool). elim b [ true ↦ suc (kept-below k c) | false ↦ kept-below k c ]) (ap k s ∙ e) in
         let d = below-same k x c (omega arith) in
         omega arith
     go false f on =
         let n = eqb-false x c f in
         let l : x < c = omega arith in
-        ap (λ (b : Bool). elim b [ true ↦ suc (kept-below (drop x k) c) | false ↦ kept-below (drop x k) c ] + 1) (drop-other x k c (λ q. n (sym q))) ∙ step (k c) (kept-below (drop x k) c) (kept-below k c) (on l e)
+        ap (λ (b : Bool). elim b [ true ↦ suc (kept-below (drop x k) c) | false ↦ kept-below (drop x k) c ] + 1)
+        (drop-other x k c (λ q. n (sym q))) ∙ step (k c) (kept-below (drop x k) c) (kept-below k c) (on l e)
 
 total-drop : (k : Marking) (x : ℕ) → x < 1024 → k x ≡ true → total (drop x k) + 1 ≡ total k
 unfolding total
@@ -88,7 +94,8 @@ fewer-trans i j k l m p q = record {
   fewer = let a = p .fewer in let b = q .fewer in omega arith;
 }
 
-pub moved-dropped : (k : ℕ) (w : List ℕ) (k' : ℕ) (w' : List ℕ) (x : ℕ) (w₃ : List ℕ) → x < 1024 → 16384 ≤ length w' → Moved k w k' w' → Dropped w' x w₃ → Moved k w k' w₃
+pub moved-dropped : (k : ℕ) (w : List ℕ) (k' : ℕ) (w' : List ℕ) (x : ℕ) (w₃ : List ℕ) → x < 1024 → 16384 ≤ length w' → Moved k w k' w' →
+    Dropped w' x w₃ → Moved k w k' w₃
 moved-dropped k w k' w' x w₃ low room m d = record {
   len = d .len ∙ m .len;
   rest = λ j h. d .rest j (λ e. omega arith) ∙ m .rest j h;
@@ -98,8 +105,10 @@ moved-dropped k w k' w' x w₃ low room m d = record {
 -- what a turn does at the alternative x
 pub data Turn (n k : ℕ) (w₁ : List ℕ) (at x left drops drops' : ℕ) (w₂ : List ℕ) : Type 0 where
   skipped : marking w₁ x ≡ false → w₂ ≡ w₁ → drops' ≡ drops → Turn n k w₁ at x left drops drops' w₂
-  stood : (r : Step) (j i : ℕ) (w' : List ℕ) → marking w₁ x ≡ true → Tries n k w₁ at left r w' → r ≡ Stands j i → w₂ ≡ w' → drops' ≡ drops + i → Turn n k w₁ at x left drops drops' w₂
-  failed : (r : Step) (w' w'' : List ℕ) → marking w₁ x ≡ true → Tries n k w₁ at left r w' → r ≡ Fails → Dropped w' x w'' → w₂ ≡ w'' → drops' ≡ drops + 1 → Turn n k w₁ at x left drops drops' w₂
+  stood : (r : Step) (j i : ℕ) (w' : List ℕ) → marking w₁ x ≡ true → Tries n k w₁ at left r w' → r ≡ Stands j i → w₂ ≡ w' →
+      drops' ≡ drops + i → Turn n k w₁ at x left drops drops' w₂
+  failed : (r : Step) (w' w'' : List ℕ) → marking w₁ x ≡ true → Tries n k w₁ at left r w' → r ≡ Fails → Dropped w' x w'' → w₂ ≡ w'' →
+      drops' ≡ drops + 1 → Turn n k w₁ at x left drops drops' w₂
 
 module _ (n k : ℕ) (w : List ℕ) (p count left : ℕ) where
   -- `rest` alternatives are left, from `at` on
@@ -117,20 +126,35 @@ module _ (n k : ℕ) (w : List ℕ) (p count left : ℕ) where
     pub is : sift-at (graphs (c .es)) (marking w) (c .a) ≡ sift-at (graphs (c .es)) (marking w₁) b
 
   pub sift-start : (c : Alternating n k w p count left) → Sifting c count p w
-  sift-start c = record { b = c .a; l = c .from; stand = c .at; within = c .within; many = c .many; nests = c .nests; among = c .among; above = omega arith; holds = c .holds; off = λ y h. refl; is = refl }
+  sift-start c = record {
+    b = c .a;
+    l = c .from;
+    stand = c .at;
+    within = c .within;
+    many = c .many;
+    nests = c .nests;
+    among = c .among;
+    above = omega arith;
+    holds = c .holds;
+    off = λ y h. refl;
+    is = refl;
+  }
 
   pub moved-none : Alternating n k w p count left → Moved k w k w
   moved-none c = record { len = refl; rest = λ j h. refl; since = since-refl n (c .es) k w (c .holds) }
 
-  pub sift-done : (c : Alternating n k w p count left) (rest at : ℕ) (w₁ : List ℕ) → Sifting c rest at w₁ → rest ≤ 0 → Sifted n k w p count left w₁ c
+  pub sift-done : (c : Alternating n k w p count left) (rest at : ℕ) (w₁ : List ℕ) → Sifting c rest at w₁ → rest ≤ 0 →
+      Sifted n k w p count left w₁ c
   unfolding Rattle.modes_by_marks.specs.Quickly.sift-at
   sift-done c rest at w₁ s h = record { holds' = s .holds; off = s .off; is = go (s .b) (s .many) (s .is) }
     where
-      go : (b : Options) → options b ≡ rest → sift-at (graphs (c .es)) (marking w) (c .a) ≡ sift-at (graphs (c .es)) (marking w₁) b → sift-at (graphs (c .es)) (marking w) (c .a) ≡ marking w₁
+      go : (b : Options) → options b ≡ rest → sift-at (graphs (c .es)) (marking w) (c .a) ≡ sift-at (graphs (c .es)) (marking w₁) b →
+          sift-at (graphs (c .es)) (marking w) (c .a) ≡ marking w₁
       go no-more e f = f
       go (option x d b) e f = absurd (omega arith)
 
-  module _ (c : Alternating n k w p count left) (rest at : ℕ) (w₁ : List ℕ) (m : Moved k w k w₁) (s : Sifting c rest at w₁) (h : 0 < rest) where
+  module _ (c : Alternating n k w p count left) (rest at : ℕ) (w₁ : List ℕ) (m : Moved k w k w₁) (s : Sifting c rest at w₁)
+      (h : 0 < rest) where
     loaded₁ : words w₁ ≡ c .t
     loaded₁ = moved-words k w k w₁ (c .holds .long) m ∙ c .loaded
 
@@ -148,7 +172,9 @@ module _ (n k : ℕ) (w : List ℕ) (p count left : ℕ) where
     next : Next
     next = go (s .b) (s .stand) (s .many) (s .nests) (s .among) (s .is)
       where
-        go : (b : Options) (o : AtAny (c .t) at (s .l) b (c .end) (c .to)) → options b ≡ rest → NestsAny b left → AmongAny (c .U) (c .t) at (s .l) b (c .end) (c .to) o → sift-at (graphs (c .es)) (marking w) (c .a) ≡ sift-at (graphs (c .es)) (marking w₁) b → Next
+        go : (b : Options) (o : AtAny (c .t) at (s .l) b (c .end) (c .to)) → options b ≡ rest → NestsAny b left →
+            AmongAny (c .U) (c .t) at (s .l) b (c .end) (c .to) o →
+            sift-at (graphs (c .es)) (marking w) (c .a) ≡ sift-at (graphs (c .es)) (marking w₁) b → Next
         go no-more o e f u q = absurd (omega arith)
         go (option x d a) o e f u q = record { x = x; d = d; a = a; o = o; nested = f; amongst = u; later = omega arith; whole = q }
 
@@ -156,7 +182,8 @@ module _ (n k : ℕ) (w : List ℕ) (p count left : ℕ) where
     low = omega (arith, c .low, c .ground .few)
 
     read : (w₂ : List ℕ) → 16384 ≤ length w₂ → words w₂ ≡ c .t → Read w₂ at (next .x) (next .o .0)
-    read w₂ room e = read-option w₂ room (next .x) (next .d) (next .a) at (s .l) (c .end) (c .to) (subst (λ (t : List ℕ). AtAny t at (s .l) (option (next .x) (next .d) (next .a)) (c .end) (c .to)) (sym e) (next .o)) low .0
+    read w₂ room e = read-option w₂ room (next .x) (next .d) (next .a) at (s .l) (c .end) (c .to)
+        (subst (λ (t : List ℕ). AtAny t at (s .l) (option (next .x) (next .d) (next .a)) (c .end) (c .to)) (sym e) (next .o)) low .0
 
     first : (at < next .o .0) × (next .o .0 ≤ length (c .t)) × (s .l < next .o .1)
     first = at-bounds (c .t) (next .d) at (s .l) (next .o .0) (next .o .1) (next .o .3)
@@ -218,26 +245,39 @@ module _ (n k : ℕ) (w : List ℕ) (p count left : ℕ) where
             go : Turn n k w₁ at x left drops drops' w₂ → Moved k w k w₂
             go (skipped e f q) = subst (λ (v : List ℕ). Moved k w k v) (sym f) m
             go (stood r j i w' e u y f q) = subst (λ (v : List ℕ). Moved k w k v) (sym f) (moved-trans k w k w₁ k w' m (u .moved))
-            go (failed r w' w'' e u y d f q) = subst (λ (v : List ℕ). Moved k w k v) (sym f) (moved-dropped k w k w' x w'' low-x (omega (arith, u .moved .len, room₁)) (moved-trans k w k w₁ k w' m (u .moved)) d)
+            go (failed r w' w'' e u y d f q) =
+                subst (λ (v : List ℕ). Moved k w k v) (sym f)
+                (moved-dropped k w k w' x w'' low-x (omega (arith, u .moved .len, room₁)) (moved-trans k w k w₁ k w' m (u .moved)) d)
 
         pub turn-fewer : Fewer drops (marking w) (marking w₁) → Fewer drops' (marking w) (marking w₂)
         turn-fewer p = go turn
           where
             go : Turn n k w₁ at x left drops drops' w₂ → Fewer drops' (marking w) (marking w₂)
-            go (skipped e f q) = subst (λ (v : List ℕ). Fewer drops' (marking w) (marking v)) (sym f) (subst (λ (i : ℕ). Fewer i (marking w) (marking w₁)) (sym q) p)
-            go (stood r j i w' e u y f q) = subst (λ (v : List ℕ). Fewer drops' (marking w) (marking v)) (sym f) (subst (λ (i : ℕ). Fewer i (marking w) (marking w')) (sym q) (fewer-trans drops i (marking w) (marking w₁) (marking w') p (u .standing j i y .0)))
+            go (skipped e f q) = subst (λ (v : List ℕ). Fewer drops' (marking w) (marking v)) (sym f)
+                (subst (λ (i : ℕ). Fewer i (marking w) (marking w₁)) (sym q) p)
+            go (stood r j i w' e u y f q) =
+                subst (λ (v : List ℕ). Fewer drops' (marking w) (marking v)) (sym f)
+                (subst (λ (i : ℕ). Fewer i (marking w) (marking w')) (sym q)
+                (fewer-trans drops i (marking w) (marking w₁) (marking w') p (u .standing j i y .0)))
             go (failed r w' w'' e u y d f q) =
                 let told = u .failing y in
                 let up = total-drop (marking w') x low-x (still w' (told .1 asks .off) e) in
                 let same : total (marking w'') ≡ total (drop x (marking w')) = ap total (d .marks) in
-                let one : Fewer 1 (marking w₁) (marking w'') = record { same = λ z. absurd (omega arith); fewer = omega (arith, told .0) } in
-                subst (λ (v : List ℕ). Fewer drops' (marking w) (marking v)) (sym f) (subst (λ (i : ℕ). Fewer i (marking w) (marking w'')) (sym q) (fewer-trans drops 1 (marking w) (marking w₁) (marking w'') p one))
+                let one : Fewer 1 (marking w₁) (marking w'') =
+                record { same = λ z. absurd (omega arith); fewer = omega (arith, told .0) } in
+                subst (λ (v : List ℕ). Fewer drops' (marking w) (marking v)) (sym f)
+                (subst (λ (i : ℕ). Fewer i (marking w) (marking w'')) (sym q)
+                (fewer-trans drops 1 (marking w) (marking w₁) (marking w'') p one))
 
         pub turn-inside : tail-at w₂ at < 2048
-        turn-inside = read w₂ (omega (arith, turn-moved .len, c .holds .long)) (moved-words k w k w₂ (c .holds .long) turn-moved ∙ c .loaded) .inside
+        turn-inside = read w₂ (omega (arith, turn-moved .len, c .holds .long)) (moved-words k w k w₂ (c .holds .long) turn-moved
+            ∙ c .loaded) .inside
 
         -- past the alternative
-        past : (v : List ℕ) (at' : ℕ) → Moved k w k v → at' ≡ after-at v at → Holds n (c .es) k v → Off (s .l) (next .o .1) (marking w₁) (marking v) → sift-at (graphs (c .es)) (marking w₁) (option (next .x) (next .d) (next .a)) ≡ sift-at (graphs (c .es)) (marking v) (next .a) → Sifting c (rest - 1) at' v
+        past : (v : List ℕ) (at' : ℕ) → Moved k w k v → at' ≡ after-at v at → Holds n (c .es) k v →
+            Off (s .l) (next .o .1) (marking w₁) (marking v) →
+            sift-at (graphs (c .es)) (marking w₁) (option (next .x) (next .d) (next .a)) ≡ sift-at (graphs (c .es)) (marking v) (next .a) →
+            Sifting c (rest - 1) at' v
         past v at' mv e held off is =
             let r = read v (omega (arith, mv .len, c .holds .long)) (moved-words k w k v (c .holds .long) mv ∙ c .loaded) in
             let count = next .later in
@@ -268,12 +308,17 @@ module _ (n k : ℕ) (w : List ℕ) (p count left : ℕ) where
             wide v off y h = off y (⊎-elim (λ b. inl (omega arith)) (λ b. inr b) h)
 
             go : Turn n k w₁ at x left drops drops' w₂ → Sifting c (rest - 1) at' w₂
-            go (skipped e f q) = past w₂ at' turn-moved z (subst (Holds n (c .es) k) (sym f) (s .holds)) (λ y h. ap (λ (v : List ℕ). marking v y) f)
-                (sift-dropped (graphs (c .es)) (marking w₁) (next .x) (next .d) (next .a) (kept-x false e) ∙ ap (λ (v : List ℕ). sift-at (graphs (c .es)) (marking v) (next .a)) (sym f))
+            go (skipped e f q) = past w₂ at' turn-moved z (subst (Holds n (c .es) k) (sym f) (s .holds))
+                (λ y h. ap (λ (v : List ℕ). marking v y) f)
+                (sift-dropped (graphs (c .es)) (marking w₁) (next .x) (next .d) (next .a) (kept-x false e)
+                ∙ ap (λ (v : List ℕ). sift-at (graphs (c .es)) (marking v) (next .a)) (sym f))
             go (stood r j i w' e u y f q) =
                 let told = u .standing j i y .1 asks .1 in
-                past w₂ at' turn-moved z (subst (Holds n (c .es) k) (sym f) (told .holds')) (subst (λ (v : List ℕ). Off (s .l) (next .o .1) (marking w₁) (marking v)) (sym f) (wide w' (told .off)))
-                (sift-kept (graphs (c .es)) (marking w₁) (next .x) (next .d) (next .a) (kept-x true e) ∙ ap (λ (o : quickly.Step). sift-at (graphs (c .es)) (tried (next .x) o) (next .a)) (told .is) ∙ ap (λ (v : List ℕ). sift-at (graphs (c .es)) (marking v) (next .a)) (sym f))
+                past w₂ at' turn-moved z (subst (Holds n (c .es) k) (sym f) (told .holds'))
+                (subst (λ (v : List ℕ). Off (s .l) (next .o .1) (marking w₁) (marking v)) (sym f) (wide w' (told .off)))
+                (sift-kept (graphs (c .es)) (marking w₁) (next .x) (next .d) (next .a) (kept-x true e)
+                ∙ ap (λ (o : quickly.Step). sift-at (graphs (c .es)) (tried (next .x) o) (next .a)) (told .is)
+                ∙ ap (λ (v : List ℕ). sift-at (graphs (c .es)) (marking v) (next .a)) (sym f))
             go (failed r w' w'' e u y d f q) =
                 let told = u .failing y .1 asks in
                 let room : 16384 ≤ length w' = omega (arith, u .moved .len, room₁) in
@@ -282,8 +327,14 @@ module _ (n k : ℕ) (w : List ℕ) (p count left : ℕ) where
                 let near = first .2 in
                 let at-x = inner-number in
                 past w₂ at' turn-moved z (subst (Holds n (c .es) k) (sym f) held)
-                (subst (λ (v : List ℕ). Off (s .l) (next .o .1) (marking w₁) (marking v)) (sym f) (λ y h. ap (λ (k : Marking). k y) (d .marks) ∙ drop-other x (marking w') y (λ q. ⊎-elim (λ b. omega arith) (λ b. omega arith) h) ∙ wide w' (told .off) y h))
-                (sift-kept (graphs (c .es)) (marking w₁) (next .x) (next .d) (next .a) (kept-x true e) ∙ ap (λ (o : quickly.Step). sift-at (graphs (c .es)) (tried (next .x) o) (next .a)) (told .is) ∙ ap (λ (j : ℕ). sift-at (graphs (c .es)) (drop j (marking w')) (next .a)) (sym own) ∙ ap (λ (k : Marking). sift-at (graphs (c .es)) k (next .a)) (sym (d .marks)) ∙ ap (λ (v : List ℕ). sift-at (graphs (c .es)) (marking v) (next .a)) (sym f))
+                (subst (λ (v : List ℕ). Off (s .l) (next .o .1) (marking w₁) (marking v)) (sym f)
+                (λ y h. ap (λ (k : Marking). k y) (d .marks)
+                ∙ drop-other x (marking w') y (λ q. ⊎-elim (λ b. omega arith) (λ b. omega arith) h) ∙ wide w' (told .off) y h))
+                (sift-kept (graphs (c .es)) (marking w₁) (next .x) (next .d) (next .a) (kept-x true e)
+                ∙ ap (λ (o : quickly.Step). sift-at (graphs (c .es)) (tried (next .x) o) (next .a)) (told .is)
+                ∙ ap (λ (j : ℕ). sift-at (graphs (c .es)) (drop j (marking w')) (next .a)) (sym own)
+                ∙ ap (λ (k : Marking). sift-at (graphs (c .es)) k (next .a)) (sym (d .marks))
+                ∙ ap (λ (v : List ℕ). sift-at (graphs (c .es)) (marking v) (next .a)) (sym f))
 
 -- drops are few
 pub fewer-small : (i : ℕ) (k k' : Marking) → Fewer i k k' → i ≤ 1024

@@ -30,7 +30,8 @@ use Rattle.entering.proofs.Settling.{agrees-true, clash-false}
 use Rattle.entering.proofs.Within.{entered-graphs, entered-inside, fine, entered-clear}
 
 -- ---- engine's `try-at`, by whether what is pushed agrees
-try-by : (S : List Graph) (m : Marking) (d : Placed) (b : Bool) → agree (S ++ flat (strip (keep m d))) ≡ b → try-at S m d ≡ elim b [ false ↦ fails m | true ↦ inside-at (S ++ flat (strip (keep m d))) m d ]
+try-by : (S : List Graph) (m : Marking) (d : Placed) (b : Bool) → agree (S ++ flat (strip (keep m d))) ≡ b →
+    try-at S m d ≡ elim b [ false ↦ fails m | true ↦ inside-at (S ++ flat (strip (keep m d))) m d ]
 unfolding Rattle.modes_by_marks.specs.Quickly.try-at
 try-by S m (place g ds) b e = ap (λ (b : Bool). elim b [ false ↦ fails m | true ↦ narrow-at (S ++ g ∷ certain m ds) m ds ]) e
 
@@ -53,7 +54,8 @@ module _ (n k : ℕ) (w : List ℕ) (g left : ℕ) where
             record {
               holds' = told .1;
               off = λ y h. ap (λ (m : Marking). m y) marks₁;
-              is = try-by (graphs (c .es)) (marking w) (c .d) false (clash-false _ (fine n k w g left c) (subst Clash (entered-graphs n k w g left c) (told .0))) ∙ ap fails (sym marks₁);
+              is = try-by (graphs (c .es)) (marking w) (c .d) false
+                  (clash-false _ (fine n k w g left c) (subst Clash (entered-graphs n k w g left c) (told .0))) ∙ ap fails (sym marks₁);
             },
       );
     }
@@ -76,7 +78,8 @@ module _ (n k : ℕ) (w : List ℕ) (g left : ℕ) where
         es = entered c;
         holds = u .pushed e z .1 c;
         inside = entered-inside n k w g left c;
-        clear = subst (λ (m : Marking). Clear (entered c) (c .t) m g (c .from) (c .d) (c .end) (c .to) (c .at)) (sym marks₁) (entered-clear n k w g left c);
+        clear = subst (λ (m : Marking). Clear (entered c) (c .t) m g (c .from) (c .d) (c .end) (c .to) (c .at)) (sym marks₁)
+            (entered-clear n k w g left c);
       }
 
       pub asks-narrow : Narrowing n e w₁ g left
@@ -85,8 +88,11 @@ module _ (n k : ℕ) (w : List ℕ) (g left : ℕ) where
       -- it is narrowed where it stands
       going : (c : Entering n k w g left) → try-at (graphs (c .es)) (marking w) (c .d) ≡ inside-at (graphs (entered c)) (marking w₁) (c .d)
       going c =
-          let good = agrees-true _ (fine n k w g left c) (subst Agree (entered-graphs n k w g left c) (holds-agree n (entered c) e w₁ (u .pushed e z .1 c))) in
-          try-by (graphs (c .es)) (marking w) (c .d) true good ∙ ap (λ (S : List Graph). inside-at S (marking w) (c .d)) (sym (entered-graphs n k w g left c)) ∙ ap (λ (m : Marking). inside-at (graphs (entered c)) m (c .d)) (sym marks₁)
+          let good = agrees-true _ (fine n k w g left c)
+          (subst Agree (entered-graphs n k w g left c) (holds-agree n (entered c) e w₁ (u .pushed e z .1 c))) in
+          try-by (graphs (c .es)) (marking w) (c .d) true good
+          ∙ ap (λ (S : List Graph). inside-at S (marking w) (c .d)) (sym (entered-graphs n k w g left c))
+          ∙ ap (λ (m : Marking). inside-at (graphs (entered c)) m (c .d)) (sym marks₁)
 
       module _ (r : Step) (w₂ : List ℕ) (v : Narrows n e w₁ g left r w₂) where
         -- back from j entries to those of the start
@@ -99,7 +105,12 @@ module _ (n k : ℕ) (w : List ℕ) (g left : ℕ) where
 
           module _ (w₃ : List ℕ) (b : Backs k j w₂ w₃) where
             moved₃ : Moved k w k w₃
-            moved₃ = record { len = b .len ∙ m .len ∙ u .len; rest = λ i h. b .rest i (omega arith) ∙ m .rest i h ∙ u .rest i (omega arith); since = b .since w since₂ }
+            moved₃ = record {
+              len = b .len ∙ m .len ∙ u .len;
+              rest = λ i h. b .rest i (omega arith) ∙ m .rest i h
+                  ∙ u .rest i (omega arith);
+              since = b .since w since₂;
+            }
 
             marks₃ : marking w₃ ≡ marking w₂
             marks₃ = marking-frame w₂ w₃ (omega (arith, m .len, u .len, c₀ .holds .long)) (b .len) (λ i h l. b .rest i (omega arith))
@@ -114,7 +125,8 @@ module _ (n k : ℕ) (w : List ℕ) (g left : ℕ) where
               moved = moved₃ e (f .0) w₃ b;
               standing = λ j i y. let x : _≡_ {A = ℕ} 0 1 = cc in absurd (omega arith);
               failing = λ y. (
-                (let p : total (marking w₁) ≡ total (marking w) = ap total marks₁ in let q : total (marking w₃) ≡ total (marking w₂) = ap total (marks₃ e (f .0) w₃ b) in let s = f .1 in omega arith),
+                (let p : total (marking w₁) ≡ total (marking w) = ap total marks₁ in
+                    let q : total (marking w₃) ≡ total (marking w₂) = ap total (marks₃ e (f .0) w₃ b) in let s = f .1 in omega arith),
                 λ c. let told = f .2 (goes c) in record {
                   holds' = b .holds n (c .es) w (c .holds) (since₂ e (f .0));
                   off = off₃ e (f .0) w₃ b (c .from + 1) (c .to) (told .off);
@@ -131,7 +143,9 @@ module _ (n k : ℕ) (w : List ℕ) (g left : ℕ) where
               standing = λ a l q. let x : i ≡ l = cc in (
                 subst (λ (l : ℕ). Fewer l (marking w) (marking w₃)) x (record {
                   same = λ p. marks₃ j (f .0) w₃ b ∙ f .1 .same p ∙ marks₁;
-                  fewer = let p : total (marking w₁) ≡ total (marking w) = ap total marks₁ in let q : total (marking w₃) ≡ total (marking w₂) = ap total (marks₃ j (f .0) w₃ b) in let s = f .1 .fewer in omega arith;
+                  fewer = let p : total (marking w₁) ≡ total (marking w) = ap total marks₁ in
+                      let q : total (marking w₃) ≡ total (marking w₂) = ap total (marks₃ j (f .0) w₃ b) in let s = f .1 .fewer in
+                      omega arith;
                 }),
                 λ c. let told = f .2 (goes c) in (
                   graphs (told .es'),

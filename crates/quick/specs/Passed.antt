@@ -28,5 +28,8 @@ pub record PassStands (n k : ℕ) (w : List ℕ) (k' : ℕ) (w' : List ℕ) (c :
 
 -- "The disjunctions are those of the first input, then those of the second, in order.": engine's `narrow-at` on these
 pub record Passes (n k : ℕ) (w : List ℕ) (r : Step) (w' : List ℕ) : Type 0 where
-  pub standing : (k' i : ℕ) → r ≡ Stands k' i → Moved k w k' w' × Fewer i (marking w) (marking w') × ((c : Passing n k w) → PassStands n k w k' w' c)
-  pub failing : r ≡ Fails → Moved k w k w' × ((c : Passing n k w) → Holds n (c .es) k w' × ((m : Marking) × (narrow-at (graphs (c .es)) (marking w) (beside (c .inputs .a) (c .inputs .b)) ≡ fails m)))
+  pub standing : (k' i : ℕ) → r ≡ Stands k' i →
+      Moved k w k' w' × Fewer i (marking w) (marking w') × ((c : Passing n k w) → PassStands n k w k' w' c)
+  pub failing : r ≡ Fails → Moved k w k w'
+      × ((c : Passing n k w) → Holds n (c .es) k w'
+      × ((m : Marking) × (narrow-at (graphs (c .es)) (marking w) (beside (c .inputs .a) (c .inputs .b)) ≡ fails m)))

@@ -19,7 +19,10 @@ pub record Quickening (n k : ℕ) (w : List ℕ) : Type 0 where
   pub stage : Stage n t p k w
   pub every : marking w ≡ all-kept
 
--- "1, quick": the marks leave what engine's `quick-at` leaves of the joined description, and what is certain then is pushed; or it fails, and all that was pushed for it is taken back
+-- "1, quick": the marks leave what engine's `quick-at` leaves of the joined description, and what is certain then is pushed; or it
+-- fails, and all that was pushed for it is taken back
 pub record Quickens (n k : ℕ) (w : List ℕ) (r : Step) (w' : List ℕ) : Type 0 where
-  pub standing : (k' i : ℕ) → r ≡ Stands k' i → Moved k w k' w' × ((t : List ℕ) (p : Pair n t) → Stage n t p k w → marking w ≡ all-kept → Leaves (p .j) (marking w') × Stage n t p k' w')
+  pub standing : (k' i : ℕ) → r ≡ Stands k' i →
+      Moved k w k' w' × ((t : List ℕ) (p : Pair n t) → Stage n t p k w → marking w ≡ all-kept →
+      Leaves (p .j) (marking w') × Stage n t p k' w')
   pub failing : r ≡ Fails → Moved k w k w' × ((t : List ℕ) (p : Pair n t) → Stage n t p k w → marking w ≡ all-kept → quick-at (p .j) ≡ none)

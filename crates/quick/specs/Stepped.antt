@@ -89,8 +89,10 @@ pub record NarrowFails (n k : ℕ) (w : List ℕ) (g left : ℕ) (w' : List ℕ)
 
 -- engine's `inside-at`, which is `narrow-at` on the disjunctions
 pub record Narrows (n k : ℕ) (w : List ℕ) (g left : ℕ) (r : Step) (w' : List ℕ) : Type 0 where
-  pub standing : (k' i : ℕ) → r ≡ Stands k' i → Moved k w k' w' × Fewer i (marking w) (marking w') × ((c : Narrowing n k w g left) → NarrowStands n k w g left k' w' c)
-  pub failing : r ≡ Fails → Moved k w k w' × (total (marking w') ≤ total (marking w)) × ((c : Narrowing n k w g left) → NarrowFails n k w g left w' c)
+  pub standing : (k' i : ℕ) → r ≡ Stands k' i →
+      Moved k w k' w' × Fewer i (marking w) (marking w') × ((c : Narrowing n k w g left) → NarrowStands n k w g left k' w' c)
+  pub failing : r ≡ Fails → Moved k w k w' × (total (marking w') ≤ total (marking w))
+      × ((c : Narrowing n k w g left) → NarrowFails n k w g left w' c)
 
 -- ---- one disjunction
 pub record Choosing (n k : ℕ) (w : List ℕ) (p count left : ℕ) : Type 0 where
@@ -127,8 +129,10 @@ pub record ChooseFails (n k : ℕ) (w : List ℕ) (p count left : ℕ) (w' : Lis
 
 -- engine's `any-at`
 pub record Chooses (n k : ℕ) (w : List ℕ) (p count left : ℕ) (r : Step) (w' : List ℕ) : Type 0 where
-  pub standing : (k' i : ℕ) → r ≡ Stands k' i → Moved k w k' w' × Fewer i (marking w) (marking w') × ((c : Choosing n k w p count left) → ChooseStands n k w p count left k' w' c)
-  pub failing : r ≡ Fails → Moved k w k w' × (total (marking w') ≤ total (marking w)) × ((c : Choosing n k w p count left) → ChooseFails n k w p count left w' c)
+  pub standing : (k' i : ℕ) → r ≡ Stands k' i →
+      Moved k w k' w' × Fewer i (marking w) (marking w') × ((c : Choosing n k w p count left) → ChooseStands n k w p count left k' w' c)
+  pub failing : r ≡ Fails → Moved k w k w' × (total (marking w') ≤ total (marking w))
+      × ((c : Choosing n k w p count left) → ChooseFails n k w p count left w' c)
 
 -- ---- an alternative that is tried
 pub record Tried (n k : ℕ) (w : List ℕ) (g left : ℕ) (w' : List ℕ) (c : Entering n k w g left) (s : quickly.Step) : Type 0 where
@@ -139,8 +143,10 @@ pub record Tried (n k : ℕ) (w : List ℕ) (g left : ℕ) (w' : List ℕ) (c : 
 -- engine's `try-at`; nothing that was pushed for it stays
 pub record Tries (n k : ℕ) (w : List ℕ) (g left : ℕ) (r : Step) (w' : List ℕ) : Type 0 where
   pub moved : Moved k w k w'
-  pub standing : (k' i : ℕ) → r ≡ Stands k' i → Fewer i (marking w) (marking w') × ((c : Entering n k w g left) → (T : List Graph) × Tried n k w g left w' c (stands T (marking w')))
-  pub failing : r ≡ Fails → (total (marking w') ≤ total (marking w)) × ((c : Entering n k w g left) → Tried n k w g left w' c (fails (marking w')))
+  pub standing : (k' i : ℕ) → r ≡ Stands k' i →
+      Fewer i (marking w) (marking w') × ((c : Entering n k w g left) → (T : List Graph) × Tried n k w g left w' c (stands T (marking w')))
+  pub failing : r ≡ Fails → (total (marking w') ≤ total (marking w))
+      × ((c : Entering n k w g left) → Tried n k w g left w' c (fails (marking w')))
 
 -- the same of an alternative without disjunctions, however deep it may nest
 pub record TriesBare (n k : ℕ) (w : List ℕ) (g : ℕ) (r : Step) (w' : List ℕ) : Type 0 where

@@ -22,7 +22,8 @@ ghost use Rattle.entering.specs.Entered.{Entering};
 ghost use Rattle.entering.specs.Settled.{Alternating};
 ghost use Rattle.quick.specs.Stepped.{Narrowing, Narrows, Choosing, Chooses, Tries, Sifts};
 
-// Tries the alternative at g: it is entered and narrowed, and all that was pushed for it taken back. Mostly it has no disjunctions, and there is nothing to narrow.
+// Tries the alternative at g: it is entered and narrowed, and all that was pushed for it taken back. Mostly it has no disjunctions,
+// and there is nothing to narrow.
 fn try_one(w: &mut [u32], k: usize, n: usize, g: usize, left: u32, t: &[u32]) -> Step
     requires { ⌜ Entering n k (now w) g left ⌝ }
     requires { ⌜ Sieved (now w) (now t) ⌝ }

@@ -11,10 +11,12 @@ use lib.Seq.{take-append-seam}
 use Rattle.theory.specs.Limits.{depth-limit, choice-limit}
 use Rattle.theory.specs.Net.{Node, atom, arcs, Graph, nodeAt, arcsOf}
 use Rattle.theory.specs.Descr.{Desc, desc, Disjs, end, _and_, Alts, fail, _or_, disjs, alts, number, readings}
-use Rattle.theory.specs.Layout.{arc-words, node-words, nodes-words, words, disjs-words, alts-words, ArcsFit, NodeFits, GraphFits, WellFormed, WellAll, WellAny}
+use Rattle.theory.specs.Layout.{arc-words, node-words, nodes-words, words, disjs-words, alts-words, ArcsFit, NodeFits, GraphFits}
+use Rattle.theory.specs.Layout.{WellFormed, WellAll, WellAny}
 use Rattle.theory.specs.Modes.{joined, quick}
 use Rattle.theory.specs.Answer.{Answer, Call, consistent}
-use Rattle.theory.specs.Rules.{mode-result, mode-readings, Accepted, Clashes, TooMany, Given, one, two, three, four, five, six, seven, six-after, eight, done}
+use Rattle.theory.specs.Rules.{mode-result, mode-readings, Accepted, Clashes, TooMany, Given, one, two, three, four, five, six, seven}
+use Rattle.theory.specs.Rules.{six-after, eight, done}
 use Rattle.theory.specs.Unified.{unified}
 use Rattle.theory.proofs.Instance.{numbered-target}
 use Rattle.theory.proofs.Counting.{readings-number}
@@ -197,7 +199,8 @@ pub printed-small : (text : List ℕ) → length (printed text) ≤ 23000
 unfolding printed
 printed-small text = go (heard text)
   where
-    go : (o : Option Asked) → length {A = ℕ} (elim o [ none ↦ bad-text | some c ↦ spoken (record { mode = c .mode; first = c .first; second = c .second }) ]) ≤ 23000
+    go : (o : Option Asked) → length {A = ℕ}
+        (elim o [ none ↦ bad-text | some c ↦ spoken (record { mode = c .mode; first = c .first; second = c .second }) ]) ≤ 23000
     go none = omega arith
     go (some c) = spoken-small (record { mode = c .mode; first = c .first; second = c .second })
 

@@ -37,7 +37,8 @@ use Rattle.search.proofs.Finding.{finds-none, finds-same, finds-small, 
 -- what a turn does at the alternative x
 pub data Turn (n k : ℕ) (w₁ : List ℕ) (at x : ℕ) (a : Agenda) (sum sum' : ℕ) (w₂ : List ℕ) : Type 0 where
   skipped : marking w₁ x ≡ false → w₂ ≡ w₁ → sum' ≡ sum → Turn n k w₁ at x a sum sum' w₂
-  took : (r : ℕ) (w' : List ℕ) → marking w₁ x ≡ true → Takes n k w₁ at a r w' → w₂ ≡ w' → sum' ≡ min (sum + r) choice-stop → Turn n k w₁ at x a sum sum' w₂
+  took : (r : ℕ) (w' : List ℕ) → marking w₁ x ≡ true → Takes n k w₁ at a r w' → w₂ ≡ w' → sum' ≡ min (sum + r) choice-stop →
+      Turn n k w₁ at x a sum sum' w₂
 
 module _ (n k : ℕ) (w : List ℕ) (p count : ℕ) (a : Agenda) where
   abbrev left-of : Branching n k w p count a → List Places
@@ -62,9 +63,23 @@ module _ (n k : ℕ) (w : List ℕ) (p count : ℕ) (a : Agenda) where
   choose-moved c = record { len = refl; rest = λ j h. refl; since = since-refl n (c .s .es) k w (c .s .holds) }
 
   pub choose-start : (c : Branching n k w p count a) → Going c count p 0 w
-  choose-start c = record { b = c .o; l = c .from; stand = c .at; within = c .within; many = c .many; nests = c .nests; among = c .among; above = omega arith; on = omega arith; f = []; is = refl; finds = finds-none n k w (c .s .es) (c .s .holds) }
+  choose-start c = record {
+    b = c .o;
+    l = c .from;
+    stand = c .at;
+    within = c .within;
+    many = c .many;
+    nests = c .nests;
+    among = c .among;
+    above = omega arith;
+    on = omega arith;
+    f = [];
+    is = refl;
+    finds = finds-none n k w (c .s .es) (c .s .holds);
+  }
 
-  pub choose-done : (c : Branching n k w p count a) (left at sum : ℕ) (w₁ : List ℕ) → Going c left at sum w₁ → left ≤ 0 → Finds n k w (c .s .es) (chosen c) sum w₁
+  pub choose-done : (c : Branching n k w p count a) (left at sum : ℕ) (w₁ : List ℕ) → Going c left at sum w₁ → left ≤ 0 →
+      Finds n k w (c .s .es) (chosen c) sum w₁
   choose-done c left at sum w₁ s h = finds-same n k w (c .s .es) (s .f) (chosen c) sum w₁ (go (s .b) (s .many) (s .is)) (s .finds)
     where
       go : (b : Options) → options b ≡ left → chosen c ≡ s .f ++ each-at (c .s .m) (graphs (c .s .es)) b (left-of c) → chosen c ≡ s .f
@@ -74,7 +89,8 @@ module _ (n k : ℕ) (w : List ℕ) (p count : ℕ) (a : Agenda) where
   pub choose-small : (c : Branching n k w p count a) (left at sum : ℕ) (w₁ : List ℕ) → Going c left at sum w₁ → sum ≤ choice-stop
   choose-small c left at sum w₁ s = finds-small n k w (c .s .es) (s .f) sum w₁ (s .finds)
 
-  module _ (c : Branching n k w p count a) (left at sum : ℕ) (w₁ : List ℕ) (mv : Moved k w k w₁) (s : Going c left at sum w₁) (h : 0 < left) where
+  module _ (c : Branching n k w p count a) (left at sum : ℕ) (w₁ : List ℕ) (mv : Moved k w k w₁) (s : Going c left at sum w₁)
+      (h : 0 < left) where
     -- the next alternative
     record Next : Type 0 where
       x : ℕ
@@ -89,7 +105,9 @@ module _ (n k : ℕ) (w : List ℕ) (p count : ℕ) (a : Agenda) where
     next : Next
     next = go (s .b) (s .stand) (s .many) (s .nests) (s .among) (s .is)
       where
-        go : (b : Options) (o : AtAny (c .s .t) at (s .l) b (c .end) (c .to)) → options b ≡ left → NestsAny b (c .left) → AmongAny (c .s .U) (c .s .t) at (s .l) b (c .end) (c .to) o → chosen c ≡ s .f ++ each-at (c .s .m) (graphs (c .s .es)) b (left-of c) → Next
+        go : (b : Options) (o : AtAny (c .s .t) at (s .l) b (c .end) (c .to)) → options b ≡ left → NestsAny b (c .left) →
+            AmongAny (c .s .U) (c .s .t) at (s .l) b (c .end) (c .to) o →
+            chosen c ≡ s .f ++ each-at (c .s .m) (graphs (c .s .es)) b (left-of c) → Next
         go no-more o e f u q = absurd (omega arith)
         go (option x d b) o e f u q = record { x = x; d = d; b = b; o = o; nested = f; amongst = u; later = omega arith; whole = q }
 
@@ -103,7 +121,8 @@ module _ (n k : ℕ) (w : List ℕ) (p count : ℕ) (a : Agenda) where
     last = any-bounds (c .s .t) (next .b) (next .o .0) (next .o .1) (c .end) (c .to) (first .1) (next .o .4)
 
     read : (v : List ℕ) → 16384 ≤ length v → words v ≡ c .s .t → Read v at (next .x) (next .o .0)
-    read v room e = read-option v room (next .x) (next .d) (next .b) at (s .l) (c .end) (c .to) (subst (λ (t : List ℕ). AtAny t at (s .l) (option (next .x) (next .d) (next .b)) (c .end) (c .to)) (sym e) (next .o)) low .0
+    read v room e = read-option v room (next .x) (next .d) (next .b) at (s .l) (c .end) (c .to)
+        (subst (λ (t : List ℕ). AtAny t at (s .l) (option (next .x) (next .d) (next .b)) (c .end) (c .to)) (sym e) (next .o)) low .0
 
     room₁ : 16384 ≤ length w₁
     room₁ = omega (arith, mv .len, c .s .holds .long)
@@ -125,12 +144,25 @@ module _ (n k : ℕ) (w : List ℕ) (p count : ℕ) (a : Agenda) where
       mark-is : (b : Bool) → marking w₁ x ≡ b → c .s .m (next .x) ≡ b
       mark-is b e = ap (λ (m : Marking). m (next .x)) (sym (s .finds .marks ∙ c .s .marks)) ∙ ap (marking w₁) (sym own) ∙ e
 
-      abbrev after-it : (G : Frames n (c .s .t) (c .s .U) (c .s .es) (c .s .m) (c .l) (next .o .0) (next .o .1)) × (plan n (c .s .t) (c .s .U) (c .s .es) (c .s .m) (c .l) (next .o .0) (next .o .1) G ≡ left-of c)
-      after-it = frames-wide n (c .s .t) (c .s .U) (c .s .m) (c .s .es) (c .l) (c .end) (c .to) (next .o .0) (next .o .1) (last .0) (last .2) (c .frames)
+      abbrev after-it : (G : Frames n (c .s .t) (c .s .U) (c .s .es) (c .s .m) (c .l) (next .o .0) (next .o .1))
+          × (plan n (c .s .t) (c .s .U) (c .s .es) (c .s .m) (c .l) (next .o .0) (next .o .1) G ≡ left-of c)
+      after-it = frames-wide n (c .s .t) (c .s .U) (c .s .m) (c .s .es) (c .l) (c .end) (c .to) (next .o .0) (next .o .1) (last .0)
+          (last .2) (c .frames)
 
       abbrev asks : marking w₁ x ≡ true → Taking n k w₁ at a
       asks e = record {
-        s = record { t = c .s .t; loaded = loaded₁; m = c .s .m; marks = s .finds .marks ∙ c .s .marks; U = c .s .U; ground = c .s .ground; es = c .s .es; holds = s .finds .holds; inside = c .s .inside };
+        s = record {
+          t = c .s .t;
+          loaded = loaded₁;
+          m = c .s .m;
+          marks = s .finds .marks
+              ∙ c .s .marks;
+          U = c .s .U;
+          ground = c .s .ground;
+          es = c .s .es;
+          holds = s .finds .holds;
+          inside = c .s .inside;
+        };
         d = next .d;
         from = s .l;
         end = next .o .0;
@@ -151,8 +183,12 @@ module _ (n k : ℕ) (w : List ℕ) (p count : ℕ) (a : Agenda) where
       pub choose-asks : marking w₁ x ≡ true → Taking n k w₁ at a
       choose-asks e = asks e
 
-      taken-is : (e : marking w₁ x ≡ true) → taken-with (asks e) ≡ taking (next .x) (dive-at (c .s .m) (graphs (c .s .es)) (next .d) (left-of c))
-      taken-is e = ap (λ (y : ℕ). taking y (dive-at (c .s .m) (graphs (c .s .es)) (next .d) (plan n (c .s .t) (c .s .U) (c .s .es) (c .s .m) (c .l) (next .o .0) (next .o .1) (after-it .0)))) (sym (next .o .2)) ∙ ap (λ (fs : List Places). taking (next .x) (dive-at (c .s .m) (graphs (c .s .es)) (next .d) fs)) (after-it .1)
+      taken-is : (e : marking w₁ x ≡ true) →
+          taken-with (asks e) ≡ taking (next .x) (dive-at (c .s .m) (graphs (c .s .es)) (next .d) (left-of c))
+      taken-is e = ap (λ (y : ℕ). taking y
+          (dive-at (c .s .m) (graphs (c .s .es)) (next .d)
+          (plan n (c .s .t) (c .s .U) (c .s .es) (c .s .m) (c .l) (next .o .0) (next .o .1) (after-it .0)))) (sym (next .o .2))
+          ∙ ap (λ (fs : List Places). taking (next .x) (dive-at (c .s .m) (graphs (c .s .es)) (next .d) fs)) (after-it .1)
 
       module _ (sum' : ℕ) (w₂ : List ℕ) (turn : Turn n k w₁ at x a sum sum' w₂) where
         pub turn-moved : Moved k w k w₂
@@ -194,12 +230,19 @@ module _ (n k : ℕ) (w : List ℕ) (p count : ℕ) (a : Agenda) where
             more (skipped e f q) = s .f
             more (took r w' e u f q) = s .f ++ taken-with (asks e)
 
-            whole : (y : Turn n k w₁ at x a sum sum' w₂) → s .f ++ each-at (c .s .m) (graphs (c .s .es)) (option (next .x) (next .d) (next .b)) (left-of c) ≡ more y ++ each-at (c .s .m) (graphs (c .s .es)) (next .b) (left-of c)
-            whole (skipped e f q) = ap (λ (y : Found). s .f ++ y) (each-at-dropped (c .s .m) (graphs (c .s .es)) (next .x) (next .b) (left-of c) (next .d) (mark-is false e))
+            whole : (y : Turn n k w₁ at x a sum sum' w₂) →
+                s .f ++ each-at (c .s .m) (graphs (c .s .es)) (option (next .x) (next .d) (next .b)) (left-of c) ≡ more y
+                ++ each-at (c .s .m) (graphs (c .s .es)) (next .b) (left-of c)
+            whole (skipped e f q) = ap (λ (y : Found). s .f ++ y)
+                (each-at-dropped (c .s .m) (graphs (c .s .es)) (next .x) (next .b) (left-of c) (next .d) (mark-is false e))
             whole (took r w' e u f q) =
-                ap (λ (y : Found). s .f ++ y) (each-at-kept (c .s .m) (graphs (c .s .es)) (next .x) (next .b) (left-of c) (next .d) (mark-is true e) ∙ ap (λ (y : Found). y ++ each-at (c .s .m) (graphs (c .s .es)) (next .b) (left-of c)) (sym (taken-is e)))
+                ap (λ (y : Found). s .f ++ y) (each-at-kept (c .s .m) (graphs (c .s .es)) (next .x) (next .b) (left-of c) (next .d)
+                (mark-is true e) ∙ ap (λ (y : Found). y ++ each-at (c .s .m) (graphs (c .s .es)) (next .b) (left-of c))
+                (sym (taken-is e)))
                 ∙ sym (append-assoc (s .f) (taken-with (asks e)) (each-at (c .s .m) (graphs (c .s .es)) (next .b) (left-of c)))
 
             finds : (y : Turn n k w₁ at x a sum sum' w₂) → Finds n k w (c .s .es) (more y) sum' w₂
-            finds (skipped e f q) = subst (λ (v : List ℕ). Finds n k w (c .s .es) (s .f) sum' v) (sym f) (subst (λ (i : ℕ). Finds n k w (c .s .es) (s .f) i w₁) (sym q) (s .finds))
-            finds (took r w' e u f q) = subst (λ (v : List ℕ). Finds n k w (c .s .es) (s .f ++ taken-with (asks e)) sum' v) (sym f) (finds-append n k w (c .s .es) (s .f) (taken-with (asks e)) sum r sum' w₁ w' (s .finds) (u .found (asks e)) q)
+            finds (skipped e f q) = subst (λ (v : List ℕ). Finds n k w (c .s .es) (s .f) sum' v) (sym f)
+                (subst (λ (i : ℕ). Finds n k w (c .s .es) (s .f) i w₁) (sym q) (s .finds))
+            finds (took r w' e u f q) = subst (λ (v : List ℕ). Finds n k w (c .s .es) (s .f ++ taken-with (asks e)) sum' v) (sym f)
+                (finds-append n k w (c .s .es) (s .f) (taken-with (asks e)) sum r sum' w₁ w' (s .finds) (u .found (asks e)) q)

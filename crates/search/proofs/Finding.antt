@@ -38,11 +38,13 @@ notes-none w g found h = record {
     none true e = let more = ltb-true 0 found e in absurd (omega arith)
     none false e = sym e
 
-pub notes-some : (w : List ℕ) (g found x : ℕ) (w' : List ℕ) → Noting w g → 0 < found → x ≡ number-at w g → Lighted w x w' → Notes w g found w'
+pub notes-some : (w : List ℕ) (g found x : ℕ) (w' : List ℕ) → Noting w g → 0 < found → x ≡ number-at w g → Lighted w x w' →
+    Notes w g found w'
 notes-some w g found x w' c h e u = record {
   len = u .len;
   rest = λ j o. u .rest j (λ z. ⊎-elim (λ b. omega (arith, c .low)) (λ b. omega (arith, c .low)) o);
-  seen = λ y. u .found y ∙ ap (λ (z : ℕ). lights w y || eqb y z) e ∙ ap (λ (b : Bool). lights w y || (b && eqb y (number-at w g))) (some (ltb 0 found) refl);
+  seen = λ y. u .found y ∙ ap (λ (z : ℕ). lights w y || eqb y z) e
+      ∙ ap (λ (b : Bool). lights w y || (b && eqb y (number-at w g))) (some (ltb 0 found) refl);
   marks = λ k. u .marks (ap (marking w) e ∙ k);
 }
   where
@@ -90,16 +92,19 @@ module _ (n k : ℕ) (w : List ℕ) (es : List Entry) where
   finds-small f r w' u = omega (arith, u .count)
 
   -- one after the other
-  pub finds-append : (f g : Found) (r s q : ℕ) (w₁ w₂ : List ℕ) → Finds n k w es f r w₁ → Finds n k w₁ es g s w₂ → q ≡ min (r + s) choice-stop → Finds n k w es (f ++ g) q w₂
+  pub finds-append : (f g : Found) (r s q : ℕ) (w₁ w₂ : List ℕ) → Finds n k w es f r w₁ → Finds n k w₁ es g s w₂ →
+      q ≡ min (r + s) choice-stop → Finds n k w es (f ++ g) q w₂
   finds-append f g r s q w₁ w₂ u v e = record {
     count = omega (arith, u .count, v .count, length-append f g);
-    seen = λ y. v .seen y ∙ ap (λ (b : Bool). b || lit g y) (u .seen y) ∙ or-assoc (lights w y) (lit f y) (lit g y) ∙ ap (λ (b : Bool). lights w y || b) (sym (lit-append f g y));
+    seen = λ y. v .seen y ∙ ap (λ (b : Bool). b || lit g y) (u .seen y) ∙ or-assoc (lights w y) (lit f y) (lit g y)
+        ∙ ap (λ (b : Bool). lights w y || b) (sym (lit-append f g y));
     marks = v .marks ∙ u .marks;
     holds = v .holds;
   }
 
   -- with the alternative at g
-  pub finds-taking : (x : ℕ) (f : Found) (g r : ℕ) (w₁ w₂ : List ℕ) → 16384 ≤ length w₁ → Finds n k w es f r w₁ → Notes w₁ g r w₂ → number-at w₁ g ≡ x → marking w x ≡ true → Finds n k w es (taking x f) r w₂
+  pub finds-taking : (x : ℕ) (f : Found) (g r : ℕ) (w₁ w₂ : List ℕ) → 16384 ≤ length w₁ → Finds n k w es f r w₁ → Notes w₁ g r w₂ →
+      number-at w₁ g ≡ x → marking w x ≡ true → Finds n k w es (taking x f) r w₂
   finds-taking x f g r w₁ w₂ room u v e own = record {
     count = u .count ∙ ap (λ (c : ℕ). min c choice-stop) (sym (taking-count x f));
     seen = λ y.
@@ -113,7 +118,9 @@ module _ (n k : ℕ) (w : List ℕ) (es : List Entry) where
   }
 
 -- what was found on top of more graphs, once they are taken back
-pub finds-under : (n k e : ℕ) (w w₁ w₂ w₃ : List ℕ) (es es₁ : List Entry) (f : Found) (r : ℕ) → lights w₁ ≡ lights w → marking w₁ ≡ marking w → Finds n e w₁ es₁ f r w₂ → lights w₃ ≡ lights w₂ → marking w₃ ≡ marking w₂ → Holds n es k w₃ → Finds n k w es f r w₃
+pub finds-under : (n k e : ℕ) (w w₁ w₂ w₃ : List ℕ) (es es₁ : List Entry) (f : Found) (r : ℕ) → lights w₁ ≡ lights w →
+    marking w₁ ≡ marking w → Finds n e w₁ es₁ f r w₂ → lights w₃ ≡ lights w₂ → marking w₃ ≡ marking w₂ → Holds n es k w₃ →
+    Finds n k w es f r w₃
 finds-under n k e w w₁ w₂ w₃ es es₁ f r l m u l′ m′ h = record {
   count = u .count;
   seen = λ y. ap (λ (x : Marking). x y) l′ ∙ u .seen y ∙ ap (λ (x : Marking). x y || lit f y) l;
@@ -122,5 +129,12 @@ finds-under n k e w w₁ w₂ w₃ es es₁ f r l m u l′ m′ h = record {
 }
 
 -- ---- what moved
-pub moved-noted : (k : ℕ) (w : List ℕ) (k' : ℕ) (w₁ w₂ : List ℕ) (g found : ℕ) → 16384 ≤ length w₁ → Moved k w k' w₁ → Notes w₁ g found w₂ → Moved k w k' w₂
-moved-noted k w k' w₁ w₂ g found room m v = record { len = v .len ∙ m .len; rest = λ j h. v .rest j (inr h) ∙ m .rest j h; since = since-frame k w k' w₁ w₂ (v .len) room (λ j h. v .rest j (inl h)) (m .since) }
+pub moved-noted : (k : ℕ) (w : List ℕ) (k' : ℕ) (w₁ w₂ : List ℕ) (g found : ℕ) → 16384 ≤ length w₁ → Moved k w k' w₁ → Notes w₁ g found w₂ →
+    Moved k w k' w₂
+moved-noted k w k' w₁ w₂ g found room m v =
+    record {
+      len = v .len ∙ m .len;
+      rest = λ j h. v .rest j (inr h)
+          ∙ m .rest j h;
+      since = since-frame k w k' w₁ w₂ (v .len) room (λ j h. v .rest j (inl h)) (m .since);
+    }

@@ -50,7 +50,9 @@ module _ (n k : ℕ) (w : List ℕ) (g : ℕ) where
     -- it does not agree for certain
     pub foresees-other : (r : Guess) → Guesses n k w g r → (r ≡ Agrees → ⊥) → Foresees n k w g left r
     foresees-other r s z = record {
-      clashes = λ y a c. clash-none n k w g a c (told-enters n k w g depth-limit (asks-enter n k w g a c) (subst (Guesses n k w g) y s) .clashed refl .1 (asks-enter n k w g a c) .0);
+      clashes = λ y a c. clash-none n k w g a c
+          (told-enters n k w g depth-limit (asks-enter n k w g a c) (subst (Guesses n k w g) y s) .clashed refl .1
+          (asks-enter n k w g a c) .0);
       agrees = λ y. absurd (z y);
     }
 
@@ -64,15 +66,20 @@ module _ (n k : ℕ) (w : List ℕ) (g : ℕ) where
           let m = c .s .m in
           let K = bare-one n k w g depth-limit d none .0 in
           ap (taking (c .from)) (
-          ap (λ (p : Placed). dive-at m S p (plan n (c .s .t) (c .s .U) (c .s .es) m (c .l) (c .end) (c .to) (c .frames))) (bare-one n k w g depth-limit d none .1 .0)
-          ∙ dive-at-push m S K stop (plan n (c .s .t) (c .s .U) (c .s .es) m (c .l) (c .end) (c .to) (c .frames)) (bare-good n k w g depth-limit d none s)
+          ap (λ (p : Placed). dive-at m S p (plan n (c .s .t) (c .s .U) (c .s .es) m (c .l) (c .end) (c .to) (c .frames)))
+          (bare-one n k w g depth-limit d none .1 .0)
+          ∙ dive-at-push m S K stop (plan n (c .s .t) (c .s .U) (c .s .es) m (c .l) (c .end) (c .to) (c .frames))
+          (bare-good n k w g depth-limit d none s)
           ∙ resume-at-stop m (plan n (c .s .t) (c .s .U) (c .s .es) m (c .l) (c .end) (c .to) (c .frames)) (S ++ K ∷ [])
-          ∙ ap (λ (fs : List Places). resume-at m fs (S ++ K ∷ [])) (bare-plan a c (c .l) (c .frames) (sym (c .lists .is) ∙ lists-none a (e ∙ z) .is))
+          ∙ ap (λ (fs : List Places). resume-at m fs (S ++ K ∷ []))
+          (bare-plan a c (c .l) (c .frames) (sym (c .lists .is) ∙ lists-none a (e ∙ z) .is))
           ∙ resume-at-leaf m (S ++ K ∷ [])
           );
     }
       where
-        bare-plan : (a : Agenda) (c : Taking n k w g a) (l : List Slot) (F : Frames n (c .s .t) (c .s .U) (c .s .es) (c .s .m) l (c .end) (c .to)) → l ≡ [] → plan n (c .s .t) (c .s .U) (c .s .es) (c .s .m) l (c .end) (c .to) F ≡ []
+        bare-plan : (a : Agenda) (c : Taking n k w g a) (l : List Slot)
+            (F : Frames n (c .s .t) (c .s .U) (c .s .es) (c .s .m) l (c .end) (c .to)) → l ≡ [] →
+            plan n (c .s .t) (c .s .U) (c .s .es) (c .s .m) l (c .end) (c .to) F ≡ []
         bare-plan a c [] F e = refl
         bare-plan a c (x ∷ l) F e = let z : _≡_ {A = ℕ} 0 1 = cc in absurd (omega arith)
 
@@ -82,14 +89,20 @@ module _ (n k : ℕ) (w : List ℕ) (g : ℕ) where
     stays = record { len = refl; rest = λ j h. refl; since = since-refl n (c₀ .s .es) k w (c₀ .s .holds) }
 
     pub takes-none : (r : Guess) → Foresees n k w g (a .frames) r → r ≡ Clashes → Takes n k w g a 0 w
-    takes-none r f y = record { moved = stays; found = λ c. finds-same n k w (c .s .es) [] (taken-with c) 0 w (f .clashes y a c) (finds-none n k w (c .s .es) (c .s .holds)) }
+    takes-none r f y = record {
+      moved = stays;
+      found =
+          λ c. finds-same n k w (c .s .es) [] (taken-with c) 0 w (f .clashes y a c) (finds-none n k w (c .s .es) (c .s .holds));
+    }
 
     pub alone-notes : Noting w g
-    alone-notes = let x = read n k w g a c₀ w (c₀ .s .holds .long) (c₀ .s .loaded) in record { room = c₀ .s .holds .long; here = x .here; low = omega (arith, x .number, x .low) }
+    alone-notes = let x = read n k w g a c₀ w (c₀ .s .holds .long) (c₀ .s .loaded) in
+        record { room = c₀ .s .holds .long; here = x .here; low = omega (arith, x .number, x .low) }
 
     pub takes-one : (r : Guess) → Foresees n k w g (a .frames) r → r ≡ Agrees → (w₁ : List ℕ) → Notes w g 1 w₁ → Takes n k w g a 1 w₁
     takes-one r f y w₁ v = record {
       moved = moved-noted k w k w w₁ g 1 (c₀ .s .holds .long) stays v;
       found = λ c. finds-same n k w (c .s .es) ((c .from ∷ []) ∷ []) (taken-with c) 1 w₁ (f .agrees y a refl c)
-          (finds-taking n k w (c .s .es) (c .from) ([] ∷ []) g 1 w w₁ (c .s .holds .long) (finds-leaf n k w (c .s .es) (c .s .holds)) v (read n k w g a c w (c .s .holds .long) (c .s .loaded) .number) (ap (λ (m : Marking). m (c .from)) (c .s .marks) ∙ c .kept));
+          (finds-taking n k w (c .s .es) (c .from) ([] ∷ []) g 1 w w₁ (c .s .holds .long) (finds-leaf n k w (c .s .es) (c .s .holds)) v
+          (read n k w g a c w (c .s .holds .long) (c .s .loaded) .number) (ap (λ (m : Marking). m (c .from)) (c .s .marks) ∙ c .kept));
     }

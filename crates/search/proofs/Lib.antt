@@ -1,4 +1,6 @@
--- `Slots` has the frames as the code has them, `Planning` what stands there, `Finding` what was found; `Taking` has an alternative that is taken, `Foreseeing` one that is not entered, `Choosing` the kept ones of several, `Resuming` the next disjunction, `Both` the search of both inputs.
+-- `Slots` has the frames as the code has them, `Planning` what stands there, `Finding` what was found; `Taking` has an alternative
+-- that is taken, `Foreseeing` one that is not entered, `Choosing` the kept ones of several, `Resuming` the next disjunction, `Both`
+-- the search of both inputs.
 pub mod Slots
 pub mod Planning
 mod Finding

@@ -1,4 +1,5 @@
--- An alternative is taken: it is entered, what is left is gone through after it, and it is taken back; engine's `dive-at`, return by return.
+-- An alternative is taken: it is entered, what is left is gone through after it, and it is taken back; engine's `dive-at`, return by
+-- return.
 -- Assumes nothing.
 use Prim.Native.Nat.{ℕ, _+_, _≤_, _<_}
 use native.Mathlib.Omega.{arith}
@@ -39,13 +40,16 @@ use Rattle.entering.proofs.Moves.{moved-words}
 use Rattle.search.specs.declared.agenda.Agenda.{Agenda}
 use Rattle.search.specs.Frames.{Slot, slots, Lists, onto, Frames, plan}
 use Rattle.search.specs.Searched.{Noting, Notes, Footing, Finds, Resuming, resumed, Resumes, Taking, taken-with, Takes}
-use Rattle.search.proofs.Planning.{nests-more, reach, frames-bound, frames-reach, frames-wide, frames-pushed, Opened, opened, open-here, open-room}
+use Rattle.search.proofs.Planning.{nests-more, reach, frames-bound, frames-reach, frames-wide, frames-pushed, Opened, opened}
+use Rattle.search.proofs.Planning.{open-here, open-room}
 use Rattle.search.proofs.Finding.{finds-none, finds-same, finds-under, finds-taking, moved-noted}
 
-dive-pushed : (m : Marking) (S : List Graph) (d : Placed) (fs : List Places) → agree (S ++ flat (strip (keep m d))) ≡ true → dive-at m S d fs ≡ resume-at m (inner d ∷ fs) (S ++ flat (strip (keep m d)))
+dive-pushed : (m : Marking) (S : List Graph) (d : Placed) (fs : List Places) → agree (S ++ flat (strip (keep m d))) ≡ true →
+    dive-at m S d fs ≡ resume-at m (inner d ∷ fs) (S ++ flat (strip (keep m d)))
 dive-pushed m S (place K ds) fs e = dive-at-push m S K ds fs e
 
-dive-clashed : (m : Marking) (S : List Graph) (d : Placed) (fs : List Places) → agree (S ++ flat (strip (keep m d))) ≡ false → dive-at m S d fs ≡ []
+dive-clashed : (m : Marking) (S : List Graph) (d : Placed) (fs : List Places) → agree (S ++ flat (strip (keep m d))) ≡ false →
+    dive-at m S d fs ≡ []
 dive-clashed m S (place K ds) fs e = dive-at-clash m S K ds fs e
 
 module _ (n k : ℕ) (w : List ℕ) (g : ℕ) (a : Agenda) where
@@ -83,20 +87,24 @@ module _ (n k : ℕ) (w : List ℕ) (g : ℕ) (a : Agenda) where
     pushed-all = entered asks-enter
 
     all-graphs : graphs pushed-all ≡ graphs (c .s .es) ++ flat (strip (keep (c .s .m) (c .d)))
-    all-graphs = entered-graphs n k w g depth-limit asks-enter ∙ ap (λ (m : Marking). graphs (c .s .es) ++ flat (strip (keep m (c .d)))) (c .s .marks)
+    all-graphs = entered-graphs n k w g depth-limit asks-enter
+        ∙ ap (λ (m : Marking). graphs (c .s .es) ++ flat (strip (keep m (c .d)))) (c .s .marks)
 
-    agree-is : (b : Bool) → agree (graphs (c .s .es) ++ flat (strip (keep (marking w) (c .d)))) ≡ b → agree (graphs (c .s .es) ++ flat (strip (keep (c .s .m) (c .d)))) ≡ b
+    agree-is : (b : Bool) → agree (graphs (c .s .es) ++ flat (strip (keep (marking w) (c .d)))) ≡ b →
+        agree (graphs (c .s .es) ++ flat (strip (keep (c .s .m) (c .d)))) ≡ b
     agree-is b e = ap (λ (m : Marking). agree (graphs (c .s .es) ++ flat (strip (keep m (c .d))))) (sym (c .s .marks)) ∙ e
 
     -- nothing is found with one that clashes
     pub clash-none : Clash (graphs pushed-all) → taken-with c ≡ []
     clash-none z =
-        let bad = agree-is false (clash-false (graphs (c .s .es) ++ flat (strip (keep (marking w) (c .d)))) (fine n k w g depth-limit asks-enter) (subst Clash (entered-graphs n k w g depth-limit asks-enter) z)) in
+        let bad = agree-is false (clash-false (graphs (c .s .es) ++ flat (strip (keep (marking w) (c .d))))
+        (fine n k w g depth-limit asks-enter) (subst Clash (entered-graphs n k w g depth-limit asks-enter) z)) in
         ap (taking (c .from)) (dive-clashed (c .s .m) (graphs (c .s .es)) (c .d) left-of bad)
 
     -- what is read of it
     pub read : (v : List ℕ) → 16384 ≤ length v → words v ≡ c .s .t → Read v g (c .from) (c .end)
-    read v room e = read-at v room (c .d) g (c .from) (c .end) (c .to) (subst (λ (t : List ℕ). At t g (c .from) (c .d) (c .end) (c .to)) (sym e) (c .at)) small
+    read v room e = read-at v room (c .d) g (c .from) (c .end) (c .to)
+        (subst (λ (t : List ℕ). At t g (c .from) (c .d) (c .end) (c .to)) (sym e) (c .at)) small
 
   module _ (o : Pushed) (w₁ : List ℕ) (u : Enters n k w g depth-limit o w₁) (c₀ : Taking n k w g a) where
     marks₁ : marking w₁ ≡ marking w
@@ -118,7 +126,8 @@ module _ (n k : ℕ) (w : List ℕ) (g : ℕ) (a : Agenda) where
       found = λ c.
           let told = u .clashed z .1 (asks-enter c) in
           finds-same n k w (c .s .es) [] (taken-with c) 0 w₁ (clash-none c (told .0))
-          (finds-under n k k w w₁ w₁ w₁ (c .s .es) (c .s .es) [] 0 lights₁ marks₁ (finds-none n k w₁ (c .s .es) (told .1)) refl refl (told .1));
+          (finds-under n k k w w₁ w₁ w₁ (c .s .es) (c .s .es) [] 0 lights₁ marks₁ (finds-none n k w₁ (c .s .es) (told .1)) refl refl
+          (told .1));
     }
 
     module _ (e : ℕ) (z : o ≡ In e) where
@@ -135,28 +144,51 @@ module _ (n k : ℕ) (w : List ℕ) (g : ℕ) (a : Agenda) where
         inside = entered-inside n k w g depth-limit (asks-enter c);
       }
 
-      abbrev later : (c : Taking n k w g a) → (G : Frames n (c .s .t) (c .s .U) (pushed-all c) (c .s .m) (c .l) (c .end) (c .to)) × (plan n (c .s .t) (c .s .U) (pushed-all c) (c .s .m) (c .l) (c .end) (c .to) G ≡ left-of c)
+      abbrev later : (c : Taking n k w g a) →
+          (G : Frames n (c .s .t) (c .s .U) (pushed-all c) (c .s .m) (c .l) (c .end) (c .to))
+          × (plan n (c .s .t) (c .s .U) (pushed-all c) (c .s .m) (c .l) (c .end) (c .to) G ≡ left-of c)
       later c = frames-pushed n (c .s .t) (c .s .U) (c .s .m) (c .s .es) (pushed-all c) (c .l) (c .end) (c .to)
-          (λ o i. ⊎-elim (λ j. inl j) (λ j. inr (taken-between (c .s .t) (marking w) g (c .from) (c .d) (c .end) (c .to) (c .at) o j .1)) (List·Memᴰ·append-cases (c .s .es) i)) (c .frames)
+          (λ o i. ⊎-elim (λ j. inl j) (λ j. inr (taken-between (c .s .t) (marking w) g (c .from) (c .d) (c .end) (c .to) (c .at) o j .1))
+          (List·Memᴰ·append-cases (c .s .es) i)) (c .frames)
 
       clear₁ : (c : Taking n k w g a) → Clear (pushed-all c) (c .s .t) (c .s .m) g (c .from) (c .d) (c .end) (c .to) (c .at)
-      clear₁ c = subst (λ (m : Marking). Clear (pushed-all c) (c .s .t) m g (c .from) (c .d) (c .end) (c .to) (c .at)) (c .s .marks) (entered-clear n k w g depth-limit (asks-enter c))
+      clear₁ c = subst (λ (m : Marking). Clear (pushed-all c) (c .s .t) m g (c .from) (c .d) (c .end) (c .to) (c .at)) (c .s .marks)
+          (entered-clear n k w g depth-limit (asks-enter c))
 
-      opened₁ : (c : Taking n k w g a) → Opened n (c .s .t) (c .s .U) (c .s .m) (pushed-all c) g (c .from) (c .end) (c .to) (c .d) (c .at) (c .left) (c .nests) (c .among) (clear₁ c) (c .l) (c .end) (c .to) (later c .0) (omega arith) (omega arith) (c .deep) w₁ room₁ (words₁ ∙ c .s .loaded) (small c)
-      opened₁ c = opened n (c .s .t) (c .s .U) (c .s .m) (pushed-all c) g (c .from) (c .end) (c .to) (c .d) (c .at) (c .left) (c .nests) (c .among) (clear₁ c) (c .l) (c .end) (c .to) (later c .0) (omega arith) (omega arith) (c .deep) w₁ room₁ (words₁ ∙ c .s .loaded) (small c)
+      opened₁ : (c : Taking n k w g a) →
+          Opened n (c .s .t) (c .s .U) (c .s .m) (pushed-all c) g (c .from) (c .end) (c .to) (c .d) (c .at) (c .left) (c .nests) (c .among)
+          (clear₁ c) (c .l) (c .end) (c .to) (later c .0) (omega arith) (omega arith) (c .deep) w₁ room₁ (words₁ ∙ c .s .loaded) (small c)
+      opened₁ c = opened n (c .s .t) (c .s .U) (c .s .m) (pushed-all c) g (c .from) (c .end) (c .to) (c .d) (c .at) (c .left) (c .nests)
+          (c .among) (clear₁ c) (c .l) (c .end) (c .to) (later c .0) (omega arith) (omega arith) (c .deep) w₁ room₁ (words₁
+          ∙ c .s .loaded) (small c)
 
-      pub take-opens : ((g < 2048) × (16384 ≤ length w₁)) × ((tail-at w₁ g < 2048) × ((disjunctions-at w₁ (tail-at w₁ g) ≡ 0) ⊎ (a .frames < 5)))
+      pub take-opens : ((g < 2048) × (16384 ≤ length w₁))
+          × ((tail-at w₁ g < 2048) × ((disjunctions-at w₁ (tail-at w₁ g) ≡ 0) ⊎ (a .frames < 5)))
       take-opens =
           let c = c₀ in
-          let h = open-here n (c .s .t) (c .s .U) (c .s .m) (pushed-all c) g (c .from) (c .end) (c .to) (c .d) (c .at) (c .left) (c .nests) (c .among) (clear₁ c) (c .l) (c .end) (c .to) (later c .0) (omega arith) (omega arith) (c .deep) w₁ room₁ (words₁ ∙ c .s .loaded) (small c) in
-          ((h .0, room₁), (h .1, open-room n (c .s .t) (c .s .U) (c .s .m) (pushed-all c) g (c .from) (c .end) (c .to) (c .d) (c .at) (c .left) (c .nests) (c .among) (clear₁ c) (c .l) (c .end) (c .to) (later c .0) (omega arith) (omega arith) (c .deep) w₁ room₁ (words₁ ∙ c .s .loaded) (small c) a (c .lists)))
+          let h = open-here n (c .s .t) (c .s .U) (c .s .m) (pushed-all c) g (c .from) (c .end) (c .to) (c .d) (c .at) (c .left) (c .nests)
+          (c .among) (clear₁ c) (c .l) (c .end) (c .to) (later c .0) (omega arith) (omega arith) (c .deep) w₁ room₁ (words₁
+          ∙ c .s .loaded) (small c) in (
+            (h .0, room₁),
+            (
+              h .1,
+              open-room n (c .s .t) (c .s .U) (c .s .m) (pushed-all c) g (c .from) (c .end) (c .to) (c .d) (c .at)
+                  (c .left) (c .nests) (c .among) (clear₁ c) (c .l) (c .end) (c .to) (later c .0) (omega arith) (omega arith) (c .deep) w₁ room₁
+                  (words₁ ∙ c .s .loaded) (small c) a (c .lists),
+            ),
+          )
 
-      module _ (b : Agenda) (lists : (l : List Slot) → Lists a l → Lists b (onto (tail-at w₁ g + 1) (disjunctions-at w₁ (tail-at w₁ g)) l)) where
+      module _ (b : Agenda) (lists : (l : List Slot) → Lists a l →
+          Lists b (onto (tail-at w₁ g + 1) (disjunctions-at w₁ (tail-at w₁ g)) l)) where
         abbrev slots₁ : (c : Taking n k w g a) → List Slot
         slots₁ c = onto (tail-at w₁ g + 1) (disjunctions-at w₁ (tail-at w₁ g)) (c .l)
 
-        abbrev wide₁ : (c : Taking n k w g a) → (G : Frames n (c .s .t) (c .s .U) (pushed-all c) (c .s .m) (slots₁ c) 0 0) × (plan n (c .s .t) (c .s .U) (pushed-all c) (c .s .m) (slots₁ c) 0 0 G ≡ plan n (c .s .t) (c .s .U) (pushed-all c) (c .s .m) (slots₁ c) (g + 1) (c .from) (opened₁ c .frames))
-        wide₁ c = frames-wide n (c .s .t) (c .s .U) (c .s .m) (pushed-all c) (slots₁ c) (g + 1) (c .from) 0 0 (omega arith) (omega arith) (opened₁ c .frames)
+        abbrev wide₁ : (c : Taking n k w g a) →
+            (G : Frames n (c .s .t) (c .s .U) (pushed-all c) (c .s .m) (slots₁ c) 0 0)
+            × (plan n (c .s .t) (c .s .U) (pushed-all c) (c .s .m) (slots₁ c) 0 0 G
+            ≡ plan n (c .s .t) (c .s .U) (pushed-all c) (c .s .m) (slots₁ c) (g + 1) (c .from) (opened₁ c .frames))
+        wide₁ c = frames-wide n (c .s .t) (c .s .U) (c .s .m) (pushed-all c) (slots₁ c) (g + 1) (c .from) 0 0 (omega arith) (omega arith)
+            (opened₁ c .frames)
 
         abbrev resuming₁ : Taking n k w g a → Resuming n e w₁ b
         resuming₁ c = record { s = standing₁ c; l = slots₁ c; lists = lists (c .l) (c .lists); frames = wide₁ c .0 }
@@ -177,7 +209,10 @@ module _ (n k : ℕ) (w : List ℕ) (g : ℕ) (a : Agenda) where
         resumed-is c =
             let S = graphs (pushed-all c) in
             let m = c .s .m in
-            let good = agree-is c true (agrees-true (graphs (c .s .es) ++ flat (strip (keep (marking w) (c .d)))) (fine n k w g depth-limit (asks-enter c)) (subst Agree (entered-graphs n k w g depth-limit (asks-enter c)) (holds-agree n (pushed-all c) e w₁ (u .pushed e z .1 (asks-enter c))))) in
+            let good = agree-is c true (agrees-true (graphs (c .s .es) ++ flat (strip (keep (marking w) (c .d))))
+            (fine n k w g depth-limit (asks-enter c))
+            (subst Agree (entered-graphs n k w g depth-limit (asks-enter c))
+            (holds-agree n (pushed-all c) e w₁ (u .pushed e z .1 (asks-enter c))))) in
             ap (taking (c .from)) (
             dive-pushed m (graphs (c .s .es)) (c .d) (left-of c) good
             ∙ ap (resume-at m (inner (c .d) ∷ left-of c)) (sym (all-graphs c))
@@ -198,7 +233,12 @@ module _ (n k : ℕ) (w : List ℕ) (g : ℕ) (a : Agenda) where
             room₂ = omega (arith, v .moved .len, room₁)
 
             moved₃ : Moved k w k w₃
-            moved₃ = record { len = q .len ∙ v .moved .len ∙ u .len; rest = λ j h. q .rest j (omega arith) ∙ v .moved .rest j h ∙ u .rest j (omega arith); since = q .since w since₂ }
+            moved₃ = record {
+              len = q .len ∙ v .moved .len ∙ u .len;
+              rest = λ j h. q .rest j (omega arith) ∙ v .moved .rest j h
+                  ∙ u .rest j (omega arith);
+              since = q .since w since₂;
+            }
 
             room₃ : 16384 ≤ length w₃
             room₃ = omega (arith, q .len, room₂)
@@ -207,14 +247,18 @@ module _ (n k : ℕ) (w : List ℕ) (g : ℕ) (a : Agenda) where
             words₃ = moved-words k w k w₃ (c₀ .s .holds .long) moved₃
 
             pub take-notes : Noting w₃ g
-            take-notes = let x = read c₀ w₃ room₃ (words₃ ∙ c₀ .s .loaded) in record { room = room₃; here = x .here; low = omega (arith, x .number, x .low) }
+            take-notes = let x = read c₀ w₃ room₃ (words₃ ∙ c₀ .s .loaded) in
+                record { room = room₃; here = x .here; low = omega (arith, x .number, x .low) }
 
             found₃ : (c : Taking n k w g a) → Finds n k w (c .s .es) (resumed (resuming₁ c)) r w₃
-            found₃ c = finds-under n k e w w₁ w₂ w₃ (c .s .es) (pushed-all c) (resumed (resuming₁ c)) r lights₁ marks₁ (v .found (resuming₁ c)) (lights-frame w₂ w₃ room₂ (q .len) (λ j x y. q .rest j (omega arith))) (marking-frame w₂ w₃ room₂ (q .len) (λ j x y. q .rest j (omega arith))) (q .holds n (c .s .es) w (c .s .holds) since₂)
+            found₃ c = finds-under n k e w w₁ w₂ w₃ (c .s .es) (pushed-all c) (resumed (resuming₁ c)) r lights₁ marks₁
+                (v .found (resuming₁ c)) (lights-frame w₂ w₃ room₂ (q .len) (λ j x y. q .rest j (omega arith)))
+                (marking-frame w₂ w₃ room₂ (q .len) (λ j x y. q .rest j (omega arith))) (q .holds n (c .s .es) w (c .s .holds) since₂)
 
             pub takes-found : (w₄ : List ℕ) → Notes w₃ g r w₄ → Takes n k w g a r w₄
             takes-found w₄ y = record {
               moved = moved-noted k w k w₃ w₄ g r room₃ moved₃ y;
               found = λ c. finds-same n k w (c .s .es) (taking (c .from) (resumed (resuming₁ c))) (taken-with c) r w₄ (resumed-is c)
-                  (finds-taking n k w (c .s .es) (c .from) (resumed (resuming₁ c)) g r w₃ w₄ room₃ (found₃ c) y (read c w₃ room₃ (words₃ ∙ c .s .loaded) .number) (ap (λ (m : Marking). m (c .from)) (c .s .marks) ∙ c .kept));
+                  (finds-taking n k w (c .s .es) (c .from) (resumed (resuming₁ c)) g r w₃ w₄ room₃ (found₃ c) y
+                  (read c w₃ room₃ (words₃ ∙ c .s .loaded) .number) (ap (λ (m : Marking). m (c .from)) (c .s .marks) ∙ c .kept));
             }

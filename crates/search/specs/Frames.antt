@@ -47,9 +47,11 @@ pub record Frame (t : List ℕ) (U es : List Entry) (m : Marking) (at more left 
 -- the frames stand one after the other, from the position `pos` and the number `lo` on; the more of them, the less deep the first nests
 abbrev pub Frames : (n : ℕ) (t : List ℕ) (U es : List Entry) (m : Marking) → List Slot → ℕ → ℕ → Type 0
 Frames n t U es m [] pos lo = (pos ≤ length t) × (lo ≤ n)
-Frames n t U es m (s ∷ l) pos lo = (f : Frame t U es m (s .0) (s .1) (5 - length l)) × (0 < s .1) × (pos ≤ s .0) × (lo ≤ f .from) × Frames n t U es m l (f .end) (f .to)
+Frames n t U es m (s ∷ l) pos lo = (f : Frame t U es m (s .0) (s .1) (5 - length l)) × (0 < s .1) × (pos ≤ s .0) × (lo ≤ f .from)
+    × Frames n t U es m l (f .end) (f .to)
 
 -- their disjunctions: engine's agenda
-abbrev pub plan : (n : ℕ) (t : List ℕ) (U es : List Entry) (m : Marking) (l : List Slot) (pos lo : ℕ) → Frames n t U es m l pos lo → List Places
+abbrev pub plan : (n : ℕ) (t : List ℕ) (U es : List Entry) (m : Marking) (l : List Slot) (pos lo : ℕ) → Frames n t U es m l pos lo →
+    List Places
 plan n t U es m [] pos lo F = []
 plan n t U es m (s ∷ l) pos lo F = F .0 .ds ∷ plan n t U es m l (F .0 .end) (F .0 .to) (F .4)

@@ -95,7 +95,9 @@ pub record Taking (n k : ℕ) (w : List ℕ) (g : ℕ) (a : Agenda) : Type 0 whe
   pub frames : Frames n (s .t) (s .U) (s .es) (s .m) l end to
 
 abbrev pub taken-with : {n k : ℕ} {w : List ℕ} {g : ℕ} {a : Agenda} → Taking n k w g a → Found
-taken-with {n} {k} {w} {g} {a} c = taking (c .from) (dive-at (c .s .m) (graphs (c .s .es)) (c .d) (plan n (c .s .t) (c .s .U) (c .s .es) (c .s .m) (c .l) (c .end) (c .to) (c .frames)))
+taken-with {n} {k} {w} {g} {a} c =
+    taking (c .from) (dive-at (c .s .m) (graphs (c .s .es)) (c .d)
+    (plan n (c .s .t) (c .s .U) (c .s .es) (c .s .m) (c .l) (c .end) (c .to) (c .frames)))
 
 pub record Takes (n k : ℕ) (w : List ℕ) (g : ℕ) (a : Agenda) (r : ℕ) (w' : List ℕ) : Type 0 where
   pub moved : Moved k w k w'
@@ -122,7 +124,8 @@ pub record Branching (n k : ℕ) (w : List ℕ) (p count : ℕ) (a : Agenda) : T
   pub frames : Frames n (s .t) (s .U) (s .es) (s .m) l end to
 
 abbrev pub chosen : {n k : ℕ} {w : List ℕ} {p count : ℕ} {a : Agenda} → Branching n k w p count a → Found
-chosen {n} {k} {w} {p} {count} {a} c = each-at (c .s .m) (graphs (c .s .es)) (c .o) (plan n (c .s .t) (c .s .U) (c .s .es) (c .s .m) (c .l) (c .end) (c .to) (c .frames))
+chosen {n} {k} {w} {p} {count} {a} c =
+    each-at (c .s .m) (graphs (c .s .es)) (c .o) (plan n (c .s .t) (c .s .U) (c .s .es) (c .s .m) (c .l) (c .end) (c .to) (c .frames))
 
 pub record Branches (n k : ℕ) (w : List ℕ) (p count : ℕ) (a : Agenda) (r : ℕ) (w' : List ℕ) : Type 0 where
   pub moved : Moved k w k w'

@@ -9,7 +9,8 @@ ghost use lib.ListN.{length};
 ghost use Rattle.marks.specs.Positions.{tail-at, disjunctions-at};
 ghost use Rattle.search.specs.Frames.{Slot, Lists, onto};
 
-// The first `frames` of five frames, the nearest first. Disjunctions stand at four depths, and those of the second input are behind all of the first.
+// The first `frames` of five frames, the nearest first. Disjunctions stand at four depths, and those of the second input are behind
+// all of the first.
 pub struct Agenda {
     pub frames: usize,
     pub at0: usize,
@@ -91,7 +92,8 @@ pub fn descend(w: &[u32], g: usize, a: Agenda) -> Agenda
     requires { ⌜ (g < 2048) × (16384 ≤ length (now w)) ⌝ }
     requires { ⌜ tail-at (now w) g < 2048 ⌝ }
     requires { ⌜ (disjunctions-at (now w) (tail-at (now w) g) ≡ 0) ⊎ (a .frames < 5) ⌝ }
-    ensures { λ r. ⌜ ((l : List Slot) → Lists a l → Lists r (onto (tail-at (now (w .entry)) g + 1) (disjunctions-at (now (w .entry)) (tail-at (now (w .entry)) g)) l)) ⌝ }
+    ensures { λ r. ⌜ ((l : List Slot) → Lists a l →
+        Lists r (onto (tail-at (now (w .entry)) g + 1) (disjunctions-at (now (w .entry)) (tail-at (now (w .entry)) g)) l)) ⌝ }
 {
     let e = tail_at(w, g);
     let more = disjunctions_at(w, e);

@@ -5,7 +5,8 @@ use trying::guess::guess;
 use trying::told::Guess;
 ghost use Rattle.search.specs.Foreseen.{Foreseeing, Foresees};
 
-// Of the alternative at g, where `left` frames are still to be gone through: it clashes, or it agrees and nothing is left with it or after it.
+// Of the alternative at g, where `left` frames are still to be gone through: it clashes, or it agrees and nothing is left with it or
+// after it.
 pub fn foresee(w: &[u32], k: usize, n: usize, g: usize, left: usize) -> Guess
     requires { ⌜ Foreseeing n k (now w) g left ⌝ }
     ensures { λ r. ⌜ Foresees n k (now (w .entry)) g left r ⌝ }

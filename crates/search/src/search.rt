@@ -81,7 +81,8 @@ fn choose(w: &mut [u32], k: usize, n: usize, p: usize, count: usize, a: Agenda) 
     sum
 }
 
-// The same with the alternative at g, which is entered and taken back. Where it clashes, or nothing is left with it or after it, that is mostly told without.
+// The same with the alternative at g, which is entered and taken back. Where it clashes, or nothing is left with it or after it, that
+// is mostly told without.
 fn take(w: &mut [u32], k: usize, n: usize, g: usize, a: Agenda) -> u32
     requires { ⌜ Taking n k (now w) g a ⌝ }
     ensures { λ r. ⌜ Takes n k (now (w .entry)) g a r (now (w .exit)) ⌝ }
@@ -108,7 +109,8 @@ fn take(w: &mut [u32], k: usize, n: usize, g: usize, a: Agenda) -> u32
     found
 }
 
-// How many consistent choices there are of both inputs over the kept alternatives, stopping at 4,097; every alternative in one of them is found.
+// How many consistent choices there are of both inputs over the kept alternatives, stopping at 4,097; every alternative in one of them
+// is found.
 pub fn search(w: &mut [u32], k: usize, n: usize) -> u32
     requires { ⌜ Searching n k (now w) ⌝ }
     ensures { λ r. ⌜ Searches n k (now (w .entry)) r (now (w .exit)) ⌝ }

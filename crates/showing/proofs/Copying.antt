@@ -36,13 +36,22 @@ module _ (w : List ℕ) (number p count o : ℕ) (c : Copying (its-nodes count) 
     pub is : nodes-words (c .x) ≡ done ++ nodes-words vs
 
   pub nodes-start : Nodes count p o w
-  nodes-start = record { vs = c .x; many = c .fine; within = omega (arith, c .within, words-many w (c .long)); stand = c .stands; done = []; put = put-nil w (RESULT + o); is = refl }
+  nodes-start = record {
+    vs = c .x;
+    many = c .fine;
+    within = omega (arith, c .within, words-many w (c .long));
+    stand = c .stands;
+    done = [];
+    put = put-nil w (RESULT + o);
+    is = refl;
+  }
 
   module _ (left at out : ℕ) (w₁ : List ℕ) (v : Nodes left at out w₁) where
     pub nodes-done : left ≤ 0 → Put w w₁ (RESULT + o) (nodes-words (c .x)) (RESULT + out)
     nodes-done h = go (v .vs) (v .many) (v .is)
       where
-        go : (vs : Graph) → length vs ≡ left → nodes-words (c .x) ≡ v .done ++ nodes-words vs → Put w w₁ (RESULT + o) (nodes-words (c .x)) (RESULT + out)
+        go : (vs : Graph) → length vs ≡ left → nodes-words (c .x) ≡ v .done ++ nodes-words vs →
+            Put w w₁ (RESULT + o) (nodes-words (c .x)) (RESULT + out)
         go [] e f = subst (λ (xs : List ℕ). Put w w₁ (RESULT + o) xs (RESULT + out)) (sym (f ∙ append-nil (v .done))) (v .put)
         go (x ∷ l) e f = absurd (omega arith)
 
@@ -63,11 +72,21 @@ module _ (w : List ℕ) (number p count o : ℕ) (c : Copying (its-nodes count) 
       next : Next
       next = go (v .vs) (v .many) (v .stand) (v .is)
         where
-          go : (vs : Graph) → length vs ≡ left → Stands (words w) at (located number vs) (c .q) → nodes-words (c .x) ≡ v .done ++ nodes-words vs → Next
+          go : (vs : Graph) → length vs ≡ left → Stands (words w) at (located number vs) (c .q) →
+              nodes-words (c .x) ≡ v .done ++ nodes-words vs → Next
           go [] e s f = absurd (omega arith)
           go (x ∷ vs) e s f =
               let parts = stands-append (words w) (node-words (moved-node number x)) (located number vs) at (c .q) .0 s in
-              record { x = x; vs = vs; later = omega arith; q = parts .0; first = parts .1; stand = parts .2; whole = f ∙ sym (append-assoc (v .done) (node-words x) (nodes-words vs)) }
+              record {
+                x = x;
+                vs = vs;
+                later = omega arith;
+                q = parts .0;
+                first = parts .1;
+                stand = parts .2;
+                whole = f
+                    ∙ sym (append-assoc (v .done) (node-words x) (nodes-words vs));
+              }
 
       loaded : words w₁ ≡ words w
       loaded = put-words w w₁ o (v .done) (RESULT + out) (c .long) (v .put)
@@ -84,7 +103,14 @@ module _ (w : List ℕ) (number p count o : ℕ) (c : Copying (its-nodes count) 
             q = x .q;
             within = omega (arith, v .within, words-many w (c .long));
             stands = subst (λ (u : List ℕ). Stands u at (node-words (moved-node number (x .x))) (x .q)) (sym loaded) (x .first);
-            room = omega (arith, c .room, put-end w w₁ o (v .done) out (v .put), ap length (x .whole), length-append (v .done ++ node-words (x .x)) (nodes-words (x .vs)), length-append (v .done) (node-words (x .x)));
+            room = omega (
+              arith,
+              c .room,
+              put-end w w₁ o (v .done) out (v .put),
+              ap length (x .whole),
+              length-append (v .done ++ node-words (x .x)) (nodes-words (x .vs)),
+              length-append (v .done) (node-words (x .x)),
+            );
           }
 
       module _ (r : ℕ) (w₂ : List ℕ) (u : Copies a-node w₁ number at out r w₂) where
@@ -93,7 +119,12 @@ module _ (w : List ℕ) (number p count o : ℕ) (c : Copying (its-nodes count) 
         told = u nodes-asks
 
         far : next .q ≡ at + (r - out)
-        far = omega (arith, stands-length (words w) (node-words (moved-node number (next .x))) at (next .q) (next .first), put-end w₁ w₂ out (node-words (next .x)) r told, node-length number (next .x))
+        far = omega (
+          arith,
+          stands-length (words w) (node-words (moved-node number (next .x))) at (next .q) (next .first),
+          put-end w₁ w₂ out (node-words (next .x)) r told,
+          node-length number (next .x),
+        )
 
         inside : next .q ≤ length (words w)
         inside = stands-within (words w) (node-words (moved-node number (next .x))) at (next .q) (v .within) (next .first)
@@ -118,10 +149,13 @@ module _ (w : List ℕ) (number p count o : ℕ) (c : Copying (its-nodes count) 
 -- ---- a graph
 module _ (w : List ℕ) (g o : ℕ) (c : Graphing w g o) where
   -- what is read of its header
-  pub graph-here : (g + 1 < 2048) × (number-at w g ≡ c .from) × (getD (words w) g 0 % number-step ≡ length (own (c .d))) × (c .from < number-step) × (length (own (c .d)) < number-step)
+  pub graph-here : (g + 1 < 2048) × (number-at w g ≡ c .from) × (getD (words w) g 0 % number-step ≡ length (own (c .d)))
+      × (c .from < number-step) × (length (own (c .d)) < number-step)
   graph-here = go (c .d) (c .at)
     where
-      go : (d : Placed) → At (words w) g (c .from) d (c .end) (c .to) → (g + 1 < 2048) × (number-at w g ≡ c .from) × (getD (words w) g 0 % number-step ≡ length (own d)) × (c .from < number-step) × (length (own d) < number-step)
+      go : (d : Placed) → At (words w) g (c .from) d (c .end) (c .to) →
+          (g + 1 < 2048) × (number-at w g ≡ c .from) × (getD (words w) g 0 % number-step ≡ length (own d)) × (c .from < number-step)
+          × (length (own d) < number-step)
       go (place K ds) at =
           let r = read-at w (c .long) (place K ds) g (c .from) (c .end) (c .to) at (c .low) in
           let counts = at-counts (words w) K ds g (c .from) (c .end) (c .to) at in
@@ -144,7 +178,8 @@ module _ (w : List ℕ) (g o : ℕ) (c : Graphing w g o) where
     stand : Stands (words w) (g + 1) (located (c .from) (own (c .d))) (g + extent (own (c .d)))
     stand = go (c .d) (c .at)
       where
-        go : (d : Placed) → At (words w) g (c .from) d (c .end) (c .to) → Stands (words w) (g + 1) (located (c .from) (own d)) (g + extent (own d))
+        go : (d : Placed) → At (words w) g (c .from) d (c .end) (c .to) →
+            Stands (words w) (g + 1) (located (c .from) (own d)) (g + extent (own d))
         go (place K ds) at = at .3
 
     pub graph-asks : (number : ℕ) → number ≡ c .from → Copying (its-nodes count) (set w (RESULT + o) count) number (g + 1) (o + 1)
@@ -158,11 +193,18 @@ module _ (w : List ℕ) (g o : ℕ) (c : Graphing w g o) where
           fine = sym is;
           q = g + extent (own (c .d));
           within = (let h = graph-here .0 in omega arith);
-          stands = subst (λ (n : ℕ). Stands (words (set w (RESULT + o) count)) (g + 1) (located n (own (c .d))) (g + extent (own (c .d)))) (sym e)
-              (subst (λ (u : List ℕ). Stands u (g + 1) (located (c .from) (own (c .d))) (g + extent (own (c .d)))) (sym (put-words w (set w (RESULT + o) count) o (count ∷ []) (RESULT + (o + 1)) (c .long) one)) stand);
+          stands = subst (λ (n : ℕ). Stands (words (set w (RESULT + o) count)) (g + 1) (located n (own (c .d))) (g + extent (own (c .d))))
+              (sym e)
+              (subst (λ (u : List ℕ). Stands u (g + 1) (located (c .from) (own (c .d))) (g + extent (own (c .d))))
+              (sym (put-words w (set w (RESULT + o) count) o (count ∷ []) (RESULT + (o + 1)) (c .long) one)) stand);
           room = omega arith;
         }
 
-    pub graph-copied : (number : ℕ) → number ≡ c .from → (r : ℕ) (w₁ : List ℕ) → Copies (its-nodes count) (set w (RESULT + o) count) number (g + 1) (o + 1) r w₁ → Put w w₁ (RESULT + o) (graph-words (own (c .d))) (RESULT + r)
+    pub graph-copied : (number : ℕ) → number ≡ c .from → (r : ℕ) (w₁ : List ℕ) →
+        Copies (its-nodes count) (set w (RESULT + o) count) number (g + 1) (o + 1) r w₁ →
+        Put w w₁ (RESULT + o) (graph-words (own (c .d))) (RESULT + r)
     unfolding graph-asks
-    graph-copied number e r w₁ u = subst (λ (k : ℕ). Put w w₁ (RESULT + o) (k ∷ nodes-words (own (c .d))) (RESULT + r)) is (put-append w (set w (RESULT + o) count) w₁ (count ∷ []) (nodes-words (own (c .d))) (RESULT + o) (RESULT + (o + 1)) (RESULT + r) one (u (graph-asks number e)))
+    graph-copied number e r w₁ u =
+        subst (λ (k : ℕ). Put w w₁ (RESULT + o) (k ∷ nodes-words (own (c .d))) (RESULT + r)) is
+        (put-append w (set w (RESULT + o) count) w₁ (count ∷ []) (nodes-words (own (c .d))) (RESULT + o) (RESULT + (o + 1)) (RESULT + r) one
+        (u (graph-asks number e)))

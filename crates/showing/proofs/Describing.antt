@@ -30,7 +30,11 @@ module _ (n : ℕ) (w : List ℕ) (g left o e : ℕ) (w₁ : List ℕ) (u : Lead
   later = shown-all (left-all (c .base .m) (c .lies .d))
 
   near : e + 1 + length (disjs-words later) ≤ 2048
-  near = omega (arith, lead-room n w g left o c, written-order n w o (graph-words (lead (strip (keep (c .base .m) (c .lies .d))))) e w₁ (u c))
+  near = omega (
+    arith,
+    lead-room n w g left o c,
+    written-order n w o (graph-words (lead (strip (keep (c .base .m) (c .lies .d))))) e w₁ (u c),
+  )
 
   pub graph-end : e < 2048
   graph-end = omega (arith, near)
@@ -55,9 +59,15 @@ module _ (n : ℕ) (w : List ℕ) (g left o e : ℕ) (w₁ : List ℕ) (u : Lead
     pub later-long : RESULT + e < length w₂
     later-long = omega (arith, told .0 .holds .long, near)
 
-    pub described : Written n w o (graph-words (lead (strip (keep (c .base .m) (c .lies .d)))) ++ disjs later ∷ disjs-words later) r (set w₂ (RESULT + e) count)
-    described = subst (λ (k : ℕ). Written n w o (graph-words (lead (strip (keep (c .base .m) (c .lies .d)))) ++ k ∷ disjs-words later) r (set w₂ (RESULT + e) count)) (told .1)
-        (written-between n w o (graph-words (lead (strip (keep (c .base .m) (c .lies .d))))) e w₁ (disjs-words later) r w₂ count (u c) (told .0) graph-end)
+    pub described : Written n w o (graph-words (lead (strip (keep (c .base .m) (c .lies .d)))) ++ disjs later ∷ disjs-words later) r
+        (set w₂ (RESULT + e) count)
+    described = subst (λ (k : ℕ). Written n w o (graph-words (lead (strip (keep (c .base .m) (c .lies .d)))) ++ k ∷ disjs-words later) r
+        (set w₂ (RESULT + e) count)) (told .1)
+        (written-between n w o (graph-words (lead (strip (keep (c .base .m) (c .lies .d))))) e w₁ (disjs-words later) r w₂ count (u c)
+        (told .0) graph-end)
 
-pub describes : (n : ℕ) (w : List ℕ) (g left o e : ℕ) (w₁ : List ℕ) → LeadPut n w g left o e w₁ → (r count : ℕ) (w₂ : List ℕ) → Disjoins n w₁ g left (e + 1) r count w₂ → Describes n w g left o r (set w₂ (RESULT + e) count)
-describes n w g left o e w₁ u r count w₂ v c = subst (λ (xs : List ℕ). Written n w o xs r (set w₂ (RESULT + e) count)) (sym (description-words (c .lies .d) (c .base .m))) (described n w g left o e w₁ u c r count w₂ v)
+pub describes : (n : ℕ) (w : List ℕ) (g left o e : ℕ) (w₁ : List ℕ) → LeadPut n w g left o e w₁ → (r count : ℕ) (w₂ : List ℕ) →
+    Disjoins n w₁ g left (e + 1) r count w₂ → Describes n w g left o r (set w₂ (RESULT + e) count)
+describes n w g left o e w₁ u r count w₂ v c =
+    subst (λ (xs : List ℕ). Written n w o xs r (set w₂ (RESULT + e) count)) (sym (description-words (c .lies .d) (c .base .m)))
+    (described n w g left o e w₁ u c r count w₂ v)

@@ -70,7 +70,9 @@ module _ (n : ℕ) (w : List ℕ) (g left o : ℕ) (c : Disjoining n w g left o)
   pub go-start : (e more : ℕ) → e ≡ tail-at w g → more ≡ disjunctions-at w e → Going more (e + 1) o 0 w
   go-start e more f h = go (c .lies .d) (c .lies .at) here (c .lies .nests) (c .lies .among) (c .can) (c .sane) refl
     where
-      go : (d : Placed) (at : At t g (c .lies .from) d (c .lies .end) (c .lies .to)) → At (words w) g (c .lies .from) d (c .lies .end) (c .lies .to) → Nests d left → Among (c .base .U) t g (c .lies .from) d (c .lies .end) (c .lies .to) at →
+      go : (d : Placed) (at : At t g (c .lies .from) d (c .lies .end) (c .lies .to)) →
+          At (words w) g (c .lies .from) d (c .lies .end) (c .lies .to) → Nests d left →
+          Among (c .base .U) t g (c .lies .from) d (c .lies .end) (c .lies .to) at →
           CanAll (left-all m d) → SaneAll (left-all m d) → left-all m (c .lies .d) ≡ left-all m d → Going more (e + 1) o 0 w
       go (place K ds) at stand nests u can sane same =
           let tail : e ≡ g + extent K = f ∙ tail-is w room K ds g (c .lies .from) (c .lies .end) (c .lies .to) stand low in
@@ -80,7 +82,8 @@ module _ (n : ℕ) (w : List ℕ) (g left o : ℕ) (c : Disjoining n w g left o)
             from = c .lies .from + length K;
             stand = at .6;
             within = omega arith;
-            many = sym (h ∙ ap (disjunctions-at w) tail ∙ disjunctions-is w room K ds g (c .lies .from) (c .lies .end) (c .lies .to) stand low);
+            many = sym (h ∙ ap (disjunctions-at w) tail
+                ∙ disjunctions-is w room K ds g (c .lies .from) (c .lies .end) (c .lies .to) stand low);
             nests = nests;
             among = u .1;
             can = can;
@@ -95,9 +98,11 @@ module _ (n : ℕ) (w : List ℕ) (g left o : ℕ) (c : Disjoining n w g left o)
     pub go-done : more ≤ 0 → Written n w o (disjs-words whole) out w₁ × (count ≡ disjs whole)
     go-done h = go (v .ds) (v .many) (v .words-are) (v .count-is)
       where
-        go : (ds : Places) → places ds ≡ more → disjs-words whole ≡ v .done ++ disjs-words (rest-of ds) → count + disjs (rest-of ds) ≡ disjs whole → Written n w o (disjs-words whole) out w₁ × (count ≡ disjs whole)
+        go : (ds : Places) → places ds ≡ more → disjs-words whole ≡ v .done ++ disjs-words (rest-of ds) →
+            count + disjs (rest-of ds) ≡ disjs whole → Written n w o (disjs-words whole) out w₁ × (count ≡ disjs whole)
         go stop e f q = (
-          subst (λ (xs : List ℕ). Written n w o xs out w₁) (sym (f ∙ ap (λ (x : Disjs). v .done ++ disjs-words x) nothing-left ∙ append-nil (v .done))) (v .written),
+          subst (λ (xs : List ℕ). Written n w o xs out w₁)
+              (sym (f ∙ ap (λ (x : Disjs). v .done ++ disjs-words x) nothing-left ∙ append-nil (v .done))) (v .written),
           let z = ap disjs nothing-left in omega arith,
         )
         go (a also ds) e f q = absurd (omega arith)
@@ -140,7 +145,9 @@ module _ (n : ℕ) (w : List ℕ) (g left o : ℕ) (c : Disjoining n w g left o)
       next : Next
       next = go (v .ds) (v .stand) (v .many) (v .nests) (v .among) (v .can) (v .sane) (v .words-are) (v .count-is)
         where
-          go : (ds : Places) (s : AtAll t at (v .from) ds (c .lies .end) (c .lies .to)) → places ds ≡ more → NestsAll ds left → AmongAll (c .base .U) t at (v .from) ds (c .lies .end) (c .lies .to) s → CanAll (strip-all (keep-all m ds)) → SaneAll (strip-all (keep-all m ds)) →
+          go : (ds : Places) (s : AtAll t at (v .from) ds (c .lies .end) (c .lies .to)) → places ds ≡ more → NestsAll ds left →
+              AmongAll (c .base .U) t at (v .from) ds (c .lies .end) (c .lies .to) s → CanAll (strip-all (keep-all m ds)) →
+              SaneAll (strip-all (keep-all m ds)) →
               disjs-words whole ≡ v .done ++ disjs-words (rest-of ds) → count + disjs (rest-of ds) ≡ disjs whole → Next
           go stop s many nests u can sane f k = absurd (omega arith)
           go (a also ds) s many nests u can sane f k =
@@ -158,7 +165,8 @@ module _ (n : ℕ) (w : List ℕ) (g left o : ℕ) (c : Disjoining n w g left o)
                 all = s .5;
                 within = first .1;
                 high = all-bounds t ds (s .0) (s .1) (c .lies .end) (c .lies .to) (first .1) (s .5) .2;
-                count-are = alternatives-is w₁ a ds at (v .from) (c .lies .end) (c .lies .to) (subst (λ (x : List ℕ). AtAll x at (v .from) (a also ds) (c .lies .end) (c .lies .to)) (sym (base₁ .loaded)) s);
+                count-are = alternatives-is w₁ a ds at (v .from) (c .lies .end) (c .lies .to)
+                    (subst (λ (x : List ℕ). AtAll x at (v .from) (a also ds) (c .lies .end) (c .lies .to)) (sym (base₁ .loaded)) s);
                 many-later = omega arith;
                 deep = nests .0;
                 inner = nests .1;
@@ -169,7 +177,8 @@ module _ (n : ℕ) (w : List ℕ) (g left o : ℕ) (c : Disjoining n w g left o)
                 can-later = can .1;
                 sane-any = sane .0;
                 sane-later = sane .1;
-                words-next = f ∙ ap (λ (x : List ℕ). v .done ++ x) (ap disjs-words split ∙ then-words (folded m a) (rest-of ds)) ∙ sym (append-assoc (v .done) (disjs-words (folded m a)) (disjs-words (rest-of ds)));
+                words-next = f ∙ ap (λ (x : List ℕ). v .done ++ x) (ap disjs-words split ∙ then-words (folded m a) (rest-of ds))
+                    ∙ sym (append-assoc (v .done) (disjs-words (folded m a)) (disjs-words (rest-of ds)));
                 count-next = omega arith;
               }
 

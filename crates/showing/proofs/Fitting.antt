@@ -32,7 +32,8 @@ module _ (n : ℕ) (t : List ℕ) (p : Pair n t) where
     result-fits mode e = omega (arith, result-room mode (outcome w p) e)
 
     -- what a mode leaves may be put out
-    abbrev pub showing : (mode : ℕ) → Can (strip (keep (marking w) (p .j))) → Sane (strip (keep (marking w) (p .j))) → mode-result mode (p .d) (p .e) ≡ some (outcome w p) → Showing n k w
+    abbrev pub showing : (mode : ℕ) → Can (strip (keep (marking w) (p .j))) → Sane (strip (keep (marking w) (p .j))) →
+        mode-result mode (p .d) (p .e) ≡ some (outcome w p) → Showing n k w
     showing mode c d e = record { t = t; p = p; stage = s; can = c; sane = d; room = result-fits mode e }
 
     -- ---- mode 0

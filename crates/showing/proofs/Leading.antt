@@ -36,7 +36,8 @@ use Rattle.showing.proofs.Leaving.{description-words}
 
 -- what agrees joins to the graph that a description leads with
 pub lead-joins : (d : Desc) → Can d → Sane d → join (flat d) ≡ some (lead d)
-lead-joins (desc g ds) c s = glue-joins g (c .0) (sure ds) (s .0 .0) (s .0 .1) ∙ sym (ap (λ (o : Option Graph). some (or-else g o)) (s .0 .1))
+lead-joins (desc g ds) c s = glue-joins g (c .0) (sure ds) (s .0 .0) (s .0 .1)
+    ∙ sym (ap (λ (o : Option Graph). some (or-else g o)) (s .0 .1))
 
 clashes : (gs : Ctx) → Fine gs → Clash gs → join gs ≡ none
 clashes [] f k = let h = f .0 in absurd (omega arith)
@@ -73,19 +74,23 @@ module _ (n : ℕ) (w : List ℕ) (g left o : ℕ) (c : Describing n w g left o)
 
   pushed-flat : graphs (entered asks-enter) ≡ flat whole
   unfolding asks-enter
-  pushed-flat = taken-flat (c .base .t) (marking w) g (c .lies .from) (c .lies .d) (c .lies .end) (c .lies .to) (c .lies .at) ∙ ap (λ (m : Marking). flat (strip (keep m (c .lies .d)))) (c .base .marks)
+  pushed-flat = taken-flat (c .base .t) (marking w) g (c .lies .from) (c .lies .d) (c .lies .end) (c .lies .to) (c .lies .at)
+      ∙ ap (λ (m : Marking). flat (strip (keep m (c .lies .d)))) (c .base .marks)
 
   joined-lead : Joined (graphs (entered asks-enter)) (lead whole)
-  joined-lead = subst (λ (l : List Graph). Joined l (lead whole)) (sym pushed-flat) (joined-of (flat whole) (fine-flat whole (c .can)) (lead whole) (lead-joins whole (c .can) (c .sane)))
+  joined-lead = subst (λ (l : List Graph). Joined l (lead whole)) (sym pushed-flat)
+      (joined-of (flat whole) (fine-flat whole (c .can)) (lead whole) (lead-joins whole (c .can) (c .sane)))
 
   never : Clash (graphs (entered asks-enter)) → ⊥
-  never k = not-none (flat whole) (lead whole, lead-joins whole (c .can) (c .sane)) (clashes (flat whole) (fine-flat whole (c .can)) (subst Clash pushed-flat k))
+  never k = not-none (flat whole) (lead whole, lead-joins whole (c .can) (c .sane))
+      (clashes (flat whole) (fine-flat whole (c .can)) (subst Clash pushed-flat k))
 
   pub lead-room : o + length (graph-words (lead whole)) + 1 + length (disjs-words (shown-all (left-all (c .base .m) (c .lies .d)))) ≤ 2048
   lead-room =
       let room = c .room in
       let e = ap length (description-words (c .lies .d) (c .base .m)) in
-      let s = length-append (graph-words (lead whole)) (disjs (shown-all (left-all (c .base .m) (c .lies .d))) ∷ disjs-words (shown-all (left-all (c .base .m) (c .lies .d)))) in
+      let s = length-append (graph-words (lead whole))
+      (disjs (shown-all (left-all (c .base .m) (c .lies .d))) ∷ disjs-words (shown-all (left-all (c .base .m) (c .lies .d)))) in
       omega arith
 
   module _ (p : Pushed) (w₁ : List ℕ) (u : Enters n 0 w g left p w₁) where
@@ -115,6 +120,7 @@ module _ (n : ℕ) (w : List ℕ) (g left o : ℕ) (c : Describing n w g left o)
               len = b .len ∙ kept .len ∙ u .len;
               mid = λ j h i. b .rest j h ∙ kept .mid j h i ∙ u .rest j h;
               high = λ j h. b .rest j (omega arith) ∙ kept .high j h ∙ u .rest j (omega arith);
-              stands = stands-frame w₂ w₃ (graph-words (lead whole)) (RESULT + o) (RESULT + r) (λ j h i l. let len = b .len in (omega arith, b .rest j (omega arith))) (told .1 .0);
+              stands = stands-frame w₂ w₃ (graph-words (lead whole)) (RESULT + o) (RESULT + r) (λ j h i l. let len = b .len in
+                  (omega arith, b .rest j (omega arith))) (told .1 .0);
               holds = b .holds n [] w (c .base .holds) (v .since 0 w (u .pushed k z .0));
             }

@@ -20,7 +20,8 @@ use Rattle.showing.specs.Putting.{lead, left-all}
 -- ---- disjunctions one after the other
 pub then-words : (x y : Disjs) → disjs-words (x then y) ≡ disjs-words x ++ disjs-words y
 then-words end y = refl
-then-words (a and x) y = ap (λ (l : List ℕ). (alts a ∷ alts-words a) ++ l) (then-words x y) ∙ sym (append-assoc (alts a ∷ alts-words a) (disjs-words x) (disjs-words y))
+then-words (a and x) y = ap (λ (l : List ℕ). (alts a ∷ alts-words a) ++ l) (then-words x y)
+    ∙ sym (append-assoc (alts a ∷ alts-words a) (disjs-words x) (disjs-words y))
 
 pub then-count : (x y : Disjs) → disjs (x then y) ≡ disjs x + disjs y
 then-count end y = omega arith
@@ -78,7 +79,9 @@ unfolding Rattle.modes_by_marks.specs.Shown.shown
 no-words = refl
 
 -- ---- a description
-pub description-words : (d : Placed) (m : Marking) → words (shown (strip (keep m d))) ≡ graph-words (lead (strip (keep m d))) ++ disjs (shown-all (left-all m d)) ∷ disjs-words (shown-all (left-all m d))
+pub description-words : (d : Placed) (m : Marking) →
+    words (shown (strip (keep m d))) ≡ graph-words (lead (strip (keep m d))) ++ disjs (shown-all (left-all m d))
+    ∷ disjs-words (shown-all (left-all m d))
 unfolding Rattle.modes_by_marks.specs.Shown.shown
 description-words (place g ds) m = refl
 

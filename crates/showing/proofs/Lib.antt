@@ -1,4 +1,5 @@
--- `Written` has the laws of words put into the result, `Leaving` those of what is left, as words; the others go through a description as the functions do.
+-- `Written` has the laws of words put into the result, `Leaving` those of what is left, as words; the others go through a description
+-- as the functions do.
 pub mod Written
 pub mod Leaving
 pub mod Leading

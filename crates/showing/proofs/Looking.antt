@@ -92,21 +92,48 @@ module _ (w : List ℕ) (g : ℕ) (c : Looking w g) where
       next : Next
       next = go (v .ds) (v .stand) (v .many) (v .is)
         where
-          go : (ds : Places) → AtAll (words w) at (v .from) ds (c .end) (c .to) → places ds ≡ more → sure (left-all m (c .d)) ≡ certain-of ds → Next
+          go : (ds : Places) → AtAll (words w) at (v .from) ds (c .end) (c .to) → places ds ≡ more →
+              sure (left-all m (c .d)) ≡ certain-of ds → Next
           go stop s e f = absurd (omega arith)
           go (a also ds) s e f =
               let there = s .2 in
               let first = any-bounds (words w) a (at + 1) (v .from) (s .0) (s .1) (omega arith) (s .4) in
-              record { a = a; ds = ds; q = s .0; l = s .1; there = there; any = s .4; all = s .5; within = first .1; high = all-bounds (words w) ds (s .0) (s .1) (c .end) (c .to) (first .1) (s .5) .2; count-are = alternatives-is w a ds at (v .from) (c .end) (c .to) s; many-later = omega arith; whole = f }
+              record {
+                a = a;
+                ds = ds;
+                q = s .0;
+                l = s .1;
+                there = there;
+                any = s .4;
+                all = s .5;
+                within = first .1;
+                high =
+                    all-bounds (words w) ds (s .0) (s .1) (c .end) (c .to) (first .1) (s .5) .2;
+                count-are =
+                    alternatives-is w a ds at (v .from) (c .end) (c .to) s;
+                many-later = omega arith;
+                whole = f;
+              }
 
       pub look-here : at < 2048
       look-here = omega (arith, next .there, words-many w (c .long))
 
       module _ (of : ℕ) (f : of ≡ alternatives-at w at) where
         pub look-counts : Alternatives w (at + 1) of
-        look-counts = record { room = c .long; a = next .a; n = v .from; q = next .q; m = next .l; at = next .any; low = omega (arith, next .high, c .low); many = sym (f ∙ next .count-are) }
+        look-counts = record {
+          room = c .long;
+          a = next .a;
+          n = v .from;
+          q = next .q;
+          m = next .l;
+          at = next .any;
+          low =
+              omega (arith, next .high, c .low);
+          many = sym (f ∙ next .count-are);
+        }
 
-        pub look-on : (kept first after : ℕ) → ((s : Alternatives w (at + 1) of) → Tallied w s kept first after) → (kept ≡ 1 → ⊥) → Going (more - 1) after
+        pub look-on : (kept first after : ℕ) → ((s : Alternatives w (at + 1) of) → Tallied w s kept first after) → (kept ≡ 1 → ⊥) →
+            Going (more - 1) after
         unfolding look-counts
         look-on kept first after tally several =
             let told = tally look-counts in

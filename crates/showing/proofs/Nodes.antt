@@ -47,7 +47,8 @@ module _ (w : List ℕ) (number p count o : ℕ) (c : Copying (its-arcs count) w
     pub arcs-done : left ≤ 0 → Put w w₁ (RESULT + o) (arc-words (c .x)) (RESULT + out)
     arcs-done h = go (v .l) (v .many) (v .is)
       where
-        go : (l : List (ℕ × ℕ)) → length l ≡ left → arc-words (c .x) ≡ v .done ++ arc-words l → Put w w₁ (RESULT + o) (arc-words (c .x)) (RESULT + out)
+        go : (l : List (ℕ × ℕ)) → length l ≡ left → arc-words (c .x) ≡ v .done ++ arc-words l →
+            Put w w₁ (RESULT + o) (arc-words (c .x)) (RESULT + out)
         go [] e f = subst (λ (xs : List ℕ). Put w w₁ (RESULT + o) xs (RESULT + out)) (sym (f ∙ append-nil (v .done))) (v .put)
         go (x ∷ l) e f = absurd (omega arith)
 
@@ -70,11 +71,23 @@ module _ (w : List ℕ) (number p count o : ℕ) (c : Copying (its-arcs count) w
       next : Next
       next = go (v .l) (v .many) (v .stand) (v .is)
         where
-          go : (l : List (ℕ × ℕ)) → length l ≡ left → Stands (words w) at (arc-words (moved-arcs number l)) (c .q) → arc-words (c .x) ≡ v .done ++ arc-words l → Next
+          go : (l : List (ℕ × ℕ)) → length l ≡ left → Stands (words w) at (arc-words (moved-arcs number l)) (c .q) →
+              arc-words (c .x) ≡ v .done ++ arc-words l → Next
           go [] e s q = absurd (omega arith)
           go (x ∷ l) e s q =
               let parts = stands-arc (words w) (x .0, number + x .1) (moved-arcs number l) at (c .q) .0 s in
-              record { f = x .0; t = x .1; l = l; later = omega arith; here = parts .2; feature = parts .1; target = parts .3; stand = parts .4; whole = q ∙ sym (append-assoc (v .done) (x .0 ∷ x .1 ∷ []) (arc-words l)) }
+              record {
+                f = x .0;
+                t = x .1;
+                l = l;
+                later = omega arith;
+                here = parts .2;
+                feature = parts .1;
+                target = parts .3;
+                stand =
+                    parts .4;
+                whole = q ∙ sym (append-assoc (v .done) (x .0 ∷ x .1 ∷ []) (arc-words l));
+              }
 
       loaded : words w₁ ≡ words w
       loaded = put-words w w₁ o (v .done) (RESULT + out) (c .long) (v .put)
@@ -86,7 +99,14 @@ module _ (w : List ℕ) (number p count o : ℕ) (c : Copying (its-arcs count) w
           let same = v .put .same in
           let long = c .long in (
             omega (arith, words-many w (c .long)),
-            omega (arith, c .room, put-end w w₁ o (v .done) out (v .put), ap length (x .whole), length-append (v .done ++ x .f ∷ x .t ∷ []) (arc-words (x .l)), length-append (v .done) (x .f ∷ x .t ∷ [])),
+            omega (
+              arith,
+              c .room,
+              put-end w w₁ o (v .done) out (v .put),
+              ap length (x .whole),
+              length-append (v .done ++ x .f ∷ x .t ∷ []) (arc-words (x .l)),
+              length-append (v .done) (x .f ∷ x .t ∷ []),
+            ),
             omega arith,
           )
 
@@ -109,7 +129,8 @@ module _ (w : List ℕ) (number p count o : ℕ) (c : Copying (its-arcs count) w
             let w₂ = set (set w₁ (RESULT + out) f) (RESULT + out + 1) (t - number) in
             let len = length-set w₁ (RESULT + out) f in
             let two : Put w₁ w₂ (RESULT + out) (f ∷ (t - number) ∷ []) (RESULT + out + 1 + 1) =
-            put-then w₁ w₂ f ((t - number) ∷ []) (RESULT + out) (RESULT + out + 1 + 1) (omega arith) (put-one (set w₁ (RESULT + out) f) (t - number) (RESULT + out + 1) (omega arith)) in
+            put-then w₁ w₂ f ((t - number) ∷ []) (RESULT + out) (RESULT + out + 1 + 1) (omega arith)
+            (put-one (set w₁ (RESULT + out) f) (t - number) (RESULT + out + 1) (omega arith)) in
             let end : RESULT + out + 1 + 1 ≡ RESULT + (out + 2) = omega arith in
             let own : t - number ≡ x .t = omega (arith, target-is) in
             let pair : f ∷ (t - number) ∷ [] ≡ x .f ∷ x .t ∷ [] = ap₂ {C = List ℕ} (λ (i j : ℕ). i ∷ j ∷ []) feature-is own in
@@ -118,7 +139,9 @@ module _ (w : List ℕ) (number p count o : ℕ) (c : Copying (its-arcs count) w
               many = omega arith;
               stand = x .stand;
               done = v .done ++ x .f ∷ x .t ∷ [];
-              put = put-append w w₁ w₂ (v .done) (x .f ∷ x .t ∷ []) (RESULT + o) (RESULT + out) (RESULT + (out + 2)) (v .put) (subst (λ (xs : List ℕ). Put w₁ w₂ (RESULT + out) xs (RESULT + (out + 2))) pair (subst (λ (j : ℕ). Put w₁ w₂ (RESULT + out) (f ∷ (t - number) ∷ []) j) end two));
+              put = put-append w w₁ w₂ (v .done) (x .f ∷ x .t ∷ []) (RESULT + o) (RESULT + out) (RESULT + (out + 2)) (v .put)
+                  (subst (λ (xs : List ℕ). Put w₁ w₂ (RESULT + out) xs (RESULT + (out + 2))) pair
+                  (subst (λ (j : ℕ). Put w₁ w₂ (RESULT + out) (f ∷ (t - number) ∷ []) j) end two));
               is = x .whole;
             }
 
@@ -128,9 +151,12 @@ module _ (w : List ℕ) (number p o : ℕ) (c : Copying a-node w number p o) whe
   pub node-here : (p < 2048) × (o < 2048) × (RESULT + o < length w)
   node-here = go (c .x) (c .stands) (c .room)
     where
-      go : (v : Node) → Stands (words w) p (node-words (moved-node number v)) (c .q) → o + length (node-words v) ≤ 2048 → (p < 2048) × (o < 2048) × (RESULT + o < length w)
-      go (atom a) s r = let there = stands-atom (words w) a p (c .q) .0 s .0 in (omega (arith, words-many w (c .long)), omega arith, omega (arith, c .long))
-      go (arcs l) s r = let there = stands-node (words w) (moved-arcs number l) p (c .q) .0 s .0 in (omega (arith, words-many w (c .long)), omega arith, omega (arith, c .long))
+      go : (v : Node) → Stands (words w) p (node-words (moved-node number v)) (c .q) → o + length (node-words v) ≤ 2048 →
+          (p < 2048) × (o < 2048) × (RESULT + o < length w)
+      go (atom a) s r = let there = stands-atom (words w) a p (c .q) .0 s .0 in
+          (omega (arith, words-many w (c .long)), omega arith, omega (arith, c .long))
+      go (arcs l) s r = let there = stands-node (words w) (moved-arcs number l) p (c .q) .0 s .0 in
+          (omega (arith, words-many w (c .long)), omega arith, omega (arith, c .long))
 
   module _ (head : ℕ) (e : head ≡ getD (words w) p 0) where
     one : Put w (set w (RESULT + o) head) (RESULT + o) (head ∷ []) (RESULT + (o + 1))
@@ -142,14 +168,21 @@ module _ (w : List ℕ) (number p o : ℕ) (c : Copying a-node w number p o) whe
     pub node-atom : code-limit ≤ head → Put w (set w (RESULT + o) head) (RESULT + o) (node-words (c .x)) (RESULT + (o + 1))
     node-atom h = go (c .x) (c .stands)
       where
-        go : (v : Node) → Stands (words w) p (node-words (moved-node number v)) (c .q) → Put w (set w (RESULT + o) head) (RESULT + o) (node-words v) (RESULT + (o + 1))
-        go (atom a) s = subst (λ (k : ℕ). Put w (set w (RESULT + o) head) (RESULT + o) (k ∷ []) (RESULT + (o + 1))) (e ∙ stands-atom (words w) a p (c .q) .0 s .1) one
+        go : (v : Node) → Stands (words w) p (node-words (moved-node number v)) (c .q) →
+            Put w (set w (RESULT + o) head) (RESULT + o) (node-words v) (RESULT + (o + 1))
+        go (atom a) s = subst (λ (k : ℕ). Put w (set w (RESULT + o) head) (RESULT + o) (k ∷ []) (RESULT + (o + 1))) (e
+            ∙ stands-atom (words w) a p (c .q) .0 s .1) one
         go (arcs l) s =
             let parts = stands-node (words w) (moved-arcs number l) p (c .q) .0 s in
             let there = parts .0 in
             let count = parts .1 in
             let far = stands-within (words w) (arc-words (moved-arcs number l)) (p + 1) (c .q) (omega arith) (parts .2) in
-            absurd (omega (arith, words-many w (c .long), stands-length (words w) (arc-words (moved-arcs number l)) (p + 1) (c .q) (parts .2), arc-length (moved-arcs number l)))
+            absurd (omega (
+              arith,
+              words-many w (c .long),
+              stands-length (words w) (arc-words (moved-arcs number l)) (p + 1) (c .q) (parts .2),
+              arc-length (moved-arcs number l),
+            ))
 
     module _ (h : head < code-limit) where
       -- the node has arcs
@@ -183,12 +216,16 @@ module _ (w : List ℕ) (number p o : ℕ) (c : Copying a-node w number p o) whe
             fine = fan .many;
             q = c .q;
             within = (let h = node-here .0 in omega arith);
-            stands = subst (λ (u : List ℕ). Stands u (p + 1) (arc-words (moved-arcs number (fan .l))) (c .q)) (sym loaded-still) (fan .stand);
+            stands = subst (λ (u : List ℕ). Stands u (p + 1) (arc-words (moved-arcs number (fan .l))) (c .q)) (sym loaded-still)
+                (fan .stand);
             room = omega arith;
           }
 
-      pub node-arcs : (r : ℕ) (w₁ : List ℕ) → Copies (its-arcs head) (set w (RESULT + o) head) number (p + 1) (o + 1) r w₁ → Put w w₁ (RESULT + o) (node-words (c .x)) (RESULT + r)
+      pub node-arcs : (r : ℕ) (w₁ : List ℕ) → Copies (its-arcs head) (set w (RESULT + o) head) number (p + 1) (o + 1) r w₁ →
+          Put w w₁ (RESULT + o) (node-words (c .x)) (RESULT + r)
       unfolding node-asks
       node-arcs r w₁ u =
-          let all = put-append w (set w (RESULT + o) head) w₁ (head ∷ []) (arc-words (fan .l)) (RESULT + o) (RESULT + (o + 1)) (RESULT + r) one (u node-asks) in
-          subst (λ (v : Node). Put w w₁ (RESULT + o) (node-words v) (RESULT + r)) (sym (fan .is)) (subst (λ (k : ℕ). Put w w₁ (RESULT + o) (k ∷ arc-words (fan .l)) (RESULT + r)) (sym (fan .many)) all)
+          let all = put-append w (set w (RESULT + o) head) w₁ (head ∷ []) (arc-words (fan .l)) (RESULT + o) (RESULT + (o + 1))
+          (RESULT + r) one (u node-asks) in
+          subst (λ (v : Node). Put w w₁ (RESULT + o) (node-words v) (RESULT + r)) (sym (fan .is))
+          (subst (λ (k : ℕ). Put w w₁ (RESULT + o) (k ∷ arc-words (fan .l)) (RESULT + r)) (sym (fan .many)) all)

@@ -32,7 +32,8 @@ use Rattle.showing.proofs.Leaving.{any-words, no-words}
 -- what a turn does at the alternative x
 pub data Turn (n : ℕ) (w₁ : List ℕ) (at x left out out' : ℕ) (w₂ : List ℕ) : Type 0 where
   skipped : marking w₁ x ≡ false → w₂ ≡ w₁ → out' ≡ out → Turn n w₁ at x left out out' w₂
-  taken : (r : ℕ) (w' : List ℕ) → marking w₁ x ≡ true → Describes n w₁ at left out r w' → w₂ ≡ w' → out' ≡ r → Turn n w₁ at x left out out' w₂
+  taken : (r : ℕ) (w' : List ℕ) → marking w₁ x ≡ true → Describes n w₁ at left out r w' → w₂ ≡ w' → out' ≡ r →
+      Turn n w₁ at x left out out' w₂
 
 module _ (n : ℕ) (w : List ℕ) (p of left o : ℕ) (c : Offering n w p of left o) where
   abbrev m : Marking
@@ -83,7 +84,8 @@ module _ (n : ℕ) (w : List ℕ) (p of left o : ℕ) (c : Offering n w p of lef
     offer-done h = go (v .b) (v .many) (v .words-are)
       where
         go : (b : Options) → options b ≡ rest → rest-of (c .lies .a) ≡ v .done ++ rest-of b → Written n w o (rest-of (c .lies .a)) out w₁
-        go no-more e f = subst (λ (xs : List ℕ). Written n w o xs out w₁) (sym (f ∙ ap (λ (x : List ℕ). v .done ++ x) no-words ∙ append-nil (v .done))) (v .written)
+        go no-more e f = subst (λ (xs : List ℕ). Written n w o xs out w₁)
+            (sym (f ∙ ap (λ (x : List ℕ). v .done ++ x) no-words ∙ append-nil (v .done))) (v .written)
         go (option x d b) e f = absurd (omega arith)
 
     abbrev base₁ : Base n w₁
@@ -112,12 +114,17 @@ module _ (n : ℕ) (w : List ℕ) (p of left o : ℕ) (c : Offering n w p of lef
       next : Next
       next = go (v .b) (v .stand) (v .many) (v .nests) (v .among) (v .can) (v .sane) (v .words-are)
         where
-          go : (b : Options) (s : AtAny t at (v .l) b (c .lies .end) (c .lies .to)) → options b ≡ rest → NestsAny b left → AmongAny (c .base .U) t at (v .l) b (c .lies .end) (c .lies .to) s → CanAny (strip-any (keep-any m b)) → SaneAny (strip-any (keep-any m b)) → rest-of (c .lies .a) ≡ v .done ++ rest-of b → Next
+          go : (b : Options) (s : AtAny t at (v .l) b (c .lies .end) (c .lies .to)) → options b ≡ rest → NestsAny b left →
+              AmongAny (c .base .U) t at (v .l) b (c .lies .end) (c .lies .to) s → CanAny (strip-any (keep-any m b)) →
+              SaneAny (strip-any (keep-any m b)) → rest-of (c .lies .a) ≡ v .done ++ rest-of b → Next
           go no-more s e f u k l q = absurd (omega arith)
-          go (option x d a) s e f u k l q = record { x = x; d = d; a = a; stand = s; nests = f; among = u; later = omega arith; can = k; sane = l; whole = q }
+          go (option x d a) s e f u k l q =
+              record { x = x; d = d; a = a; stand = s; nests = f; among = u; later = omega arith; can = k; sane = l; whole = q }
 
       read : (w₂ : List ℕ) → 16384 ≤ length w₂ → words w₂ ≡ t → Read w₂ at (next .x) (next .stand .0)
-      read w₂ room e = read-option w₂ room (next .x) (next .d) (next .a) at (v .l) (c .lies .end) (c .lies .to) (subst (λ (s : List ℕ). AtAny s at (v .l) (option (next .x) (next .d) (next .a)) (c .lies .end) (c .lies .to)) (sym e) (next .stand)) low .0
+      read w₂ room e = read-option w₂ room (next .x) (next .d) (next .a) at (v .l) (c .lies .end) (c .lies .to)
+          (subst (λ (s : List ℕ). AtAny s at (v .l) (option (next .x) (next .d) (next .a)) (c .lies .end) (c .lies .to)) (sym e)
+          (next .stand)) low .0
 
       pub offer-here : (at < 2048) × (number-at w₁ at < 1024) × (tail-at w₁ at < 2048)
       offer-here =
@@ -137,11 +144,13 @@ module _ (n : ℕ) (w : List ℕ) (p of left o : ℕ) (c : Offering n w p of lef
         own b e = ap m (sym (is-x ∙ read w₁ offer-long (base₁ .loaded) .number)) ∙ ap (λ (k : Marking). k x) (sym (base₁ .marks)) ∙ e
 
         module _ (e : marking w₁ x ≡ true) where
-          kept-are : strip-any (keep-any m (option (next .x) (next .d) (next .a))) ≡ strip (keep m (next .d)) or strip-any (keep-any m (next .a))
+          kept-are : strip-any (keep-any m (option (next .x) (next .d) (next .a)))
+              ≡ strip (keep m (next .d)) or strip-any (keep-any m (next .a))
           kept-are = ap strip-any (keep-true m (next .x) (next .d) (next .a) (own true e))
 
           words-next : rest-of (c .lies .a) ≡ (v .done ++ layout.words (shown (strip (keep m (next .d))))) ++ rest-of (next .a)
-          words-next = next .whole ∙ ap (λ (z : Alts). v .done ++ alts-words (shown-any z)) kept-are ∙ ap (λ (l : List ℕ). v .done ++ l) (any-words (strip (keep m (next .d))) (strip-any (keep-any m (next .a))))
+          words-next = next .whole ∙ ap (λ (z : Alts). v .done ++ alts-words (shown-any z)) kept-are
+              ∙ ap (λ (l : List ℕ). v .done ++ l) (any-words (strip (keep m (next .d))) (strip-any (keep-any m (next .a))))
               ∙ sym (append-assoc (v .done) (layout.words (shown (strip (keep m (next .d))))) (rest-of (next .a)))
 
           pub offer-asks : Describing n w₁ at left out
@@ -152,18 +161,32 @@ module _ (n : ℕ) (w : List ℕ) (p of left o : ℕ) (c : Offering n w p of lef
               let all = ap length words-next in
               record {
                 base = base₁;
-                lies = record { d = z .d; from = v .l; end = z .stand .0; to = z .stand .1; at = z .stand .3; low = omega (arith, last, c .lies .low); nests = z .nests .0; among = z .among .0 };
+                lies = record {
+                  d = z .d;
+                  from = v .l;
+                  end = z .stand .0;
+                  to = z .stand .1;
+                  at = z .stand .3;
+                  low =
+                      omega (arith, last, c .lies .low);
+                  nests = z .nests .0;
+                  among = z .among .0;
+                };
                 can = subst CanAny kept-are (z .can) .0;
                 sane = subst SaneAny kept-are (z .sane) .0;
                 room = omega (arith, c .room, written-order n w o (v .done) out w₁ (v .written));
               }
 
-          offer-told : (r : ℕ) (w' : List ℕ) → Describes n w₁ at left out r w' → Written n w o (v .done ++ layout.words (shown (strip (keep m (next .d))))) r w'
+          offer-told : (r : ℕ) (w' : List ℕ) → Describes n w₁ at left out r w' →
+              Written n w o (v .done ++ layout.words (shown (strip (keep m (next .d))))) r w'
           unfolding offer-asks
-          offer-told r w' u = written-append n w o (v .done) out w₁ (layout.words (shown (strip (keep m (next .d))))) r w' (v .written) (u offer-asks)
+          offer-told r w' u = written-append n w o (v .done) out w₁ (layout.words (shown (strip (keep m (next .d))))) r w' (v .written)
+              (u offer-asks)
 
         -- past the alternative
-        past : (w₂ : List ℕ) (done : List ℕ) (out' at' : ℕ) → Written n w o done out' w₂ → at' ≡ after-at w₂ at → CanAny (strip-any (keep-any m (next .a))) → SaneAny (strip-any (keep-any m (next .a))) → rest-of (c .lies .a) ≡ done ++ rest-of (next .a) → Going (rest - 1) at' out' w₂
+        past : (w₂ : List ℕ) (done : List ℕ) (out' at' : ℕ) → Written n w o done out' w₂ → at' ≡ after-at w₂ at →
+            CanAny (strip-any (keep-any m (next .a))) → SaneAny (strip-any (keep-any m (next .a))) →
+            rest-of (c .lies .a) ≡ done ++ rest-of (next .a) → Going (rest - 1) at' out' w₂
         past w₂ done out' at' a e k l q =
             let r = read w₂ (a .holds .long) (based n w (c .base) o done out' w₂ a .loaded) in
             let z = next .later in
@@ -187,11 +210,21 @@ module _ (n : ℕ) (w : List ℕ) (p of left o : ℕ) (c : Offering n w p of lef
           turn-done = go turn
             where
               go : Turn n w₁ at x left out out' w₂ → (xs : List ℕ) × Written n w o xs out' w₂
-              go (skipped e f q) = (v .done, subst (λ (z : List ℕ). Written n w o (v .done) out' z) (sym f) (subst (λ (j : ℕ). Written n w o (v .done) j w₁) (sym q) (v .written)))
-              go (taken r w' e u f q) = (v .done ++ layout.words (shown (strip (keep m (next .d)))), subst (λ (z : List ℕ). Written n w o (v .done ++ layout.words (shown (strip (keep m (next .d))))) out' z) (sym f) (subst (λ (j : ℕ). Written n w o (v .done ++ layout.words (shown (strip (keep m (next .d))))) j w') (sym q) (offer-told e r w' u)))
+              go (skipped e f q) = (
+                v .done,
+                subst (λ (z : List ℕ). Written n w o (v .done) out' z) (sym f)
+                    (subst (λ (j : ℕ). Written n w o (v .done) j w₁) (sym q) (v .written)),
+              )
+              go (taken r w' e u f q) = (
+                v .done ++ layout.words (shown (strip (keep m (next .d)))),
+                subst (λ (z : List ℕ). Written n w o (v .done ++ layout.words (shown (strip (keep m (next .d))))) out' z) (sym f)
+                    (subst (λ (j : ℕ). Written n w o (v .done ++ layout.words (shown (strip (keep m (next .d))))) j w') (sym q)
+                    (offer-told e r w' u)),
+              )
 
           pub turn-inside : (tail-at w₂ at < 2048) × (16384 ≤ length w₂)
-          turn-inside = let a = turn-done in (read w₂ (a .1 .holds .long) (based n w (c .base) o (a .0) out' w₂ (a .1) .loaded) .inside, a .1 .holds .long)
+          turn-inside = let a = turn-done in
+              (read w₂ (a .1 .holds .long) (based n w (c .base) o (a .0) out' w₂ (a .1) .loaded) .inside, a .1 .holds .long)
 
           pub turn-on : (at' : ℕ) → at' ≡ after-at w₂ at → Going (rest - 1) at' out' w₂
           turn-on at' z = go turn
@@ -199,7 +232,12 @@ module _ (n : ℕ) (w : List ℕ) (p of left o : ℕ) (c : Offering n w p of lef
               go : Turn n w₁ at x left out out' w₂ → Going (rest - 1) at' out' w₂
               go (skipped e f q) =
                   let gone = ap strip-any (keep-false m (next .x) (next .d) (next .a) (own false e)) in
-                  past w₂ (v .done) out' at' (subst (λ (z : List ℕ). Written n w o (v .done) out' z) (sym f) (subst (λ (j : ℕ). Written n w o (v .done) j w₁) (sym q) (v .written))) z (subst CanAny gone (next .can)) (subst SaneAny gone (next .sane)) (next .whole ∙ ap (λ (b : Alts). v .done ++ alts-words (shown-any b)) gone)
+                  past w₂ (v .done) out' at' (subst (λ (z : List ℕ). Written n w o (v .done) out' z) (sym f)
+                  (subst (λ (j : ℕ). Written n w o (v .done) j w₁) (sym q) (v .written))) z (subst CanAny gone (next .can))
+                  (subst SaneAny gone (next .sane)) (next .whole ∙ ap (λ (b : Alts). v .done ++ alts-words (shown-any b)) gone)
               go (taken r w' e u f q) =
-                  past w₂ (v .done ++ layout.words (shown (strip (keep m (next .d))))) out' at' (subst (λ (z : List ℕ). Written n w o (v .done ++ layout.words (shown (strip (keep m (next .d))))) out' z) (sym f) (subst (λ (j : ℕ). Written n w o (v .done ++ layout.words (shown (strip (keep m (next .d))))) j w') (sym q) (offer-told e r w' u))) z
+                  past w₂ (v .done ++ layout.words (shown (strip (keep m (next .d))))) out' at'
+                  (subst (λ (z : List ℕ). Written n w o (v .done ++ layout.words (shown (strip (keep m (next .d))))) out' z) (sym f)
+                  (subst (λ (j : ℕ). Written n w o (v .done ++ layout.words (shown (strip (keep m (next .d))))) j w') (sym q)
+                  (offer-told e r w' u))) z
                   (subst CanAny (kept-are e) (next .can) .1) (subst SaneAny (kept-are e) (next .sane) .1) (words-next e)

@@ -33,12 +33,21 @@ module _ (n : ℕ) (w : List ℕ) (g left o : ℕ) (c : Describing n w g left o)
   here = subst (λ (t : List ℕ). At t g (c .lies .from) (c .lies .d) (c .lies .end) (c .lies .to)) (sym (c .base .loaded)) (c .lies .at)
 
   pub asks-look : Looking w g
-  asks-look = record { long = c .base .holds .long; d = c .lies .d; from = c .lies .from; end = c .lies .end; to = c .lies .to; at = here; low = omega (arith, c .lies .low, c .base .ground .few) }
+  asks-look = record {
+    long = c .base .holds .long;
+    d = c .lies .d;
+    from = c .lies .from;
+    end = c .lies .end;
+    to = c .lies .to;
+    at = here;
+    low = omega (arith, c .lies .low, c .base .ground .few);
+  }
 
   module _ (r : Bool) (u : Looks w g r) (e : r ≡ false) where
     unjoined : lead (strip (keep (c .base .m) (c .lies .d))) ≡ own (c .lies .d)
     unfolding asks-look
-    unjoined = lead-own (c .lies .d) (c .base .m) (c .can) (ap (λ (m : Marking). sure (left-all m (c .lies .d))) (sym (c .base .marks)) ∙ u asks-look e)
+    unjoined = lead-own (c .lies .d) (c .base .m) (c .can) (ap (λ (m : Marking). sure (left-all m (c .lies .d))) (sym (c .base .marks))
+        ∙ u asks-look e)
 
     pub asks-copy : Graphing w g o
     asks-copy = record {

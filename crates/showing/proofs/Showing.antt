@@ -43,7 +43,8 @@ use Rattle.writing.specs.Writing.{Writing, Writes}
 use Rattle.showing.specs.Putting.{Written, Base, lead, later, left-all, Disjoining, Disjoins}
 use Rattle.showing.specs.Showing.{disjunctions-in, outcome, Showing, Shows}
 use Rattle.showing.proofs.Written.{written-order, written-append, written-between, written-same, based}
-use Rattle.showing.proofs.Leaving.{then-words, then-count, shown-next, few-disjunctions, nothing-left, description-words, can-parts, sane-parts}
+use Rattle.showing.proofs.Leaving.{then-words, then-count, shown-next, few-disjunctions, nothing-left, description-words, can-parts}
+use Rattle.showing.proofs.Leaving.{sane-parts}
 use Rattle.showing.proofs.Leading.{lead-joins, weight-words}
 use Rattle.showing.proofs.Describing.{inner-can, inner-sane}
 use Rattle.entering.proofs.Pairs.{half-low}
@@ -52,15 +53,18 @@ use Rattle.entering.proofs.Pairs.{half-low}
 both-later : (a b j : Placed) (m : Marking) → joined-placed a b ≡ some j → left-all m j ≡ left-all m a then left-all m b
 both-later (place g ds) (place h es) j m = go (join (g ∷ h ∷ []))
   where
-    go : (o : Option Graph) → _≡_ {A = Option Placed} (elim o [ none ↦ none | some k ↦ some (place k (ds next es)) ]) (some j) → left-all m j ≡ strip-all (keep-all m ds) then strip-all (keep-all m es)
+    go : (o : Option Graph) → _≡_ {A = Option Placed} (elim o [ none ↦ none | some k ↦ some (place k (ds next es)) ]) (some j) →
+        left-all m j ≡ strip-all (keep-all m ds) then strip-all (keep-all m es)
     go none e = let z : _≡_ {A = ℕ} 0 1 = cc in absurd (omega arith)
     go (some k) e =
         let f : place k (ds next es) ≡ j = cc in
         ap (left-all m) (sym f) ∙ ap strip-all (keep-next m ds es) ∙ strip-next (keep-all m ds) (keep-all m es)
 
 -- of a description without disjunctions none are left
-none-left : (w : List ℕ) → 16384 ≤ length w → (m : Marking) (d : Placed) (p n q l : ℕ) → At (words w) p n d q l → l < number-step → disjunctions-at w (tail-at w p) ≡ 0 → shown-all (left-all m d) ≡ end
-none-left w long m (place g ds) p n q l at low h = go ds (sym (disjunctions-is w long g ds p n q l at low) ∙ ap (disjunctions-at w) (sym (tail-is w long g ds p n q l at low)) ∙ h)
+none-left : (w : List ℕ) → 16384 ≤ length w → (m : Marking) (d : Placed) (p n q l : ℕ) → At (words w) p n d q l → l < number-step →
+    disjunctions-at w (tail-at w p) ≡ 0 → shown-all (left-all m d) ≡ end
+none-left w long m (place g ds) p n q l at low h =
+    go ds (sym (disjunctions-is w long g ds p n q l at low) ∙ ap (disjunctions-at w) (sym (tail-is w long g ds p n q l at low)) ∙ h)
   where
     go : (ds : Places) → places ds ≡ 0 → shown-all (strip-all (keep-all m ds)) ≡ end
     go stop e = nothing-left
@@ -100,7 +104,9 @@ module _ (n k : ℕ) (w : List ℕ) (c : Showing n k w) where
   joined-is : Joined (graphs (c .stage .es)) G
   joined-is =
       let s = c .stage .same in
-      joined-of (graphs (c .stage .es)) (s .fine₁) G (join-both (graphs (c .stage .es)) (flat (strip (keep m j))) (s .fine₁) (s .fine₂) (s .to) (s .from) ∙ lead-joins (strip (keep m j)) (c .can) (c .sane))
+      joined-of (graphs (c .stage .es)) (s .fine₁) G
+      (join-both (graphs (c .stage .es)) (flat (strip (keep m j))) (s .fine₁) (s .fine₂) (s .to) (s .from)
+      ∙ lead-joins (strip (keep m j)) (c .can) (c .sane))
 
   -- the words of the whole
   abbrev all : List ℕ
@@ -119,7 +125,14 @@ module _ (n k : ℕ) (w : List ℕ) (c : Showing n k w) where
       omega arith
 
   pub show-writes : Writing n k w 0
-  show-writes = record { es = c .stage .es; G = G; holds = c .stage .ready .holds; joined = joined-is; room = omega (arith, room, weight-words G) }
+  show-writes = record {
+    es = c .stage .es;
+    G = G;
+    holds = c .stage .ready .holds;
+    joined = joined-is;
+    room =
+        omega (arith, room, weight-words G);
+  }
 
   -- what is pushed can still be taken back once it is written
   undoable₁ : (e : ℕ) (w₁ : List ℕ) → Writes n k w 0 e w₁ → Undoable n k w₁
@@ -164,20 +177,34 @@ module _ (n k : ℕ) (w : List ℕ) (c : Showing n k w) where
           (none-left w₁ long₁ m a 0 0 (c .p .inputs .end-a) (c .p .inputs .half) at-a low-a (omega arith))
           (none-left w₁ long₁ m b SECOND (c .p .inputs .half) (c .p .inputs .end-b) n at-b (c .p .inputs .ground .few) (omega arith))
 
-      pub plain-told : (length (set w₁ (RESULT + e) 0) ≡ length w) × ((h : ℕ) → RESULT + 2048 ≤ h → getD (set w₁ (RESULT + e) 0) h 0 ≡ getD w h 0) × (e + 1 ≡ length (layout.words (outcome w (c .p)))) × Stands (set w₁ (RESULT + e) 0) RESULT (layout.words (outcome w (c .p))) (RESULT + (e + 1))
+      pub plain-told : (length (set w₁ (RESULT + e) 0) ≡ length w)
+          × ((h : ℕ) → RESULT + 2048 ≤ h → getD (set w₁ (RESULT + e) 0) h 0 ≡ getD w h 0)
+          × (e + 1 ≡ length (layout.words (outcome w (c .p))))
+          × Stands (set w₁ (RESULT + e) 0) RESULT (layout.words (outcome w (c .p))) (RESULT + (e + 1))
       plain-told =
           let w₂ = set w₁ (RESULT + e) 0 in
           let low = show-near e w₁ u in
           let far = long₁ in
           let same = length-set w₁ (RESULT + e) 0 in
           let other : (j : ℕ) → (j ≡ RESULT + e → ⊥) → getD w₂ j 0 ≡ getD w₁ j 0 = λ j h. getD-set-other w₁ (RESULT + e) j 0 0 h in
-          let stands : Stands w₂ RESULT (graph-words G ++ 0 ∷ []) (RESULT + (e + 1)) = stands-append w₂ (graph-words G) (0 ∷ []) RESULT (RESULT + (e + 1)) .1 (
+          let stands : Stands w₂ RESULT (graph-words G ++ 0 ∷ []) (RESULT + (e + 1)) =
+          stands-append w₂ (graph-words G) (0 ∷ []) RESULT (RESULT + (e + 1)) .1 (
             RESULT + e,
-            stands-frame w₁ w₂ (graph-words G) RESULT (RESULT + e) (λ j h l x. (omega arith, other j (λ q. omega arith))) (u .told (c .stage .es) G (c .stage .ready .holds) joined-is .1 .0),
-            stands-cons w₂ 0 [] (RESULT + e) (RESULT + (e + 1)) .1 (omega arith, getD-set-same w₁ (RESULT + e) 0 0 (omega arith), stands-nil w₂ (RESULT + e + 1) (RESULT + (e + 1)) .1 (omega arith)),
+            stands-frame w₁ w₂ (graph-words G) RESULT (RESULT + e) (λ j h l x. (omega arith, other j (λ q. omega arith)))
+                (u .told (c .stage .es) G (c .stage .ready .holds) joined-is .1 .0),
+            stands-cons w₂ 0 [] (RESULT + e) (RESULT + (e + 1)) .1 (
+              omega arith,
+              getD-set-same w₁ (RESULT + e) 0 0 (omega arith),
+              stands-nil w₂ (RESULT + e + 1) (RESULT + (e + 1)) .1 (omega arith),
+            ),
           ) in
-          let all = subst (λ (xs : List ℕ). Stands w₂ RESULT xs (RESULT + (e + 1))) (sym plain-words) stands in
-          (same ∙ u .kept .len, λ h l. other h (λ q. omega arith) ∙ u .kept .high h (omega arith), omega (arith, stands-length w₂ (layout.words (outcome w (c .p))) RESULT (RESULT + (e + 1)) all), all)
+          let all = subst (λ (xs : List ℕ). Stands w₂ RESULT xs (RESULT + (e + 1))) (sym plain-words) stands in (
+            same ∙ u .kept .len,
+            λ h l. other h (λ q. omega arith)
+                ∙ u .kept .high h (omega arith),
+            omega (arith, stands-length w₂ (layout.words (outcome w (c .p))) RESULT (RESULT + (e + 1)) all),
+            all,
+          )
 
   -- ---- one has
   module _ (e : ℕ) (w₁ : List ℕ) (u : Writes n k w 0 e w₁) (w₂ : List ℕ) (v : Backs 0 k w₁ w₂) where
@@ -197,7 +224,16 @@ module _ (n k : ℕ) (w : List ℕ) (c : Showing n k w) where
     abbrev base₂ : Base n w₂
     base₂ =
         let same = written-same n w 0 (graph-words G) e w₂ long top in
-        record { t = c .t; loaded = same .0 ∙ c .stage .ready .loaded; m = m; marks = same .1; U = c .p .inputs .U; ground = c .p .inputs .ground; holds = top .holds }
+        record {
+          t = c .t;
+          loaded = same .0 ∙ c .stage .ready .loaded;
+          m = m;
+          marks = same .1;
+          U = c .p .inputs .U;
+          ground =
+              c .p .inputs .ground;
+          holds = top .holds;
+        }
 
     cans : CanAll (left-all m a) × CanAll (left-all m b)
     cans = can-parts (left-all m a) (left-all m b) (subst CanAll both (inner-can j m (c .can)))
@@ -211,7 +247,17 @@ module _ (n k : ℕ) (w : List ℕ) (c : Showing n k w) where
         let far = half-low n (c .t) i in
         record {
           base = base₂;
-          lies = record { d = a; from = 0; end = i .end-a; to = i .half; at = i .at-a; low = omega arith; nests = i .nests-a; among = i .among-a };
+          lies = record {
+            d = a;
+            from = 0;
+            end = i .end-a;
+            to = i .half;
+            at = i .at-a;
+            low = omega arith;
+            nests = i .nests-a;
+            among =
+                i .among-a;
+          };
           can = cans .0;
           sane = sanes .0;
           room = omega (arith, near e w₁ u);
@@ -227,7 +273,17 @@ module _ (n k : ℕ) (w : List ℕ) (c : Showing n k w) where
           let s = c .p .inputs in
           record {
             base = based n w₂ base₂ (e + 1) (disjs-words first) r w₃ (told .0);
-            lies = record { d = b; from = s .half; end = s .end-b; to = n; at = s .at-b; low = omega arith; nests = s .nests-b; among = s .among-b };
+            lies = record {
+              d = b;
+              from = s .half;
+              end = s .end-b;
+              to = n;
+              at = s .at-b;
+              low = omega arith;
+              nests = s .nests-b;
+              among =
+                  s .among-b;
+            };
             can = cans .1;
             sane = sanes .1;
             room = omega (arith, near e w₁ u, written-order n w₂ (e + 1) (disjs-words first) r w₃ (told .0));
@@ -249,22 +305,29 @@ module _ (n k : ℕ) (w : List ℕ) (c : Showing n k w) where
             let w₅ = set w₄ (RESULT + e) (i + l) in
             let later = written-append n w₂ (e + 1) (disjs-words first) r w₃ (disjs-words second) q w₄ (told .0) (told₂ .0) in
             subst (λ (xs : List ℕ). Written n w 0 xs q w₅) (sym all-words)
-            (subst (λ (h : ℕ). Written n w 0 (graph-words G ++ h ∷ (disjs-words first ++ disjs-words second)) q w₅) (ap₂ _+_ (told .1) (told₂ .1))
-            (written-between n w 0 (graph-words G) e w₂ (disjs-words first ++ disjs-words second) q w₄ (i + l) top later (show-near e w₁ u)))
+            (subst (λ (h : ℕ). Written n w 0 (graph-words G ++ h ∷ (disjs-words first ++ disjs-words second)) q w₅)
+            (ap₂ _+_ (told .1) (told₂ .1))
+            (written-between n w 0 (graph-words G) e w₂ (disjs-words first ++ disjs-words second) q w₄ (i + l) top later
+            (show-near e w₁ u)))
 
-        pub show-told : (length (set w₄ (RESULT + e) (i + l)) ≡ length w) × ((h : ℕ) → RESULT + 2048 ≤ h → getD (set w₄ (RESULT + e) (i + l)) h 0 ≡ getD w h 0) × (q ≡ length (layout.words (outcome w (c .p)))) × Stands (set w₄ (RESULT + e) (i + l)) RESULT (layout.words (outcome w (c .p))) (RESULT + q)
+        pub show-told : (length (set w₄ (RESULT + e) (i + l)) ≡ length w)
+            × ((h : ℕ) → RESULT + 2048 ≤ h → getD (set w₄ (RESULT + e) (i + l)) h 0 ≡ getD w h 0)
+            × (q ≡ length (layout.words (outcome w (c .p))))
+            × Stands (set w₄ (RESULT + e) (i + l)) RESULT (layout.words (outcome w (c .p))) (RESULT + q)
         show-told =
             let f = written-order n w 0 (layout.words (outcome w (c .p))) q (set w₄ (RESULT + e) (i + l)) whole in
             let r = c .room in
             (whole .len, λ h l. whole .high h (omega arith), omega arith, whole .stands)
 
-pub shows : (n k : ℕ) (w : List ℕ) → Showing n k w → (e : ℕ) (w₁ : List ℕ) → Writes n k w 0 e w₁ → (w₂ : List ℕ) → Backs 0 k w₁ w₂ → (r i : ℕ) (w₃ : List ℕ) → Disjoins n w₂ 0 depth-limit (e + 1) r i w₃ →
+pub shows : (n k : ℕ) (w : List ℕ) → Showing n k w → (e : ℕ) (w₁ : List ℕ) → Writes n k w 0 e w₁ → (w₂ : List ℕ) → Backs 0 k w₁ w₂ →
+    (r i : ℕ) (w₃ : List ℕ) → Disjoins n w₂ 0 depth-limit (e + 1) r i w₃ →
     (q l : ℕ) (w₄ : List ℕ) → Disjoins n w₃ SECOND depth-limit r q l w₄ → Shows n k w q (set w₄ (RESULT + e) (i + l))
 shows n k w c e w₁ u w₂ v r i w₃ x q l w₄ y =
     let own = show-told n k w c e w₁ u w₂ v r i w₃ x q l w₄ y in
     record { len = own .0; rest = own .1; told = λ d. let s = show-told n k w d e w₁ u w₂ v r i w₃ x q l w₄ y in (s .2, s .3) }
 
-pub plain : (n k : ℕ) (w : List ℕ) → Showing n k w → (e : ℕ) (w₁ : List ℕ) → Writes n k w 0 e w₁ → disjunctions-in w₁ ≡ 0 → Shows n k w (e + 1) (set w₁ (RESULT + e) 0)
+pub plain : (n k : ℕ) (w : List ℕ) → Showing n k w → (e : ℕ) (w₁ : List ℕ) → Writes n k w 0 e w₁ → disjunctions-in w₁ ≡ 0 →
+    Shows n k w (e + 1) (set w₁ (RESULT + e) 0)
 plain n k w c e w₁ u h =
     let own = plain-told n k w c e w₁ u h in
     record { len = own .0; rest = own .1; told = λ d. let s = plain-told n k w d e w₁ u h in (s .2, s .3) }

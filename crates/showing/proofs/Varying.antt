@@ -68,13 +68,23 @@ module _ (n : ℕ) (w : List ℕ) (p of left o : ℕ) (c : Varying n w p of left
     kept-is = told .kept-are ∙ ap (λ (k : Marking). kept-of k (c .lies .a)) (c .base .marks)
 
     pub vary-small : kept ≤ 2048
-    vary-small = omega (arith, kept-is, kept-few m (c .lies .a), any-counts t (c .lies .a) p (c .lies .from) (c .lies .end) (c .lies .to) (c .lies .within) (c .lies .at), any-bounds t (c .lies .a) p (c .lies .from) (c .lies .end) (c .lies .to) (c .lies .within) (c .lies .at) .1, words-many w (c .base .holds .long), ap length (c .base .loaded))
+    vary-small = omega (
+      arith,
+      kept-is,
+      kept-few m (c .lies .a),
+      any-counts t (c .lies .a) p (c .lies .from) (c .lies .end) (c .lies .to) (c .lies .within) (c .lies .at),
+      any-bounds t (c .lies .a) p (c .lies .from) (c .lies .end) (c .lies .to) (c .lies .within) (c .lies .at) .1,
+      words-many w (c .base .holds .long),
+      ap length (c .base .loaded),
+    )
 
     -- ---- one stands alone
     module _ (one : kept ≡ 1) where
       abbrev lone : Lone (c .base .U) t m left p (c .lies .from) (c .lies .a) (c .lies .end) (c .lies .to) (c .lies .at) first
-      lone = lone-at (c .base .U) t (words w) m left (c .lies .a) p (c .lies .from) (c .lies .end) (c .lies .to) (c .lies .within) (c .lies .at) (c .lies .among) (c .lies .nests) (sym kept-is ∙ one) first (told .first-is .0)
-          (subst (λ (k : Marking). AtAny (words w) first (told .first-is .0) (from-kept k (c .lies .a)) (c .lies .end) (c .lies .to)) (c .base .marks) (told .first-is .1))
+      lone = lone-at (c .base .U) t (words w) m left (c .lies .a) p (c .lies .from) (c .lies .end) (c .lies .to) (c .lies .within)
+          (c .lies .at) (c .lies .among) (c .lies .nests) (sym kept-is ∙ one) first (told .first-is .0)
+          (subst (λ (k : Marking). AtAny (words w) first (told .first-is .0) (from-kept k (c .lies .a)) (c .lies .end) (c .lies .to))
+          (c .base .marks) (told .first-is .1))
 
       alone : folded m (c .lies .a) ≡ shown-all (left-all m (lone .d))
       alone = ap (λ (x : Alts). shown-all (x and end)) (ap strip-any (lone .alone)) ∙ shown-alone (lone .d) m
@@ -82,15 +92,27 @@ module _ (n : ℕ) (w : List ℕ) (p of left o : ℕ) (c : Varying n w p of left
       pub vary-inner : Disjoining n w first left o
       vary-inner = record {
         base = c .base;
-        lies = record { d = lone .d; from = lone .from; end = lone .end; to = lone .to; at = lone .here; low = omega (arith, c .lies .low, lone .high); nests = lone .nests; among = lone .among };
+        lies = record {
+          d = lone .d;
+          from = lone .from;
+          end = lone .end;
+          to = lone .to;
+          at = lone .here;
+          low =
+              omega (arith, c .lies .low, lone .high);
+          nests = lone .nests;
+          among = lone .among;
+        };
         can = inner-can (lone .d) m (subst CanAny (ap strip-any (lone .alone)) (c .can) .0);
         sane = inner-sane (lone .d) m (subst SaneAny (ap strip-any (lone .alone)) (c .sane) .0);
         room = omega (arith, c .room, ap (λ (x : Disjs). length (disjs-words x)) alone);
       }
 
-      pub vary-one : (r count : ℕ) (w₁ : List ℕ) → Disjoins n w first left o r count w₁ → Written n w o (disjs-words (folded m (c .lies .a))) r w₁ × (count ≡ disjs (folded m (c .lies .a))) × (after ≡ c .lies .end)
+      pub vary-one : (r count : ℕ) (w₁ : List ℕ) → Disjoins n w first left o r count w₁ →
+          Written n w o (disjs-words (folded m (c .lies .a))) r w₁ × (count ≡ disjs (folded m (c .lies .a))) × (after ≡ c .lies .end)
       unfolding vary-inner
-      vary-one r count w₁ u = let x = u vary-inner in (subst (λ (y : Disjs). Written n w o (disjs-words y) r w₁) (sym alone) (x .0), x .1 ∙ ap disjs (sym alone), told .after-is)
+      vary-one r count w₁ u = let x = u vary-inner in
+          (subst (λ (y : Disjs). Written n w o (disjs-words y) r w₁) (sym alone) (x .0), x .1 ∙ ap disjs (sym alone), told .after-is)
 
     -- ---- none or several are kept
     module _ (not-one : kept ≡ 1 → ⊥) where
@@ -101,7 +123,8 @@ module _ (n : ℕ) (w : List ℕ) (p of left o : ℕ) (c : Varying n w p of left
       number = kept-is ∙ kept-alts m (c .lies .a) ∙ sym (shown-count rest)
 
       spread : disjs-words (folded m (c .lies .a)) ≡ kept ∷ alts-words (shown-any rest)
-      spread = ap disjs-words several ∙ append-nil (alts (shown-any rest) ∷ alts-words (shown-any rest)) ∙ ap (λ (k : ℕ). k ∷ alts-words (shown-any rest)) (sym number)
+      spread = ap disjs-words several ∙ append-nil (alts (shown-any rest) ∷ alts-words (shown-any rest))
+          ∙ ap (λ (k : ℕ). k ∷ alts-words (shown-any rest)) (sym number)
 
       pub vary-room : (o < 2048) × (RESULT + o < length w)
       vary-room = (omega (arith, c .room, ap length spread), omega (arith, c .room, ap length spread, c .base .holds .long))
@@ -118,10 +141,12 @@ module _ (n : ℕ) (w : List ℕ) (p of left o : ℕ) (c : Varying n w p of left
         room = omega (arith, c .room, ap length spread);
       }
 
-      pub vary-several : (r : ℕ) (w₁ : List ℕ) → Offers n (set w (RESULT + o) kept) p of left (o + 1) r w₁ → Written n w o (disjs-words (folded m (c .lies .a))) r w₁ × (1 ≡ disjs (folded m (c .lies .a))) × (after ≡ c .lies .end)
+      pub vary-several : (r : ℕ) (w₁ : List ℕ) → Offers n (set w (RESULT + o) kept) p of left (o + 1) r w₁ →
+          Written n w o (disjs-words (folded m (c .lies .a))) r w₁ × (1 ≡ disjs (folded m (c .lies .a))) × (after ≡ c .lies .end)
       unfolding vary-offers
       vary-several r w₁ u = (
-        subst (λ (xs : List ℕ). Written n w o xs r w₁) (sym spread) (written-append n w o (kept ∷ []) (o + 1) (set w (RESULT + o) kept) (alts-words (shown-any rest)) r w₁ word (u vary-offers)),
+        subst (λ (xs : List ℕ). Written n w o xs r w₁) (sym spread)
+            (written-append n w o (kept ∷ []) (o + 1) (set w (RESULT + o) kept) (alts-words (shown-any rest)) r w₁ word (u vary-offers)),
         sym (ap disjs several),
         told .after-is,
       )

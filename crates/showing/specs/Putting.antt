@@ -67,7 +67,8 @@ pub record Describing (n : ℕ) (w : List ℕ) (g left o : ℕ) : Type 0 where
 
 -- what is left of it stands in the result
 abbrev pub Describes : (n : ℕ) (w : List ℕ) (g left o r : ℕ) (w' : List ℕ) → Type 0
-Describes n w g left o r w' = (c : Describing n w g left o) → Written n w o (layout.words (shown (strip (keep (c .base .m) (c .lies .d))))) r w'
+Describes n w g left o r w' = (c : Describing n w g left o) →
+    Written n w o (layout.words (shown (strip (keep (c .base .m) (c .lies .d))))) r w'
 
 -- "its graph is joined to the definite graph": engine's `shown` has this graph
 abbrev pub lead : Desc → Graph
@@ -93,7 +94,9 @@ pub record Disjoining (n : ℕ) (w : List ℕ) (g left o : ℕ) : Type 0 where
 -- they stand in the result, and are so many
 abbrev pub Disjoins : (n : ℕ) (w : List ℕ) (g left o r count : ℕ) (w' : List ℕ) → Type 0
 Disjoins n w g left o r count w' =
-    (c : Disjoining n w g left o) → Written n w o (disjs-words (shown-all (left-all (c .base .m) (c .lies .d)))) r w' × (count ≡ disjs (shown-all (left-all (c .base .m) (c .lies .d))))
+    (c : Disjoining n w g left o) →
+    Written n w o (disjs-words (shown-all (left-all (c .base .m) (c .lies .d)))) r w'
+    × (count ≡ disjs (shown-all (left-all (c .base .m) (c .lies .d))))
 
 -- ---- the alternatives of one disjunction
 -- the alternatives a stand loaded at p, `of` of them
@@ -123,7 +126,9 @@ pub record Varying (n : ℕ) (w : List ℕ) (p of left o : ℕ) : Type 0 where
 -- they stand in the result and are so many, and the alternatives end at `after`
 abbrev pub Varies : (n : ℕ) (w : List ℕ) (p of left o r count after : ℕ) (w' : List ℕ) → Type 0
 Varies n w p of left o r count after w' =
-    (c : Varying n w p of left o) → Written n w o (disjs-words (folded (c .base .m) (c .lies .a))) r w' × (count ≡ disjs (folded (c .base .m) (c .lies .a))) × (after ≡ c .lies .end)
+    (c : Varying n w p of left o) →
+    Written n w o (disjs-words (folded (c .base .m) (c .lies .a))) r w' × (count ≡ disjs (folded (c .base .m) (c .lies .a)))
+    × (after ≡ c .lies .end)
 
 pub record Offering (n : ℕ) (w : List ℕ) (p of left o : ℕ) : Type 0 where
   pub base : Base n w
@@ -134,4 +139,5 @@ pub record Offering (n : ℕ) (w : List ℕ) (p of left o : ℕ) : Type 0 where
 
 -- each kept one stands in the result
 abbrev pub Offers : (n : ℕ) (w : List ℕ) (p of left o r : ℕ) (w' : List ℕ) → Type 0
-Offers n w p of left o r w' = (c : Offering n w p of left o) → Written n w o (alts-words (shown-any (strip-any (keep-any (c .base .m) (c .lies .a))))) r w'
+Offers n w p of left o r w' = (c : Offering n w p of left o) →
+    Written n w o (alts-words (shown-any (strip-any (keep-any (c .base .m) (c .lies .a))))) r w'

@@ -21,7 +21,8 @@ fn join_graph(w: &mut [u32], n: usize, g: usize, left: u32, o: usize) -> usize
     r
 }
 
-// Writes the graph of the description at g at o of the result. Where it ends. A graph that nothing is joined to is copied, at the cost of its own words.
+// Writes the graph of the description at g at o of the result. Where it ends. A graph that nothing is joined to is copied, at the cost
+// of its own words.
 pub fn put_graph(w: &mut [u32], n: usize, g: usize, left: u32, o: usize) -> usize
     requires { ⌜ Describing n (now w) g left o ⌝ }
     ensures { λ r. ⌜ LeadPut n (now (w .entry)) g left o r (now (w .exit)) ⌝ }

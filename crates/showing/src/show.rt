@@ -24,7 +24,9 @@ fn disjunctions(w: &[u32]) -> usize
     first + second
 }
 
-// Writes what the marks leave of the joined description at the start of the result, where the log has k entries and there are n numbers. How many words it has. What is pushed is taken back where an input has a disjunction, so that its alternatives can be put out, and else stays.
+// Writes what the marks leave of the joined description at the start of the result, where the log has k entries and there are n
+// numbers. How many words it has. What is pushed is taken back where an input has a disjunction, so that its alternatives can be put
+// out, and else stays.
 pub fn show(w: &mut [u32], k: usize, n: usize) -> usize
     requires { ⌜ Showing n k (now w) ⌝ }
     ensures { λ r. ⌜ Shows n k (now (w .entry)) r (now (w .exit)) ⌝ }

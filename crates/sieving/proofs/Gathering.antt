@@ -1,4 +1,5 @@
--- A walk along the chain of the class of all roots, on which the first arc of each word of the sieve is noted: what is not noted is looked for ahead. Assumes nothing.
+-- A walk along the chain of the class of all roots, on which the first arc of each word of the sieve is noted: what is not noted is
+-- looked for ahead. Assumes nothing.
 use mathlib.Core.Path.{_≡_, refl, sym, ap, _∙_, subst}
 use mathlib.Core.Logic.{_⊎_, inl, inr, ⊎-elim}
 use mathlib.Core.List.{List, [], _∷_}
@@ -20,7 +21,8 @@ pub record Noted (t : List ℕ) (i y : ℕ) (t' : List ℕ) : Type 0 where
   pub other : (j : ℕ) → (j ≡ i → ⊥) → getD t' j 0 ≡ getD t j 0
 
 pub noted-new : (t : List ℕ) (i y : ℕ) (t' : List ℕ) → i < length t → getD t i 0 ≡ 0 → t' ≡ set t i y → Noted t i y t'
-noted-new t i y t' h z e = subst (Noted t i y) (sym e) (record { len = length-set t i y; here = inl (z, getD-set-same t i y 0 h); other = λ j n. getD-set-other t i j y 0 n })
+noted-new t i y t' h z e = subst (Noted t i y) (sym e)
+    (record { len = length-set t i y; here = inl (z, getD-set-same t i y 0 h); other = λ j n. getD-set-other t i j y 0 n })
 
 pub noted-old : (t : List ℕ) (i y : ℕ) (t' : List ℕ) → (getD t i 0 ≡ 0 → ⊥) → t' ≡ t → Noted t i y t'
 noted-old t i y t' z e = subst (Noted t i y) (sym e) (record { len = refl; here = inr (z, refl); other = λ j n. refl })
@@ -32,16 +34,24 @@ pub record Noting (w t : List ℕ) (y : ℕ) : Type 0 where
   pub there : (f : ℕ) → (getD t (f % 256) 0 ≡ 0 → ⊥) → Seek (words w) w f (getD w 0 0) (getD t (f % 256) 0)
 
 pub note-start : (w t : List ℕ) (y : ℕ) → Blank t → y ≡ getD w 0 0 → Runs w y → Noting w t y
-note-start w t y b e r = record { runs = r; ahead = λ f z. rw (← e) (seek-start (words w) w f y r); there = λ f n. absurd (n (b (f % 256))) }
+note-start w t y b e r = record {
+  runs = r;
+  ahead = λ f z. rw (← e) (seek-start (words w) w f y r);
+  there =
+      λ f n. absurd (n (b (f % 256)));
+}
 
-module _ (w t : List ℕ) (y : ℕ) (s : Noting w t y) (n : y ≡ 0 → ⊥) (y' : ℕ) (e : y' ≡ getD w (NEXT + (y - 1)) 0) (i : ℕ) (is : i ≡ getD (words w) (y - 1) 0 % 256) (t' : List ℕ) (o : Noted t i y t') where
+module _ (w t : List ℕ) (y : ℕ) (s : Noting w t y) (n : y ≡ 0 →
+    ⊥) (y' : ℕ) (e : y' ≡ getD w (NEXT + (y - 1)) 0) (i : ℕ) (is : i ≡ getD (words w) (y - 1) 0 % 256) (t' : List ℕ)
+    (o : Noted t i y t') where
   full : getD t' i 0 ≡ 0 → ⊥
   full z = ⊎-elim (λ a. n (sym (a .1) ∙ z)) (λ a. a .0 (sym (a .1) ∙ z)) (o .here)
 
   turn-ahead : (f : ℕ) → getD t' (f % 256) 0 ≡ 0 → Seek (words w) w f (getD w 0 0) y'
   turn-ahead f z =
       let d : f % 256 ≡ i → ⊥ = λ q. full (ap (λ (j : ℕ). getD t' j 0) (sym q) ∙ z) in
-      seek-turn (words w) w f (getD w 0 0) y y' (s .ahead f (sym (o .other (f % 256) d) ∙ z)) n (λ q. d (ap (λ (j : ℕ). j % 256) (sym q) ∙ sym is)) e
+      seek-turn (words w) w f (getD w 0 0) y y' (s .ahead f (sym (o .other (f % 256) d) ∙ z)) n
+      (λ q. d (ap (λ (j : ℕ). j % 256) (sym q) ∙ sym is)) e
 
   turn-there : (f : ℕ) → (getD t' (f % 256) 0 ≡ 0 → ⊥) → Seek (words w) w f (getD w 0 0) (getD t' (f % 256) 0)
   turn-there f h = go (ℕ-discrete (f % 256) i)
@@ -53,14 +63,19 @@ module _ (w t : List ℕ) (y : ℕ) (s : Noting w t y) (n : y ≡ 0 → ⊥) (y'
       go (yes d) =
           let u : getD t (f % 256) 0 ≡ getD t i 0 = ap (λ (j : ℕ). getD t j 0) d in
           let u' : getD t' (f % 256) 0 ≡ getD t' i 0 = ap (λ (j : ℕ). getD t' j 0) d in
-          ⊎-elim (λ a. at y (u' ∙ a .1) (s .ahead f (u ∙ a .0))) (λ a. at (getD t (f % 256) 0) (u' ∙ a .1 ∙ sym u) (s .there f (λ z. a .0 (sym u ∙ z)))) (o .here)
+          ⊎-elim (λ a. at y (u' ∙ a .1) (s .ahead f (u ∙ a .0)))
+          (λ a. at (getD t (f % 256) 0) (u' ∙ a .1 ∙ sym u) (s .there f (λ z. a .0 (sym u ∙ z)))) (o .here)
       go (no d) = let q = o .other (f % 256) d in at (getD t (f % 256) 0) q (s .there f (λ z. h (q ∙ z)))
 
   pub note-turn : Noting w t' y'
   note-turn = record { runs = runs-next w y y' (s .runs) (some y n) e; ahead = turn-ahead; there = turn-there }
 
 pub note-end : (w t : List ℕ) (y : ℕ) → Noting w t y → y ≡ 0 → Sieved w t
-note-end w t y s e = record { runs = λ f h. found f .runs; same = λ f r h k. seek-rest (words w) w f (getD w 0 0) (getD t (f % 256) 0) r (found f) k }
+note-end w t y s e = record {
+  runs = λ f h. found f .runs;
+  same =
+      λ f r h k. seek-rest (words w) w f (getD w 0 0) (getD t (f % 256) 0) r (found f) k;
+}
   where
     found : (f : ℕ) → Seek (words w) w f (getD w 0 0) (getD t (f % 256) 0)
     found f = go (ℕ-discrete (getD t (f % 256) 0) 0)

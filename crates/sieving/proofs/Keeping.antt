@@ -1,4 +1,5 @@
--- What a sieve asks, what it is good for, and what it survives: it tells the same as long as what is pushed and the loaded words stay. Assumes nothing.
+-- What a sieve asks, what it is good for, and what it survives: it tells the same as long as what is pushed and the loaded words stay.
+-- Assumes nothing.
 use mathlib.Core.Path.{_≡_, refl, sym, ap, _∙_, subst}
 use mathlib.Core.Logic.{_⊎_, ⊎-elim}
 use mathlib.Core.List.{List, [], _∷_}
@@ -22,7 +23,8 @@ roots-first n es k w h l = let a = class-low n es k w h 0 l in omega arith
 
 -- it bears an atom or has a chain
 pub roots-run : (n : ℕ) (es : List Entry) (k : ℕ) (w : List ℕ) → Holds n es k w → 0 < n → getD w 0 0 ≤ 2048 → Runs w (getD w 0 0)
-roots-run n es k w h l b = let o = content n es k w h 0 l (roots-first n es k w h l) in record { xs = o .chain; chain = o .linked b; short = o .short }
+roots-run n es k w h l b = let o = content n es k w h 0 l (roots-first n es k w h l) in
+    record { xs = o .chain; chain = o .linked b; short = o .short }
 
 -- ---- nothing is noted
 pub blank : (n : ℕ) → Blank (replicate n 0)
@@ -35,7 +37,8 @@ pub sieved-none : (w : List ℕ) → Sieved w []
 sieved-none w = record { runs = λ f h. absurd (omega arith); same = λ f r h. absurd (omega arith) }
 
 -- ---- from the code y on the feature f is looked for: the one that t has for it, or the first of the chain
-module _ (w t : List ℕ) (s : Sieved w t) (f g : ℕ) (e : g ≡ f) (x : ℕ) (is : x ≡ getD w 0 0) (y : ℕ) (o : ((g % 256 < length t) × (y ≡ getD t (g % 256) 0)) ⊎ (y ≡ x)) where
+module _ (w t : List ℕ) (s : Sieved w t) (f g : ℕ) (e : g ≡ f) (x : ℕ) (is : x ≡ getD w 0 0) (y : ℕ)
+    (o : ((g % 256 < length t) × (y ≡ getD t (g % 256) 0)) ⊎ (y ≡ x)) where
   low : g % 256 < length t → f % 256 < length t
   low = subst (λ (i : ℕ). i % 256 < length t) e
 
@@ -55,10 +58,17 @@ module _ (w t : List ℕ) (s : Sieved w t) (f g : ℕ) (e : g ≡ f) (x : ℕ) (
 chain-same : (w w' : List ℕ) → ((j : ℕ) → j < LOG → getD w' j 0 ≡ getD w j 0) → (x : ℕ) (xs : List ℕ) → Chain w x xs → Chain w' x xs
 chain-same w w' f x [] c = c
 chain-same w w' f x (j ∷ xs) c =
-    let b = c .1 .0 in
-    (c .0, (c .1 .0, subst (λ (z : ℕ). Chain w' z xs) (sym (f (NEXT + j) (omega arith))) (chain-same w w' f (getD w (NEXT + j) 0) xs (c .1 .1))))
+    let b = c .1 .0 in (
+      c .0,
+      (
+        c .1 .0,
+        subst (λ (z : ℕ). Chain w' z xs) (sym (f (NEXT + j) (omega arith)))
+            (chain-same w w' f (getD w (NEXT + j) 0) xs (c .1 .1)),
+      ),
+    )
 
-looked-same : (w w' : List ℕ) → ((j : ℕ) → j < LOG → getD w' j 0 ≡ getD w j 0) → words w' ≡ words w → (i x r : ℕ) → Looked (words w) w i x r → Looked (words w') w' i x r
+looked-same : (w w' : List ℕ) → ((j : ℕ) → j < LOG → getD w' j 0 ≡ getD w j 0) → words w' ≡ words w → (i x r : ℕ) →
+    Looked (words w) w i x r → Looked (words w') w' i x r
 looked-same w w' f e i x r k = rw e (record { miss = λ q xs c. k .miss q xs (back xs c); hit = λ j q xs c. k .hit j q xs (back xs c) })
   where
     back : (xs : List ℕ) → Chain w' x xs → Chain w x xs
@@ -74,6 +84,9 @@ sieved-since k w w' t h p s =
     let f = word w w' (same-body k w w' (p .keeps k (omega arith))) in
     let e = words-same w w' h (p .len) (p .same) in
     record {
-      runs = λ i l. let r = s .runs i l in record { xs = r .xs; chain = chain-same w w' f (getD t (i % 256) 0) (r .xs) (r .chain); short = r .short };
-      same = λ i r l k. subst (λ (z : ℕ). Looked (words w') w' i z r) (sym (f 0 (omega arith))) (looked-same w w' f e i (getD w 0 0) r (s .same i r l (looked-same w' w (λ j l. sym (f j l)) (sym e) i (getD t (i % 256) 0) r k)));
+      runs = λ i l. let r = s .runs i l in
+          record { xs = r .xs; chain = chain-same w w' f (getD t (i % 256) 0) (r .xs) (r .chain); short = r .short };
+      same = λ i r l k. subst (λ (z : ℕ). Looked (words w') w' i z r) (sym (f 0 (omega arith)))
+          (looked-same w w' f e i (getD w 0 0) r
+          (s .same i r l (looked-same w' w (λ j l. sym (f j l)) (sym e) i (getD t (i % 256) 0) r k)));
     }

@@ -1,4 +1,5 @@
-// The sieve has a word for each feature modulo 256: the first arc of such a feature on the chain of the class of all roots, counted from 1, or 0 where there is none.
+// The sieve has a word for each feature modulo 256: the first arc of such a feature on the chain of the class of all roots, counted
+// from 1, or 0 where there is none.
 use forest::chain::loaded;
 use forest::chain::next;
 use limits::wide;

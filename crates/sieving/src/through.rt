@@ -9,7 +9,8 @@ ghost use Rattle.area.specs.Region.{words};
 ghost use Rattle.forest.specs.State.{Runs, Looked};
 ghost use Rattle.sieving.specs.Sieved.{Sieved};
 
-// The first arc with the feature f on the chain of the class of all roots, which begins with the code x, counted from 1, or 0. A sieve may be short: then all is looked through.
+// The first arc with the feature f on the chain of the class of all roots, which begins with the code x, counted from 1, or 0. A sieve
+// may be short: then all is looked through.
 pub fn look_through(w: &[u32], x: usize, f: u32, t: &[u32]) -> usize
     requires { ⌜ (SIZE ≤ length (now w)) × (x ≡ getD (now w) 0 0) ⌝ }
     requires { ⌜ Runs (now w) x ⌝ }

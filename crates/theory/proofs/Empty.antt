@@ -59,7 +59,11 @@ wN : WellFormed dN 4
 wN = (nil-canonical, ((omega arith, tt), tt), tt)
 
 abbrev wArc : (f a n : ℕ) → f < 65536 → a < 65536 → WellFormed (plain (one-arc f a)) n
-wArc f a n h k = ((omega arith, (omega arith, tt), (omega arith, tt), (omega arith, tt, tt, omega arith)), ((omega arith, (h, tt)), (k, tt)), tt)
+wArc f a n h k = (
+  (omega arith, (omega arith, tt), (omega arith, tt), (omega arith, tt, tt, omega arith)),
+  ((omega arith, (h, tt)), (k, tt)),
+  tt,
+)
 
 wA : WellFormed dA 4
 wA = wArc 1 10 4 (omega arith) (omega arith)
@@ -68,12 +72,23 @@ wB : WellFormed dB 4
 wB = wArc 1 11 4 (omega arith) (omega arith)
 
 wP : WellFormed dP 4
-wP = (nil-canonical, ((omega arith, tt), tt), (omega arith, (wArc 1 10 3 (omega arith) (omega arith), (wArc 1 11 3 (omega arith) (omega arith), tt)), tt))
+wP = (
+  nil-canonical,
+  ((omega arith, tt), tt),
+  (omega arith, (wArc 1 10 3 (omega arith) (omega arith), (wArc 1 11 3 (omega arith) (omega arith), tt)), tt),
+)
 
 wF : WellFormed dF 4
 wF =
-    let g = wArc 3 10 4 (omega arith) (omega arith) in
-    (g .0, g .1, (omega arith, (wArc 1 10 3 (omega arith) (omega arith), (wArc 3 11 3 (omega arith) (omega arith), tt)), (omega arith, (wArc 1 11 3 (omega arith) (omega arith), (wArc 2 10 3 (omega arith) (omega arith), tt)), tt)))
+    let g = wArc 3 10 4 (omega arith) (omega arith) in (
+      g .0,
+      g .1,
+      (
+        omega arith,
+        (wArc 1 10 3 (omega arith) (omega arith), (wArc 3 11 3 (omega arith) (omega arith), tt)),
+        (omega arith, (wArc 1 11 3 (omega arith) (omega arith), (wArc 2 10 3 (omega arith) (omega arith), tt)), tt),
+      ),
+    )
 
 abbrev step : (d : Desc) → WellFormed d 4 → ℕ → Step
 step d w m = record { item = d; fine = w; in-hand-first = true; mode = m; room = 2048; work = 16384 }
@@ -86,7 +101,8 @@ bare-nothing : Sat bare dN
 bare-nothing = (structure-itself nil nil-canonical, tt)
 
 bare-not-A : Sat bare dA → ⊥
-bare-not-A s = let h : Satisfies bare (one-arc 1 10) = s .0 in no-arc (h .to (0, omega arith) .0) (1, h .to (1, omega arith) .0) (h .arc-to (0, omega arith) 1 (1, omega arith) (List·Memᴰ·head refl))
+bare-not-A s = let h : Satisfies bare (one-arc 1 10) = s .0 in
+    no-arc (h .to (0, omega arith) .0) (1, h .to (1, omega arith) .0) (h .arc-to (0, omega arith) 1 (1, omega arith) (List·Memᴰ·head refl))
 
 -- "one that clashes always"
 pub always-clash : Unifier
@@ -158,7 +174,8 @@ wrong-length U a b d p q z k n D =
     n (ap length (s .written) ∙ ap (λ (z : Desc). length (words z)) i)
 
 quick-P-A : quick dP dA ≡ some dA
-unfolding Rattle.descriptions.specs.Modes.quick size Rattle.descriptions.specs.Modes.tidy Rattle.descriptions.specs.Modes.finish Rattle.descriptions.specs.Modes.joined join
+unfolding Rattle.descriptions.specs.Modes.quick size Rattle.descriptions.specs.Modes.tidy Rattle.descriptions.specs.Modes.finish
+    Rattle.descriptions.specs.Modes.joined join
 quick-P-A = refl
 
 joins-P-A : joins-always (with-words 1 dP dA) 2048 16384 ≡ unified (with-words 0 dP dA) 2048 16384
@@ -166,7 +183,8 @@ unfolding joins-always
 joins-P-A = refl
 
 joined-P-A : (unified (with-words 0 dP dA) 2048 16384 .number ≡ 0) × (length (unified (with-words 0 dP dA) 2048 16384 .result) ≡ 19)
-unfolding Rattle.descriptions.specs.Unified.unified Rattle.descriptions.specs.Unified.in-mode Rattle.descriptions.specs.Unified.deliver decode Rattle.descriptions.specs.Modes.joined join
+unfolding Rattle.descriptions.specs.Unified.unified Rattle.descriptions.specs.Unified.in-mode Rattle.descriptions.specs.Unified.deliver
+    decode Rattle.descriptions.specs.Modes.joined join
 joined-P-A = (refl, refl)
 
 pub joins-2 : Demand2 joins-always → ⊥
@@ -197,11 +215,13 @@ abbrev dF′ : Desc
 dF′ = plain (arcs ((1, 1) ∷ (2, 2) ∷ (3, 3) ∷ []) ∷ atom 10 ∷ atom 10 ∷ atom 10 ∷ [])
 
 quick-F : quick dF dN ≡ some dF′
-unfolding Rattle.descriptions.specs.Modes.quick size Rattle.descriptions.specs.Modes.tidy Rattle.descriptions.specs.Modes.finish Rattle.descriptions.specs.Modes.joined join
+unfolding Rattle.descriptions.specs.Modes.quick size Rattle.descriptions.specs.Modes.tidy Rattle.descriptions.specs.Modes.finish
+    Rattle.descriptions.specs.Modes.joined join
 quick-F = refl
 
 once-F : (first-round (with-words 1 dF dN) 2048 16384 .number ≡ 0) × (length (first-round (with-words 1 dF dN) 2048 16384 .result) ≡ 22)
-unfolding first-round quick-once tidy-once size Rattle.descriptions.specs.Modes.finish Rattle.descriptions.specs.Modes.joined join Rattle.descriptions.specs.Unified.deliver decode
+unfolding first-round quick-once tidy-once size Rattle.descriptions.specs.Modes.finish Rattle.descriptions.specs.Modes.joined join
+    Rattle.descriptions.specs.Unified.deliver decode
 once-F = (refl, refl)
 
 pub once-2 : Demand2 first-round → ⊥
@@ -212,11 +232,21 @@ pub made-up : ℕ → Unifier
 made-up n c room work = let r = unified c room work in record { number = r .number; extent = r .extent; readings = n; result = r .result }
 
 zero-N : unified (with-words 2 dN dN) 2048 16384 .number ≡ 0
-unfolding Rattle.descriptions.specs.Unified.unified Rattle.descriptions.specs.Unified.in-mode Rattle.descriptions.specs.Unified.complete Rattle.descriptions.specs.Answer.consistent Rattle.descriptions.specs.Unified.deliver decode Rattle.descriptions.specs.Modes.joined Rattle.descriptions.specs.Modes.quick Rattle.descriptions.specs.Modes.full size Rattle.descriptions.specs.Modes.tidy Rattle.descriptions.specs.Modes.finish Rattle.descriptions.specs.Modes.some-agree Rattle.descriptions.specs.Modes.prune Rattle.descriptions.specs.Modes.fold folded-in Rattle.descriptions.specs.Descr.agree Rattle.descriptions.specs.Descr.agreeing Rattle.descriptions.specs.Descr.readings number join
+unfolding Rattle.descriptions.specs.Unified.unified Rattle.descriptions.specs.Unified.in-mode Rattle.descriptions.specs.Unified.complete
+    Rattle.descriptions.specs.Answer.consistent Rattle.descriptions.specs.Unified.deliver decode Rattle.descriptions.specs.Modes.joined
+    Rattle.descriptions.specs.Modes.quick Rattle.descriptions.specs.Modes.full size Rattle.descriptions.specs.Modes.tidy
+    Rattle.descriptions.specs.Modes.finish Rattle.descriptions.specs.Modes.some-agree Rattle.descriptions.specs.Modes.prune
+    Rattle.descriptions.specs.Modes.fold folded-in Rattle.descriptions.specs.Descr.agree Rattle.descriptions.specs.Descr.agreeing
+    Rattle.descriptions.specs.Descr.readings number join
 zero-N = refl
 
 zero-P : unified (with-words 2 dN dP) 2048 16384 .number ≡ 0
-unfolding Rattle.descriptions.specs.Unified.unified Rattle.descriptions.specs.Unified.in-mode Rattle.descriptions.specs.Unified.complete Rattle.descriptions.specs.Answer.consistent Rattle.descriptions.specs.Unified.deliver decode Rattle.descriptions.specs.Modes.joined Rattle.descriptions.specs.Modes.quick Rattle.descriptions.specs.Modes.full size Rattle.descriptions.specs.Modes.tidy Rattle.descriptions.specs.Modes.finish Rattle.descriptions.specs.Modes.some-agree Rattle.descriptions.specs.Modes.prune Rattle.descriptions.specs.Modes.fold folded-in Rattle.descriptions.specs.Descr.agree Rattle.descriptions.specs.Descr.agreeing Rattle.descriptions.specs.Descr.readings number join
+unfolding Rattle.descriptions.specs.Unified.unified Rattle.descriptions.specs.Unified.in-mode Rattle.descriptions.specs.Unified.complete
+    Rattle.descriptions.specs.Answer.consistent Rattle.descriptions.specs.Unified.deliver decode Rattle.descriptions.specs.Modes.joined
+    Rattle.descriptions.specs.Modes.quick Rattle.descriptions.specs.Modes.full size Rattle.descriptions.specs.Modes.tidy
+    Rattle.descriptions.specs.Modes.finish Rattle.descriptions.specs.Modes.some-agree Rattle.descriptions.specs.Modes.prune
+    Rattle.descriptions.specs.Modes.fold folded-in Rattle.descriptions.specs.Descr.agree Rattle.descriptions.specs.Descr.agreeing
+    Rattle.descriptions.specs.Descr.readings number join
 zero-P = refl
 
 ways-P : ways (dP ∷ []) ≡ 2
@@ -239,7 +269,12 @@ miscounted f c room work =
     record { number = r .number; extent = r .extent; readings = f (r .readings); result = r .result }
 
 one-N : unified (with-words 2 dN dN) 2048 16384 .readings ≡ 1
-unfolding Rattle.descriptions.specs.Unified.unified Rattle.descriptions.specs.Unified.in-mode Rattle.descriptions.specs.Unified.complete Rattle.descriptions.specs.Answer.consistent Rattle.descriptions.specs.Unified.deliver decode Rattle.descriptions.specs.Modes.joined Rattle.descriptions.specs.Modes.quick Rattle.descriptions.specs.Modes.full size Rattle.descriptions.specs.Modes.tidy Rattle.descriptions.specs.Modes.finish Rattle.descriptions.specs.Modes.some-agree Rattle.descriptions.specs.Modes.prune Rattle.descriptions.specs.Modes.fold folded-in Rattle.descriptions.specs.Descr.agree Rattle.descriptions.specs.Descr.agreeing Rattle.descriptions.specs.Descr.readings number join
+unfolding Rattle.descriptions.specs.Unified.unified Rattle.descriptions.specs.Unified.in-mode Rattle.descriptions.specs.Unified.complete
+    Rattle.descriptions.specs.Answer.consistent Rattle.descriptions.specs.Unified.deliver decode Rattle.descriptions.specs.Modes.joined
+    Rattle.descriptions.specs.Modes.quick Rattle.descriptions.specs.Modes.full size Rattle.descriptions.specs.Modes.tidy
+    Rattle.descriptions.specs.Modes.finish Rattle.descriptions.specs.Modes.some-agree Rattle.descriptions.specs.Modes.prune
+    Rattle.descriptions.specs.Modes.fold folded-in Rattle.descriptions.specs.Descr.agree Rattle.descriptions.specs.Descr.agreeing
+    Rattle.descriptions.specs.Descr.readings number join
 one-N = refl
 
 pub miscounted-3 : (f : ℕ → ℕ) → (f 1 ≡ 1 → ⊥) → Demand3 (miscounted f) → ⊥
@@ -251,7 +286,9 @@ pub made-up-below : ℕ → Unifier
 made-up-below n c room work = elim (ltb (c .mode) 2) [ true ↦ made-up n c room work | false ↦ unified c room work ]
 
 unread-N : (unified (with-words 0 dN dN) 2048 16384 .readings ≡ 0) × (unified (with-words 1 dN dN) 2048 16384 .readings ≡ 0)
-unfolding Rattle.descriptions.specs.Unified.unified Rattle.descriptions.specs.Unified.in-mode Rattle.descriptions.specs.Unified.deliver decode Rattle.descriptions.specs.Modes.joined Rattle.descriptions.specs.Modes.quick size Rattle.descriptions.specs.Modes.tidy Rattle.descriptions.specs.Modes.finish join
+unfolding Rattle.descriptions.specs.Unified.unified Rattle.descriptions.specs.Unified.in-mode Rattle.descriptions.specs.Unified.deliver
+    decode Rattle.descriptions.specs.Modes.joined Rattle.descriptions.specs.Modes.quick size Rattle.descriptions.specs.Modes.tidy
+    Rattle.descriptions.specs.Modes.finish join
 unread-N = (refl, refl)
 
 -- in either of the two modes
@@ -281,7 +318,8 @@ pub silent-areas : (P : Program) (c : Call) (before : Areas) → in-words c befo
 silent-areas P c before w z u n m = n (program-writes sense reads P m c before w z u)
 
 written-N : (unified (with-words 0 dN dN) 3 16384 .number ≡ 0) × (unified (with-words 0 dN dN) 3 16384 .result ≡ 1 ∷ 0 ∷ 0 ∷ [])
-unfolding Rattle.descriptions.specs.Unified.unified Rattle.descriptions.specs.Unified.in-mode Rattle.descriptions.specs.Unified.deliver decode Rattle.descriptions.specs.Modes.joined join
+unfolding Rattle.descriptions.specs.Unified.unified Rattle.descriptions.specs.Unified.in-mode Rattle.descriptions.specs.Unified.deliver
+    decode Rattle.descriptions.specs.Modes.joined join
 written-N = (refl, refl)
 
 pub leaves-refused : Meets leaves-result → ⊥
@@ -303,15 +341,22 @@ leaves-refused = silent-areas leaves-result (with-words 0 dN dN) (blank 3 16384)
     differs : r .result ≡ take (r .extent) (0 ∷ 0 ∷ 0 ∷ []) → ⊥
     differs e = zeros (r .extent) (sym e ∙ ap (λ (n : ℕ). unified (with-words 0 dN dN) 3 n .result) sixteen ∙ written-N .1)
 
--- the third demand speaks of something: three calls in three modes that succeed, the words in hand once the second input, with two readings, and a fourth that clashes
+-- the third demand speaks of something: three calls in three modes that succeed, the words in hand once the second input, with two
+-- readings, and a fourth that clashes
 abbrev behind : (d : Desc) → WellFormed d 4 → ℕ → Step
 behind d w m = record { item = d; fine = w; in-hand-first = false; mode = m; room = 2048; work = 16384 }
 
 trail : List Step
 trail = step dP wP 0 ∷ behind dP wP 1 ∷ step dP wP 2 ∷ []
 
-trail-reached : reached unified start trail ≡ some (1 ∷ 0 ∷ 3 ∷ 2 ∷ (words dA ++ words dB ++ 2 ∷ (words dA ++ words dB ++ 2 ∷ (words dA ++ words dB))))
-unfolding trail Rattle.descriptions.specs.Unified.unified Rattle.descriptions.specs.Unified.in-mode Rattle.descriptions.specs.Unified.complete Rattle.descriptions.specs.Answer.consistent Rattle.descriptions.specs.Unified.deliver decode Rattle.descriptions.specs.Modes.joined Rattle.descriptions.specs.Modes.quick Rattle.descriptions.specs.Modes.full size Rattle.descriptions.specs.Modes.tidy Rattle.descriptions.specs.Modes.finish Rattle.descriptions.specs.Modes.some-agree Rattle.descriptions.specs.Modes.prune Rattle.descriptions.specs.Modes.fold folded-in Rattle.descriptions.specs.Descr.agree Rattle.descriptions.specs.Descr.agreeing Rattle.descriptions.specs.Descr.readings number join
+trail-reached : reached unified start trail
+    ≡ some (1 ∷ 0 ∷ 3 ∷ 2 ∷ (words dA ++ words dB ++ 2 ∷ (words dA ++ words dB ++ 2 ∷ (words dA ++ words dB))))
+unfolding trail Rattle.descriptions.specs.Unified.unified Rattle.descriptions.specs.Unified.in-mode
+    Rattle.descriptions.specs.Unified.complete Rattle.descriptions.specs.Answer.consistent Rattle.descriptions.specs.Unified.deliver decode
+    Rattle.descriptions.specs.Modes.joined Rattle.descriptions.specs.Modes.quick Rattle.descriptions.specs.Modes.full size
+    Rattle.descriptions.specs.Modes.tidy Rattle.descriptions.specs.Modes.finish Rattle.descriptions.specs.Modes.some-agree
+    Rattle.descriptions.specs.Modes.prune Rattle.descriptions.specs.Modes.fold folded-in Rattle.descriptions.specs.Descr.agree
+    Rattle.descriptions.specs.Descr.agreeing Rattle.descriptions.specs.Descr.readings number join
 trail-reached = refl
 
 trail-ways : (ways (items trail) ≡ 2) × (ways (items trail ++ plain (one-arc 1 12) ∷ []) ≡ 0)
@@ -345,16 +390,19 @@ refuse-meets-3 = record {
   counted = λ l ws s h m z. let k = refused ws s in absurd (omega (arith, k, z));
 }
   where
-    counts : (l : List Step) (ws : List ℕ) → reached always-refuse start l ≡ some ws → (d : Desc) × WellFormed d 4 × (ws ≡ words d) × (readings d ≡ ways (items l))
+    counts : (l : List Step) (ws : List ℕ) → reached always-refuse start l ≡ some ws →
+        (d : Desc) × WellFormed d 4 × (ws ≡ words d) × (readings d ≡ ways (items l))
     counts [] ws h = let e : start ≡ ws = cc in (dN, wN, sym e, readings-nothing ∙ sym ways-none)
     counts (s ∷ l) ws h = go (call always-refuse start s .number) (refused start s) h
       where
-        go : (n : ℕ) → n ≡ 1 → elim (eqb n 0) [ true ↦ reached always-refuse (call always-refuse start s .result) l | false ↦ none ] ≡ some ws →
+        go : (n : ℕ) → n ≡ 1 → elim (eqb n 0) [ true ↦ reached always-refuse (call always-refuse start s .result) l | false ↦ none ]
+            ≡ some ws →
             (d : Desc) × WellFormed d 4 × (ws ≡ words d) × (readings d ≡ ways (items (s ∷ l)))
         go zero k e = absurd (omega (arith, k))
         go (suc n) k e = let z : _≡_ {A = ℕ} 0 1 = cc in absurd (omega arith)
 
 -- the table does not let it pass
 pub refuse-table : unified (with-words 0 dN dN) 2048 16384 ≡ always-refuse (with-words 0 dN dN) 2048 16384 → ⊥
-unfolding always-refuse Rattle.descriptions.specs.Unified.unified Rattle.descriptions.specs.Unified.in-mode Rattle.descriptions.specs.Unified.deliver decode Rattle.descriptions.specs.Modes.joined join
+unfolding always-refuse Rattle.descriptions.specs.Unified.unified Rattle.descriptions.specs.Unified.in-mode
+    Rattle.descriptions.specs.Unified.deliver decode Rattle.descriptions.specs.Modes.joined join
 refuse-table e = let h : _≡_ {A = ℕ} 0 1 = ap (λ (r : Answer). r .number) e in omega arith

@@ -34,10 +34,12 @@ stays [] d p q f g w e = absurd (omega arith)
 stays (x ∷ c) [] p q f g w e = absurd (omega arith)
 stays (x ∷ c) (y ∷ d) p q f g w e = none-join y d g (clash-within (x ∷ c) (y ∷ d) f g w (join-none x c f e))
 
-pub stands : (gs : List Graph) → 0 < length gs → AllCanonical gs → (K : Graph) → join gs ≡ some K → (hs : List Graph) → AllCanonical hs → join (K ∷ hs) ≡ join (gs ++ hs)
+pub stands : (gs : List Graph) → 0 < length gs → AllCanonical gs → (K : Graph) → join gs ≡ some K → (hs : List Graph) → AllCanonical hs →
+    join (K ∷ hs) ≡ join (gs ++ hs)
 stands gs p f K e hs h =
     let j : Joined gs K = joined-of gs (p, f) K e in
-    join-same (K ∷ hs) (gs ++ hs) (omega arith) (simp length-append (omega arith)) (j .canonical, h) (append gs hs f h) (λ L. joined-fewer hs K gs j L) (joined-clash hs K gs j .0)
+    join-same (K ∷ hs) (gs ++ hs) (omega arith) (simp length-append (omega arith)) (j .canonical, h) (append gs hs f h)
+    (λ L. joined-fewer hs K gs j L) (joined-clash hs K gs j .0)
 
 pub silent : (hs : List Graph) → AllCanonical hs → join (nil ∷ hs) ≡ join hs
 unfolding join
@@ -45,10 +47,18 @@ silent [] f = refl
 silent (g ∷ hs) f = sym (nil-holds (g ∷ hs) f (omega arith))
 
 pub join-one : (g : Graph) → Canonical g → join (g ∷ []) ≡ some g
-join-one g c = order (g ∷ []) (g ∷ g ∷ []) (omega arith) (omega arith) (c, tt) (c, (c, tt)) (λ x m. List·Memᴰ·tail m) (λ x m. ⊎-elim (λ e. List·Memᴰ·head e) (λ i. i) (List·Memᴰ·cases-cons m))
-    ∙ fit-test g c g c .1 (record { to = λ x. x; root-to = λ x r. same-node g c x (0, canonical-some g c) r; atom-to = λ x a u. u; arc-to = λ x f y u. u })
+join-one g c = order (g ∷ []) (g ∷ g ∷ []) (omega arith) (omega arith) (c, tt) (c, (c, tt)) (λ x m. List·Memᴰ·tail m)
+    (λ x m. ⊎-elim (λ e. List·Memᴰ·head e) (λ i. i) (List·Memᴰ·cases-cons m))
+    ∙ fit-test g c g c .1 (record {
+      to = λ x. x;
+      root-to = λ x r. same-node g c x (0, canonical-some g c) r;
+      atom-to = λ x a u. u;
+      arc-to =
+          λ x f y u. u;
+    })
 
-pub glue-joins : (g : Graph) → Canonical g → (l : List Graph) (k : Graph) → Rattle.descriptions.specs.Modes.glue joining-one g l ≡ some k → join (g ∷ l) ≡ some k
+pub glue-joins : (g : Graph) → Canonical g → (l : List Graph) (k : Graph) → Rattle.descriptions.specs.Modes.glue joining-one g l ≡ some k →
+    join (g ∷ l) ≡ some k
 glue-joins g c [] k e = join-one g c ∙ e
 glue-joins g c (h ∷ l) k e = e
 

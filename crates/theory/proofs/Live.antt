@@ -1,4 +1,5 @@
--- Pruning keeps every consistent choice, what is left is live, and so folding after pruning never clashes and leaves no disjunction with fewer than two alternatives.
+-- Pruning keeps every consistent choice, what is left is live, and so folding after pruning never clashes and leaves no disjunction
+-- with fewer than two alternatives.
 -- Assumes nothing.
 use mathlib.Core.Path.{_≡_}
 use mathlib.Core.Option.{none}

@@ -21,7 +21,11 @@ agree-view = Rattle.descriptions.proofs.Model.agree-view joining-one
 pub agree-iff : (r : Ctx) → Fine r → (agree r ≡ true) ↔ Agree r
 unfolding Rattle.descriptions.specs.Descr.agree
 agree-iff [] f = let h = f .0 in absurd (omega (arith, h))
-agree-iff (g ∷ gs) f = (λ h. let (G, e) = agree-view (g ∷ gs) (join (g ∷ gs)) refl h in joined-agrees (beside (g ∷ gs)) (roots (beside (g ∷ gs))) G (join-some g gs (f .1) G e), λ n. go n (join (g ∷ gs)) refl)
+agree-iff (g ∷ gs) f = (
+  λ h. let (G, e) = agree-view (g ∷ gs) (join (g ∷ gs)) refl h in
+      joined-agrees (beside (g ∷ gs)) (roots (beside (g ∷ gs))) G (join-some g gs (f .1) G e),
+  λ n. go n (join (g ∷ gs)) refl,
+)
   where
     go : Agree (g ∷ gs) → (o : Option Graph) → join (g ∷ gs) ≡ o → answers o ≡ true
     go n none e = absurd (n (join-none g gs (f .1) e))

@@ -24,7 +24,8 @@ use Rattle.theory.proofs.Weights.{weights-one, well-soft, soft-well, le
 pub well-can : (d : Desc) → WellFormed d depth-limit → Rattle.descriptions.proofs.Mean.Can laws d
 well-can d p = Soft.soft-can weights-one 2 d 4 (well-soft d 4 p)
 
-result-kept : (mode : ℕ) (a b : Desc) → Soft.Soft weights-one 2 a depth-limit → Soft.Soft weights-one 2 b depth-limit → Soft.JoinKept weights-one a b 4 (mode-result mode a b)
+result-kept : (mode : ℕ) (a b : Desc) → Soft.Soft weights-one 2 a depth-limit → Soft.Soft weights-one 2 b depth-limit →
+    Soft.JoinKept weights-one a b 4 (mode-result mode a b)
 result-kept zero a b p q = Soft.joined-kept weights-one a b 4 p q
 result-kept (suc zero) a b p q = Soft.quick-kept weights-one a b 4 p q
 result-kept (suc (suc m)) a b p q = Live.full-kept weights-one a b 4 p q

@@ -44,7 +44,8 @@ module _ (H : Graph) (c : Canonical H) where
   at-left P (inl x) = P x
   at-left P (inr y) = Unit {0}
 
-  module _ (P : NodeOf H → Type 0) (p : P (0, canonical-some H c)) (s : (x : NodeOf H) (f : ℕ) (y : NodeOf H) → P x → structure H c .Goes x f y → P y) where
+  module _ (P : NodeOf H → Type 0) (p : P (0, canonical-some H c)) (s : (x : NodeOf H) (f : ℕ) (y : NodeOf H) → P x →
+      structure H c .Goes x f y → P y) where
     root-left : (x : beside (H ∷ []) .Spot) → beside (H ∷ []) .Root x → at-left P x
     root-left (inl x) r = subst P (sym (same-node H c x (0, canonical-some H c) r)) p
     root-left (inr y) r = tt
@@ -59,10 +60,21 @@ module _ (H : Graph) (c : Canonical H) where
     reached-all x = reach (H ∷ []) (c, tt) (at-left P) root-left arc-left (inl x)
 
   pub structure-proper : Proper (structure H c)
-  structure-proper = record { nodes = below (length H) (omega arith); all = λ x. in-below (length H) (omega arith) x (x .1); reached = λ P p s x. reached-all P p s x }
+  structure-proper = record {
+    nodes = below (length H) (omega arith);
+    all = λ x. in-below (length H) (omega arith) x (x .1);
+    reached =
+        λ P p s x. reached-all P p s x;
+  }
 
   pub structure-itself : Satisfies (structure H c) H
-  structure-itself = record { to = λ x. x; root-to = λ x r. same-node H c x (0, canonical-some H c) r; atom-to = λ x a u. u; arc-to = λ x f y u. u }
+  structure-itself = record {
+    to = λ x. x;
+    root-to = λ x r. same-node H c x (0, canonical-some H c) r;
+    atom-to = λ x a u. u;
+    arc-to =
+        λ x f y u. u;
+  }
 
 pub clash-of : (gs : List Graph) → 0 < length gs → AllCanonical gs → join gs ≡ none → Clash gs
 clash-of [] p f e = absurd (omega arith)
@@ -73,5 +85,6 @@ sense = record {
   joined-satisfied = λ gs p f K e S. joined-satisfied gs K (joined-of gs (p, f) K e) S;
   clash-unsatisfied = λ gs p f e S. clash-unsatisfied gs (clash-of gs p f e) S;
   Proper = Proper;
-  model = λ gs p f K e. let c : Canonical K = joined-of gs (p, f) K e .canonical in (structure K c, structure-proper K c, structure-itself K c);
+  model = λ gs p f K e. let c : Canonical K = joined-of gs (p, f) K e .canonical in
+      (structure K c, structure-proper K c, structure-itself K c);
 }

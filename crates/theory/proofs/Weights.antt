@@ -9,7 +9,8 @@ use lib.ListN.{length, length-append}
 use Rattle.theory.specs.Limits.{code-limit}
 use Rattle.theory.specs.Net.{Node, atom, arcs, Graph, nodeAt, arcsOf, Joined}
 use Rattle.theory.specs.Descr.{Desc, desc, Disjs, end, _and_, Alts, fail, _or_, disjs}
-use Rattle.theory.specs.Layout.{arc-words, node-words, nodes-words, words, disjs-words, alts-words, ArcsFit, GraphFits, WellFormed, WellAll, WellAny}
+use Rattle.theory.specs.Layout.{arc-words, node-words, nodes-words, words, disjs-words, alts-words, ArcsFit, GraphFits, WellFormed}
+use Rattle.theory.specs.Layout.{WellAll, WellAny}
 use Rattle.theory.proofs.Sets.{graph-of, number, graph-in, spot-atom, spot-arc}
 use Rattle.theory.proofs.Weight.{weight, joined-weight}
 use Rattle.descriptions.proofs.Laws.{All}
@@ -56,7 +57,8 @@ soft-node : (v : Node) → ((f t : ℕ) → List·Memᴰ (f, t) (arcsOf v) → f
 soft-node (atom a) h k = k a refl
 soft-node (arcs l) h k = below-arc l h
 
-pub soft-graph : (g : Graph) → ((n f t : ℕ) → List·Memᴰ (f, t) (arcsOf (nodeAt g n)) → f < code-limit) → ((n a : ℕ) → nodeAt g n ≡ atom a → a < code-limit) → SoftGraph g
+pub soft-graph : (g : Graph) → ((n f t : ℕ) → List·Memᴰ (f, t) (arcsOf (nodeAt g n)) → f < code-limit) →
+    ((n a : ℕ) → nodeAt g n ≡ atom a → a < code-limit) → SoftGraph g
 soft-graph [] h k = tt
 soft-graph (v ∷ vs) h k = (soft-node v (h 0) (k 0), soft-graph vs (λ n. h (suc n)) (λ n. k (suc n)))
 
@@ -66,8 +68,10 @@ soft-in (h ∷ gs) p g i = ⊎-elim (λ e. subst SoftGraph (sym e) (p .0)) (soft
 
 pub joined-soft : (gs : List Graph) → SoftGraphs gs → (G : Graph) → Joined gs G → SoftGraph G
 joined-soft gs p G j = soft-graph G
-    (λ n f t i. let (x, y, d, e, u) = j .arc-from n f t i in soft-arc (graph-of gs x) (soft-in gs p (graph-of gs x) (graph-in gs x)) (number gs x) f (number gs y) (spot-arc gs x f y u .1))
-    (λ n a e. let (x, d, u) = j .atom-from n a e in soft-atom (graph-of gs x) (soft-in gs p (graph-of gs x) (graph-in gs x)) (number gs x) a (spot-atom gs x a u))
+    (λ n f t i. let (x, y, d, e, u) = j .arc-from n f t i in
+    soft-arc (graph-of gs x) (soft-in gs p (graph-of gs x) (graph-in gs x)) (number gs x) f (number gs y) (spot-arc gs x f y u .1))
+    (λ n a e. let (x, d, u) = j .atom-from n a e in
+    soft-atom (graph-of gs x) (soft-in gs p (graph-of gs x) (graph-in gs x)) (number gs x) a (spot-atom gs x a u))
 
 abbrev pub weights-one : Weights laws
 weights-one = record {
@@ -121,7 +125,8 @@ mutual
 
   len-all-is : (ds : Disjs) → length (disjs-words ds) ≡ len-all ds
   len-all-is end = refl
-  len-all-is (a and ds) = let e = length-append (alts-words a) (disjs-words ds) in let f = len-any-is a in let g = len-all-is ds in omega (arith, e, f, g)
+  len-all-is (a and ds) = let e = length-append (alts-words a) (disjs-words ds) in let f = len-any-is a in let g = len-all-is ds in
+      omega (arith, e, f, g)
 
   len-any-is : (a : Alts) → length (alts-words a) ≡ len-any a
   len-any-is fail = refl
@@ -135,8 +140,10 @@ arcs-short (p ∷ l) = omega (arith, arcs-short l)
 graph-hard : (g : Graph) → SoftGraph g → weight g < code-limit → GraphFits g
 unfolding weight
 graph-hard [] p h = tt
-graph-hard (atom a ∷ vs) p h = let e = length-append (node-words (atom a)) (nodes-words vs) in (p .0, graph-hard vs (p .1) (omega (arith, e)))
-graph-hard (arcs l ∷ vs) p h = let e = length-append (node-words (arcs l)) (nodes-words vs) in let f = arcs-short l in ((omega (arith, e, f), p .0), graph-hard vs (p .1) (omega (arith, e)))
+graph-hard (atom a ∷ vs) p h = let e = length-append (node-words (atom a)) (nodes-words vs) in
+    (p .0, graph-hard vs (p .1) (omega (arith, e)))
+graph-hard (arcs l ∷ vs) p h = let e = length-append (node-words (arcs l)) (nodes-words vs) in let f = arcs-short l in
+    ((omega (arith, e, f), p .0), graph-hard vs (p .1) (omega (arith, e)))
 
 mutual
   unfolding Rattle.descriptions.proofs.Soft.len

@@ -1,6 +1,9 @@
--- `Net`, `Structure` and `Layout` are graphs, structures and words; `Isomorphic` says when two graphs are one but for the numbers of their nodes.
--- `JoiningOne`, `LayoutOne` and `Structure` say what `descriptions` takes for layout one; files with the names of its files are its instance.
--- `Join`, `Reading` and `Fitted` are programs, so that cases compute; `FitTest` is the table of the fit test, `Known` has the known inputs and cases.
+-- `Net`, `Structure` and `Layout` are graphs, structures and words; `Isomorphic` says when two graphs are one but for the numbers of
+-- their nodes.
+-- `JoiningOne`, `LayoutOne` and `Structure` say what `descriptions` takes for layout one; files with the names of its files are its
+-- instance.
+-- `Join`, `Reading` and `Fitted` are programs, so that cases compute; `FitTest` is the table of the fit test, `Known` has the known
+-- inputs and cases.
 pub mod Limits
 pub mod Net
 pub mod Structure

@@ -1,4 +1,5 @@
--- A flat graph whose leaves say nothing or what the roots say agrees with the graphs that are pushed: a structure of the classes, and of the leaves with features that the roots do not have, satisfies them all.
+-- A flat graph whose leaves say nothing or what the roots say agrees with the graphs that are pushed: a structure of the classes, and
+-- of the leaves with features that the roots do not have, satisfies them all.
 -- Assumes nothing.
 use mathlib.Core.Path.{_≡_, refl, sym, ap, _∙_, subst}
 use mathlib.Core.Logic.{_⊎_, inl, inr, ⊎-elim}
@@ -29,7 +30,8 @@ satisfies-append : (S : Structure) (a b : List Graph) → SatisfiesAll S a → S
 satisfies-append S [] b s t = t
 satisfies-append S (g ∷ a) b s t = (s .0, satisfies-append S a b (s .1) t)
 
-module _ (n : ℕ) (es : List Entry) (k : ℕ) (w : List ℕ) (e : Entry) (h : Holds n es k w) (c : Comes n es e w) (d : ℕ) (fl : Flat (words w) (targets w) (e .number) (e .at + 1) d (e .graph))
+module _ (n : ℕ) (es : List Entry) (k : ℕ) (w : List ℕ) (e : Entry) (h : Holds n es k w) (c : Comes n es e w) (d : ℕ)
+    (fl : Flat (words w) (targets w) (e .number) (e .at + 1) d (e .graph))
     (some : length (e .graph) ≡ suc d) (ls : Leaves n w (e .at) (e .number) d d) (low : getD w (class h 0) 0 ≤ 2048) where
   abbrev F : List ℕ
   F = words w
@@ -56,7 +58,8 @@ module _ (n : ℕ) (es : List Entry) (k : ℕ) (w : List ℕ) (e : Entry) (h : H
   arc-one : (i j : ℕ) → i < d → j < d → under i ≡ under j → i ≡ j
   arc-one i j a b z =
       let up = subst (λ (v : Node). Rising 0 (arcsOf v)) (fl .root) (numbered-rising 0 1 (e .graph) (c .canonical) 0) in
-      let y = rising-one 0 (fl .l) up (under j) (suc i) (suc j) (subst (λ (f : ℕ). List·Memᴰ (f, suc i) (fl .l)) z (in-list i a)) (in-list j b) in
+      let y = rising-one 0 (fl .l) up (under j) (suc i) (suc j) (subst (λ (f : ℕ). List·Memᴰ (f, suc i) (fl .l)) z (in-list i a))
+      (in-list j b) in
       omega arith
 
   -- ---- the structure: a class, or a leaf with a feature that the roots do not have
@@ -100,7 +103,8 @@ module _ (n : ℕ) (es : List Entry) (k : ℕ) (w : List ℕ) (e : Entry) (h : H
       p .is ∙ ap {B = Place} (λ (i : ℕ). inl (class h (getD T i 0))) s ∙ sym (q .is)
   one-target (inl x) f y z (inl p) (inr q) = absurd (none-first F f (p .xs) (p .q) (q .none (p .xs) (p .chain)) (p .first))
   one-target (inl x) f y z (inr p) (inl q) = absurd (none-first F f (q .xs) (q .q) (p .none (q .xs) (q .chain)) (q .first))
-  one-target (inl x) f y z (inr p) (inr q) = p .is ∙ ap {B = Place} inr (arc-one (p .i) (q .i) (p .below) (q .below) (p .here ∙ sym (q .here))) ∙ sym (q .is)
+  one-target (inl x) f y z (inr p) (inr q) = p .is
+      ∙ ap {B = Place} inr (arc-one (p .i) (q .i) (p .below) (q .below) (p .here ∙ sym (q .here))) ∙ sym (q .is)
   one-target (inr i) f y z p q = absurd p
 
   no-arcs : (x : Place) (a f : ℕ) (y : Place) → Has x a → Goes x f y → ⊥
@@ -109,7 +113,16 @@ module _ (n : ℕ) (es : List Entry) (k : ℕ) (w : List ℕ) (e : Entry) (h : H
   no-arcs (inr i) a f y p q = q
 
   abbrev model : Structure
-  model = record { Carrier = Place; start = inl (class h 0); Has = Has; Goes = Goes; one-atom = one-atom; one-target = one-target; no-arcs = no-arcs }
+  model = record {
+    Carrier = Place;
+    start = inl (class h 0);
+    Has = Has;
+    Goes = Goes;
+    one-atom = one-atom;
+    one-target = one-target;
+    no-arcs =
+        no-arcs;
+  }
 
   -- ---- it satisfies the graphs that are pushed
   holding : (s : Spots es) → Content es (class h) w (class h (number-of es s))
@@ -125,7 +138,15 @@ module _ (n : ℕ) (es : List Entry) (k : ℕ) (w : List ℕ) (e : Entry) (h : H
     atom-to = λ s a u. holding s .atom-in s a u refl;
     arc-to = λ s f t u.
         let r = holding s .arc-in s f t u refl in
-        inl (record { small = r .0; xs = holding s .chain; chain = holding s .linked (r .0); q = r .1 .0; first = r .1 .1 .0; is = ap {B = Place} inl (sym (r .1 .1 .1)) });
+        inl (record {
+          small = r .0;
+          xs = holding s .chain;
+          chain = holding s .linked (r .0);
+          q = r .1 .0;
+          first = r .1 .1 .0;
+          is =
+              ap {B = Place} inl (sym (r .1 .1 .1));
+        });
   }
 
   -- ---- and the one that comes
@@ -150,7 +171,8 @@ module _ (n : ℕ) (es : List Entry) (k : ℕ) (w : List ℕ) (e : Entry) (h : H
       go : (r : ((q : ℕ) × First F (under i) (have .0) q) ⊎ None F (under i) (have .0)) → Has (leaf-to i r) a
       go (inl p) = ⊎-elim
           (λ z. absurd (omega (arith, v)))
-          (λ z. z .1 es k h (p .0) (λ xs t. subst (λ (l : List ℕ). First F (under i) l (p .0)) (chain-det w (getD w (class h 0) 0) (have .0) xs (have .1) t) (p .1)) ∙ v)
+          (λ z. z .1 es k h (p .0) (λ xs t. subst (λ (l : List ℕ). First F (under i) l (p .0))
+          (chain-det w (getD w (class h 0) 0) (have .0) xs (have .1) t) (p .1)) ∙ v)
           (ls i (omega arith) .says)
       go (inr z) = v
 
@@ -165,7 +187,8 @@ module _ (n : ℕ) (es : List Entry) (k : ℕ) (w : List ℕ) (e : Entry) (h : H
 
   arc-to : (j f t : ℕ) → j < length (e .graph) → List·Memᴰ (f, t) (arcsOf (nodeAt (e .graph) j)) → Goes (to j) f (to t)
   arc-to zero f t l m =
-      let r = arcs-find F T (λ z. z) (e .number) (fl .l) (e .at + 1 + 1) (fl .arcs-lie) f t (subst (λ (v : Node). List·Memᴰ (f, t) (arcsOf v)) (fl .root) m) in
+      let r = arcs-find F T (λ z. z) (e .number) (fl .l) (e .at + 1 + 1) (fl .arcs-lie) f t
+      (subst (λ (v : Node). List·Memᴰ (f, t) (arcsOf v)) (fl .root) m) in
       let i = r .0 in
       let b : i < length (fl .l) = r .1 .0 in
       let o = fl .many in
@@ -173,15 +196,32 @@ module _ (n : ℕ) (es : List Entry) (k : ℕ) (w : List ℕ) (e : Entry) (h : H
       let u : under i ≡ f = (rw p at (r .1 .1 .0)) in
       let y : getD T (e .at + 2 + 2 * i) 0 ≡ e .number + t = (rw p at (r .1 .1 .1)) in
       let x : suc i ≡ t = omega (arith, ls i (omega arith) .next) in
-      subst (λ (s : ℕ). Goes (inl (class h 0)) f (to s)) x (subst (λ (f : ℕ). Goes (inl (class h 0)) f (to (suc i))) u (go i (omega arith) (first-case F (under i) (have .0))))
+      subst (λ (s : ℕ). Goes (inl (class h 0)) f (to s)) x
+      (subst (λ (f : ℕ). Goes (inl (class h 0)) f (to (suc i))) u (go i (omega arith) (first-case F (under i) (have .0))))
     where
-      go : (i : ℕ) → i < d → (r : ((q : ℕ) × First F (under i) (have .0) q) ⊎ None F (under i) (have .0)) → Goes (inl (class h 0)) (under i) (leaf-to i r)
+      go : (i : ℕ) → i < d → (r : ((q : ℕ) × First F (under i) (have .0) q) ⊎ None F (under i) (have .0)) →
+          Goes (inl (class h 0)) (under i) (leaf-to i r)
       go i b (inl p) = inl (record { small = low; xs = have .0; chain = have .1; q = p .0; first = p .1; is = refl })
-      go i b (inr z) = inr (record { root = refl; i = i; below = b; here = refl; none = λ xs t. subst (None F (under i)) (chain-det w (getD w (class h 0) 0) (have .0) xs (have .1) t) z; is = refl })
+      go i b (inr z) = inr (record {
+        root = refl;
+        i = i;
+        below = b;
+        here = refl;
+        none =
+            λ xs t. subst (None F (under i)) (chain-det w (getD w (class h 0) 0) (have .0) xs (have .1) t) z;
+        is = refl;
+      })
   arc-to (suc i) f t l m = absurd (no-arc i (f, t) (omega arith) m)
 
   coming : Satisfies model (e .graph)
-  coming = record { to = λ x. to (x .0); root-to = λ x r. ap to r; atom-to = λ x a u. atom-to (x .0) a (x .1) u; arc-to = λ x f y u. arc-to (x .0) f (y .0) (x .1) u }
+  coming = record {
+    to = λ x. to (x .0);
+    root-to = λ x r. ap to r;
+    atom-to = λ x a u. atom-to (x .0) a (x .1) u;
+    arc-to =
+        λ x f y u. arc-to (x .0) f (y .0) (x .1) u;
+  }
 
   pub flat-agrees : Agree (graphs es ++ e .graph ∷ [])
-  flat-agrees z = clash-unsatisfied (graphs es ++ e .graph ∷ []) z model (satisfies-append model (graphs es) (e .graph ∷ []) (beside-all model (graphs es) pushed) (coming, tt))
+  flat-agrees z = clash-unsatisfied (graphs es ++ e .graph ∷ []) z model
+      (satisfies-append model (graphs es) (e .graph ∷ []) (beside-all model (graphs es) pushed) (coming, tt))

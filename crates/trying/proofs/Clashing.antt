@@ -25,7 +25,8 @@ chain-some : (w : List ℕ) (x : ℕ) (xs : List ℕ) → Chain w x xs → (x �
 chain-some w x [] t z = absurd (z t)
 chain-some w x (j ∷ xs) t z = (j, List·Memᴰ·head refl)
 
-module _ (n : ℕ) (es : List Entry) (k : ℕ) (w : List ℕ) (e : Entry) (h : Holds n es k w) (c : Comes n es e w) (d : ℕ) (fl : Flat (words w) (targets w) (e .number) (e .at + 1) d (e .graph)) where
+module _ (n : ℕ) (es : List Entry) (k : ℕ) (w : List ℕ) (e : Entry) (h : Holds n es k w) (c : Comes n es e w) (d : ℕ)
+    (fl : Flat (words w) (targets w) (e .number) (e .at + 1) d (e .graph)) where
   abbrev F : List ℕ
   F = words w
 
@@ -46,27 +47,41 @@ module _ (n : ℕ) (es : List Entry) (k : ℕ) (w : List ℕ) (e : Entry) (h : H
   equal i j a b z = same-extends (h .G) G F T (extends n es k w e h c) (h .state .sound i j a b z)
 
   -- an arc of the root
-  root-arc : (f t : ℕ) → List·Memᴰ (f, t) (fl .l) → (q : ℕ) × (List·Memᴰ q (G .B) × (Same G F T 0 (G .S q) × ((getD F q 0 ≡ f) × (getD T q 0 ≡ e .number + t))))
+  root-arc : (f t : ℕ) → List·Memᴰ (f, t) (fl .l) →
+      (q : ℕ) × (List·Memᴰ q (G .B) × (Same G F T 0 (G .S q) × ((getD F q 0 ≡ f) × (getD T q 0 ≡ e .number + t))))
   root-arc f t m =
-      let r = tied' n es k w e h c .arc e mine 0 f t (some' n es k w e h c) (subst (λ (v : Node). List·Memᴰ (f, t) (arcsOf v)) (sym (fl .root)) m) in
+      let r = tied' n es k w e h c .arc e mine 0 f t (some' n es k w e h c)
+      (subst (λ (v : Node). List·Memᴰ (f, t) (arcsOf v)) (sym (fl .root)) m) in
       let z : e .number ≡ G .S (r .0) = omega (arith, r .1 .1 .0) in
       (r .0, (r .1 .0, (subst (Same G F T 0) z (same' n es k w e h c), r .1 .1 .1)))
 
   -- what bears an atom in a class
-  bearer : (x : ℕ) → x < n → 2048 < getD w (class h x) 0 → (i : ℕ) × (List·Memᴰ i (G .N) × ((G .A i ≡ getD w (class h x) 0) × Same G F T i x))
+  bearer : (x : ℕ) → x < n → 2048 < getD w (class h x) 0 →
+      (i : ℕ) × (List·Memᴰ i (G .N) × ((G .A i ≡ getD w (class h x) 0) × Same G F T i x))
   bearer x hx l =
       let m = class-low n es k w h x hx in
-      let b = h .state .bare (class h x) (omega arith) (class-top n es k w h x hx) l .1 in
-      (b .i, (extends n es k w e h c .nodes (b .i) (b .node), (extends n es k w e h c .codes (b .i) (b .node) ∙ b .is, equal (b .i) x (b .small) hx (b .class))))
+      let b = h .state .bare (class h x) (omega arith) (class-top n es k w h x hx) l .1 in (
+        b .i,
+        (
+          extends n es k w e h c .nodes (b .i) (b .node),
+          (extends n es k w e h c .codes (b .i) (b .node) ∙ b .is, equal (b .i) x (b .small) hx (b .class)),
+        ),
+      )
 
   -- what has an arc in a class
-  owner : (x q : ℕ) → x < n → List·Memᴰ q (getD (h .state .C) (class h x) []) → List·Memᴰ q (G .B) × (Same G F T (G .S q) x × (getD T q 0 < n))
+  owner : (x q : ℕ) → x < n → List·Memᴰ q (getD (h .state .C) (class h x) []) →
+      List·Memᴰ q (G .B) × (Same G F T (G .S q) x × (getD T q 0 < n))
   owner x q hx m =
       let l = class-low n es k w h x hx in
       let o = h .state .home (class h x) q (omega arith) m in
       let b = h .state .known q (o .0) in
-      let a = h .state .arcs q b in
-      (extends n es k w e h c .arcs q b, (subst (λ (z : ℕ). Same G F T z x) (sym (extends n es k w e h c .sources q b)) (equal (h .G .S q) x (a .1 .0) hx (o .1)), a .1 .1))
+      let a = h .state .arcs q b in (
+        extends n es k w e h c .arcs q b,
+        (
+          subst (λ (z : ℕ). Same G F T z x) (sym (extends n es k w e h c .sources q b)) (equal (h .G .S q) x (a .1 .0) hx (o .1)),
+          a .1 .1,
+        ),
+      )
 
   -- ---- the roots bear an atom, and the graph has an arc
   pub root-clash : 0 < d → 2048 < getD w (class h 0) 0 → Clash (graphs es ++ e .graph ∷ [])
@@ -78,7 +93,8 @@ module _ (n : ℕ) (es : List Entry) (k : ℕ) (w : List ℕ) (e : Entry) (h : H
       clash' n es k w e h c (Clashes.mixed (b .1 .0) (λ y. omega arith) (q .1 .0) (Same.on (b .1 .1 .1) (q .1 .1 .0)))
 
   -- ---- a leaf says something else
-  module _ (i : ℕ) (below : i < d) (many : length (e .graph) ≡ suc d) (before : (j : ℕ) → j < i → Bare (leaf-head w (e .at) d j)) (next : Next w (e .at) (e .number) i) (bears : code-limit ≤ leaf-head w (e .at) d i) where
+  module _ (i : ℕ) (below : i < d) (many : length (e .graph) ≡ suc d) (before : (j : ℕ) → j < i →
+      Bare (leaf-head w (e .at) d j)) (next : Next w (e .at) (e .number) i) (bears : code-limit ≤ leaf-head w (e .at) d i) where
     leaf : (List·Memᴰ (e .number + suc i) (G .N)) × (G .A (e .number + suc i) ≡ leaf-head w (e .at) d i)
     leaf =
         let y = head-is w e d fl i below before in
@@ -86,12 +102,16 @@ module _ (n : ℕ) (es : List Entry) (k : ℕ) (w : List ℕ) (e : Entry) (h : H
         let r = tied' n es k w e h c .node e mine (suc i) (omega arith) in
         (r .0, r .1 ∙ ap code (a .1) ∙ sym (ap head (a .1)) ∙ y)
 
-    module _ (q : ℕ) (under : Under h (feature w (e .at) i) q) (other : held h q ≢ leaf-head w (e .at) d i) (some : held h q ≢ 0) (low : getD w (class h 0) 0 ≤ 2048) where
+    module _ (q : ℕ) (under : Under h (feature w (e .at) i) q) (other : held h q ≢ leaf-head w (e .at) d i) (some : held h q ≢ 0)
+        (low : getD w (class h 0) 0 ≤ 2048) where
       on-chain : List·Memᴰ q (getD (h .state .C) (class h 0) []) × (getD F q 0 ≡ feature w (e .at) i)
       on-chain =
           let l = class-low n es k w h 0 first in
-          let p = under (getD (h .state .C) (class h 0) []) (h .state .chain (class h 0) (omega arith) (class-top n es k w h 0 first) low) in
-          (first-mem F (feature w (e .at) i) (getD (h .state .C) (class h 0) []) q p, first-feature F (feature w (e .at) i) (getD (h .state .C) (class h 0) []) q p)
+          let p = under (getD (h .state .C) (class h 0) [])
+          (h .state .chain (class h 0) (omega arith) (class-top n es k w h 0 first) low) in (
+            first-mem F (feature w (e .at) i) (getD (h .state .C) (class h 0) []) q p,
+            first-feature F (feature w (e .at) i) (getD (h .state .C) (class h 0) []) q p,
+          )
 
       abbrev to : ℕ
       to = getD T q 0
@@ -103,18 +123,21 @@ module _ (n : ℕ) (es : List Entry) (k : ℕ) (w : List ℕ) (e : Entry) (h : H
       joined =
           let o = owner 0 q first (on-chain .0) in
           let r = root-arc (feature w (e .at) i) (suc i) (arc-is w e d fl i below next) in
-          subst (Same G F T to) (r .1 .1 .1 .1) (Same.along (o .0) (r .1 .0) (on-chain .1 ∙ sym (r .1 .1 .1 .0)) (Same.on (o .1 .0) (r .1 .1 .0)))
+          subst (Same G F T to) (r .1 .1 .1 .1)
+          (Same.along (o .0) (r .1 .0) (on-chain .1 ∙ sym (r .1 .1 .1 .0)) (Same.on (o .1 .0) (r .1 .1 .0)))
 
       go : Dec (2048 < held h q) → Clashes G F T
       go (yes l) =
           let b = bearer to to-low l in
           let z : G .A (b .0) ≡ held h q = b .1 .1 .0 in
           let y : G .A (e .number + suc i) ≡ leaf-head w (e .at) d i = leaf .1 in
-          Clashes.atoms (b .1 .0) (leaf .0) (Same.on (b .1 .1 .1) joined) (λ x. some (sym z ∙ x)) (λ x. omega (arith, bears, y, x)) (λ x. other (sym z ∙ x ∙ y))
+          Clashes.atoms (b .1 .0) (leaf .0) (Same.on (b .1 .1 .1) joined) (λ x. some (sym z ∙ x)) (λ x. omega (arith, bears, y, x))
+          (λ x. other (sym z ∙ x ∙ y))
       go (no l) =
           let m = class-low n es k w h to to-low in
           let t = to-low in
-          let j = chain-some w (held h q) (getD (h .state .C) (class h to) []) (h .state .chain (class h to) (omega arith) (class-top n es k w h to to-low) (omega arith)) some in
+          let j = chain-some w (held h q) (getD (h .state .C) (class h to) [])
+          (h .state .chain (class h to) (omega arith) (class-top n es k w h to to-low) (omega arith)) some in
           let o = owner to (j .0) to-low (j .1) in
           let y : G .A (e .number + suc i) ≡ leaf-head w (e .at) d i = leaf .1 in
           Clashes.mixed (leaf .0) (λ x. omega (arith, bears, y, x)) (o .0) (Same.on (Same.back joined) (Same.back (o .1 .0)))

@@ -46,7 +46,8 @@ spans-least (arcs l ∷ vs) = let r = spans-least vs in omega arith
 
 module _ (F T : List ℕ) (b : ℕ) where
   -- after leaves, the head of a node
-  heads : (vs : Graph) (p : ℕ) → NodesLie F T b p vs → GraphFits vs → (i : ℕ) → i < length vs → ((j : ℕ) → j < i → Bare (getD F (p + j) 0)) → head (nodeAt vs i) ≡ getD F (p + i) 0
+  heads : (vs : Graph) (p : ℕ) → NodesLie F T b p vs → GraphFits vs → (i : ℕ) → i < length vs →
+      ((j : ℕ) → j < i → Bare (getD F (p + j) 0)) → head (nodeAt vs i) ≡ getD F (p + i) 0
   heads [] p s f i h o = absurd (omega arith)
   heads (atom a ∷ vs) p s f zero h o = let e : p + 0 ≡ p = omega arith in rw e (sym (s .0))
   heads (arcs l ∷ vs) p s f zero h o = let e : p + 0 ≡ p = omega arith in rw e (sym (s .0 .0))
@@ -57,7 +58,8 @@ module _ (F T : List ℕ) (b : ℕ) where
       let z : p + 0 ≡ p = omega arith in
       let y : getD F p 0 ≡ length l = s .0 .0 in
       let x : length l < code-limit = f .0 .0 in
-      let n : length l ≡ 0 = ⊎-elim (λ (q : getD F p 0 ≡ 0). omega arith) (λ (q : code-limit ≤ getD F p 0). absurd (omega arith)) (rw z at (o 0 (omega arith))) in
+      let n : length l ≡ 0 = ⊎-elim (λ (q : getD F p 0 ≡ 0). omega arith) (λ (q : code-limit ≤ getD F p 0). absurd (omega arith))
+      (rw z at (o 0 (omega arith))) in
       let e : (j : ℕ) → p + suc j ≡ p + (1 + 2 * length l) + j = λ j. omega arith in
       rw (e i) (heads vs (p + (1 + 2 * length l)) (s .1) (f .1) i (omega arith) (λ j k. rw (e j) at (o (suc j) (omega arith))))
 
@@ -68,7 +70,8 @@ module _ (F T : List ℕ) (b : ℕ) where
     pub many : length l ≡ d
     pub arcs-lie : ArcsLie F T b (p + 1) l
     pub room : 1 + 3 * d ≤ spans vs
-    pub leaf : (i : ℕ) → i < d → ((j : ℕ) → j < i → Bare (getD F (p + 1 + 2 * d + j) 0)) → head (nodeAt vs (suc i)) ≡ getD F (p + 1 + 2 * d + i) 0
+    pub leaf : (i : ℕ) → i < d → ((j : ℕ) → j < i → Bare (getD F (p + 1 + 2 * d + j) 0)) →
+        head (nodeAt vs (suc i)) ≡ getD F (p + 1 + 2 * d + i) 0
 
   pub flat : (vs : Graph) (p d : ℕ) → NodesLie F T b p vs → GraphFits vs → length vs ≡ suc d → d < 1024 → getD F p 0 ≡ d → Flat p d vs
   flat [] p d s f n h e = absurd (omega arith)
@@ -87,7 +90,8 @@ module _ (F T : List ℕ) (b : ℕ) where
       }
 
 -- the same of a graph as it lies in the area
-module _ (w : List ℕ) (e : Entry) (d : ℕ) (fl : Flat (words w) (targets w) (e .number) (e .at + 1) d (e .graph)) (i : ℕ) (below : i < d) where
+module _ (w : List ℕ) (e : Entry) (d : ℕ) (fl : Flat (words w) (targets w) (e .number) (e .at + 1) d (e .graph)) (i : ℕ)
+    (below : i < d) where
   -- the head of the leaf i, after leaves
   pub head-is : ((j : ℕ) → j < i → Bare (leaf-head w (e .at) d j)) → head (nodeAt (e .graph) (suc i)) ≡ leaf-head w (e .at) d i
   head-is o =

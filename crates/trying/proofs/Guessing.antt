@@ -37,7 +37,8 @@ guess-low n k w g p =
     (omega arith, (omega arith, record { k = k; es = p .es; holds = p .holds }))
 
 -- the header, and the root's head: it has an arc to each other node
-module _ (n k : ℕ) (w : List ℕ) (g head d : ℕ) (is : head ≡ getD (words w) g 0) (root : d ≡ getD (words w) (g + 1) 0) (one : d + 1 ≡ head % 1024) where
+module _ (n k : ℕ) (w : List ℕ) (g head d : ℕ) (is : head ≡ getD (words w) g 0) (root : d ≡ getD (words w) (g + 1) 0)
+    (one : d + 1 ≡ head % 1024) where
   module _ (es : List Entry) (e : Entry) (i : e .at ≡ g) (h : Holds n es k w) (c : Comes n es e w) where
     number : e .number ≡ head / 1024 % 1024
     number = parts n k w g head is es e i c .0
@@ -48,7 +49,8 @@ module _ (n k : ℕ) (w : List ℕ) (g head d : ℕ) (is : head ≡ getD (words 
     level : Flat (words w) (targets w) (e .number) (e .at + 1) d (e .graph)
     level =
         let m = many in let l = c .lies .few in
-        flat (words w) (targets w) (e .number) (e .graph) (e .at + 1) d (lie n es k w e h c) (c .fits) many (omega arith) (ap (λ (z : ℕ). getD (words w) (z + 1) 0) i ∙ sym root)
+        flat (words w) (targets w) (e .number) (e .graph) (e .at + 1) d (lie n es k w e h c) (c .fits) many (omega arith)
+        (ap (λ (z : ℕ). getD (words w) (z + 1) 0) i ∙ sym root)
 
   -- the words of its arcs and leaves
   pub guess-room : Pushing n k w g → g + 2 + 3 * d ≤ 2048
@@ -60,7 +62,8 @@ module _ (n k : ℕ) (w : List ℕ) (g head d : ℕ) (is : head ≡ getD (words 
 
   module _ (a : ℕ) (cl : Classed n w 0 a) where
     pub guess-anchored : Pushing n k w g → (x : ℕ) → x ≡ getD w a 0 → getD w a 0 ≤ 2048 → Anchored n w x
-    guess-anchored p x z l = let b = guess-low n k w g p in record { labelled = b .1 .1; some = b .1 .0; c = a; classed = cl; is = z; low = omega arith }
+    guess-anchored p x z l = let b = guess-low n k w g p in
+        record { labelled = b .1 .1; some = b .1 .0; c = a; classed = cl; is = z; low = omega arith }
 
     held : (es : List Entry) (h : Holds n es k w) → getD w a 0 ≡ getD w (class h 0) 0
     held es h = ap (λ (z : ℕ). getD w z 0) (cl .is es k h)
@@ -75,17 +78,21 @@ module _ (n k : ℕ) (w : List ℕ) (g head d : ℕ) (is : head ≡ getD (words 
     -- what is told of all arcs
     pub guesses-arcs : getD w a 0 ≤ 2048 → (r : Guess) → LeavesTold n w g (head / 1024 % 1024) d r → Guesses n k w g r
     guesses-arcs l r s = record {
-      agrees = λ y es e i h c. flat-agrees n es k w e h c d (level es e i h c) (many es e i h c) (leaves es e i h c d (s .agrees y)) (low es h);
+      agrees = λ y es e i h c. flat-agrees n es k w e h c d (level es e i h c) (many es e i h c) (leaves es e i h c d (s .agrees y))
+          (low es h);
       clashes = λ y es e i h c.
           let t = s .clashes y in
           let o = leaves es e i h c (t .0) (t .1 .1 .0) in
           let u : Torn n w (e .at) (e .number) d (t .0) = (rw (i, number es e i h c) (t .1 .1 .1)) in
           let f = u .foul es k h in
-          leaf-clash n es k w e h c d (level es e i h c) (t .0) (t .1 .0) (many es e i h c) (λ j q. ⊎-elim (λ z. inl z) (λ z. inr (z .0)) (o j q .says)) (u .next) (u .atom) (f .0) (f .1 .0) (f .1 .1 .0) (f .1 .1 .1) (low es h);
+          leaf-clash n es k w e h c d (level es e i h c) (t .0) (t .1 .0) (many es e i h c)
+          (λ j q. ⊎-elim (λ z. inl z) (λ z. inr (z .0)) (o j q .says)) (u .next) (u .atom) (f .0) (f .1 .0) (f .1 .1 .0) (f .1 .1 .1)
+          (low es h);
     }
       where
         low : (es : List Entry) (h : Holds n es k w) → getD w (class h 0) 0 ≤ 2048
         low es h = subst (λ (z : ℕ). z ≤ 2048) (held es h) l
 
-        leaves : (es : List Entry) (e : Entry) (i : e .at ≡ g) (h : Holds n es k w) (c : Comes n es e w) (j : ℕ) → Leaves n w g (head / 1024 % 1024) d j → Leaves n w (e .at) (e .number) d j
+        leaves : (es : List Entry) (e : Entry) (i : e .at ≡ g) (h : Holds n es k w) (c : Comes n es e w) (j : ℕ) →
+            Leaves n w g (head / 1024 % 1024) d j → Leaves n w (e .at) (e .number) d j
         leaves es e i h c j o = rw (i, number es e i h c) o

@@ -26,7 +26,8 @@ module _ (n : ℕ) (w : List ℕ) (g b d : ℕ) where
         clashes = λ y. let i : _≡_ {A = ℕ} 0 1 = cc in absurd (omega arith);
       }
 
-      pub leads-atom : code-limit ≤ leaf-head w g d i → (r : Guess) → Suits n w (feature w g i) (leaf-head w g d i) r → LeafTold n w g b d i r
+      pub leads-atom : code-limit ≤ leaf-head w g d i → (r : Guess) → Suits n w (feature w g i) (leaf-head w g d i) r →
+          LeafTold n w g b d i r
       leads-atom l r s = record {
         agrees = λ y. record { next = next; says = inr (l, s .agrees y) };
         clashes = λ y. record { next = next; atom = l; foul = s .clashes y };

@@ -1,4 +1,5 @@
-// A flat graph is tried on the classes of the graphs that are pushed, and nothing is written. Its root has an arc to each of its other nodes, in order, and each of these is a leaf: it bears an atom or says nothing.
+// A flat graph is tried on the classes of the graphs that are pushed, and nothing is written. Its root has an arc to each of its other
+// nodes, in order, and each of these is a leaf: it bears an atom or says nothing.
 use crate::told::Guess;
 use area::map::LAST_ARC;
 use classes::push::class_of;
@@ -86,7 +87,8 @@ fn lead_all(w: &[u32], n: usize, g: usize, base: usize, d: usize, x: usize, t: &
     Guess::Agrees
 }
 
-// Tells of the graph at g whether it agrees with the graphs that are pushed, where it is flat and that is plain. Features are looked for through the sieve t.
+// Tells of the graph at g whether it agrees with the graphs that are pushed, where it is flat and that is plain. Features are looked
+// for through the sieve t.
 pub fn guess_through(w: &[u32], k: usize, n: usize, g: usize, t: &[u32]) -> Guess
     requires { ⌜ Pushing n k (now w) g ⌝ }
     requires { ⌜ Sieved (now w) (now t) ⌝ }

@@ -26,7 +26,8 @@ use Rattle.unify.specs.Making.{Begun, Begins}
 
 clash-none : (d e : Desc) → WellFormed d depth-limit → WellFormed e depth-limit → (w : List ℕ) → OpenedAs w d e Clashed → joined d e ≡ none
 unfolding Rattle.descriptions.specs.Modes.joined
-clash-none (desc g ds) (desc h es) p q w c = let z : join (g ∷ h ∷ []) ≡ none = none-join g (h ∷ []) (p .0, (q .0, tt)) c in rw (z, Rattle.descriptions.specs.Modes.joined) refl
+clash-none (desc g ds) (desc h es) p q w c = let z : join (g ∷ h ∷ []) ≡ none = none-join g (h ∷ []) (p .0, (q .0, tt)) c in
+    rw (z, Rattle.descriptions.specs.Modes.joined) refl
 
 loaded-again : (w w′ : List ℕ) → SIZE ≤ length w → Cleared w w′ → region WORDS 2048 w ≡ words w′
 unfolding words
@@ -50,7 +51,8 @@ module _ (w a b : List ℕ) (o : Opening w a b) (r : Opened) (w₁ : List ℕ) (
           let s : Stand (words w₂) d e n = subst (λ (z : List ℕ). Stand z d e n) (loaded-again w₁ w₂ long c) (t .0) in
           let f = holds-frame n _ k w₁ (t .1) w₂ (c .len) (λ j m. c .rest j (inl m)) in
           let u = undoable-frame n k w₁ (t .2) w₂ (c .len) (λ j m. c .rest j (inl m)) in
-          let x = first-stage w₂ d e n (omega arith) (q .first-well) (q .second-well) (few a d (q .first-is) (o .inputs .first-few)) (few b e (q .second-is) (o .inputs .second-few)) s k f u (c .marks) in
+          let x = first-stage w₂ d e n (omega arith) (q .first-well) (q .second-well) (few a d (q .first-is) (o .inputs .first-few))
+          (few b e (q .second-is) (o .inputs .second-few)) s k f u (c .marks) in
           (x .0, x .1 .0, x .1 .1 .0, x .1 .1 .1, c .marks)
         where
           few : (ws : List ℕ) (d : Desc) → ws ≡ layout.words d → length ws ≤ input-limit → length (layout.words d) ≤ input-limit

@@ -32,7 +32,13 @@ abbrev pub two : {a b w : List ℕ} → Opening w a b → Desc
 two o = o .inputs .second .0
 
 pub reads : {a b w : List ℕ} (o : Opening w a b) → Read a b (one o) (two o)
-reads o = record { first-well = o .inputs .first .1; second-well = o .inputs .second .1; first-is = o .inputs .first .2; second-is = o .inputs .second .2 }
+reads o = record {
+  first-well = o .inputs .first .1;
+  second-well = o .inputs .second .1;
+  first-is = o .inputs .first .2;
+  second-is =
+      o .inputs .second .2;
+}
 
 module _ (mode : ℕ) (a b w : List ℕ) (r : Opened) (w₁ : List ℕ) (g : Begins w a b r w₁) where
   pub makes-clash : r ≡ Clashed → Makes mode w a b Clash w₁
@@ -47,10 +53,16 @@ module _ (mode : ℕ) (a b w : List ℕ) (r : Opened) (w₁ : List ℕ) (g : Beg
     asks-show o = let x = begun (one o) (two o) (reads o) in joined-showing n _ (x .0) k w₁ (x .3) (x .4)
 
     pub makes-join : mode ≡ 0 → (l : ℕ) (w₂ : List ℕ) → Shows n k w₁ l w₂ → Makes mode w a b (Ready l 0) w₂
-    makes-join z l w₂ s = record { len = s .len ∙ g .len; rest = λ j h. s .rest j (omega arith) ∙ g .rest j (omega arith); told = λ d e h. subst (λ (m : ℕ). Meant m d e w₂ (Ready l 0)) (sym z) (told d e (begun d e h)) }
+    makes-join z l w₂ s = record {
+      len = s .len ∙ g .len;
+      rest = λ j h. s .rest j (omega arith)
+          ∙ g .rest j (omega arith);
+      told = λ d e h. subst (λ (m : ℕ). Meant m d e w₂ (Ready l 0)) (sym z) (told d e (begun d e h));
+    }
       where
         told : (d e : Desc) → Begun d e w₁ (Joined n k) → Meant 0 d e w₂ (Ready l 0)
-        told d e x = let y = s .told (joined-showing n _ (x .0) k w₁ (x .3) (x .4)) in meant-of (x .0) 0 w₂ (Ready l 0) d e (x .1) (x .2) (meant-join (x .0) (marking w₁) w₂ l (x .4) (y .0) (y .1))
+        told d e x = let y = s .told (joined-showing n _ (x .0) k w₁ (x .3) (x .4)) in
+            meant-of (x .0) 0 w₂ (Ready l 0) d e (x .1) (x .2) (meant-join (x .0) (marking w₁) w₂ l (x .4) (y .0) (y .1))
 
     -- ---- modes 1 and 2
     pub asks-quick : Opening w a b → Quickening n k w₁
@@ -60,7 +72,12 @@ module _ (mode : ℕ) (a b w : List ℕ) (r : Opened) (w₁ : List ℕ) (g : Beg
       pub makes-quick-fails : 1 ≤ mode → s ≡ Fails → Makes mode w a b QuickFails w₂
       makes-quick-fails h e =
           let (m, c) = f .failing e in
-          record { len = m .len ∙ g .len; rest = λ j l. m .rest j (omega arith) ∙ g .rest j (omega arith); told = λ d e z. told d e (begun d e z) c }
+          record {
+            len = m .len ∙ g .len;
+            rest = λ j l. m .rest j (omega arith)
+                ∙ g .rest j (omega arith);
+            told = λ d e z. told d e (begun d e z) c;
+          }
         where
           told : (d e : Desc) → Begun d e w₁ (Joined n k) →
               ((t : List ℕ) (p : Pair n t) → Stage n t p k w₁ → marking w₁ ≡ all-kept → quick-at (p .j) ≡ none) →
@@ -76,7 +93,8 @@ module _ (mode : ℕ) (a b w : List ℕ) (r : Opened) (w₁ : List ℕ) (g : Beg
         left d z x = f .standing k′ i e .1 (words w₁) (x .0) (x .3) (x .4)
 
         pub asks-show-quick : Opening w a b → Showing n k′ w₂
-        asks-show-quick o = let x = begun (one o) (two o) (reads o) in let y = left (one o) (two o) x in quick-showing n (words w₁) (x .0) k′ w₂ (y .1) (y .0)
+        asks-show-quick o = let x = begun (one o) (two o) (reads o) in let y = left (one o) (two o) x in
+            quick-showing n (words w₁) (x .0) k′ w₂ (y .1) (y .0)
 
         pub makes-quick : mode ≡ 1 → (l : ℕ) (w₃ : List ℕ) → Shows n k′ w₂ l w₃ → Makes mode w a b (Ready l 0) w₃
         makes-quick z l w₃ v = record {
@@ -92,7 +110,8 @@ module _ (mode : ℕ) (a b w : List ℕ) (r : Opened) (w₁ : List ℕ) (g : Beg
                 meant-of (x .0) 1 w₃ (Ready l 0) d e (x .1) (x .2) (meant-quick (x .0) (marking w₂) (y .0) w₃ l (u .0) (u .1))
 
         pub asks-complete : Opening w a b → Completing n k′ w₂
-        asks-complete o = let x = begun (one o) (two o) (reads o) in let y = left (one o) (two o) x in record { t = words w₁; p = x .0; stage = y .1; left = y .0 }
+        asks-complete o = let x = begun (one o) (two o) (reads o) in let y = left (one o) (two o) x in
+            record { t = words w₁; p = x .0; stage = y .1; left = y .0 }
 
         pub makes-full : mode ≡ 2 → (v : Made) (w₃ : List ℕ) → Completes n k′ w₂ v w₃ → Makes mode w a b v w₃
         makes-full z v w₃ c = record {

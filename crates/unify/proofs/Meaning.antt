@@ -34,13 +34,16 @@ none-some : {A : Type 0} {o : Option A} {x : A} → o ≡ none → o ≡ some x 
 none-some e f = let z : _≡_ {A = ℕ} 0 1 = cc in absurd (omega arith)
 
 -- for the descriptions themselves
-pub meant-of : {n : ℕ} {t : List ℕ} (p : Pair n t) (mode : ℕ) (w : List ℕ) (r : Made) (d e : Desc) → p .d ≡ d → p .e ≡ e → Meant mode (p .d) (p .e) w r → Meant mode d e w r
+pub meant-of : {n : ℕ} {t : List ℕ} (p : Pair n t) (mode : ℕ) (w : List ℕ) (r : Made) (d e : Desc) → p .d ≡ d → p .e ≡ e →
+    Meant mode (p .d) (p .e) w r → Meant mode d e w r
 meant-of p mode w r d e f g h = subst (λ (z : Desc). Meant mode z e w r) f (subst (λ (z : Desc). Meant mode (p .d) z w r) g h)
 
 module _ {n : ℕ} {t : List ℕ} (p : Pair n t) where
   -- a result that the mode makes, after no clash
-  ready : (mode : ℕ) (s : Desc) (w : List ℕ) (l r : ℕ) → ¬ (Clashes mode (p .d) (p .e)) → ¬ (rules.TooMany mode (p .d) (p .e)) → mode-result mode (p .d) (p .e) ≡ some s
-      → r ≡ mode-readings mode (p .d) (p .e) → l ≡ length (words s) → Stands w RESULT (words s) (RESULT + l) → Meant mode (p .d) (p .e) w (Ready l r)
+  ready : (mode : ℕ) (s : Desc) (w : List ℕ) (l r : ℕ) → ¬ (Clashes mode (p .d) (p .e)) → ¬ (rules.TooMany mode (p .d) (p .e)) →
+      mode-result mode (p .d) (p .e) ≡ some s
+      → r ≡ mode-readings mode (p .d) (p .e) → l ≡ length (words s) → Stands w RESULT (words s) (RESULT + l) →
+      Meant mode (p .d) (p .e) w (Ready l r)
   ready mode s w l r c m e q h z = (c, m, s, e, h, q, z)
 
   abbrev pub left : Marking → Desc
@@ -54,8 +57,10 @@ module _ {n : ℕ} {t : List ℕ} (p : Pair n t) where
   pub join-result : (m : Marking) → m ≡ all-kept → joined (p .d) (p .e) ≡ some (left m)
   join-result m e = joined-shown _ _ p ∙ ap (λ (k : Marking). some (left k)) (sym e)
 
-  pub meant-join : (m : Marking) (w : List ℕ) (l : ℕ) → m ≡ all-kept → l ≡ length (words (left m)) → Stands w RESULT (words (left m)) (RESULT + l) → Meant 0 (p .d) (p .e) w (Ready l 0)
-  meant-join m w l e h z = ready 0 (left m) w l 0 (λ c. no c) (λ c. let k : _≡_ {A = ℕ} 0 2 = c .0 in absurd (omega arith)) (join-result m e) refl h z
+  pub meant-join : (m : Marking) (w : List ℕ) (l : ℕ) → m ≡ all-kept → l ≡ length (words (left m)) →
+      Stands w RESULT (words (left m)) (RESULT + l) → Meant 0 (p .d) (p .e) w (Ready l 0)
+  meant-join m w l e h z = ready 0 (left m) w l 0 (λ c. no c) (λ c. let k : _≡_ {A = ℕ} 0 2 = c .0 in
+      absurd (omega arith)) (join-result m e) refl h z
     where
       no : Clashes 0 (p .d) (p .e) → ⊥
       no (inl c) = joins c
@@ -73,12 +78,15 @@ module _ {n : ℕ} {t : List ℕ} (p : Pair n t) where
     stands-quick mode (inl c) = joins c
     stands-quick mode (inr c) = none-some (c .1) quick-result
 
-    pub meant-quick : (w : List ℕ) (l : ℕ) → l ≡ length (words (left m)) → Stands w RESULT (words (left m)) (RESULT + l) → Meant 1 (p .d) (p .e) w (Ready l 0)
-    meant-quick w l h z = ready 1 (left m) w l 0 (stands-quick 1) (λ c. let k : _≡_ {A = ℕ} 1 2 = c .0 in absurd (omega arith)) quick-result refl h z
+    pub meant-quick : (w : List ℕ) (l : ℕ) → l ≡ length (words (left m)) → Stands w RESULT (words (left m)) (RESULT + l) →
+        Meant 1 (p .d) (p .e) w (Ready l 0)
+    meant-quick w l h z = ready 1 (left m) w l 0 (stands-quick 1) (λ c. let k : _≡_ {A = ℕ} 1 2 = c .0 in
+        absurd (omega arith)) quick-result refl h z
 
     -- ---- mode 2
     few : ltb choice-limit (number (left m)) ≡ false → ¬ (rules.TooMany 2 (p .d) (p .e))
-    few e (z, r, h, l) = let same : left m ≡ r = some-one (sym quick-result ∙ h) in let f = ltb-false choice-limit (number (left m)) e in let k : number (left m) ≡ number r = ap number same in absurd (omega arith)
+    few e (z, r, h, l) = let same : left m ≡ r = some-one (sym quick-result ∙ h) in let f = ltb-false choice-limit (number (left m)) e in
+        let k : number (left m) ≡ number r = ap number same in absurd (omega arith)
       where
         some-one : {a b : Desc} → some a ≡ some b → a ≡ b
         some-one e = cc
@@ -94,5 +102,6 @@ module _ {n : ℕ} {t : List ℕ} (p : Pair n t) where
           zero none q (full-none h) = h
           zero (some r) q (full-some s h) = absurd (none-some q refl)
 
-      pub meant-full : (s : Desc) (w : List ℕ) (l r : ℕ) → full (p .d) (p .e) ≡ some s → r ≡ consistent (p .d) (p .e) → l ≡ length (words s) → Stands w RESULT (words s) (RESULT + l) → Meant 2 (p .d) (p .e) w (Ready l r)
+      pub meant-full : (s : Desc) (w : List ℕ) (l r : ℕ) → full (p .d) (p .e) ≡ some s → r ≡ consistent (p .d) (p .e) →
+          l ≡ length (words s) → Stands w RESULT (words s) (RESULT + l) → Meant 2 (p .d) (p .e) w (Ready l r)
       meant-full s w l r f q h z = ready 2 s w l r (stands-quick 2) (few e) f q h z

@@ -39,7 +39,8 @@ stands-region ws (x ∷ xs) p q h =
     let (l, e, t) = stands-cons ws x xs p q .0 h in
     let i : take (length xs) (drop (p + 1) ws) ≡ xs = stands-region ws xs (p + 1) q t in
     let z : p + 1 ≡ suc p = omega arith in
-    ap (take (suc (length xs))) (drop-cons ws p 0 l) ∙ ap (λ (y : ℕ). y ∷ take (length xs) (drop (suc p) ws)) e ∙ ap (λ (k : ℕ). x ∷ take (length xs) (drop k ws)) (sym z) ∙ ap (λ (l : List ℕ). x ∷ l) i
+    ap (take (suc (length xs))) (drop-cons ws p 0 l) ∙ ap (λ (y : ℕ). y ∷ take (length xs) (drop (suc p) ws)) e
+    ∙ ap (λ (k : ℕ). x ∷ take (length xs) (drop k ws)) (sym z) ∙ ap (λ (l : List ℕ). x ∷ l) i
 
 -- only the first n words of two areas differ
 wiped-alike : (n : ℕ) (w w′ : List ℕ) → length w′ ≡ length w → ((j : ℕ) → n ≤ j → getD w′ j 0 ≡ getD w j 0) → wiped n w′ ≡ wiped n w
@@ -47,7 +48,8 @@ unfolding wiped
 wiped-alike n w w′ e h =
     let a = length-drop n w in
     let b = length-drop n w′ in
-    ap (λ (l : List ℕ). replicate n 0 ++ l) (ext-getD 0 (drop n w′) (drop n w) (omega arith) (λ j l. getD-drop n w′ j 0 ∙ h (n + j) (omega arith) ∙ sym (getD-drop n w j 0)))
+    ap (λ (l : List ℕ). replicate n 0 ++ l)
+    (ext-getD 0 (drop n w′) (drop n w) (omega arith) (λ j l. getD-drop n w′ j 0 ∙ h (n + j) (omega arith) ∙ sym (getD-drop n w j 0)))
 
 -- the row of a refusal
 abbrev told : ℕ → Row
@@ -91,7 +93,8 @@ module _ (c : Call) (s w : List ℕ) where
 pub no-image : (ws : List ℕ) (r : Judgement) → Malformed ≡ r → Judged ws r → ¬ (Image ws)
 no-image ws r e j i = let f : r ≡ Fine = j .complete i in let z : _≡_ {A = ℕ} 0 1 = cc in absurd (omega arith)
 
-pub opening : (a b w : List ℕ) → working-size ≤ length w → length a ≤ input-limit → length b ≤ input-limit → Image a → Image b → Opening w a b
+pub opening : (a b w : List ℕ) → working-size ≤ length w → length a ≤ input-limit → length b ≤ input-limit → Image a → Image b →
+    Opening w a b
 opening a b w l fa fb ia ib = record { long = l; inputs = record { first = ia; second = ib; first-few = fa; second-few = fb } }
 
 -- ---- the other numbers

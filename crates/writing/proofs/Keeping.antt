@@ -34,7 +34,14 @@ kept-trans k a b c u v w p q =
     }
 
 pub kept-both : (k a b : ℕ) (u v w : List ℕ) → Kept k a b u v → Kept k a b v w → Kept k a b u w
-kept-both k a b u v w p q = record { len = q .len ∙ p .len; more = p .more; low = λ j h. q .low j h ∙ p .low j h; mid = λ j h l. q .mid j h l ∙ p .mid j h l; high = λ j h. q .high j h ∙ p .high j h }
+kept-both k a b u v w p q = record {
+  len = q .len ∙ p .len;
+  more = p .more;
+  low = λ j h. q .low j h
+      ∙ p .low j h;
+  mid = λ j h l. q .mid j h l ∙ p .mid j h l;
+  high = λ j h. q .high j h ∙ p .high j h;
+}
 
 pub kept-wider : (k a b a' : ℕ) (v w : List ℕ) → Kept k a b v w → a' ≤ a → Kept k a' b v w
 kept-wider k a b a' v w p h =
@@ -52,8 +59,10 @@ kept-put k at at' p v w h a b = record {
 }
 
 -- words that stand there still do
-pub kept-stands : (k at at' : ℕ) (w w' : List ℕ) → Kept k at at' w w' → (xs : List ℕ) (p q : ℕ) → WORDS ≤ p → q ≤ RESULT + at → Stands w p xs q → Stands w' p xs q
-kept-stands k at at' w w' r xs p q a b = stands-frame w w' xs p q (λ j g h l. (let e = r .len in omega arith, r .mid j (omega arith) (omega arith)))
+pub kept-stands : (k at at' : ℕ) (w w' : List ℕ) → Kept k at at' w w' → (xs : List ℕ) (p q : ℕ) → WORDS ≤ p → q ≤ RESULT + at →
+    Stands w p xs q → Stands w' p xs q
+kept-stands k at at' w w' r xs p q a b =
+    stands-frame w w' xs p q (λ j g h l. (let e = r .len in omega arith, r .mid j (omega arith) (omega arith)))
 
 -- a chain of then is one of before
 pub kept-chain : (k at at' : ℕ) (w w' : List ℕ) → Kept k at at' w w' → (x : ℕ) (xs : List ℕ) → Chain w' x xs → Chain w x xs
@@ -80,7 +89,8 @@ module _ (n k at at' : ℕ) (w w' : List ℕ) (r : Kept k at at' w w') (lab : �
     pub kept-classes : Classes n k w' G lab ord
     kept-classes =
         let b = c .below in let h = c .long in let l = r .len in
-        let par : region PARENT n w' ≡ region PARENT n w = region-ext PARENT n w' w (omega arith) l (λ j h. r .low (PARENT + j) (omega arith)) in
+        let par : region PARENT n w' ≡ region PARENT n w =
+        region-ext PARENT n w' w (omega arith) l (λ j h. r .low (PARENT + j) (omega arith)) in
         record {
           long = omega arith;
           below = b;
@@ -93,14 +103,18 @@ module _ (n k at at' : ℕ) (w w' : List ℕ) (r : Kept k at at' w w') (lab : �
           some = c .some;
           first = c .first;
           atoms = λ i a h e. word i h ∙ c .atoms i a h e;
-          fans = λ i l h e. let s = c .fans i l h e in (subst (λ (z : ℕ). z ≤ 2048) (sym (word i h)) (s .0), kept-fan (getD w' (getD ord i 0) 0) 0 l (subst (λ (z : ℕ). Fan n w lab ord z 0 l) (sym (word i h)) (s .1)));
+          fans = λ i l h e. let s = c .fans i l h e in (
+            subst (λ (z : ℕ). z ≤ 2048) (sym (word i h)) (s .0),
+            kept-fan (getD w' (getD ord i 0) 0) 0 l (subst (λ (z : ℕ). Fan n w lab ord z 0 l) (sym (word i h)) (s .1)),
+          );
         }
       where
         word : (i : ℕ) → i < length ord → getD w' (getD ord i 0) 0 ≡ getD w (getD ord i 0) 0
         word i h = r .low (getD ord i 0) (let a = c .low i h in let b = c .below in omega arith)
 
 -- numbers are below the result
-pub met-kept : (n k m : ℕ) (w w' : List ℕ) (G : Graph) (lab : ℕ → ℕ) (ord : List ℕ) → Classes n k w G lab ord → ((j : ℕ) → j < WORDS → getD w' j 0 ≡ getD w j 0) → Met k m ord w → Met k m ord w'
+pub met-kept : (n k m : ℕ) (w w' : List ℕ) (G : Graph) (lab : ℕ → ℕ) (ord : List ℕ) → Classes n k w G lab ord →
+    ((j : ℕ) → j < WORDS → getD w' j 0 ≡ getD w j 0) → Met k m ord w → Met k m ord w'
 met-kept n k m w w' G lab ord c f s =
     let b = c .below in let r = c .room in let l = s .few in
     record {

@@ -38,14 +38,16 @@ position : (x : ℕ) (l : List ℕ) → List·Memᴰ x l → (i : ℕ) × ((i < 
 position x [] m = absurd (List·Memᴰ·not-nil m)
 position x (y ∷ l) m = go (List·Memᴰ·cases-cons m) (position x l)
   where
-    go : (x ≡ y) ⊎ List·Memᴰ x l → (List·Memᴰ x l → (i : ℕ) × ((i < length l) × (getD l i 0 ≡ x))) → (i : ℕ) × ((i < length (y ∷ l)) × (getD (y ∷ l) i 0 ≡ x))
+    go : (x ≡ y) ⊎ List·Memᴰ x l → (List·Memᴰ x l → (i : ℕ) × ((i < length l) × (getD l i 0 ≡ x))) →
+        (i : ℕ) × ((i < length (y ∷ l)) × (getD (y ∷ l) i 0 ≡ x))
     go (inl e) s = (0, (omega arith, sym e))
     go (inr k) s = let p = s k in let q = p .1 .0 in (suc (p .0), (omega arith, p .1 .1))
 
 distinct : (l : List ℕ) → ((i j : ℕ) → i < length l → j < length l → getD l i 0 ≡ getD l j 0 → i ≡ j) → Distinct l
 distinct [] f = tt
 distinct (x ∷ l) f = (
-  λ m. let p = position x l m in let q = p .1 .0 in let e : suc (p .0) ≡ 0 = f (suc (p .0)) 0 (omega arith) (omega arith) (p .1 .1) in omega arith,
+  λ m. let p = position x l m in let q = p .1 .0 in let e : suc (p .0) ≡ 0 = f (suc (p .0)) 0 (omega arith) (omega arith) (p .1 .1) in
+      omega arith,
   distinct l (λ i j a b e. let d : suc i ≡ suc j = f (suc i) (suc j) (omega arith) (omega arith) e in omega arith),
 )
 
@@ -59,7 +61,8 @@ unfolding roots-from tops
 roots-length i [] = refl
 roots-length i (x ∷ P) = go (eqb x i) (roots-length (suc i) P)
   where
-    go : (b : Bool) → length (roots-from (suc i) P) ≡ tops (suc i) P → length {A = ℕ} (elim b [ true ↦ i ∷ roots-from (suc i) P | false ↦ roots-from (suc i) P ]) ≡ pick b 1 0 + tops (suc i) P
+    go : (b : Bool) → length (roots-from (suc i) P) ≡ tops (suc i) P →
+        length {A = ℕ} (elim b [ true ↦ i ∷ roots-from (suc i) P | false ↦ roots-from (suc i) P ]) ≡ pick b 1 0 + tops (suc i) P
     go true e = omega arith
     go false e = omega arith
 
@@ -71,9 +74,11 @@ roots-in i (x ∷ P) zero h e = go (eqb x i) (test x i)
     go : (b : Bool) → Test x i b → List·Memᴰ (i + 0) (elim b [ true ↦ i ∷ roots-from (suc i) P | false ↦ roots-from (suc i) P ])
     go true t = let q : i + 0 ≡ i = omega arith in List·Memᴰ·head q
     go false (differ n) = absurd (n (omega arith))
-roots-in i (x ∷ P) (suc a) h e = go (eqb x i) (subst (λ (z : ℕ). List·Memᴰ z (roots-from (suc i) P)) (omega arith) (roots-in (suc i) P a (omega arith) (omega arith)))
+roots-in i (x ∷ P) (suc a) h e =
+    go (eqb x i) (subst (λ (z : ℕ). List·Memᴰ z (roots-from (suc i) P)) (omega arith) (roots-in (suc i) P a (omega arith) (omega arith)))
   where
-    go : (b : Bool) → List·Memᴰ (i + suc a) (roots-from (suc i) P) → List·Memᴰ (i + suc a) (elim b [ true ↦ i ∷ roots-from (suc i) P | false ↦ roots-from (suc i) P ])
+    go : (b : Bool) → List·Memᴰ (i + suc a) (roots-from (suc i) P) →
+        List·Memᴰ (i + suc a) (elim b [ true ↦ i ∷ roots-from (suc i) P | false ↦ roots-from (suc i) P ])
     go true m = List·Memᴰ·tail m
     go false m = m
 
@@ -94,8 +99,14 @@ module _ (n : ℕ) (es : List Entry) (k : ℕ) (w : List ℕ) (h : Holds n es k 
   spot-at : (i : ℕ) → i < length G → (s : Spots es) × ((j .class s ≡ i) × (getD ord i 0 ≡ class h (number-of es s)))
   unfolding ord class-at
   spot-at i l =
-      let p = go (decLt i (length G)) in
-      (p .0, (p .1 .0, ranged (λ (i : ℕ). class-at i (decLt i (length G))) 0 (length G) i l ∙ ap (λ (i : ℕ). class-at i (decLt i (length G))) (omega arith) ∙ p .1 .1))
+      let p = go (decLt i (length G)) in (
+        p .0,
+        (
+          p .1 .0,
+          ranged (λ (i : ℕ). class-at i (decLt i (length G))) 0 (length G) i l
+              ∙ ap (λ (i : ℕ). class-at i (decLt i (length G))) (omega arith) ∙ p .1 .1,
+        ),
+      )
     where
       go : (d : Dec (i < length G)) → (s : Spots es) × ((j .class s ≡ i) × (class-at i d ≡ class h (number-of es s)))
       go (yes m) = let o = j .onto i m in (o .0, (o .1, refl))
@@ -127,7 +138,8 @@ module _ (n : ℕ) (es : List Entry) (k : ℕ) (w : List ℕ) (h : Holds n es k 
       omega arith
 
   top : (i : ℕ) → i < length ord → class h (getD ord i 0) ≡ getD ord i 0
-  top i l = let m = many in let p = spot-at i (omega arith) in rw (p .1 .1) (class-top n es k w h (number-of es (p .0)) (spot-low n es k w h (p .0)))
+  top i l = let m = many in let p = spot-at i (omega arith) in
+      rw (p .1 .1) (class-top n es k w h (number-of es (p .0)) (spot-low n es k w h (p .0)))
 
   abbrev P : List ℕ
   P = region PARENT n w
@@ -149,7 +161,8 @@ module _ (n : ℕ) (es : List Entry) (k : ℕ) (w : List ℕ) (h : Holds n es k 
       let d : length ord ≤ length (roots-from 0 P) = distinct-length ord (roots-from 0 P) (distinct ord own)
       (λ x i. let p = position x ord i in let a = low (p .0) (p .1 .0) in
       let q : getD P (getD ord (p .0) 0) 0 ≡ getD ord (p .0) 0 = root (getD ord (p .0) 0) a (top (p .0) (p .1 .0)) in
-      subst (λ (z : ℕ). List·Memᴰ z (roots-from 0 P)) (omega (arith, p .1 .1)) (roots-in 0 P (getD ord (p .0) 0) (omega arith) (omega arith))) in
+      subst (λ (z : ℕ). List·Memᴰ z (roots-from 0 P)) (omega (arith, p .1 .1))
+      (roots-in 0 P (getD ord (p .0) 0) (omega arith) (omega arith))) in
       let e = roots-length 0 P in
       omega arith
 
@@ -176,7 +189,8 @@ module _ (n : ℕ) (es : List Entry) (k : ℕ) (w : List ℕ) (h : Holds n es k 
           go (no b) = omega arith
           go (yes b) =
               let p = held i l .atom-from b in
-              let d : nodeAt G i ≡ atom (p .1 .1 .0) = ap (nodeAt G) (sym (numbered (p .0) (p .1 .0))) ∙ j .atom-in (p .0) (p .1 .1 .0) (p .1 .1 .1 .0) in
+              let d : nodeAt G i ≡ atom (p .1 .1 .0) = ap (nodeAt G) (sym (numbered (p .0) (p .1 .0)))
+              ∙ j .atom-in (p .0) (p .1 .1 .0) (p .1 .1 .1 .0) in
               let z : _≡_ {A = ℕ} 0 1 = cc in
               absurd (omega arith)
 
@@ -188,22 +202,30 @@ module _ (n : ℕ) (es : List Entry) (k : ℕ) (w : List ℕ) (h : Holds n es k 
         chain = held i l .chain;
         linked = held i l .linked chained;
         short = held i l .short;
-        inside = λ q m. let p = held i l .arc-from q m in (p .0, subst (λ (z : ℕ). z < n) (p .1 .1 .1 .1 .0) (spot-low n es k w h (p .1 .1 .0)));
+        inside = λ q m. let p = held i l .arc-from q m in
+            (p .0, subst (λ (z : ℕ). z < n) (p .1 .1 .1 .1 .0) (spot-low n es k w h (p .1 .1 .0)));
         from = λ q m b.
             let p = held i l .arc-from q m in
             let s = p .1 .0 in
             let t = p .1 .1 .0 in
-            let x : List·Memᴰ (getD (words w) q 0, j .class t) (arcsOf (nodeAt G (j .class s))) = j .arc-in s (getD (words w) q 0) t (p .1 .1 .1 .1 .1) in (
+            let x : List·Memᴰ (getD (words w) q 0, j .class t) (arcsOf (nodeAt G (j .class s))) =
+            j .arc-in s (getD (words w) q 0) t (p .1 .1 .1 .1 .1) in (
               j .class t,
               (
-                subst (λ (z : List (ℕ × ℕ)). List·Memᴰ (getD (words w) q 0, j .class t) z) (ap (λ (z : ℕ). arcsOf (nodeAt G z)) (numbered s (p .1 .1 .1 .0)) ∙ arcs-there) x,
+                subst (λ (z : List (ℕ × ℕ)). List·Memᴰ (getD (words w) q 0, j .class t) z)
+                    (ap (λ (z : ℕ). arcsOf (nodeAt G z)) (numbered s (p .1 .1 .1 .0)) ∙ arcs-there) x,
                 ((let y = j .inside t in let z = many in omega arith), ap (class h) (sym (p .1 .1 .1 .1 .0)) ∙ sym (spot-class t)),
               ),
             );
         to = λ f t m.
             let p = j .arc-from i f t (subst (λ (z : List (ℕ × ℕ)). List·Memᴰ (f, t) z) (sym arcs-there) m) in
-            let o = held i l .arc-in (p .0) f (p .1) (p .4) (labelled (p .0) (p .2)) .1 in
-            (o .0, (first-mem (words w) f (held i l .chain) (o .0) (o .1 .0), first-feature (words w) f (held i l .chain) (o .0) (o .1 .0)));
+            let o = held i l .arc-in (p .0) f (p .1) (p .4) (labelled (p .0) (p .2)) .1 in (
+              o .0,
+              (
+                first-mem (words w) f (held i l .chain) (o .0) (o .1 .0),
+                first-feature (words w) f (held i l .chain) (o .0) (o .1 .0),
+              ),
+            );
       }
 
   pub source : Classes n k w G (class h) ord

@@ -32,7 +32,14 @@ module _ (n k : ℕ) (w : List ℕ) (o : ℕ) (p : Writing n k w o) where
     cleared-kept : (at : ℕ) → Kept k at at w w1
     cleared-kept at =
         let f = few in
-        record { len = z .len; more = omega arith; low = λ j h. z .low j (omega arith); mid = λ j h l. z .high j h; high = λ j h. z .high j (omega arith) }
+        record {
+          len = z .len;
+          more = omega arith;
+          low = λ j h. z .low j (omega arith);
+          mid = λ j h l. z .high j h;
+          high =
+              λ j h. z .high j (omega arith);
+        }
 
     -- no class has a number yet
     module _ (G : Graph) (lab : ℕ → ℕ) (ord : List ℕ) (s : Classes n k w G lab ord) where
@@ -40,7 +47,13 @@ module _ (n k : ℕ) (w : List ℕ) (o : ℕ) (p : Writing n k w o) where
       cleared = kept-classes n k o o w w1 (cleared-kept o) lab ord G s
 
       none : Met k 0 ord w1
-      none = record { few = omega arith; new = λ i h l. z .is (getD ord i 0) (s .low i l); old = λ i h. absurd (omega arith); order = λ i h. absurd (omega arith) }
+      none = record {
+        few = omega arith;
+        new = λ i h l. z .is (getD ord i 0) (s .low i l);
+        old = λ i h. absurd (omega arith);
+        order =
+            λ i h. absurd (omega arith);
+      }
 
       some : 0 < n
       some = let a = s .low 0 (s .some) in omega arith
@@ -61,7 +74,18 @@ module _ (n k : ℕ) (w : List ℕ) (o : ℕ) (p : Writing n k w o) where
       writing-number =
           let lab = class (p .holds) in
           let ord = ord n (p .es) k w (p .holds) G (p .joined) in
-          record { G = G; lab = lab; ord = ord; classes = cleared G lab ord s; met = none G lab ord s; t = 0; inside = s .some; next = omega arith; is = first G lab ord s c r }
+          record {
+            G = G;
+            lab = lab;
+            ord = ord;
+            classes = cleared G lab ord s;
+            met = none G lab ord s;
+            t = 0;
+            inside = s .some;
+            next =
+                omega arith;
+            is = first G lab ord s c r;
+          }
 
       module _ (m : ℕ) (w2 : List ℕ) (u : Numbers n k 0 c w1 m w2) where
         begun-kept : (at : ℕ) → Kept k at at w w2
@@ -84,12 +108,22 @@ module _ (n k : ℕ) (w : List ℕ) (o : ℕ) (p : Writing n k w o) where
             let lab = class (p .holds) in
             let ord = ord n (p .es) k w (p .holds) G (p .joined) in
             let b = p .room in
-            record { G = G; lab = lab; ord = ord; classes = begun G lab ord s; marks = one G lab ord s; canonical = p .joined .canonical; fits = omega arith }
+            record {
+              G = G;
+              lab = lab;
+              ord = ord;
+              classes = begun G lab ord s;
+              marks = one G lab ord s;
+              canonical = p .joined .canonical;
+              fits = omega arith;
+            }
 
         module _ (at m' : ℕ) (w3 : List ℕ) (v : Listed n k w2 (o + 1) at m' w3) where
           pub writing-small : (m' ≤ 4096) × (length w3 ≡ length w)
           writing-small =
-              let t = v .told G (class (p .holds)) (ord n (p .es) k w (p .holds) G (p .joined)) (begun G (class (p .holds)) (ord n (p .es) k w (p .holds) G (p .joined)) s) (one G (class (p .holds)) (ord n (p .es) k w (p .holds) G (p .joined)) s) (p .joined .canonical) in
+              let t = v .told G (class (p .holds)) (ord n (p .es) k w (p .holds) G (p .joined))
+              (begun G (class (p .holds)) (ord n (p .es) k w (p .holds) G (p .joined)) s)
+              (one G (class (p .holds)) (ord n (p .es) k w (p .holds) G (p .joined)) s) (p .joined .canonical) in
               let e = t .0 in let l = s .many in let r = s .room in
               (omega arith, v .kept .len ∙ begun-kept o .len)
 
@@ -99,7 +133,8 @@ module _ (n k : ℕ) (w : List ℕ) (o : ℕ) (p : Writing n k w o) where
           kept : Kept k o at w w4
           kept =
               let f = v .kept .more in
-              kept-both k o at w w3 w4 (kept-trans k o o at w w2 w3 (begun-kept o) (kept-wider k (o + 1) at o w2 w3 (v .kept) (omega arith))) (kept-put k o at o m' w3 few (omega arith) (omega arith))
+              kept-both k o at w w3 w4 (kept-trans k o o at w w2 w3 (begun-kept o)
+              (kept-wider k (o + 1) at o w2 w3 (v .kept) (omega arith))) (kept-put k o at o m' w3 few (omega arith) (omega arith))
 
           pub writes : Writes n k w o at w4
           unfolding Stands weight
@@ -116,7 +151,12 @@ module _ (n k : ℕ) (w : List ℕ) (o : ℕ) (p : Writing n k w o) where
                     (
                       simp length-set (omega arith),
                       getD-set-same w3 (RESULT + o) m' 0 (omega arith) ∙ t .0,
-                      stands-frame w3 w4 (nodes-words G) (RESULT + o + 1) (RESULT + at) (λ i a l u. (omega (arith, length-set w3 (RESULT + o) m'), getD-set-other w3 (RESULT + o) i m' 0 (λ q. omega arith))) (subst (λ (i : ℕ). Stands w3 i (nodes-words G) (RESULT + at)) (omega arith) (t .1)),
+                      stands-frame w3 w4 (nodes-words G) (RESULT + o + 1) (RESULT + at)
+                          (λ i a l u. (
+                            omega (arith, length-set w3 (RESULT + o) m'),
+                            getD-set-other w3 (RESULT + o) i m' 0 (λ q. omega arith),
+                          ))
+                          (subst (λ (i : ℕ). Stands w3 i (nodes-words G) (RESULT + at)) (omega arith) (t .1)),
                     ),
                     holds-again n es k w h w4 (kept .len) (λ i l. kept .low i (omega arith)) (λ i a l. kept .mid i a (omega arith)),
                   ),

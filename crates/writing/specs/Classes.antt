@@ -10,7 +10,8 @@ use Rattle.area.specs.Region.{region, words}
 use Rattle.forest.specs.Forest.{Shape, Root}
 use Rattle.forest.specs.State.{targets, Chain}
 
--- the chain from x has the arcs l, whose features are from low on, and else only arcs below low: ord lists the classes of the nodes, lab has the class of each number
+-- the chain from x has the arcs l, whose features are from low on, and else only arcs below low: ord lists the classes of the nodes,
+-- lab has the class of each number
 pub record Fan (n : ℕ) (w : List ℕ) (lab : ℕ → ℕ) (ord : List ℕ) (x low : ℕ) (l : List (ℕ × ℕ)) : Type 0 where
   pub chain : List ℕ
   pub linked : Chain w x chain
@@ -20,7 +21,8 @@ pub record Fan (n : ℕ) (w : List ℕ) (lab : ℕ → ℕ) (ord : List ℕ) (x 
       → (t : ℕ) × (List·Memᴰ (getD (words w) q 0, t) l × ((t < length ord) × (lab (getD (targets w) q 0) ≡ getD ord t 0)))
   pub to : (f t : ℕ) → List·Memᴰ (f, t) l → (q : ℕ) × (List·Memᴰ q chain × (getD (words w) q 0 ≡ f))
 
--- "Without a clash the classes form the joined graph.": the classes of w are the nodes of G; ord lists them in the order of their numbers, lab has the class of each number below n
+-- "Without a clash the classes form the joined graph.": the classes of w are the nodes of G; ord lists them in the order of their
+-- numbers, lab has the class of each number below n
 pub record Classes (n k : ℕ) (w : List ℕ) (G : Graph) (lab : ℕ → ℕ) (ord : List ℕ) : Type 0 where
   pub long : SIZE ≤ length w
   pub below : n ≤ 1024
@@ -33,7 +35,8 @@ pub record Classes (n k : ℕ) (w : List ℕ) (G : Graph) (lab : ℕ → ℕ) (o
   pub some : 0 < length ord
   pub first : lab 0 ≡ getD ord 0 0
   pub atoms : (i a : ℕ) → i < length ord → nodeAt G i ≡ atom a → getD w (getD ord i 0) 0 ≡ code-limit + a
-  pub fans : (i : ℕ) (l : List (ℕ × ℕ)) → i < length ord → nodeAt G i ≡ arcs l → (getD w (getD ord i 0) 0 ≤ 2048) × Fan n w lab ord (getD w (getD ord i 0) 0) 0 l
+  pub fans : (i : ℕ) (l : List (ℕ × ℕ)) → i < length ord → nodeAt G i ≡ arcs l →
+      (getD w (getD ord i 0) 0 ≤ 2048) × Fan n w lab ord (getD w (getD ord i 0) 0) 0 l
 
 -- "Numbering is by first arrival": the first m classes of ord have their numbers
 pub record Met (k m : ℕ) (ord w : List ℕ) : Type 0 where

@@ -57,7 +57,8 @@ pub record Numbering (n k m c : ℕ) (w : List ℕ) : Type 0 where
 -- "a target is either a number already met or the next unused one": the class c has its number, and r classes are met
 pub record Numbers (n k m c : ℕ) (w : List ℕ) (r : ℕ) (w' : List ℕ) : Type 0 where
   pub kept : (at : ℕ) → Kept k at at w w'
-  pub told : (G : Graph) (lab : ℕ → ℕ) (ord : List ℕ) → Classes n k w G lab ord → Met k m ord w → (t : ℕ) → t < length ord → t ≤ m → c ≡ getD ord t 0
+  pub told : (G : Graph) (lab : ℕ → ℕ) (ord : List ℕ) → Classes n k w G lab ord → Met k m ord w → (t : ℕ) → t < length ord → t ≤ m →
+      c ≡ getD ord t 0
       → Met k r ord w' × ((r ≡ max m (suc t)) × (getD w' (STACK + c) 0 ≡ suc t))
 
 -- what an arc asks: q is an arc to the node t, which is met or the next
@@ -78,7 +79,8 @@ pub record Pointing (n k : ℕ) (w : List ℕ) (q at m : ℕ) : Type 0 where
 -- "An arc is two words: feature 0..65,535, target node.": they stand in the result
 pub record Pointed (n k : ℕ) (w : List ℕ) (q at m m' : ℕ) (w' : List ℕ) : Type 0 where
   pub kept : Kept k at (at + 2) w w'
-  pub told : (G : Graph) (lab : ℕ → ℕ) (ord : List ℕ) → Classes n k w G lab ord → Met k m ord w → (t : ℕ) → t < length ord → t ≤ m → lab (getD (targets w) q 0) ≡ getD ord t 0
+  pub told : (G : Graph) (lab : ℕ → ℕ) (ord : List ℕ) → Classes n k w G lab ord → Met k m ord w → (t : ℕ) → t < length ord → t ≤ m →
+      lab (getD (targets w) q 0) ≡ getD ord t 0
       → Met k m' ord w' × ((m' ≡ max m (suc t)) × ((getD w' (RESULT + at) 0 ≡ getD (words w) q 0) × (getD w' (RESULT + at + 1) 0 ≡ t)))
 
 -- what the arcs of a node ask: the chain from x has the arcs l, and there is room for them
@@ -97,7 +99,8 @@ pub record Arcing (n k : ℕ) (w : List ℕ) (x at m : ℕ) : Type 0 where
 -- "Features rise strictly within a node.": the words of all arcs of l stand in the result
 pub record Arced (n k : ℕ) (w : List ℕ) (x at m at' m' : ℕ) (w' : List ℕ) : Type 0 where
   pub kept : Kept k at at' w w'
-  pub told : (G : Graph) (lab : ℕ → ℕ) (ord : List ℕ) → Classes n k w G lab ord → Met k m ord w → (l : List (ℕ × ℕ)) → Fan n w lab ord x 0 l → Rising 0 l → InOrder m l
+  pub told : (G : Graph) (lab : ℕ → ℕ) (ord : List ℕ) → Classes n k w G lab ord → Met k m ord w → (l : List (ℕ × ℕ)) →
+      Fan n w lab ord x 0 l → Rising 0 l → InOrder m l
       → Met k m' ord w' × ((m' ≡ met m l) × Stands w' (RESULT + at) (arc-words l) (RESULT + at'))
 
 -- ---- the nodes
@@ -123,7 +126,8 @@ pub record Noding (n k : ℕ) (w : List ℕ) (i at m : ℕ) : Type 0 where
 -- "a head, then its arcs": the words of the node i stand in the result
 pub record Noded (n k : ℕ) (w : List ℕ) (i at m at' m' : ℕ) (w' : List ℕ) : Type 0 where
   pub kept : Kept k at at' w w'
-  pub told : (G : Graph) (lab : ℕ → ℕ) (ord : List ℕ) → Classes n k w G lab ord → Met k m ord w → i < m → Rising 0 (arcsOf (nodeAt G i)) → InOrder m (arcsOf (nodeAt G i))
+  pub told : (G : Graph) (lab : ℕ → ℕ) (ord : List ℕ) → Classes n k w G lab ord → Met k m ord w → i < m → Rising 0 (arcsOf (nodeAt G i)) →
+      InOrder m (arcsOf (nodeAt G i))
       → Met k m' ord w' × ((m' ≡ met m (arcsOf (nodeAt G i))) × Stands w' (RESULT + at) (node-words (nodeAt G i)) (RESULT + at'))
 
 -- what all nodes ask: the class of the root is met, and there is room for them

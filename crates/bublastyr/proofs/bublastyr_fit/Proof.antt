@@ -12,7 +12,8 @@ number-requires : tie.Need-number-requires
 number-requires c κs = search needs
 
 returns : tie.Need-returns
-returns c = subst (λ x. FitGiven (c .before .before .before .before .args .structure .now) (c .before .before .before .before .args .description .now) x) (sym (c .number .ensures)) (c .before .fit .ensures)
+returns c = subst (λ x. FitGiven (c .before .before .before .before .args .structure .now)
+    (c .before .before .before .before .args .description .now) x) (sym (c .number .ensures)) (c .before .fit .ensures)
 
 pub bublastyr-fit-spec : {M : Type 1} → statement M
 bublastyr-fit-spec = tie.close (tie.spec fit-requires number-requires returns)

@@ -36,22 +36,35 @@ enum-told-4 : tie.Need-enum-told-4
 enum-told-4 c = search needs
 
 returns-4 : tie.Need-returns-4
-returns-4 c = five (omega arith) (omega arith) (c .before .before .before .before .before .judge .ensures .sound (cc)) (no-image _ (c .before .before .judge2 .result) (cc) (c .before .before .judge2 .ensures))
+returns-4 c = five (omega arith) (omega arith) (c .before .before .before .before .before .judge .ensures .sound (cc))
+    (no-image _ (c .before .before .judge2 .result) (cc) (c .before .before .judge2 .ensures))
 
 skip-graph-requires : tie.Need-skip-graph-requires
 skip-graph-requires c κs = search needs
 
 mul-if3 : tie.Need-mul-if3
-mul-if3 c = omega (arith, graph-inside _ (c .before .before .before .before .before .before .judge .ensures .sound (cc)) _ (c .skip-graph .ensures))
+mul-if3 c = omega (
+  arith,
+  graph-inside _ (c .before .before .before .before .before .before .judge .ensures .sound (cc)) _
+      (c .skip-graph .ensures),
+)
 
 shared-slice-read-if3 : tie.Need-shared-slice-read-if3
-shared-slice-read-if3 c = omega (arith, graph-inside _ (c .before .before .before .before .before .before .before .judge .ensures .sound (cc)) _ (c .before .skip-graph .ensures))
+shared-slice-read-if3 c = omega (
+  arith,
+  graph-inside _ (c .before .before .before .before .before .before .before .judge .ensures .sound (cc)) _
+      (c .before .skip-graph .ensures),
+)
 
 returns-5 : tie.Need-returns-5
-returns-5 c = has-disjunctions _ _ (omega arith) (omega arith) (c .before .before .before .before .before .before .before .before .judge .ensures .sound (cc)) (c .before .before .before .before .before .judge2 .ensures .sound (cc)) _ (c .before .before .skip-graph .ensures) (omega arith)
+returns-5 c = has-disjunctions _ _ (omega arith) (omega arith)
+    (c .before .before .before .before .before .before .before .before .judge .ensures .sound (cc))
+    (c .before .before .before .before .before .judge2 .ensures .sound (cc)) _ (c .before .before .skip-graph .ensures) (omega arith)
 
 satisfied-requires : tie.Need-satisfied-requires
-satisfied-requires c κs = test-asked _ _ (omega arith) (omega arith) (c .before .before .before .before .before .before .before .before .judge .ensures .sound (cc)) (c .before .before .before .before .before .judge2 .ensures .sound (cc)) _ (c .before .before .skip-graph .ensures) (omega arith)
+satisfied-requires c κs = test-asked _ _ (omega arith) (omega arith)
+    (c .before .before .before .before .before .before .before .before .judge .ensures .sound (cc))
+    (c .before .before .before .before .before .judge2 .ensures .sound (cc)) _ (c .before .before .skip-graph .ensures) (omega arith)
 
 enum-known-answer : tie.Need-enum-known-answer
 enum-known-answer c = search needs
@@ -60,10 +73,18 @@ enum-told-5 : tie.Need-enum-told-5
 enum-told-5 c = search needs
 
 returns-6 : tie.Need-returns-6
-returns-6 c = tested-fits _ _ (omega arith) (omega arith) (c .before .before .before .before .before .before .before .before .before .before .before .before .judge .ensures .sound (cc)) (c .before .before .before .before .before .before .before .before .before .judge2 .ensures .sound (cc)) _ (c .before .before .before .before .before .before .skip-graph .ensures) (omega arith) (c .before .before .before .satisfied .result) (c .before .before .before .satisfied .ensures) _ (c .before .answer .given .1)
+returns-6 c = tested-fits _ _ (omega arith) (omega arith)
+    (c .before .before .before .before .before .before .before .before .before .before .before .before .judge .ensures .sound (cc))
+    (c .before .before .before .before .before .before .before .before .before .judge2 .ensures .sound (cc)) _
+    (c .before .before .before .before .before .before .skip-graph .ensures) (omega arith) (c .before .before .before .satisfied .result)
+    (c .before .before .before .satisfied .ensures) _ (c .before .answer .given .1)
 
 returns-7 : tie.Need-returns-7
-returns-7 c = tested-fails _ _ (omega arith) (omega arith) (c .before .before .before .before .before .before .before .before .before .before .before .judge .ensures .sound (cc)) (c .before .before .before .before .before .before .before .before .judge2 .ensures .sound (cc)) _ (c .before .before .before .before .before .skip-graph .ensures) (omega arith) (c .before .before .satisfied .result) (c .before .before .satisfied .ensures) (cc)
+returns-7 c = tested-fails _ _ (omega arith) (omega arith)
+    (c .before .before .before .before .before .before .before .before .before .before .before .judge .ensures .sound (cc))
+    (c .before .before .before .before .before .before .before .before .judge2 .ensures .sound (cc)) _
+    (c .before .before .before .before .before .skip-graph .ensures) (omega arith) (c .before .before .satisfied .result)
+    (c .before .before .satisfied .ensures) (cc)
 
 pub fit-spec : {M : Type 1} → statement M
 fit-spec =

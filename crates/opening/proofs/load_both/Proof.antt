@@ -18,14 +18,16 @@ same-length c =
     let s = c .before .before .before .before .before .before .before .before .before .before .before in
     let l = c .before .before .before .before .before .before .load in
     let k = c .before .before .load2 in
-    paired (s .args .t .now) (s .args .a .now) (s .args .b .now) (l .last .0) (l .result) (s .pre) (l .ensures) (k .last .0) (k .result) (k .ensures) .len
+    paired (s .args .t .now) (s .args .a .now) (s .args .b .now) (l .last .0) (l .result) (s .pre) (l .ensures) (k .last .0) (k .result)
+    (k .ensures) .len
 
 returns : tie.Need-returns
 returns c =
     let s = c .before .before .before .before .before .before .before .before .before .before .before in
     let l = c .before .before .before .before .before .before .load in
     let k = c .before .before .load2 in
-    paired (s .args .t .now) (s .args .a .now) (s .args .b .now) (l .last .0) (l .result) (s .pre) (l .ensures) (k .last .0) (k .result) (k .ensures)
+    paired (s .args .t .now) (s .args .a .now) (s .args .b .now) (l .last .0) (l .result) (s .pre) (l .ensures) (k .last .0) (k .result)
+    (k .ensures)
 
 pub load-both-spec : {M : Type 1} → statement M
 load-both-spec = tie.close (tie.spec load-requires load-requires-2 same-length returns)

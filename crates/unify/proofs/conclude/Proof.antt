@@ -8,7 +8,9 @@ make-requires : tie.Need-make-requires
 make-requires c κs = search needs
 
 hand-over-requires : tie.Need-hand-over-requires
-hand-over-requires c κs = made-room _ _ _ _ (c .before .before .before .before .before .before .before .before .before .before .pre .0) (c .before .before .before .before .before .before .before .before .before .before .pre .1) _ _ (c .before .before .before .before .make .ensures)
+hand-over-requires c κs = made-room _ _ _ _ (c .before .before .before .before .before .before .before .before .before .before .pre .0)
+    (c .before .before .before .before .before .before .before .before .before .before .pre .1) _ _
+    (c .before .before .before .before .make .ensures)
 
 wipe-requires : tie.Need-wipe-requires
 wipe-requires c κs = search needs
@@ -20,7 +22,11 @@ same-length-2 : tie.Need-same-length-2
 same-length-2 c = search needs
 
 returns : tie.Need-returns
-returns c = concluded _ _ _ _ (c .before .before .before .before .before .before .before .before .before .before .before .before .before .before .before .before .before .pre .0) (c .before .before .before .before .before .before .before .before .before .before .before .before .before .before .before .before .before .pre .1) _ _ (c .before .before .before .before .before .before .before .before .before .before .before .make .ensures) _ _ (c .before .before .wipe .ensures) _ _ (c .before .before .before .before .before .before .hand-over .ensures)
+returns c = concluded _ _ _ _ (c .before .before .before .before .before .before .before .before .before .before .before .before .before
+    .before .before .before .before .pre .0)
+    (c .before .before .before .before .before .before .before .before .before .before .before .before .before .before .before .before
+    .before .pre .1) _ _ (c .before .before .before .before .before .before .before .before .before .before .before .make .ensures) _ _
+    (c .before .before .wipe .ensures) _ _ (c .before .before .before .before .before .before .hand-over .ensures)
 
 pub conclude-spec : {M : Type 1} → statement M
 conclude-spec =

@@ -48,7 +48,12 @@ returns-6 c =
     bad-second _ _ _ (omega arith) (omega arith) (omega arith) (omega arith) first (no-image _ (two .result) (cc) (two .ensures))
 
 conclude-requires : tie.Need-conclude-requires
-conclude-requires c κs = (omega arith, opening _ _ _ (omega arith) (omega arith) (omega arith) (c .before .before .before .before .before .before .before .judge .ensures .sound (cc)) (c .before .before .before .before .judge2 .ensures .sound (cc)))
+conclude-requires c κs = (
+  omega arith,
+  opening _ _ _ (omega arith) (omega arith) (omega arith)
+      (c .before .before .before .before .before .before .before .judge .ensures .sound (cc))
+      (c .before .before .before .before .judge2 .ensures .sound (cc)),
+)
 
 same-length : tie.Need-same-length
 same-length c = search needs

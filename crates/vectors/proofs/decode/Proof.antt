@@ -50,4 +50,5 @@ returns-2 : tie.Need-returns-2 Inv-loop μ-loop
 returns-2 c = tt
 
 pub decode-spec : {M : Type 1} → statement M
-decode-spec = tie.close (tie.spec Inv-loop μ-loop loop-holds same-length returns mul-word-at word-at-requires mul-dst slice-write-dst add-i loop-less loop-again same-length-2 returns-2)
+decode-spec = tie.close (tie.spec Inv-loop μ-loop loop-holds same-length returns mul-word-at word-at-requires mul-dst slice-write-dst add-i
+    loop-less loop-again same-length-2 returns-2)

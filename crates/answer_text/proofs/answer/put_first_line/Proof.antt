@@ -38,7 +38,9 @@ returns c =
     let one : List ℕ = labelled answer-label (w .result) in
     let two : List ℕ = labelled words-label (a .length) in
     let three : List ℕ = labelled readings-label (a .readings) ++ newline in
-    named (one ++ (two ++ three)) (first-line (a .number) (a .length) (a .readings)) (a .dst .now) 0 (p .last .0) NoRoom (ap (λ (n : ℕ). labelled answer-label n ++ (two ++ three)) (w .ensures)) (first-stops one (two ++ three) (a .dst .now) (p .last .0) 0 (p .result) (p .ensures) gone)
+    named (one ++ (two ++ three)) (first-line (a .number) (a .length) (a .readings)) (a .dst .now) 0 (p .last .0) NoRoom
+    (ap (λ (n : ℕ). labelled answer-label n ++ (two ++ three)) (w .ensures))
+    (first-stops one (two ++ three) (a .dst .now) (p .last .0) 0 (p .result) (p .ensures) gone)
 
 slice-aggregate-put-labelled-2 : tie.Need-slice-aggregate-put-labelled-2
 slice-aggregate-put-labelled-2 c = search needs
@@ -58,7 +60,8 @@ same-length-2 c = search needs
 returns-2 : tie.Need-returns-2
 unfolding first-line
 returns-2 c =
-    let a = c .before .before .before .before .before .before .before .before .before .before .before .before .before .before .before .before .before .args in
+    let a = c .before .before .before .before .before .before .before .before .before .before .before .before .before .before .before
+    .before .before .args in
     let w = c .before .before .before .before .before .before .before .before .before .before .before .before .before .wide in
     let p = c .before .before .before .before .before .before .before .before .before .before .before .before .put-labelled in
     let q = c .before .before .before .before .put-labelled2 in
@@ -67,7 +70,10 @@ returns-2 c =
     let one : List ℕ = labelled answer-label (w .result) in
     let two : List ℕ = labelled words-label (a .length) in
     let three : List ℕ = labelled readings-label (a .readings) ++ newline in
-    named (one ++ (two ++ three)) (first-line (a .number) (a .length) (a .readings)) (a .dst .now) 0 (q .last .0) NoRoom (ap (λ (n : ℕ). labelled answer-label n ++ (two ++ three)) (w .ensures)) (both one (two ++ three) (a .dst .now) (p .last .0) 0 (p .result) (p .ensures) (m .0 .0) (m .1) (q .last .0) NoRoom (first-stops two three (p .last .0) (q .last .0) (m .0 .0) (q .result) (q .ensures) gone))
+    named (one ++ (two ++ three)) (first-line (a .number) (a .length) (a .readings)) (a .dst .now) 0 (q .last .0) NoRoom
+    (ap (λ (n : ℕ). labelled answer-label n ++ (two ++ three)) (w .ensures))
+    (both one (two ++ three) (a .dst .now) (p .last .0) 0 (p .result) (p .ensures) (m .0 .0) (m .1) (q .last .0) NoRoom
+    (first-stops two three (p .last .0) (q .last .0) (m .0 .0) (q .result) (q .ensures) gone))
 
 put-readings-requires : tie.Need-put-readings-requires
 put-readings-requires c κs = search needs
@@ -78,9 +84,12 @@ same-length-3 c = search needs
 returns-3 : tie.Need-returns-3
 unfolding first-line
 returns-3 c =
-    let a = c .before .before .before .before .before .before .before .before .before .before .before .before .before .before .before .before .before .before .before .before .before .before .args in
-    let w = c .before .before .before .before .before .before .before .before .before .before .before .before .before .before .before .before .before .before .wide in
-    let p = c .before .before .before .before .before .before .before .before .before .before .before .before .before .before .before .before .before .put-labelled in
+    let a = c .before .before .before .before .before .before .before .before .before .before .before .before .before .before .before
+    .before .before .before .before .before .before .before .args in
+    let w = c .before .before .before .before .before .before .before .before .before .before .before .before .before .before .before
+    .before .before .before .wide in
+    let p = c .before .before .before .before .before .before .before .before .before .before .before .before .before .before .before
+    .before .before .put-labelled in
     let q = c .before .before .before .before .before .before .before .before .before .put-labelled2 in
     let r = c .before .before .put-readings in
     let m = c .before .before .before .before .before .before .before .before .before .before .before .before .before .one .given in
@@ -88,9 +97,15 @@ returns-3 c =
     let one : List ℕ = labelled answer-label (w .result) in
     let two : List ℕ = labelled words-label (a .length) in
     let three : List ℕ = labelled readings-label (a .readings) ++ newline in
-    named (one ++ (two ++ three)) (first-line (a .number) (a .length) (a .readings)) (a .dst .now) 0 (r .last .0) (r .result) (ap (λ (n : ℕ). labelled answer-label n ++ (two ++ three)) (w .ensures)) (both one (two ++ three) (a .dst .now) (p .last .0) 0 (p .result) (p .ensures) (m .0 .0) (m .1) (r .last .0) (r .result) (both two three (p .last .0) (q .last .0) (m .0 .0) (q .result) (q .ensures) (k .0 .0) (k .1) (r .last .0) (r .result) (r .ensures)))
+    named (one ++ (two ++ three)) (first-line (a .number) (a .length) (a .readings)) (a .dst .now) 0 (r .last .0) (r .result)
+    (ap (λ (n : ℕ). labelled answer-label n ++ (two ++ three)) (w .ensures))
+    (both one (two ++ three) (a .dst .now) (p .last .0) 0 (p .result) (p .ensures) (m .0 .0) (m .1) (r .last .0) (r .result)
+    (both two three (p .last .0) (q .last .0) (m .0 .0) (q .result) (q .ensures) (k .0 .0) (k .1) (r .last .0) (r .result)
+    (r .ensures)))
 
 pub put-first-line-spec : {M : Type 1} → statement M
 put-first-line-spec =
     tie.close
-    (tie.spec slice-aggregate-put-labelled wide-requires put-labelled-requires enum-known-one enum-told same-length returns slice-aggregate-put-labelled-2 put-labelled-requires-2 enum-known-two enum-told-2 same-length-2 returns-2 put-readings-requires same-length-3 returns-3)
+    (tie.spec slice-aggregate-put-labelled wide-requires put-labelled-requires enum-known-one enum-told same-length returns
+    slice-aggregate-put-labelled-2 put-labelled-requires-2 enum-known-two enum-told-2 same-length-2 returns-2 put-readings-requires
+    same-length-3 returns-3)

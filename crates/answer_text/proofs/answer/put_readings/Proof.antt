@@ -35,7 +35,9 @@ returns c =
     let w = c .before .before .before .before .before .wide in
     let gone : NoRoom ≡ p .result = cc in
     let front : List ℕ = labelled readings-label (w .result) in
-    named (front ++ newline) (labelled readings-label (a .readings) ++ newline) (a .dst .now) (a .at) (p .last .0) NoRoom (ap (λ (n : ℕ). labelled readings-label n ++ newline) (w .ensures)) (first-stops front newline (a .dst .now) (p .last .0) (a .at) (p .result) (p .ensures) gone)
+    named (front ++ newline) (labelled readings-label (a .readings) ++ newline) (a .dst .now) (a .at) (p .last .0) NoRoom
+    (ap (λ (n : ℕ). labelled readings-label n ++ newline) (w .ensures))
+    (first-stops front newline (a .dst .now) (p .last .0) (a .at) (p .result) (p .ensures) gone)
 
 put-requires : tie.Need-put-requires
 put-requires c κs = search needs
@@ -51,9 +53,13 @@ returns-2 c =
     let q = c .before .before .put in
     let m = c .before .before .before .before .before .front .given in
     let front : List ℕ = labelled readings-label (w .result) in
-    named (front ++ newline) (labelled readings-label (a .readings) ++ newline) (a .dst .now) (a .at) (q .last .0) (q .result) (ap (λ (n : ℕ). labelled readings-label n ++ newline) (w .ensures)) (both front newline (a .dst .now) (p .last .0) (a .at) (p .result) (p .ensures) (m .0 .0) (m .1) (q .last .0) (q .result) (q .ensures))
+    named (front ++ newline) (labelled readings-label (a .readings) ++ newline) (a .dst .now) (a .at) (q .last .0) (q .result)
+    (ap (λ (n : ℕ). labelled readings-label n ++ newline) (w .ensures))
+    (both front newline (a .dst .now) (p .last .0) (a .at) (p .result) (p .ensures) (m .0 .0) (m .1) (q .last .0) (q .result)
+    (q .ensures))
 
 pub put-readings-spec : {M : Type 1} → statement M
 put-readings-spec =
     tie.close
-    (tie.spec slice-aggregate-put-labelled wide-requires put-labelled-requires enum-known-front enum-told same-length returns put-requires same-length-2 returns-2)
+    (tie.spec slice-aggregate-put-labelled wide-requires put-labelled-requires enum-known-front enum-told same-length returns put-requires
+    same-length-2 returns-2)

@@ -48,7 +48,10 @@ returns-2 c =
     let m = c .before .before .before .before .before .before .first .given in
     let one : List ℕ = first-line (a .number) (a .length) (a .readings) in
     let two : List ℕ = second-line (a .number) (a .words .now) in
-    wrote (one ++ two) (a .dst .now) (q .last .0) (q .result) (both one two (a .dst .now) (p .last .0) 0 (p .result) (p .ensures) (m .0 .0) (m .1) (q .last .0) (q .result) (named (spaced (a .words .now) ++ newline) two (p .last .0) (m .0 .0) (q .last .0) (q .result) (second-some (a .number) (a .words .now) (c .before .before .before .before .if1 .taken)) (q .ensures)))
+    wrote (one ++ two) (a .dst .now) (q .last .0) (q .result)
+    (both one two (a .dst .now) (p .last .0) 0 (p .result) (p .ensures) (m .0 .0) (m .1) (q .last .0) (q .result)
+    (named (spaced (a .words .now) ++ newline) two (p .last .0) (m .0 .0) (q .last .0) (q .result)
+    (second-some (a .number) (a .words .now) (c .before .before .before .before .if1 .taken)) (q .ensures)))
 
 same-length-3 : tie.Need-same-length-3
 same-length-3 c = search needs
@@ -61,9 +64,13 @@ returns-3 c =
     let m = c .before .before .first .given in
     let one : List ℕ = first-line (a .number) (a .length) (a .readings) in
     let two : List ℕ = second-line (a .number) (a .words .now) in
-    wrote (one ++ two) (a .dst .now) (p .last .0) (Bytes (m .0 .0)) (both one two (a .dst .now) (p .last .0) 0 (p .result) (p .ensures) (m .0 .0) (m .1) (p .last .0) (Bytes (m .0 .0)) (named [] two (p .last .0) (m .0 .0) (p .last .0) (Bytes (m .0 .0)) (second-none (a .number) (a .words .now) (c .if1 .left)) (nothing (p .last .0) (m .0 .0))))
+    wrote (one ++ two) (a .dst .now) (p .last .0) (Bytes (m .0 .0))
+    (both one two (a .dst .now) (p .last .0) 0 (p .result) (p .ensures) (m .0 .0) (m .1) (p .last .0) (Bytes (m .0 .0))
+    (named [] two (p .last .0) (m .0 .0) (p .last .0) (Bytes (m .0 .0)) (second-none (a .number) (a .words .now) (c .if1 .left))
+    (nothing (p .last .0) (m .0 .0))))
 
 pub write-answer-spec : {M : Type 1} → statement M
 write-answer-spec =
     tie.close
-    (tie.spec put-first-line-requires enum-known-first enum-told same-length returns put-words-line-requires same-length-2 returns-2 same-length-3 returns-3)
+    (tie.spec put-first-line-requires enum-known-first enum-told same-length returns put-words-line-requires same-length-2 returns-2
+    same-length-3 returns-3)

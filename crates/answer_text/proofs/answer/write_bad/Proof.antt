@@ -16,7 +16,8 @@ same-length : tie.Need-same-length
 same-length c = search needs
 
 returns : tie.Need-returns
-returns c = let p = c .before .before .put-run in wrote bad-text (c .before .before .before .before .before .before .args .dst .now) (p .last .0) (p .result) (p .ensures)
+returns c = let p = c .before .before .put-run in
+    wrote bad-text (c .before .before .before .before .before .before .args .dst .now) (p .last .0) (p .result) (p .ensures)
 
 pub write-bad-spec : {M : Type 1} → statement M
 write-bad-spec = tie.close (tie.spec slice-aggregate-put-run put-run-requires same-length returns)

@@ -72,7 +72,8 @@ put-decimal-returns t c =
     let a = c .before .before .before .before .before .before .before .args in
     let p = c .before .before .put in
     let d = c .before .before .before .digit-byte in
-    named (d .result ∷ []) (decimal (a .value)) (a .dst .now) (a .at) (p .last .0) (p .result) (ap (λ (n : ℕ). n ∷ []) (d .ensures) ∙ decimal-one (a .value) (c .before .before .before .before .before .if1 .taken)) (p .ensures)
+    named (d .result ∷ []) (decimal (a .value)) (a .dst .now) (a .at) (p .last .0) (p .result) (ap (λ (n : ℕ). n ∷ []) (d .ensures)
+    ∙ decimal-one (a .value) (c .before .before .before .before .before .if1 .taken)) (p .ensures)
 
 put-decimal-put-decimal-requires : (t : ℕ) → put-decimal-lts.Need-put-decimal-requires (
   digit-byte-reads.Asked,
@@ -133,7 +134,9 @@ put-decimal-returns-2 t c =
     let gone : NoRoom ≡ p .result = cc in
     let front : List ℕ = decimal (a .value / 10) in
     let last : List ℕ = (48 + a .value % 10) ∷ [] in
-    named (front ++ last) (decimal (a .value)) (a .dst .now) (a .at) (p .last .0) NoRoom (decimal-more (a .value) (c .before .before .before .before .before .before .if1 .left)) (first-stops front last (a .dst .now) (p .last .0) (a .at) (p .result) (p .ensures) gone)
+    named (front ++ last) (decimal (a .value)) (a .dst .now) (a .at) (p .last .0) NoRoom
+    (decimal-more (a .value) (c .before .before .before .before .before .before .if1 .left))
+    (first-stops front last (a .dst .now) (p .last .0) (a .at) (p .result) (p .ensures) gone)
 
 put-decimal-digit-byte-requires-2 : (t : ℕ) → put-decimal-lts.Need-digit-byte-requires-2 (
   digit-byte-reads.Asked,
@@ -163,7 +166,8 @@ put-decimal-same-length-3 : (t : ℕ) → put-decimal-lts.Need-same-length-3 (
   put-decimal-below t,
   put-decimal.Post,
 ) (put-decimal-at t) put-decimal.Post
-put-decimal-same-length-3 t c = c .before .before .put2 .kept .0 ∙ c .before .before .before .before .before .before .before .before .before .before .put-decimal .kept .0
+put-decimal-same-length-3 t c = c .before .before .put2 .kept .0
+    ∙ c .before .before .before .before .before .before .before .before .before .before .put-decimal .kept .0
 
 put-decimal-returns-3 : (t : ℕ) → put-decimal-lts.Need-returns-3 (
   digit-byte-reads.Asked,
@@ -180,7 +184,11 @@ put-decimal-returns-3 t c =
     let d = c .before .before .before .digit-byte2 in
     let m = c .before .before .before .before .before .before .front .given in
     let front : List ℕ = decimal (a .value / 10) in
-    named (front ++ (d .result ∷ [])) (decimal (a .value)) (a .dst .now) (a .at) (q .last .0) (q .result) (ap (λ (n : ℕ). front ++ (n ∷ [])) (d .ensures) ∙ decimal-more (a .value) (c .before .before .before .before .before .before .before .before .before .before .before .before .if1 .left)) (both front (d .result ∷ []) (a .dst .now) (p .last .0) (a .at) (p .result) (p .ensures) (m .0 .0) (m .1) (q .last .0) (q .result) (q .ensures))
+    named (front ++ (d .result ∷ [])) (decimal (a .value)) (a .dst .now) (a .at) (q .last .0) (q .result)
+    (ap (λ (n : ℕ). front ++ (n ∷ [])) (d .ensures)
+    ∙ decimal-more (a .value) (c .before .before .before .before .before .before .before .before .before .before .before .before .if1
+    .left)) (both front (d .result ∷ []) (a .dst .now) (p .last .0) (a .at) (p .result) (p .ensures) (m .0 .0) (m .1) (q .last .0)
+    (q .result) (q .ensures))
 
 pub +put-decimal-spec : {M : Type 1} → statement M
 +put-decimal-spec = close μ-put-decimal λ t. put-decimal-lts.spec (

@@ -44,7 +44,9 @@ returns-2 c =
     let q = c .before .before .put-decimal in
     let w = c .before .before .before .wide in
     let m = c .before .before .before .before .before .before .front .given in
-    both (32 ∷ []) (decimal (a .word)) (a .dst .now) (p .last .0) (a .at) (p .result) (p .ensures) (m .0 .0) (m .1) (q .last .0) (q .result) (named (decimal (w .result)) (decimal (a .word)) (p .last .0) (m .0 .0) (q .last .0) (q .result) (ap decimal (w .ensures)) (q .ensures))
+    both (32 ∷ []) (decimal (a .word)) (a .dst .now) (p .last .0) (a .at) (p .result) (p .ensures) (m .0 .0) (m .1) (q .last .0) (q .result)
+    (named (decimal (w .result)) (decimal (a .word)) (p .last .0) (m .0 .0) (q .last .0) (q .result) (ap decimal (w .ensures))
+    (q .ensures))
 
 pub put-after-space-spec : {M : Type 1} → statement M
 put-after-space-spec =

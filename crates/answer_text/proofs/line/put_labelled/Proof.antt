@@ -41,7 +41,8 @@ returns-2 c =
     let p = c .before .before .before .before .before .before .before .before .before .put-run in
     let q = c .before .before .put-decimal in
     let m = c .before .before .before .before .before .front .given in
-    both (a .label .now) (decimal (a .value)) (a .dst .now) (p .last .0) (a .at) (p .result) (p .ensures) (m .0 .0) (m .1) (q .last .0) (q .result) (q .ensures)
+    both (a .label .now) (decimal (a .value)) (a .dst .now) (p .last .0) (a .at) (p .result) (p .ensures) (m .0 .0) (m .1) (q .last .0)
+    (q .result) (q .ensures)
 
 pub put-labelled-spec : {M : Type 1} → statement M
 put-labelled-spec =

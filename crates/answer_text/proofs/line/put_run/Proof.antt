@@ -34,7 +34,8 @@ enum-told : tie.Need-enum-told Inv-loop μ-loop
 enum-told c = search needs
 
 same-length : tie.Need-same-length Inv-loop μ-loop
-same-length c = c .before .before .before .before .put .kept .0 ∙ c .before .before .before .before .before .before .before .before .loop .inv .1
+same-length c = c .before .before .before .before .put .kept .0
+    ∙ c .before .before .before .before .before .before .before .before .loop .inv .1
 
 returns : tie.Need-returns Inv-loop μ-loop
 returns c =
@@ -43,7 +44,9 @@ returns c =
     let p = c .before .before .before .before .put in
     let run = a .run .now in
     let gone : NoRoom ≡ p .result = cc in
-    turns-stop (a .dst .now) (a .at) run (l .dst) (l .end) (drop (l .i) run) (l .inv .0) (getD run (l .i) 0 ∷ []) (drop (l .i + 1) run) (p .last .0) (p .result) (next run (l .i) (c .before .before .before .before .before .before .before .loop-test .taken)) (p .ensures) gone
+    turns-stop (a .dst .now) (a .at) run (l .dst) (l .end) (drop (l .i) run) (l .inv .0) (getD run (l .i) 0 ∷ []) (drop (l .i + 1) run)
+    (p .last .0) (p .result) (next run (l .i) (c .before .before .before .before .before .before .before .loop-test .taken))
+    (p .ensures) gone
 
 add-i : tie.Need-add-i Inv-loop μ-loop
 add-i c = omega arith
@@ -56,8 +59,12 @@ loop-again c =
     let a = c .before .before .before .before .before .before .before .before .before .before .before .before .args in
     let l = c .before .before .before .before .before .before .before .before .before .loop in
     let p = c .before .before .before .before .before .put in
-    let run = a .run .now in
-    (turns-go (a .dst .now) (a .at) run (l .dst) (l .end) (drop (l .i) run) (l .inv .0) (getD run (l .i) 0 ∷ []) (drop (l .i + 1) run) (p .last .0) (p .result) (next run (l .i) (c .before .before .before .before .before .before .before .before .loop-test .taken)) (p .ensures) (c .before .step .given .0 .0) (c .before .step .given .1), p .kept .0 ∙ l .inv .1)
+    let run = a .run .now in (
+      turns-go (a .dst .now) (a .at) run (l .dst) (l .end) (drop (l .i) run) (l .inv .0) (getD run (l .i) 0 ∷ []) (drop (l .i + 1) run)
+          (p .last .0) (p .result) (next run (l .i) (c .before .before .before .before .before .before .before .before .loop-test .taken))
+          (p .ensures) (c .before .step .given .0 .0) (c .before .step .given .1),
+      p .kept .0 ∙ l .inv .1,
+    )
 
 same-length-2 : tie.Need-same-length-2 Inv-loop μ-loop
 same-length-2 c = c .before .loop .inv .1
@@ -72,4 +79,5 @@ returns-2 c =
 pub put-run-spec : {M : Type 1} → statement M
 put-run-spec =
     tie.close
-    (tie.spec Inv-loop μ-loop loop-holds shared-slice-read-byte put-requires enum-known-step enum-told same-length returns add-i loop-less loop-again same-length-2 returns-2)
+    (tie.spec Inv-loop μ-loop loop-holds shared-slice-read-byte put-requires enum-known-step enum-told same-length returns add-i loop-less
+    loop-again same-length-2 returns-2)

@@ -39,7 +39,9 @@ returns c =
     let gone : NoRoom ≡ p .result = cc in
     let front : List ℕ = decimal (w .result) in
     let others : List ℕ = after-spaces (drop 1 ws) in
-    named (front ++ others) (spaced ws) (a .dst .now) (a .at) (p .last .0) NoRoom (ap (λ (n : ℕ). decimal n ++ others) (w .ensures) ∙ spaced-some ws (c .before .before .before .before .before .before .before .before .if1 .taken)) (first-stops front others (a .dst .now) (p .last .0) (a .at) (p .result) (p .ensures) gone)
+    named (front ++ others) (spaced ws) (a .dst .now) (a .at) (p .last .0) NoRoom (ap (λ (n : ℕ). decimal n ++ others) (w .ensures)
+    ∙ spaced-some ws (c .before .before .before .before .before .before .before .before .if1 .taken))
+    (first-stops front others (a .dst .now) (p .last .0) (a .at) (p .result) (p .ensures) gone)
 
 put-others-requires : tie.Need-put-others-requires
 put-others-requires c κs = search needs
@@ -49,7 +51,8 @@ same-length-2 c = search needs
 
 returns-2 : tie.Need-returns-2
 returns-2 c =
-    let a = c .before .before .before .before .before .before .before .before .before .before .before .before .before .before .before .before .args in
+    let a = c .before .before .before .before .before .before .before .before .before .before .before .before .before .before .before
+    .before .args in
     let p = c .before .before .before .before .before .before .before .before .before .put-decimal in
     let w = c .before .before .before .before .before .before .before .before .before .before .wide in
     let q = c .before .before .put-others in
@@ -57,7 +60,10 @@ returns-2 c =
     let ws = a .words .now in
     let front : List ℕ = decimal (w .result) in
     let others : List ℕ = after-spaces (drop 1 ws) in
-    named (front ++ others) (spaced ws) (a .dst .now) (a .at) (q .last .0) (q .result) (ap (λ (n : ℕ). decimal n ++ others) (w .ensures) ∙ spaced-some ws (c .before .before .before .before .before .before .before .before .before .before .before .before .before .if1 .taken)) (both front others (a .dst .now) (p .last .0) (a .at) (p .result) (p .ensures) (m .0 .0) (m .1) (q .last .0) (q .result) (q .ensures))
+    named (front ++ others) (spaced ws) (a .dst .now) (a .at) (q .last .0) (q .result) (ap (λ (n : ℕ). decimal n ++ others) (w .ensures)
+    ∙ spaced-some ws (c .before .before .before .before .before .before .before .before .before .before .before .before .before .if1
+    .taken)) (both front others (a .dst .now) (p .last .0) (a .at) (p .result) (p .ensures) (m .0 .0) (m .1) (q .last .0) (q .result)
+    (q .ensures))
 
 returns-3 : tie.Need-returns-3
 returns-3 c =
@@ -68,4 +74,5 @@ returns-3 c =
 pub put-words-spec : {M : Type 1} → statement M
 put-words-spec =
     tie.close
-    (tie.spec shared-slice-read-word wide-requires put-decimal-requires enum-known-front enum-told same-length returns put-others-requires same-length-2 returns-2 returns-3)
+    (tie.spec shared-slice-read-word wide-requires put-decimal-requires enum-known-front enum-told same-length returns put-others-requires
+    same-length-2 returns-2 returns-3)

@@ -39,7 +39,8 @@ returns-2 c =
     let p = c .before .before .before .before .before .before .before .before .before .put-words in
     let q = c .before .before .put in
     let m = c .before .before .before .before .before .front .given in
-    both (spaced (a .words .now)) newline (a .dst .now) (p .last .0) (a .at) (p .result) (p .ensures) (m .0 .0) (m .1) (q .last .0) (q .result) (q .ensures)
+    both (spaced (a .words .now)) newline (a .dst .now) (p .last .0) (a .at) (p .result) (p .ensures) (m .0 .0) (m .1) (q .last .0)
+    (q .result) (q .ensures)
 
 pub put-words-line-spec : {M : Type 1} → statement M
 put-words-line-spec =

@@ -38,7 +38,11 @@ loop-less : tie.Need-loop-less Inv-loop μ-loop
 loop-less c = omega arith
 
 loop-again : tie.Need-loop-again Inv-loop μ-loop
-loop-again c = (omega arith, copy-one RESULT _ _ _ (c .before .before .before .pre .0) (c .before .before .before .pre .1) _ _ (c .before .before .loop .inv .1) (omega arith))
+loop-again c = (
+  omega arith,
+  copy-one RESULT _ _ _ (c .before .before .before .pre .0) (c .before .before .before .pre .1) _ _
+      (c .before .before .loop .inv .1) (omega arith),
+)
 
 same-length : tie.Need-same-length Inv-loop μ-loop
 same-length c = omega arith

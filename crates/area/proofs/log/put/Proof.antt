@@ -58,7 +58,8 @@ same-length c = search needs
 returns : tie.Need-returns
 returns c =
     let s = c .before in
-    put-law (s .args .n) (s .args .w .now) (s .args .i) (s .args .v) (s .pre .0) (s .pre .1 .0) (s .pre .1 .1 .1 .0) (omega arith) (omega arith)
+    put-law (s .args .n) (s .args .w .now) (s .args .i) (s .args .v) (s .pre .0) (s .pre .1 .0) (s .pre .1 .1 .1 .0) (omega arith)
+    (omega arith)
 
 pub put-spec : {M : Type 1} → statement M
 put-spec =

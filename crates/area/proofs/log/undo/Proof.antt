@@ -54,8 +54,16 @@ loop-less c = search needs
 loop-again : tie.Need-loop-again Inv-loop μ-loop
 loop-again c =
     let s = c .before .before .before .before .before in
-    let o = c .before .before .before .loop in
-    (omega arith, (omega arith, (simp length-set (o .inv .1 .1 .0), rw (c .wide .ensures) (going-back (o .k) (s .args .n) (s .args .w .now) (o .w) (o .inv .1 .1 .1) (omega arith) (omega arith)))))
+    let o = c .before .before .before .loop in (
+      omega arith,
+      (
+        omega arith,
+        (
+          simp length-set (o .inv .1 .1 .0),
+          rw (c .wide .ensures) (going-back (o .k) (s .args .n) (s .args .w .now) (o .w) (o .inv .1 .1 .1) (omega arith) (omega arith)),
+        ),
+      ),
+    )
 
 -- src/log.rt:27:1
 same-length : tie.Need-same-length Inv-loop μ-loop

@@ -38,7 +38,12 @@ sub-next : tie.Need-sub-next Inv-loop μ-loop
 sub-next c = omega (arith, c .wide .ensures, digit-range _ (sym (c .before .before .is-digit .ensures) ∙ c .before .if1 .taken) .0)
 
 add-next : tie.Need-add-next Inv-loop μ-loop
-add-next c = omega (arith, c .before .before .before .before .before .loop .inv .0, c .wide .ensures, digit-range _ (sym (c .before .before .is-digit .ensures) ∙ c .before .if1 .taken) .1)
+add-next c = omega (
+  arith,
+  c .before .before .before .before .before .loop .inv .0,
+  c .wide .ensures,
+  digit-range _ (sym (c .before .before .is-digit .ensures) ∙ c .before .if1 .taken) .1,
+)
 
 returns : tie.Need-returns Inv-loop μ-loop
 returns c =
@@ -66,7 +71,10 @@ loop-again c =
     let text = s .args .text .now in (
       omega arith,
       ap (λ (z : ℕ). more (l .value * 10 + (z - 48)) (drop (l .at + 1) text)) (c .before .wide .ensures)
-          ∙ sym (more-digit text (l .at) (c .before .before .before .before .before .loop-test .taken) (l .value) (sym (c .before .before .before .is-digit .ensures) ∙ c .before .before .if1 .taken) (le-ltb largest (l .value * 10 + (getD text (l .at) 0 - 48)) (omega (arith, c .before .wide .ensures, c .if2 .left))))
+          ∙ sym (more-digit text (l .at) (c .before .before .before .before .before .loop-test .taken) (l .value)
+          (sym (c .before .before .before .is-digit .ensures)
+          ∙ c .before .before .if1 .taken)
+          (le-ltb largest (l .value * 10 + (getD text (l .at) 0 - 48)) (omega (arith, c .before .wide .ensures, c .if2 .left))))
           ∙ l .inv .1,
       omega arith,
     )
@@ -104,4 +112,5 @@ returns-4 c =
 pub read-more-spec : {M : Type 1} → statement M
 read-more-spec =
     tie.close
-    (tie.spec Inv-loop μ-loop loop-holds shared-slice-read-c is-digit-requires cast-next mul-next wide-requires sub-next add-next returns cast-value add-at loop-less loop-again is-blank-requires returns-2 returns-3 returns-4)
+    (tie.spec Inv-loop μ-loop loop-holds shared-slice-read-c is-digit-requires cast-next mul-next wide-requires sub-next add-next returns
+    cast-value add-at loop-less loop-again is-blank-requires returns-2 returns-3 returns-4)

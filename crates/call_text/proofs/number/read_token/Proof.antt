@@ -35,7 +35,8 @@ loop-again c =
     let s = c .before .before .before .before .before .before in
     let l = c .before .before .before .before .loop in
     let text = s .args .text .now in
-    sym (token-blank text (l .at) (c .before .before .before .loop-test .taken) (sym (c .before .is-blank .ensures) ∙ c .if1 .taken)) ∙ l .inv
+    sym (token-blank text (l .at) (c .before .before .before .loop-test .taken) (sym (c .before .is-blank .ensures) ∙ c .if1 .taken))
+    ∙ l .inv
 
 is-digit-requires : tie.Need-is-digit-requires Inv-loop μ-loop
 is-digit-requires c κs = tt
@@ -73,4 +74,5 @@ returns-3 c =
 pub read-token-spec : {M : Type 1} → statement M
 read-token-spec =
     tie.close
-    (tie.spec Inv-loop μ-loop loop-holds shared-slice-read-c is-blank-requires add-at loop-less loop-again is-digit-requires read-more-requires returns returns-2 returns-3)
+    (tie.spec Inv-loop μ-loop loop-holds shared-slice-read-c is-blank-requires add-at loop-less loop-again is-digit-requires
+    read-more-requires returns returns-2 returns-3)

@@ -35,7 +35,8 @@ returns c =
     let l1 = lo .1 .0 in
     let l2 = lo .1 .1 .0 in
     let l3 = lo .1 .1 .1 in
-    adds-bad (a .n) (a .k) wn (a .g) (a .base) (a .c) (unite .result .k) (unite .result .bad) (unite .last .0) (unite .ensures) (c .if1 .taken)
+    adds-bad (a .n) (a .k) wn (a .g) (a .base) (a .c) (unite .result .k) (unite .result .bad) (unite .last .0) (unite .ensures)
+    (c .if1 .taken)
 
 add-nodes : tie.Need-add-nodes
 add-nodes c =
@@ -63,11 +64,15 @@ nodes-requires c κs =
     let l2 = lo .1 .1 .0 in
     let l3 = lo .1 .1 .1 in
     let wl = words-later (a .k) wn (unite .result .k) (unite .last .0) l2 (unite .ensures .later) in
-    let tl = targets-later (a .k) wn (unite .result .k) (unite .last .0) l2 (unite .ensures .later) in
-    ((l1, omega (arith, unite .ensures .later .len)), rw (wl, tl) (add-listing (a .n) (a .k) wn (a .g) (a .base) (a .c) (unite .result .k) (unite .result .bad) (unite .last .0) (unite .ensures) (c .before .if1 .left) it))
+    let tl = targets-later (a .k) wn (unite .result .k) (unite .last .0) l2 (unite .ensures .later) in (
+      (l1, omega (arith, unite .ensures .later .len)),
+      rw (wl, tl) (add-listing (a .n) (a .k) wn (a .g) (a .base) (a .c) (unite .result .k) (unite .result .bad) (unite .last .0)
+          (unite .ensures) (c .before .if1 .left) it),
+    )
 
 same-length-2 : tie.Need-same-length-2
-same-length-2 c = c .before .before .nodes .ensures .later .len ∙ c .before .before .before .before .before .before .before .unite .ensures .later .len
+same-length-2 c = c .before .before .nodes .ensures .later .len
+    ∙ c .before .before .before .before .before .before .before .unite .ensures .later .len
 
 returns-2 : tie.Need-returns-2
 returns-2 c =
@@ -84,7 +89,9 @@ returns-2 c =
     let l3 = lo .1 .1 .1 in
     let wl = words-later (a .k) wn (unite .result .k) (unite .last .0) l2 (unite .ensures .later) in
     let tl = targets-later (a .k) wn (unite .result .k) (unite .last .0) l2 (unite .ensures .later) in
-    adds (a .n) (a .k) wn (a .g) (a .base) (a .c) (unite .result .k) (unite .result .bad) (unite .last .0) (unite .ensures) (c .before .before .before .before .if1 .left) (nodes .result .k) (nodes .result .bad) (nodes .last .0) (rw (wl, tl) at (nodes .ensures))
+    adds (a .n) (a .k) wn (a .g) (a .base) (a .c) (unite .result .k) (unite .result .bad) (unite .last .0) (unite .ensures)
+    (c .before .before .before .before .if1 .left) (nodes .result .k) (nodes .result .bad) (nodes .last .0)
+    (rw (wl, tl) at (nodes .ensures))
 
 pub add-spec : {M : Type 1} → statement M
 add-spec =

@@ -43,7 +43,9 @@ returns c =
     let a = s .args in
     let wn = a .w .now in
     let it = s .pre in
-    pushes-clashed (a .n) (a .k) wn (a .g) (wide .result) (wide .ensures ∙ c .before .before .before .before .before .before .before .before .before .before .loaded .ensures) it (add .result .k) (add .result .bad) (add .last .0) (add .ensures) (undo .last .0) (c .before .before .before .before .if1 .taken) (undo .ensures)
+    pushes-clashed (a .n) (a .k) wn (a .g) (wide .result) (wide .ensures
+    ∙ c .before .before .before .before .before .before .before .before .before .before .loaded .ensures) it (add .result .k)
+    (add .result .bad) (add .last .0) (add .ensures) (undo .last .0) (c .before .before .before .before .if1 .taken) (undo .ensures)
 
 same-length-2 : tie.Need-same-length-2
 same-length-2 c = c .before .before .before .add .ensures .later .len
@@ -56,7 +58,8 @@ returns-2 c =
     let a = s .args in
     let wn = a .w .now in
     let it = s .pre in
-    pushes-in (a .n) (a .k) wn (a .g) (wide .result) (wide .ensures ∙ c .before .before .before .before .before .before .loaded .ensures) it (add .result .k) (add .result .bad) (add .last .0) (add .ensures) (c .if1 .left)
+    pushes-in (a .n) (a .k) wn (a .g) (wide .result) (wide .ensures ∙ c .before .before .before .before .before .before .loaded .ensures) it
+    (add .result .k) (add .result .bad) (add .last .0) (add .ensures) (c .if1 .left)
 
 pub push-spec : {M : Type 1} → statement M
 push-spec =

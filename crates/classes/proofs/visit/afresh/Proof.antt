@@ -29,8 +29,13 @@ rises-requires : tie.Need-rises-requires
 rises-requires c κs =
     let a = c .before .before .before .before .before .args in
     let wn = a .w .now in
-    let g = c .before .before .before .before .before .pre .1 in
-    (omega arith, subst (Runs wn) (sym (c .wide .ensures)) (class-runs (g .F) (g .T) (a .n) (a .k) wn (omega arith) (omega arith) (a .x) (omega arith) (c .before .before .before .find .result) (c .before .before .before .find .ensures) (g .G) (g .H) (g .state) (c .before .if1 .left)))
+    let g = c .before .before .before .before .before .pre .1 in (
+      omega arith,
+      subst (Runs wn) (sym (c .wide .ensures))
+          (class-runs (g .F) (g .T) (a .n) (a .k) wn (omega arith) (omega arith) (a .x) (omega arith)
+          (c .before .before .before .find .result) (c .before .before .before .find .ensures) (g .G) (g .H) (g .state)
+          (c .before .if1 .left)),
+    )
 
 returns-2 : tie.Need-returns-2
 returns-2 c =
@@ -38,10 +43,14 @@ returns-2 c =
     let wn = a .w .now in
     let F = words wn in
     let r = c .before .rises in
-    ordered-hint F (a .n) (a .k) wn (a .x) (c .before .before .before .before .before .find .result) 1 (c .before .before .before .before .before .before .before .pre .1) (c .before .before .before .before .before .find .ensures) (hint-first F wn (c .before .before .before .before .before .find .result) (r .result) (subst (λ (z : ℕ). Risen F wn z (r .result)) (c .before .before .wide .ensures) (r .ensures)) (c .if2 .taken))
+    ordered-hint F (a .n) (a .k) wn (a .x) (c .before .before .before .before .before .find .result) 1
+    (c .before .before .before .before .before .before .before .pre .1) (c .before .before .before .before .before .find .ensures)
+    (hint-first F wn (c .before .before .before .before .before .find .result) (r .result)
+    (subst (λ (z : ℕ). Risen F wn z (r .result)) (c .before .before .wide .ensures) (r .ensures)) (c .if2 .taken))
 
 returns-3 : tie.Need-returns-3
-returns-3 c = let a = c .before .before .before .before .before .before .before .args in ordered-none (words (a .w .now)) (a .n) (a .w .now) (a .x)
+returns-3 c = let a = c .before .before .before .before .before .before .before .args in
+    ordered-none (words (a .w .now)) (a .n) (a .w .now) (a .x)
 
 pub afresh-spec : {M : Type 1} → statement M
 afresh-spec =

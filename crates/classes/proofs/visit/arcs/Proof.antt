@@ -27,7 +27,8 @@ loop-holds : tie.Need-loop-holds Inv-loop μ-loop
 loop-holds c =
     let a = c .before .before .before .args in
     let wn = a .w .now in
-    stringing-start (words wn) (targets wn) (a .n) (a .k) wn (a .x) (a .from) (a .d) (c .outset .result) (c .before .before .before .pre .1 .1 .state .logged) (c .outset .ensures)
+    stringing-start (words wn) (targets wn) (a .n) (a .k) wn (a .x) (a .from) (a .d) (c .outset .result)
+    (c .before .before .before .pre .1 .1 .state .logged) (c .outset .ensures)
 
 mul-visit : tie.Need-mul-visit Inv-loop μ-loop
 mul-visit c = search needs
@@ -44,11 +45,21 @@ visit-requires c κs =
     let o = c .before .before .loop in
     let le : length (o .w) ≡ length wn = o .inv .later .len in
     let wl = words-later (a .k) wn (o .e) (o .w) (omega arith) (o .inv .later) in
-    let tl = targets-later (a .k) wn (o .e) (o .w) (omega arith) (o .inv .later) in
-    ((omega arith, omega arith), ((omega arith, omega arith), (rw (wl, tl) (stringing-coming F T (a .n) (a .k) wn (a .x) (a .from) (a .d) (o .done) (o .e) (o .at) (o .w) (o .inv) (c .before .loop-test .taken) (c .before .before .before .before .before .before .pre .1 .1)), rw wl (o .inv .order))))
+    let tl = targets-later (a .k) wn (o .e) (o .w) (omega arith) (o .inv .later) in (
+      (omega arith, omega arith),
+      (
+        (omega arith, omega arith),
+        (
+          rw (wl, tl) (stringing-coming F T (a .n) (a .k) wn (a .x) (a .from) (a .d) (o .done) (o .e) (o .at) (o .w) (o .inv)
+              (c .before .loop-test .taken) (c .before .before .before .before .before .before .pre .1 .1)),
+          rw wl (o .inv .order),
+        ),
+      ),
+    )
 
 same-length : tie.Need-same-length Inv-loop μ-loop
-same-length c = c .before .before .before .visit .ensures .visited .later .len ∙ c .before .before .before .before .before .before .loop .inv .later .len
+same-length c = c .before .before .before .visit .ensures .visited .later .len
+    ∙ c .before .before .before .before .before .before .loop .inv .later .len
 
 returns : tie.Need-returns Inv-loop μ-loop
 returns c =
@@ -61,7 +72,9 @@ returns c =
     let le : length (o .w) ≡ length wn = o .inv .later .len in
     let wl = words-later (a .k) wn (o .e) (o .w) (omega arith) (o .inv .later) in
     let tl = targets-later (a .k) wn (o .e) (o .w) (omega arith) (o .inv .later) in
-    run-bad F T (a .n) (a .k) wn (a .x) (a .from) (a .d) (o .done) (o .e) (o .at) (o .w) (o .inv) (c .before .before .before .before .before .loop-test .taken) (v .result .k) (v .result .at) (v .result .bad) (v .last .0) (rw (wl, tl) at (v .ensures)) (c .if1 .taken)
+    run-bad F T (a .n) (a .k) wn (a .x) (a .from) (a .d) (o .done) (o .e) (o .at) (o .w) (o .inv)
+    (c .before .before .before .before .before .loop-test .taken) (v .result .k) (v .result .at) (v .result .bad) (v .last .0)
+    (rw (wl, tl) at (v .ensures)) (c .if1 .taken)
 
 add-done : tie.Need-add-done Inv-loop μ-loop
 add-done c = search needs
@@ -80,7 +93,9 @@ loop-again c =
     let le : length (o .w) ≡ length wn = o .inv .later .len in
     let wl = words-later (a .k) wn (o .e) (o .w) (omega arith) (o .inv .later) in
     let tl = targets-later (a .k) wn (o .e) (o .w) (omega arith) (o .inv .later) in
-    stringing-turn F T (a .n) (a .k) wn (a .x) (a .from) (a .d) (o .done) (o .e) (o .at) (o .w) (o .inv) (c .before .before .before .before .before .loop-test .taken) (v .result .k) (v .result .at) (v .result .bad) (v .last .0) (rw (wl, tl) at (v .ensures)) (c .if1 .left)
+    stringing-turn F T (a .n) (a .k) wn (a .x) (a .from) (a .d) (o .done) (o .e) (o .at) (o .w) (o .inv)
+    (c .before .before .before .before .before .loop-test .taken) (v .result .k) (v .result .at) (v .result .bad) (v .last .0)
+    (rw (wl, tl) at (v .ensures)) (c .if1 .left)
 
 same-length-2 : tie.Need-same-length-2 Inv-loop μ-loop
 same-length-2 c = c .before .loop .inv .later .len
@@ -90,7 +105,8 @@ returns-2 c =
     let a = c .before .before .before .before .before .args in
     let wn = a .w .now in
     let o = c .before .loop in
-    run-end (words wn) (targets wn) (a .n) (a .k) wn (a .x) (a .from) (a .d) (o .done) (o .e) (o .at) (o .w) (o .inv) (let h = c .loop-test .left in omega arith)
+    run-end (words wn) (targets wn) (a .n) (a .k) wn (a .x) (a .from) (a .d) (o .done) (o .e) (o .at) (o .w) (o .inv) (let h =
+    c .loop-test .left in omega arith)
 
 pub arcs-spec : {M : Type 1} → statement M
 arcs-spec =

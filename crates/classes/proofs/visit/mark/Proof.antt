@@ -41,7 +41,8 @@ returns c =
     let T = targets wn in
     let g = s .pre .1 .1 in
     let q = g .state .room in
-    mark-new F T (a .n) (a .k) wn (omega arith) (omega arith) (a .x) (omega arith) (find .result) (find .ensures) (a .v) (s .pre .1 .0 .0) (c .before .before .before .before .if1 .taken) (omega arith) (put .result) (put .last .0) (put .ensures)
+    mark-new F T (a .n) (a .k) wn (omega arith) (omega arith) (a .x) (omega arith) (find .result) (find .ensures) (a .v) (s .pre .1 .0 .0)
+    (c .before .before .before .before .if1 .taken) (omega arith) (put .result) (put .last .0) (put .ensures)
 
 same-length-2 : tie.Need-same-length-2
 same-length-2 c = search needs
@@ -55,7 +56,8 @@ returns-2 c =
     let F = words wn in
     let T = targets wn in
     let g = s .pre .1 .1 in
-    mark-same F T (a .n) (a .k) wn (omega arith) (omega arith) (a .x) (omega arith) (find .result) (find .ensures) (a .v) (s .pre .1 .0 .0) (g .state .logged) (c .if2 .taken)
+    mark-same F T (a .n) (a .k) wn (omega arith) (omega arith) (a .x) (omega arith) (find .result) (find .ensures) (a .v) (s .pre .1 .0 .0)
+    (g .state .logged) (c .if2 .taken)
 
 same-length-3 : tie.Need-same-length-3
 same-length-3 c = search needs
@@ -69,7 +71,8 @@ returns-3 c =
     let F = words wn in
     let T = targets wn in
     let g = s .pre .1 .1 in
-    mark-clash F T (a .n) (a .k) wn (omega arith) (omega arith) (a .x) (omega arith) (find .result) (find .ensures) (a .v) (s .pre .1 .0 .0) (g .state .logged) (c .before .if1 .left) (c .if2 .left)
+    mark-clash F T (a .n) (a .k) wn (omega arith) (omega arith) (a .x) (omega arith) (find .result) (find .ensures) (a .v) (s .pre .1 .0 .0)
+    (g .state .logged) (c .before .if1 .left) (c .if2 .left)
 
 pub mark-spec : {M : Type 1} → statement M
 mark-spec =

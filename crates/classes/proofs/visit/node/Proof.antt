@@ -55,7 +55,8 @@ returns c =
     let lp = lo .0 in
     let lx = lo .1 in
     let he : loaded .result ≡ getD F (a .p) 0 = loaded .ensures in
-    noded-mark F T (a .n) (a .k) wn (a .x) (a .p) (mark .result .k) (mark .result .bad) (mark .last .0) (omega arith) (rw he at (mark .ensures))
+    noded-mark F T (a .n) (a .k) wn (a .x) (a .p) (mark .result .k) (mark .result .bad) (mark .last .0) (omega arith)
+    (rw he at (mark .ensures))
 
 add-arcs : tie.Need-add-arcs
 add-arcs c =
@@ -109,7 +110,8 @@ returns-2 c =
     let lx = lo .1 in
     let he : loaded .result ≡ getD F (a .p) 0 = loaded .ensures in
     let we : wide .result ≡ getD F (a .p) 0 = wide .ensures ∙ he in
-    noded-run F T (a .n) (a .k) wn (a .x) (a .p) (arcs .result .k) (arcs .result .bad) (arcs .last .0) (omega arith) (rw we at (arcs .ensures))
+    noded-run F T (a .n) (a .k) wn (a .x) (a .p) (arcs .result .k) (arcs .result .bad) (arcs .last .0) (omega arith)
+    (rw we at (arcs .ensures))
 
 pub node-spec : {M : Type 1} → statement M
 node-spec =

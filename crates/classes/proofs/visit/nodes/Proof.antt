@@ -1,4 +1,5 @@
--- `classes::visit::nodes` meets its contract. The loop's invariant: `left` nodes are left, from the number y and the position `at` on. Assumes nothing.
+-- `classes::visit::nodes` meets its contract. The loop's invariant: `left` nodes are left, from the number y and the position `at` on.
+-- Assumes nothing.
 use Prim.Native.Nat.{ℕ}
 use mathlib.Core.Path.{_≡_, ap, _∙_}
 use mathlib.Core.List.{List}
@@ -8,7 +9,8 @@ use Rattle.area.specs.Region.{words}
 use Rattle.forest.specs.State.{targets}
 use Rattle.forest.proofs.Words.{words-later, targets-later}
 use Rattle.forest.proofs.Walks.{some}
-use Rattle.classes.proofs.Runs.{node-low, node-span, Marching, marching-start, marching-noding, marching-turn, listed-bad, listed-end}
+use Rattle.classes.proofs.Runs.{node-low, node-span, Marching, marching-start, marching-noding, marching-turn, listed-bad}
+use Rattle.classes.proofs.Runs.{listed-end}
 use borrow.Author.Needs.{needs}
 use Rattle.classes.proofs.visit.nodes.Statement.{statement}
 use Rattle.classes.proofs.visit.nodes.Tie as tie
@@ -41,11 +43,15 @@ node-requires c κs =
     let le : length (o .w) ≡ length wn = o .inv .later .len in
     let h = some (o .left) (c .before .loop-test .taken) in
     let wl = words-later (a .k) wn (o .e) (o .w) (omega arith) (o .inv .later) in
-    let tl = targets-later (a .k) wn (o .e) (o .w) (omega arith) (o .inv .later) in
-    ((omega arith, omega arith), rw (wl, tl) (marching-noding F T (a .n) (a .k) wn (a .x) (a .p) (a .c) (o .e) (o .y) (o .at) (o .left) (o .w) (o .inv) g h))
+    let tl = targets-later (a .k) wn (o .e) (o .w) (omega arith) (o .inv .later) in (
+      (omega arith, omega arith),
+      rw (wl, tl)
+          (marching-noding F T (a .n) (a .k) wn (a .x) (a .p) (a .c) (o .e) (o .y) (o .at) (o .left) (o .w) (o .inv) g h),
+    )
 
 same-length : tie.Need-same-length Inv-loop μ-loop
-same-length c = c .before .before .before .node .ensures .later .len ∙ c .before .before .before .before .before .before .loop .inv .later .len
+same-length c = c .before .before .before .node .ensures .later .len
+    ∙ c .before .before .before .before .before .before .loop .inv .later .len
 
 returns : tie.Need-returns Inv-loop μ-loop
 returns c =
@@ -60,7 +66,8 @@ returns c =
     let h = some (o .left) (c .before .before .before .before .before .loop-test .taken) in
     let wl = words-later (a .k) wn (o .e) (o .w) (omega arith) (o .inv .later) in
     let tl = targets-later (a .k) wn (o .e) (o .w) (omega arith) (o .inv .later) in
-    listed-bad F T (a .n) (a .k) wn (a .x) (a .p) (a .c) (o .e) (o .y) (o .at) (o .left) (o .w) (o .inv) h (node .result .k) (node .result .bad) (node .last .0) (rw (wl, tl) at (node .ensures)) (c .if1 .taken)
+    listed-bad F T (a .n) (a .k) wn (a .x) (a .p) (a .c) (o .e) (o .y) (o .at) (o .left) (o .w) (o .inv) h (node .result .k)
+    (node .result .bad) (node .last .0) (rw (wl, tl) at (node .ensures)) (c .if1 .taken)
 
 loaded-requires : tie.Need-loaded-requires Inv-loop μ-loop
 loaded-requires c κs =
@@ -102,7 +109,8 @@ add-at c =
     let lx = lo .1 in
     let w2 = words-later (o .e) (o .w) (node .result .k) (node .last .0) (omega arith) (node .ensures .later) ∙ wl in
     let he : loaded .result ≡ getD F (o .at) 0 = loaded .ensures ∙ ap (λ (z : List ℕ). getD z (o .at) 0) w2 in
-    let z = node-span F (nd .G) (a .n) (o .y) (o .at) (nd .v) (nd .node) (c .span .result) (λ b. c .span .ensures .0 (omega arith)) (λ b. c .span .ensures .1 (omega arith) ∙ omega arith) in
+    let z = node-span F (nd .G) (a .n) (o .y) (o .at) (nd .v) (nd .node) (c .span .result) (λ b. c .span .ensures .0 (omega arith))
+    (λ b. c .span .ensures .1 (omega arith) ∙ omega arith) in
     search needs
 
 add-y : tie.Need-add-y Inv-loop μ-loop
@@ -158,7 +166,9 @@ loop-again c =
     let tl = targets-later (a .k) wn (o .e) (o .w) (omega arith) (o .inv .later) in
     let w2 = words-later (o .e) (o .w) (node .result .k) (node .last .0) (omega arith) (node .ensures .later) ∙ wl in
     let he : loaded .result ≡ getD F (o .at) 0 = loaded .ensures ∙ ap (λ (z : List ℕ). getD z (o .at) 0) w2 in
-    marching-turn F T (a .n) (a .k) wn (a .x) (a .p) (a .c) (o .e) (o .y) (o .at) (o .left) (o .w) (o .inv) h (node .result .k) (node .result .bad) (node .last .0) (rw (wl, tl) at (node .ensures)) (c .before .before .before .if1 .left) (c .span .result) (λ b. c .span .ensures .0 (omega arith)) (λ b. c .span .ensures .1 (omega arith) ∙ omega arith)
+    marching-turn F T (a .n) (a .k) wn (a .x) (a .p) (a .c) (o .e) (o .y) (o .at) (o .left) (o .w) (o .inv) h (node .result .k)
+    (node .result .bad) (node .last .0) (rw (wl, tl) at (node .ensures)) (c .before .before .before .if1 .left) (c .span .result)
+    (λ b. c .span .ensures .0 (omega arith)) (λ b. c .span .ensures .1 (omega arith) ∙ omega arith)
 
 same-length-2 : tie.Need-same-length-2 Inv-loop μ-loop
 same-length-2 c = c .before .loop .inv .later .len

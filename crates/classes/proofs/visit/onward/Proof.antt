@@ -31,7 +31,9 @@ returns-2 c =
     let a = c .before .before .before .before .before .args in
     let wn = a .w .now in
     let g = c .before .before .before .before .before .pre .1 .1 in
-    ordered-hint (words wn) (a .n) (a .e) wn (a .x) (a .c) (NEXT + (a .r - 1)) (g .steady) (subst (λ (z : ℕ). Root (region PARENT (a .n) wn) (a .x) z) (c .before .if2 .taken) (c .before .before .find .ensures)) (g .kept (c .if3 .taken) (some (a .at) (c .before .before .before .if1 .left)))
+    ordered-hint (words wn) (a .n) (a .e) wn (a .x) (a .c) (NEXT + (a .r - 1)) (g .steady)
+    (subst (λ (z : ℕ). Root (region PARENT (a .n) wn) (a .x) z) (c .before .if2 .taken) (c .before .before .find .ensures))
+    (g .kept (c .if3 .taken) (some (a .at) (c .before .before .before .if1 .left)))
 
 afresh-requires : tie.Need-afresh-requires
 afresh-requires c κs = ((omega arith, (omega arith, omega arith)), c .before .before .before .before .pre .1 .1 .steady)

@@ -8,7 +8,8 @@ use Rattle.forest.specs.State.{targets, Looked, withPair}
 use Rattle.forest.specs.Order.{Located}
 use Rattle.forest.proofs.Words.{words-later}
 use Rattle.forest.proofs.Walks.{some}
-use Rattle.classes.proofs.Visits.{ordered-none, hint-calm, class-runs, visit-clash, visit-hung, hung-ordered, visit-found, found-arc, found-same}
+use Rattle.classes.proofs.Visits.{ordered-none, hint-calm, class-runs, visit-clash, visit-hung, hung-ordered, visit-found, found-arc}
+use Rattle.classes.proofs.Visits.{found-same}
 use borrow.Author.Needs.{needs}
 use Rattle.classes.proofs.visit.visit.Statement.{statement}
 use Rattle.classes.proofs.visit.visit.Tie as tie
@@ -31,7 +32,8 @@ returns c =
     let wn = a .w .now in
     let g = c .before .before .before .before .before .pre .1 .1 .0 in
     record {
-      visited = visit-clash (words wn) (targets wn) (a .n) (a .k) wn (omega arith) (omega arith) (a .x) (omega arith) (c .before .before .find .result) (c .before .before .find .ensures) (a .t) (g .state .logged) (c .if1 .taken);
+      visited = visit-clash (words wn) (targets wn) (a .n) (a .k) wn (omega arith) (omega arith) (a .x) (omega arith)
+          (c .before .before .find .result) (c .before .before .find .ensures) (a .t) (g .state .logged) (c .if1 .taken);
       next = λ z. let y : _≡_ {A = ℕ} 0 1 = cc in absurd (omega arith);
     }
 
@@ -43,8 +45,16 @@ locate-requires c κs =
     let a = c .before .before .before .before .before .before .before .before .args in
     let wn = a .w .now in
     let g = c .before .before .before .before .before .before .before .before .pre .1 .1 .0 in
-    let lw = c .before .before .before .before .before .find .ensures .low in
-    ((omega arith, omega arith), (class-runs (words wn) (targets wn) (a .n) (a .k) wn (omega arith) (omega arith) (a .x) (omega arith) (c .before .before .before .before .before .find .result) (c .before .before .before .before .before .find .ensures) (g .G) (g .H) (g .state) (c .before .before .before .if1 .left), λ z. c .before .before .before .before .before .before .before .before .pre .1 .1 .1 .hint z (c .before .before .before .before .before .find .result) (c .before .before .before .before .before .find .ensures)))
+    let lw = c .before .before .before .before .before .find .ensures .low in (
+      (omega arith, omega arith),
+      (
+        class-runs (words wn) (targets wn) (a .n) (a .k) wn (omega arith) (omega arith) (a .x) (omega arith)
+            (c .before .before .before .before .before .find .result) (c .before .before .before .before .before .find .ensures) (g .G) (g .H)
+            (g .state) (c .before .before .before .if1 .left),
+        λ z. c .before .before .before .before .before .before .before .before .pre .1 .1 .1 .hint z
+            (c .before .before .before .before .before .find .result) (c .before .before .before .before .before .find .ensures),
+      ),
+    )
 
 mul-y : tie.Need-mul-y
 mul-y c = let l = c .before .locate .ensures .low in search needs
@@ -72,11 +82,17 @@ cast-put c = search needs
 put-requires-2 : tie.Need-put-requires-2
 put-requires-2 c κs =
     let put = c .before .before .before .put in
-    let g = c .before .before .before .before .before .before .before .before .before .before .before .before .before .before .before .before .pre .1 .1 .0 in
+    let g = c .before .before .before .before .before .before .before .before .before .before .before .before .before .before .before
+    .before .pre .1 .1 .0 in
     let rr = g .fresh .room in
     let rq = g .state .room in
-    let lw = c .before .before .before .before .before .before .before .locate .ensures .low in
-    (put .ensures .later .logged, (omega arith, (omega (arith, put .ensures .next), (omega arith, omega (arith, put .ensures .later .len)))))
+    let lw = c .before .before .before .before .before .before .before .locate .ensures .low in (
+      put .ensures .later .logged,
+      (
+        omega arith,
+        (omega (arith, put .ensures .next), (omega arith, omega (arith, put .ensures .later .len))),
+      ),
+    )
 
 add-a : tie.Need-add-a
 add-a c = search needs
@@ -86,19 +102,38 @@ same-length-2 c = search needs
 
 returns-2 : tie.Need-returns-2
 returns-2 c =
-    let bn = c .before .before .before .before .before .before .before .before .before .before .before .before .before .before .before .before .before .before .before .before .pre .0 in
-    let bx = c .before .before .before .before .before .before .before .before .before .before .before .before .before .before .before .before .before .before .before .before .pre .1 .0 in
-    let find = c .before .before .before .before .before .before .before .before .before .before .before .before .before .before .before .before .before .find in
-    let a = c .before .before .before .before .before .before .before .before .before .before .before .before .before .before .before .before .before .before .before .before .args in
+    let bn = c .before .before .before .before .before .before .before .before .before .before .before .before .before .before .before
+    .before .before .before .before .before .pre .0 in
+    let bx = c .before .before .before .before .before .before .before .before .before .before .before .before .before .before .before
+    .before .before .before .before .before .pre .1 .0 in
+    let find = c .before .before .before .before .before .before .before .before .before .before .before .before .before .before .before
+    .before .before .find in
+    let a = c .before .before .before .before .before .before .before .before .before .before .before .before .before .before .before
+    .before .before .before .before .before .args in
     let wn = a .w .now in
     let F = words wn in
     let T = targets wn in
-    let g = c .before .before .before .before .before .before .before .before .before .before .before .before .before .before .before .before .before .before .before .before .pre .1 .1 .0 in
+    let g = c .before .before .before .before .before .before .before .before .before .before .before .before .before .before .before
+    .before .before .before .before .before .pre .1 .1 .0 in
     let rr = g .fresh .room in
     let rq = g .state .room in
-    let lc : Located F wn (getD F (a .t) 0) (find .result) (c .before .before .before .before .before .before .before .before .before .before .before .locate .result .link) 0 = rw (c .before .before .before .before .before .before .before .before .before .before .before .before .before .loaded .ensures, c .before .before .before .before .before .before .before .before .before .before .if2 .taken) at (c .before .before .before .before .before .before .before .before .before .before .before .locate .ensures) in
+    let lc : Located F wn (getD F (a .t) 0) (find .result)
+    (c .before .before .before .before .before .before .before .before .before .before .before .locate .result .link) 0 =
+    rw (
+      c .before .before .before .before .before .before .before .before .before .before .before .before .before .loaded .ensures,
+      c .before .before .before .before .before .before .before .before .before .before .if2 .taken,
+    ) at
+    (c .before .before .before .before .before .before .before .before .before .before .before .locate .ensures) in
     record {
-      visited = visit-hung F T (a .n) (a .k) wn (omega arith) (omega arith) (a .x) (omega arith) (find .result) (find .ensures) (a .t) (omega arith) (c .before .before .before .before .before .before .before .before .before .before .before .before .before .before .before .if1 .left) (a .at) (c .before .before .before .before .before .before .before .before .before .before .before .locate .result .link) (λ z. c .before .before .before .before .before .before .before .before .before .before .before .before .before .before .before .before .before .before .before .before .pre .1 .1 .1 .hint z (find .result) (find .ensures)) lc (getD wn (c .before .before .before .before .before .before .before .before .before .before .before .locate .result .link) 0) refl (omega arith) (c .before .before .before .before .before .before .before .put .result) (c .before .before .before .put2 .result) (c .before .before .before .before .before .before .before .put .last .0) (c .before .before .before .put2 .last .0) (c .before .before .before .before .before .before .before .put .ensures) (c .before .before .before .put2 .ensures);
+      visited = visit-hung F T (a .n) (a .k) wn (omega arith) (omega arith) (a .x) (omega arith) (find .result) (find .ensures) (a .t)
+          (omega arith) (c .before .before .before .before .before .before .before .before .before .before .before .before .before .before
+          .before .if1 .left) (a .at) (c .before .before .before .before .before .before .before .before .before .before .before .locate
+          .result .link) (λ z. c .before .before .before .before .before .before .before .before .before .before .before .before .before
+          .before .before .before .before .before .before .before .pre .1 .1 .1 .hint z (find .result) (find .ensures)) lc
+          (getD wn (c .before .before .before .before .before .before .before .before .before .before .before .locate .result .link) 0) refl
+          (omega arith) (c .before .before .before .before .before .before .before .put .result) (c .before .before .before .put2 .result)
+          (c .before .before .before .before .before .before .before .put .last .0) (c .before .before .before .put2 .last .0)
+          (c .before .before .before .before .before .before .before .put .ensures) (c .before .before .before .put2 .ensures);
       next = λ z. ordered-none F (a .n) (c .before .before .before .put2 .last .0) (a .x);
     }
 
@@ -107,20 +142,48 @@ same-length-3 c = search needs
 
 returns-3 : tie.Need-returns-3
 returns-3 c =
-    let bn = c .before .before .before .before .before .before .before .before .before .before .before .before .before .before .before .before .before .before .before .before .pre .0 in
-    let bx = c .before .before .before .before .before .before .before .before .before .before .before .before .before .before .before .before .before .before .before .before .pre .1 .0 in
-    let find = c .before .before .before .before .before .before .before .before .before .before .before .before .before .before .before .before .before .find in
-    let a = c .before .before .before .before .before .before .before .before .before .before .before .before .before .before .before .before .before .before .before .before .args in
+    let bn = c .before .before .before .before .before .before .before .before .before .before .before .before .before .before .before
+    .before .before .before .before .before .pre .0 in
+    let bx = c .before .before .before .before .before .before .before .before .before .before .before .before .before .before .before
+    .before .before .before .before .before .pre .1 .0 in
+    let find = c .before .before .before .before .before .before .before .before .before .before .before .before .before .before .before
+    .before .before .find in
+    let a = c .before .before .before .before .before .before .before .before .before .before .before .before .before .before .before
+    .before .before .before .before .before .args in
     let wn = a .w .now in
     let F = words wn in
     let T = targets wn in
-    let g = c .before .before .before .before .before .before .before .before .before .before .before .before .before .before .before .before .before .before .before .before .pre .1 .1 .0 in
+    let g = c .before .before .before .before .before .before .before .before .before .before .before .before .before .before .before
+    .before .before .before .before .before .pre .1 .1 .0 in
     let rr = g .fresh .room in
     let rq = g .state .room in
-    let lc : Located F wn (getD F (a .t) 0) (find .result) (c .before .before .before .before .before .before .before .before .before .before .before .locate .result .link) 0 = rw (c .before .before .before .before .before .before .before .before .before .before .before .before .before .loaded .ensures, c .before .before .before .before .before .before .before .before .before .before .if2 .taken) at (c .before .before .before .before .before .before .before .before .before .before .before .locate .ensures) in
+    let lc : Located F wn (getD F (a .t) 0) (find .result)
+    (c .before .before .before .before .before .before .before .before .before .before .before .locate .result .link) 0 =
+    rw (
+      c .before .before .before .before .before .before .before .before .before .before .before .before .before .loaded .ensures,
+      c .before .before .before .before .before .before .before .before .before .before .if2 .taken,
+    ) at
+    (c .before .before .before .before .before .before .before .before .before .before .before .locate .ensures) in
     record {
-      visited = visit-hung F T (a .n) (a .k) wn (omega arith) (omega arith) (a .x) (omega arith) (find .result) (find .ensures) (a .t) (omega arith) (c .before .before .before .before .before .before .before .before .before .before .before .before .before .before .before .if1 .left) (a .at) (c .before .before .before .before .before .before .before .before .before .before .before .locate .result .link) (λ z. c .before .before .before .before .before .before .before .before .before .before .before .before .before .before .before .before .before .before .before .before .pre .1 .1 .1 .hint z (find .result) (find .ensures)) lc (getD wn (c .before .before .before .before .before .before .before .before .before .before .before .locate .result .link) 0) refl (omega arith) (c .before .before .before .before .before .before .before .put .result) (c .before .before .before .put2 .result) (c .before .before .before .before .before .before .before .put .last .0) (c .before .before .before .put2 .last .0) (c .before .before .before .before .before .before .before .put .ensures) (c .before .before .before .put2 .ensures);
-      next = λ z. hung-ordered F T (a .n) (a .k) wn (omega arith) (omega arith) (a .x) (omega arith) (find .result) (find .ensures) (a .t) (omega arith) (c .before .before .before .before .before .before .before .before .before .before .before .before .before .before .before .if1 .left) (a .at) (c .before .before .before .before .before .before .before .before .before .before .before .locate .result .link) (λ z. c .before .before .before .before .before .before .before .before .before .before .before .before .before .before .before .before .before .before .before .before .pre .1 .1 .1 .hint z (find .result) (find .ensures)) lc (getD wn (c .before .before .before .before .before .before .before .before .before .before .before .locate .result .link) 0) refl (omega arith) (c .before .before .before .before .before .before .before .put .result) (c .before .before .before .put2 .result) (c .before .before .before .before .before .before .before .put .last .0) (c .before .before .before .put2 .last .0) (c .before .before .before .before .before .before .before .put .ensures) (c .before .before .before .put2 .ensures) (g .G) (g .H) (g .state) (g .fresh) (some (a .at) (c .if3 .left));
+      visited = visit-hung F T (a .n) (a .k) wn (omega arith) (omega arith) (a .x) (omega arith) (find .result) (find .ensures) (a .t)
+          (omega arith) (c .before .before .before .before .before .before .before .before .before .before .before .before .before .before
+          .before .if1 .left) (a .at) (c .before .before .before .before .before .before .before .before .before .before .before .locate
+          .result .link) (λ z. c .before .before .before .before .before .before .before .before .before .before .before .before .before
+          .before .before .before .before .before .before .before .pre .1 .1 .1 .hint z (find .result) (find .ensures)) lc
+          (getD wn (c .before .before .before .before .before .before .before .before .before .before .before .locate .result .link) 0) refl
+          (omega arith) (c .before .before .before .before .before .before .before .put .result) (c .before .before .before .put2 .result)
+          (c .before .before .before .before .before .before .before .put .last .0) (c .before .before .before .put2 .last .0)
+          (c .before .before .before .before .before .before .before .put .ensures) (c .before .before .before .put2 .ensures);
+      next = λ z. hung-ordered F T (a .n) (a .k) wn (omega arith) (omega arith) (a .x) (omega arith) (find .result) (find .ensures) (a .t)
+          (omega arith) (c .before .before .before .before .before .before .before .before .before .before .before .before .before .before
+          .before .if1 .left) (a .at) (c .before .before .before .before .before .before .before .before .before .before .before .locate
+          .result .link) (λ z. c .before .before .before .before .before .before .before .before .before .before .before .before .before
+          .before .before .before .before .before .before .before .pre .1 .1 .1 .hint z (find .result) (find .ensures)) lc
+          (getD wn (c .before .before .before .before .before .before .before .before .before .before .before .locate .result .link) 0) refl
+          (omega arith) (c .before .before .before .before .before .before .before .put .result) (c .before .before .before .put2 .result)
+          (c .before .before .before .before .before .before .before .put .last .0) (c .before .before .before .put2 .last .0)
+          (c .before .before .before .before .before .before .before .put .ensures) (c .before .before .before .put2 .ensures) (g .G) (g .H)
+          (g .state) (g .fresh) (some (a .at) (c .if3 .left));
     }
 
 target-requires : tie.Need-target-requires
@@ -138,72 +201,145 @@ target-requires-2 c κs =
     let F = words wn in
     let T = targets wn in
     let g = c .before .before .before .before .before .before .before .before .before .before .before .before .before .pre .1 .1 .0 in
-    let lk : Looked F wn (getD F (a .t) 0) (getD wn (c .before .before .before .before .before .before .before .before .before .before .find .result) 0) (c .before .before .before .before .locate .result .arc) = rw (c .before .before .before .before .before .before .loaded .ensures) at (c .before .before .before .before .locate .ensures .looked) in
+    let lk : Looked F wn (getD F (a .t) 0)
+    (getD wn (c .before .before .before .before .before .before .before .before .before .before .find .result) 0)
+    (c .before .before .before .before .locate .result .arc) =
+    rw (c .before .before .before .before .before .before .loaded .ensures) at
+    (c .before .before .before .before .locate .ensures .looked) in
     let r = c .before .before .before .before .locate .result .arc in
     let rp = some r (c .before .before .before .if2 .left) in
     let ri : r ≡ suc (r - 1) = omega arith in
-    let fa = found-arc F T (a .n) (a .k) wn (omega arith) (omega arith) (a .x) (omega arith) (c .before .before .before .before .before .before .before .before .before .before .find .result) (c .before .before .before .before .before .before .before .before .before .before .find .ensures) (a .t) r (r - 1) (c .before .before .before .before .before .before .before .before .if1 .left) lk ri (g .G) (g .H) (g .state) in
+    let fa = found-arc F T (a .n) (a .k) wn (omega arith) (omega arith) (a .x) (omega arith)
+    (c .before .before .before .before .before .before .before .before .before .before .find .result)
+    (c .before .before .before .before .before .before .before .before .before .before .find .ensures) (a .t) r (r - 1)
+    (c .before .before .before .before .before .before .before .before .if1 .left) lk ri (g .G) (g .H) (g .state) in
     let mi : r - 1 < 2047 = fa .1 in
     (omega arith, omega arith)
 
 unite-requires : tie.Need-unite-requires
 unite-requires c κs =
-    let bn = c .before .before .before .before .before .before .before .before .before .before .before .before .before .before .before .pre .0 in
-    let bx = c .before .before .before .before .before .before .before .before .before .before .before .before .before .before .before .pre .1 .0 in
-    let a = c .before .before .before .before .before .before .before .before .before .before .before .before .before .before .before .args in
+    let bn = c .before .before .before .before .before .before .before .before .before .before .before .before .before .before .before .pre
+    .0 in
+    let bx = c .before .before .before .before .before .before .before .before .before .before .before .before .before .before .before .pre
+    .1 .0 in
+    let a = c .before .before .before .before .before .before .before .before .before .before .before .before .before .before .before
+    .args in
     let wn = a .w .now in
     let F = words wn in
     let T = targets wn in
-    let g = c .before .before .before .before .before .before .before .before .before .before .before .before .before .before .before .pre .1 .1 .0 in
-    let lk : Looked F wn (getD F (a .t) 0) (getD wn (c .before .before .before .before .before .before .before .before .before .before .before .before .find .result) 0) (c .before .before .before .before .before .before .locate .result .arc) = rw (c .before .before .before .before .before .before .before .before .loaded .ensures) at (c .before .before .before .before .before .before .locate .ensures .looked) in
+    let g = c .before .before .before .before .before .before .before .before .before .before .before .before .before .before .before .pre
+    .1 .1 .0 in
+    let lk : Looked F wn (getD F (a .t) 0)
+    (getD wn (c .before .before .before .before .before .before .before .before .before .before .before .before .find .result) 0)
+    (c .before .before .before .before .before .before .locate .result .arc) =
+    rw (c .before .before .before .before .before .before .before .before .loaded .ensures) at
+    (c .before .before .before .before .before .before .locate .ensures .looked) in
     let r = c .before .before .before .before .before .before .locate .result .arc in
     let rp = some r (c .before .before .before .before .before .if2 .left) in
     let ri : r ≡ suc (r - 1) = omega arith in
-    let fa = found-arc F T (a .n) (a .k) wn (omega arith) (omega arith) (a .x) (omega arith) (c .before .before .before .before .before .before .before .before .before .before .before .before .find .result) (c .before .before .before .before .before .before .before .before .before .before .before .before .find .ensures) (a .t) r (r - 1) (c .before .before .before .before .before .before .before .before .before .before .if1 .left) lk ri (g .G) (g .H) (g .state) in
+    let fa = found-arc F T (a .n) (a .k) wn (omega arith) (omega arith) (a .x) (omega arith)
+    (c .before .before .before .before .before .before .before .before .before .before .before .before .find .result)
+    (c .before .before .before .before .before .before .before .before .before .before .before .before .find .ensures) (a .t) r (r - 1)
+    (c .before .before .before .before .before .before .before .before .before .before .if1 .left) lk ri (g .G) (g .H) (g .state) in
     let mi : r - 1 < 2047 = fa .1 in
     let tt = g .state .arcs (a .t) (g .fresh .arc) .1 .1 in
-    let sm = found-same F T (a .n) (a .k) wn (omega arith) (omega arith) (a .x) (omega arith) (c .before .before .before .before .before .before .before .before .before .before .before .before .find .result) (c .before .before .before .before .before .before .before .before .before .before .before .before .find .ensures) (a .t) r (r - 1) (c .before .before .before .before .before .before .before .before .before .before .if1 .left) lk ri (g .G) (g .H) (g .state) (g .fresh) in
-    ((omega arith, omega arith), ((omega (arith, c .before .before .before .target .ensures, tt), omega (arith, c .before .target2 .ensures, fa .0)), record { G = g .G; H = g .H; state = g .state; same = rw (c .before .before .before .target .ensures, c .before .target2 .ensures) sm }))
+    let sm = found-same F T (a .n) (a .k) wn (omega arith) (omega arith) (a .x) (omega arith)
+    (c .before .before .before .before .before .before .before .before .before .before .before .before .find .result)
+    (c .before .before .before .before .before .before .before .before .before .before .before .before .find .ensures) (a .t) r (r - 1)
+    (c .before .before .before .before .before .before .before .before .before .before .if1 .left) lk ri (g .G) (g .H) (g .state)
+    (g .fresh) in (
+      (omega arith, omega arith),
+      (
+        (
+          omega (arith, c .before .before .before .target .ensures, tt),
+          omega (arith, c .before .target2 .ensures, fa .0),
+        ),
+        record {
+          G = g .G;
+          H = g .H;
+          state = g .state;
+          same =
+              rw (c .before .before .before .target .ensures, c .before .target2 .ensures) sm;
+        },
+      ),
+    )
 
 same-length-4 : tie.Need-same-length-4
 same-length-4 c = search needs
 
 returns-4 : tie.Need-returns-4
 returns-4 c =
-    let bn = c .before .before .before .before .before .before .before .before .before .before .before .before .before .before .before .before .before .before .before .pre .0 in
-    let bx = c .before .before .before .before .before .before .before .before .before .before .before .before .before .before .before .before .before .before .before .pre .1 .0 in
+    let bn = c .before .before .before .before .before .before .before .before .before .before .before .before .before .before .before
+    .before .before .before .before .pre .0 in
+    let bx = c .before .before .before .before .before .before .before .before .before .before .before .before .before .before .before
+    .before .before .before .before .pre .1 .0 in
     let unite = c .before .before .before .unite in
-    let a = c .before .before .before .before .before .before .before .before .before .before .before .before .before .before .before .before .before .before .before .args in
+    let a = c .before .before .before .before .before .before .before .before .before .before .before .before .before .before .before
+    .before .before .before .before .args in
     let wn = a .w .now in
     let F = words wn in
     let T = targets wn in
-    let lk : Looked F wn (getD F (a .t) 0) (getD wn (c .before .before .before .before .before .before .before .before .before .before .before .before .before .before .before .before .find .result) 0) (c .before .before .before .before .before .before .before .before .before .before .locate .result .arc) = rw (c .before .before .before .before .before .before .before .before .before .before .before .before .loaded .ensures) at (c .before .before .before .before .before .before .before .before .before .before .locate .ensures .looked) in
+    let lk : Looked F wn (getD F (a .t) 0)
+    (getD wn (c .before .before .before .before .before .before .before .before .before .before .before .before .before .before .before
+    .before .find .result) 0) (c .before .before .before .before .before .before .before .before .before .before .locate .result .arc) =
+    rw (c .before .before .before .before .before .before .before .before .before .before .before .before .loaded .ensures) at
+    (c .before .before .before .before .before .before .before .before .before .before .locate .ensures .looked) in
     let r = c .before .before .before .before .before .before .before .before .before .before .locate .result .arc in
     let rp = some r (c .before .before .before .before .before .before .before .before .before .if2 .left) in
     let ri : r ≡ suc (r - 1) = omega arith in
     record {
-      visited = rw (c .if4 .taken) at (visit-found F T (a .n) (a .k) wn (omega arith) (omega arith) (a .x) (omega arith) (c .before .before .before .before .before .before .before .before .before .before .before .before .before .before .before .before .find .result) (c .before .before .before .before .before .before .before .before .before .before .before .before .before .before .before .before .find .ensures) (a .t) r (r - 1) (c .before .before .before .before .before .before .before .before .before .before .before .before .before .before .if1 .left) lk ri (unite .result .k) (unite .result .bad) (unite .last .0) (rw (c .before .before .before .before .before .before .before .target .ensures, c .before .before .before .before .before .target2 .ensures) at (unite .ensures)));
+      visited = rw (c .if4 .taken) at
+          (visit-found F T (a .n) (a .k) wn (omega arith) (omega arith) (a .x) (omega arith)
+          (c .before .before .before .before .before .before .before .before .before .before .before .before .before .before .before .before
+          .find .result) (c .before .before .before .before .before .before .before .before .before .before .before .before .before .before
+          .before .before .find .ensures) (a .t) r (r - 1)
+          (c .before .before .before .before .before .before .before .before .before .before .before .before .before .before .if1 .left) lk
+          ri (unite .result .k) (unite .result .bad) (unite .last .0)
+          (rw (
+            c .before .before .before .before .before .before .before .target .ensures,
+            c .before .before .before .before .before .target2 .ensures,
+          ) at (unite .ensures)));
       next = λ z. let y : _≡_ {A = ℕ} 0 1 = cc in absurd (omega arith);
     }
 
 onward-requires : tie.Need-onward-requires
 onward-requires c κs =
-    let bn = c .before .before .before .before .before .before .before .before .before .before .before .before .before .before .before .before .before .before .before .before .pre .0 in
-    let bx = c .before .before .before .before .before .before .before .before .before .before .before .before .before .before .before .before .before .before .before .before .pre .1 .0 in
+    let bn = c .before .before .before .before .before .before .before .before .before .before .before .before .before .before .before
+    .before .before .before .before .before .pre .0 in
+    let bx = c .before .before .before .before .before .before .before .before .before .before .before .before .before .before .before
+    .before .before .before .before .before .pre .1 .0 in
     let unite = c .before .before .before .before .unite in
-    let a = c .before .before .before .before .before .before .before .before .before .before .before .before .before .before .before .before .before .before .before .before .args in
+    let a = c .before .before .before .before .before .before .before .before .before .before .before .before .before .before .before
+    .before .before .before .before .before .args in
     let wn = a .w .now in
     let F = words wn in
     let T = targets wn in
-    let g = c .before .before .before .before .before .before .before .before .before .before .before .before .before .before .before .before .before .before .before .before .pre .1 .1 .0 in
-    let lw = c .before .before .before .before .before .before .before .before .before .before .before .before .before .before .before .before .before .find .ensures .low in
-    let lk : Looked F wn (getD F (a .t) 0) (getD wn (c .before .before .before .before .before .before .before .before .before .before .before .before .before .before .before .before .before .find .result) 0) (c .before .before .before .before .before .before .before .before .before .before .before .locate .result .arc) = rw (c .before .before .before .before .before .before .before .before .before .before .before .before .before .loaded .ensures) at (c .before .before .before .before .before .before .before .before .before .before .before .locate .ensures .looked) in
+    let g = c .before .before .before .before .before .before .before .before .before .before .before .before .before .before .before
+    .before .before .before .before .before .pre .1 .1 .0 in
+    let lw = c .before .before .before .before .before .before .before .before .before .before .before .before .before .before .before
+    .before .before .find .ensures .low in
+    let lk : Looked F wn (getD F (a .t) 0)
+    (getD wn (c .before .before .before .before .before .before .before .before .before .before .before .before .before .before .before
+    .before .before .find .result) 0)
+    (c .before .before .before .before .before .before .before .before .before .before .before .locate .result .arc) =
+    rw (c .before .before .before .before .before .before .before .before .before .before .before .before .before .loaded .ensures) at
+    (c .before .before .before .before .before .before .before .before .before .before .before .locate .ensures .looked) in
     let r = c .before .before .before .before .before .before .before .before .before .before .before .locate .result .arc in
     let rp = some r (c .before .before .before .before .before .before .before .before .before .before .if2 .left) in
     let ri : r ≡ suc (r - 1) = omega arith in
-    let fa = found-arc F T (a .n) (a .k) wn (omega arith) (omega arith) (a .x) (omega arith) (c .before .before .before .before .before .before .before .before .before .before .before .before .before .before .before .before .before .find .result) (c .before .before .before .before .before .before .before .before .before .before .before .before .before .before .before .before .before .find .ensures) (a .t) r (r - 1) (c .before .before .before .before .before .before .before .before .before .before .before .before .before .before .before .if1 .left) lk ri (g .G) (g .H) (g .state) in
+    let fa = found-arc F T (a .n) (a .k) wn (omega arith) (omega arith) (a .x) (omega arith)
+    (c .before .before .before .before .before .before .before .before .before .before .before .before .before .before .before .before
+    .before .find .result) (c .before .before .before .before .before .before .before .before .before .before .before .before .before
+    .before .before .before .before .find .ensures) (a .t) r (r - 1)
+    (c .before .before .before .before .before .before .before .before .before .before .before .before .before .before .before .if1
+    .left) lk ri (g .G) (g .H) (g .state) in
     let mi : r - 1 < 2047 = fa .1 in
-    let sm = found-same F T (a .n) (a .k) wn (omega arith) (omega arith) (a .x) (omega arith) (c .before .before .before .before .before .before .before .before .before .before .before .before .before .before .before .before .before .find .result) (c .before .before .before .before .before .before .before .before .before .before .before .before .before .before .before .before .before .find .ensures) (a .t) r (r - 1) (c .before .before .before .before .before .before .before .before .before .before .before .before .before .before .before .if1 .left) lk ri (g .G) (g .H) (g .state) (g .fresh) in
+    let sm = found-same F T (a .n) (a .k) wn (omega arith) (omega arith) (a .x) (omega arith)
+    (c .before .before .before .before .before .before .before .before .before .before .before .before .before .before .before .before
+    .before .find .result) (c .before .before .before .before .before .before .before .before .before .before .before .before .before
+    .before .before .before .before .find .ensures) (a .t) r (r - 1)
+    (c .before .before .before .before .before .before .before .before .before .before .before .before .before .before .before .if1
+    .left) lk ri (g .G) (g .H) (g .state) (g .fresh) in
     let rr = g .fresh .room in
     let rq = g .state .room in
     let wl = words-later (a .k) wn (unite .result .k) (unite .last .0) (omega arith) (unite .ensures .later) in (
@@ -212,8 +348,29 @@ onward-requires c κs =
         (rp, (omega arith, omega arith)),
         rw wl
             (record {
-              steady = record { G = g .G; H = withPair (g .H) (c .before .before .before .before .before .before .before .before .target .result) (c .before .before .before .before .before .before .target2 .result); F = F; T = T; state = unite .ensures .fine (c .before .if4 .left) (g .G) (g .H) (g .state) (rw (c .before .before .before .before .before .before .before .before .target .ensures, c .before .before .before .before .before .before .target2 .ensures) sm) };
-              kept = λ h z. hint-calm F wn (unite .last .0) (getD F (a .t) 0) (c .before .before .before .before .before .before .before .before .before .before .before .before .before .before .before .before .before .find .result) (a .at) r (omega arith) rp (omega arith) lk (c .before .before .before .before .before .before .before .before .before .before .before .before .before .before .before .before .before .before .before .before .pre .1 .1 .1 .hint z (c .before .before .before .before .before .before .before .before .before .before .before .before .before .before .before .before .before .find .result) (c .before .before .before .before .before .before .before .before .before .before .before .before .before .before .before .before .before .find .ensures)) (unite .ensures .calm h);
+              steady = record {
+                G = g .G;
+                H =
+                    withPair (g .H) (c .before .before .before .before .before .before .before .before .target .result)
+                    (c .before .before .before .before .before .before .target2 .result);
+                F = F;
+                T = T;
+                state =
+                    unite .ensures .fine (c .before .if4 .left) (g .G) (g .H) (g .state)
+                    (rw (
+                      c .before .before .before .before .before .before .before .before .target .ensures,
+                      c .before .before .before .before .before .before .target2 .ensures,
+                    ) sm);
+              };
+              kept = λ h z. hint-calm F wn (unite .last .0) (getD F (a .t) 0)
+                  (c .before .before .before .before .before .before .before .before .before .before .before .before .before .before .before
+                  .before .before .find .result) (a .at) r (omega arith) rp (omega arith) lk
+                  (c .before .before .before .before .before .before .before .before .before .before .before .before .before .before .before
+                  .before .before .before .before .before .pre .1 .1 .1 .hint z
+                  (c .before .before .before .before .before .before .before .before .before .before .before .before .before .before .before
+                  .before .before .find .result)
+                  (c .before .before .before .before .before .before .before .before .before .before .before .before .before .before .before
+                  .before .before .find .ensures)) (unite .ensures .calm h);
             }),
       ),
     )
@@ -223,20 +380,40 @@ same-length-5 c = search needs
 
 returns-5 : tie.Need-returns-5
 returns-5 c =
-    let bn = c .before .before .before .before .before .before .before .before .before .before .before .before .before .before .before .before .before .before .before .before .before .pre .0 in
-    let bx = c .before .before .before .before .before .before .before .before .before .before .before .before .before .before .before .before .before .before .before .before .before .pre .1 .0 in
+    let bn = c .before .before .before .before .before .before .before .before .before .before .before .before .before .before .before
+    .before .before .before .before .before .before .pre .0 in
+    let bx = c .before .before .before .before .before .before .before .before .before .before .before .before .before .before .before
+    .before .before .before .before .before .before .pre .1 .0 in
     let unite = c .before .before .before .before .before .unite in
-    let a = c .before .before .before .before .before .before .before .before .before .before .before .before .before .before .before .before .before .before .before .before .before .args in
+    let a = c .before .before .before .before .before .before .before .before .before .before .before .before .before .before .before
+    .before .before .before .before .before .before .args in
     let wn = a .w .now in
     let F = words wn in
     let T = targets wn in
-    let lk : Looked F wn (getD F (a .t) 0) (getD wn (c .before .before .before .before .before .before .before .before .before .before .before .before .before .before .before .before .before .before .find .result) 0) (c .before .before .before .before .before .before .before .before .before .before .before .before .locate .result .arc) = rw (c .before .before .before .before .before .before .before .before .before .before .before .before .before .before .loaded .ensures) at (c .before .before .before .before .before .before .before .before .before .before .before .before .locate .ensures .looked) in
+    let lk : Looked F wn (getD F (a .t) 0)
+    (getD wn (c .before .before .before .before .before .before .before .before .before .before .before .before .before .before .before
+    .before .before .before .find .result) 0)
+    (c .before .before .before .before .before .before .before .before .before .before .before .before .locate .result .arc) =
+    rw (c .before .before .before .before .before .before .before .before .before .before .before .before .before .before .loaded
+    .ensures) at (c .before .before .before .before .before .before .before .before .before .before .before .before .locate .ensures
+    .looked) in
     let r = c .before .before .before .before .before .before .before .before .before .before .before .before .locate .result .arc in
     let rp = some r (c .before .before .before .before .before .before .before .before .before .before .before .if2 .left) in
     let ri : r ≡ suc (r - 1) = omega arith in
     let wl = words-later (a .k) wn (unite .result .k) (unite .last .0) (omega arith) (unite .ensures .later) in
     record {
-      visited = rw (c .before .before .if4 .left) at (visit-found F T (a .n) (a .k) wn (omega arith) (omega arith) (a .x) (omega arith) (c .before .before .before .before .before .before .before .before .before .before .before .before .before .before .before .before .before .before .find .result) (c .before .before .before .before .before .before .before .before .before .before .before .before .before .before .before .before .before .before .find .ensures) (a .t) r (r - 1) (c .before .before .before .before .before .before .before .before .before .before .before .before .before .before .before .before .if1 .left) lk ri (unite .result .k) (unite .result .bad) (unite .last .0) (rw (c .before .before .before .before .before .before .before .before .before .target .ensures, c .before .before .before .before .before .before .before .target2 .ensures) at (unite .ensures)));
+      visited = rw (c .before .before .if4 .left) at
+          (visit-found F T (a .n) (a .k) wn (omega arith) (omega arith) (a .x) (omega arith)
+          (c .before .before .before .before .before .before .before .before .before .before .before .before .before .before .before .before
+          .before .before .find .result)
+          (c .before .before .before .before .before .before .before .before .before .before .before .before .before .before .before .before
+          .before .before .find .ensures) (a .t) r (r - 1)
+          (c .before .before .before .before .before .before .before .before .before .before .before .before .before .before .before .before
+          .if1 .left) lk ri (unite .result .k) (unite .result .bad) (unite .last .0)
+          (rw (
+            c .before .before .before .before .before .before .before .before .before .target .ensures,
+            c .before .before .before .before .before .before .before .target2 .ensures,
+          ) at (unite .ensures)));
       next = λ z. rw wl at (c .onward .ensures);
     }
 

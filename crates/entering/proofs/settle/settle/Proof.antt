@@ -16,22 +16,26 @@ same-length : tie.Need-same-length
 same-length c = search needs
 
 returns : tie.Need-returns
-returns c = settles-none _ _ _ _ _ _ _ _ _ (c .before .before .count-kept .ensures) (c .before .before .before .before .before .pre) (omega arith)
+returns c = settles-none _ _ _ _ _ _ _ _ _ (c .before .before .count-kept .ensures) (c .before .before .before .before .before .pre)
+    (omega arith)
 
 enter-requires : tie.Need-enter-requires
-enter-requires c κs = asks-inner _ _ _ _ _ _ _ _ _ (c .before .before .before .before .before .count-kept .ensures) (omega arith) (c .before .before .before .before .before .before .before .before .pre)
+enter-requires c κs = asks-inner _ _ _ _ _ _ _ _ _ (c .before .before .before .before .before .count-kept .ensures) (omega arith)
+    (c .before .before .before .before .before .before .before .before .pre)
 
 same-length-2 : tie.Need-same-length-2
 same-length-2 c = search needs
 
 returns-2 : tie.Need-returns-2
-returns-2 c = settles-one _ _ _ _ _ _ _ _ _ (c .before .before .before .before .before .before .before .before .count-kept .ensures) (omega arith) _ _ (c .before .before .enter .ensures)
+returns-2 c = settles-one _ _ _ _ _ _ _ _ _ (c .before .before .before .before .before .before .before .before .count-kept .ensures)
+    (omega arith) _ _ (c .before .before .enter .ensures)
 
 same-length-3 : tie.Need-same-length-3
 same-length-3 c = search needs
 
 returns-3 : tie.Need-returns-3
-returns-3 c = settles-several _ _ _ _ _ _ _ _ _ (c .before .before .before .before .count-kept .ensures) (c .before .before .before .before .before .before .before .pre) (omega arith)
+returns-3 c = settles-several _ _ _ _ _ _ _ _ _ (c .before .before .before .before .count-kept .ensures)
+    (c .before .before .before .before .before .before .before .pre) (omega arith)
 
 pub settle-spec : {M : Type 1} → statement M
 settle-spec =

@@ -32,7 +32,9 @@ shared-slice-read-here : tie.Need-shared-slice-read-here Inv-loop μ-loop
 shared-slice-read-here c = omega arith
 
 returns : tie.Need-returns Inv-loop μ-loop
-returns c = look-high _ _ _ _ _ (c .before .before .before .before .loop .inv) (c .before .before .before .before .before .before .args .end - 2 * c .before .before .wide .result) (omega arith) (omega arith) (omega arith)
+returns c = look-high _ _ _ _ _ (c .before .before .before .before .loop .inv)
+    (c .before .before .before .before .before .before .args .end - 2 * c .before .before .wide .result) (omega arith) (omega arith)
+    (omega arith)
 
 add-t13 : tie.Need-add-t13 Inv-loop μ-loop
 add-t13 c = omega arith
@@ -56,7 +58,9 @@ loop-less : tie.Need-loop-less Inv-loop μ-loop
 loop-less c = omega arith
 
 loop-again : tie.Need-loop-again Inv-loop μ-loop
-loop-again c = look-on _ _ _ _ _ (c .before .before .before .before .before .loop .inv) (c .before .before .before .before .before .before .before .args .end - 2 * c .before .before .before .wide .result) (omega arith) (omega arith) (omega arith)
+loop-again c = look-on _ _ _ _ _ (c .before .before .before .before .before .loop .inv)
+    (c .before .before .before .before .before .before .before .args .end - 2 * c .before .before .before .wide .result) (omega arith)
+    (omega arith) (omega arith)
 
 returns-3 : tie.Need-returns-3 Inv-loop μ-loop
 returns-3 c = look-none _ _ _ _ _ (c .before .loop .inv) (omega arith)

@@ -26,7 +26,9 @@ loop-holds : tie.Need-loop-holds Inv-loop μ-loop
 loop-holds c = (c .wide .ensures, noting-start _ _ (c .before .before .before .pre .1) (c .before .before .before .pre .0))
 
 -- the words of the next node are there
-there : (c : tie.After-wide2 Inv-loop μ-loop) → after (c .before .before .before .before .before .before .args .structure .now) (c .wide2 .result) ≤ length (c .before .before .before .before .before .before .args .structure .now)
+there : (c : tie.After-wide2 Inv-loop μ-loop) →
+    after (c .before .before .before .before .before .before .args .structure .now) (c .wide2 .result)
+    ≤ length (c .before .before .before .before .before .before .args .structure .now)
 there c = noting-there _ _ _ _ (c .before .before .loop .inv .1) (omega arith) _ (c .wide2 .ensures)
 
 wide-requires-2 : tie.Need-wide-requires-2 Inv-loop μ-loop
@@ -63,7 +65,11 @@ loop-less : tie.Need-loop-less Inv-loop μ-loop
 loop-less c = omega arith
 
 loop-again : tie.Need-loop-again Inv-loop μ-loop
-loop-again c = (c .before .before .before .before .loop .inv .0, noting-step _ _ _ _ (c .before .before .before .before .loop .inv .1) (omega arith) _ _ (c .before .before .wide2 .ensures) (c .arcs-in .ensures))
+loop-again c = (
+  c .before .before .before .before .loop .inv .0,
+  noting-step _ _ _ _ (c .before .before .before .before .loop .inv .1) (omega arith) _ _ (c .before .before .wide2 .ensures)
+      (c .arcs-in .ensures),
+)
 
 returns : tie.Need-returns Inv-loop μ-loop
 returns c = noting-end _ _ _ _ (c .before .loop .inv .1) (omega arith) (c .before .before .before .before .before .pre .1)

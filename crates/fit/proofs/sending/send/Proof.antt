@@ -21,7 +21,11 @@ returns : tie.Need-returns
 returns c = (send-same _ _ _ _ _ (c .before .before .wide .ensures) (omega arith) (c .if2 .taken), refl)
 
 returns-2 : tie.Need-returns-2
-returns-2 c = (send-other (c .before .before .before .before .args .map .now) _ _ _ _ (c .before .before .wide .ensures) (c .before .before .before .before .args .map .now) 0 (omega arith) (c .if2 .left), refl)
+returns-2 c = (
+  send-other (c .before .before .before .before .args .map .now) _ _ _ _ (c .before .before .wide .ensures)
+      (c .before .before .before .before .args .map .now) 0 (omega arith) (c .if2 .left),
+  refl,
+)
 
 wide-requires-2 : tie.Need-wide-requires-2
 wide-requires-2 c κs = search needs

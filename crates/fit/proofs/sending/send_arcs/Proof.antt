@@ -9,7 +9,8 @@ use Rattle.fit.proofs.sending.send_arcs.Statement.{statement}
 use Rattle.fit.proofs.sending.send_arcs.Tie as tie
 
 abbrev Inv-loop : tie.InvT-loop
-Inv-loop map₀ structure end ahead ws p count first at₀ left₀ more₀ met₀ map at left more met = Arcwise structure end ws (lastArcs structure end ahead) (arcsFrom ws p count) map₀ first more at left map met
+Inv-loop map₀ structure end ahead ws p count first at₀ left₀ more₀ met₀ map at left more met =
+    Arcwise structure end ws (lastArcs structure end ahead) (arcsFrom ws p count) map₀ first more at left map met
 
 abbrev μ-loop : tie.MeasureT-loop
 μ-loop map₀ structure end ahead ws p count first at₀ left₀ more₀ met₀ map at left more met = left
@@ -42,12 +43,18 @@ enum-told : tie.Need-enum-told Inv-loop μ-loop
 enum-told c = search needs
 
 returns : tie.Need-returns Inv-loop μ-loop
-returns c = (arcwise-none _ _ _ _ _ _ _ _ _ _ _ _ (c .before .before .before .before .before .before .loop .inv) (omega arith) (c .before .before .find .result) (cc) (c .before .before .find .ensures), c .before .before .before .before .before .before .loop .inv .kept)
+returns c = (
+  arcwise-none _ _ _ _ _ _ _ _ _ _ _ _ (c .before .before .before .before .before .before .loop .inv) (omega arith)
+      (c .before .before .find .result) (cc) (c .before .before .find .ensures),
+  c .before .before .before .before .before .before .loop .inv .kept,
+)
 
 send-requires : tie.Need-send-requires Inv-loop μ-loop
 send-requires c κs =
-    let kept = c .before .before .before .before .before .before .before .before .loop .inv .kept in
-    (omega (arith, kept, c .before .before .before .before .before .before .before .before .before .before .before .pre .0), arcwise-next _ _ _ _ _ _ _ _ _ _ _ _ (c .before .before .before .before .before .before .before .before .loop .inv) (omega arith))
+    let kept = c .before .before .before .before .before .before .before .before .loop .inv .kept in (
+      omega (arith, kept, c .before .before .before .before .before .before .before .before .before .before .before .pre .0),
+      arcwise-next _ _ _ _ _ _ _ _ _ _ _ _ (c .before .before .before .before .before .before .before .before .loop .inv) (omega arith),
+    )
 
 enum-known-step : tie.Need-enum-known-step Inv-loop μ-loop
 enum-known-step c = search needs
@@ -57,11 +64,22 @@ enum-told-2 c = search needs
 
 returns-2 : tie.Need-returns-2 Inv-loop μ-loop
 returns-2 c =
-    let target = c .before .before .before .before .before .found in
-    (arcwise-stop _ _ _ _ _ _ _ _ _ _ _ _ (c .before .before .before .before .before .before .before .before .before .before .before .loop .inv) (omega arith) (c .before .before .before .before .before .before .before .find .result) (target .given .0 .0) (target .given .0 .1 .0) (target .given .1) (c .before .before .before .before .before .before .before .find .ensures) _ _ (c .before .before .send .result) (cc) (c .before .before .send .ensures .0), c .before .before .send .ensures .1 ∙ c .before .before .before .before .before .before .before .before .before .before .before .loop .inv .kept)
+    let target = c .before .before .before .before .before .found in (
+      arcwise-stop _ _ _ _ _ _ _ _ _ _ _ _
+          (c .before .before .before .before .before .before .before .before .before .before .before .loop .inv) (omega arith)
+          (c .before .before .before .before .before .before .before .find .result) (target .given .0 .0) (target .given .0 .1 .0)
+          (target .given .1) (c .before .before .before .before .before .before .before .find .ensures) _ _ (c .before .before .send .result)
+          (cc) (c .before .before .send .ensures .0),
+      c .before .before .send .ensures .1
+          ∙ c .before .before .before .before .before .before .before .before .before .before .before .loop .inv .kept,
+    )
 
 add-at : tie.Need-add-at Inv-loop μ-loop
-add-at c = omega (arith, c .before .before .before .before .before .before .before .before .before .before .before .before .loop .inv .asked .there)
+add-at c = omega (
+  arith,
+  c .before .before .before .before .before .before .before .before .before .before .before .before .loop .inv .asked
+      .there,
+)
 
 sub-left : tie.Need-sub-left Inv-loop μ-loop
 sub-left c = search needs
@@ -72,7 +90,12 @@ loop-less c = search needs
 loop-again : tie.Need-loop-again Inv-loop μ-loop
 loop-again c =
     let target = c .before .before .before .before .before .before .found in
-    arcwise-step _ _ _ _ _ _ _ _ _ _ _ _ (c .before .before .before .before .before .before .before .before .before .before .before .before .loop .inv) (omega arith) (c .before .before .before .before .before .before .before .before .find .result) (target .given .0 .0) (target .given .0 .1 .0) (target .given .1) (c .before .before .before .before .before .before .before .before .find .ensures) _ (c .before .before .before .send .result) (c .before .step .given .0 .0) (c .before .step .given .1) (c .before .before .before .send .ensures .0) (c .before .before .before .send .ensures .1)
+    arcwise-step _ _ _ _ _ _ _ _ _ _ _ _
+    (c .before .before .before .before .before .before .before .before .before .before .before .before .loop .inv) (omega arith)
+    (c .before .before .before .before .before .before .before .before .find .result) (target .given .0 .0) (target .given .0 .1 .0)
+    (target .given .1) (c .before .before .before .before .before .before .before .before .find .ensures) _
+    (c .before .before .before .send .result) (c .before .step .given .0 .0) (c .before .step .given .1)
+    (c .before .before .before .send .ensures .0) (c .before .before .before .send .ensures .1)
 
 returns-3 : tie.Need-returns-3 Inv-loop μ-loop
 returns-3 c = (arcwise-end _ _ _ _ _ _ _ _ _ _ _ _ (c .before .loop .inv) (omega arith), c .before .loop .inv .kept)

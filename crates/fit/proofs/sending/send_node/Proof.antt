@@ -21,7 +21,11 @@ mul-given : tie.Need-mul-given
 mul-given c = omega (arith, c .before .before .before .before .pre .1 .1 .known, c .before .before .before .before .pre .1 .1 .most)
 
 element-copy-out-given : tie.Need-element-copy-out-given
-element-copy-out-given c = omega (arith, c .before .before .before .before .pre .1 .1 .known, c .before .before .before .before .pre .1 .1 .most)
+element-copy-out-given c = omega (
+  arith,
+  c .before .before .before .before .pre .1 .1 .known,
+  c .before .before .before .before .pre .1 .1 .most,
+)
 
 wide-requires-2 : tie.Need-wide-requires-2
 wide-requires-2 c κs = search needs
@@ -42,8 +46,13 @@ wide-requires-3 : tie.Need-wide-requires-3
 wide-requires-3 c κs = search needs
 
 -- where the structure node stands
-stands : (c : tie.After-wide3) → c .wide3 .result ≡ getD (c .before .before .before .before .before .before .before .before .args .place .now) (getD (c .before .before .before .before .before .before .before .before .args .map .now) (c .before .before .before .before .before .before .before .before .args .i) 0) 0
-stands c = place-is (c .before .before .before .before .before .before .before .before .args .map .now) (c .before .before .before .before .before .before .before .before .args .place .now) _ _ _ _ (c .before .before .before .before .wide .ensures) (c .before .before .wide2 .ensures) (c .wide3 .ensures)
+stands : (c : tie.After-wide3) →
+    c .wide3 .result ≡ getD (c .before .before .before .before .before .before .before .before .args .place .now)
+    (getD (c .before .before .before .before .before .before .before .before .args .map .now)
+    (c .before .before .before .before .before .before .before .before .args .i) 0) 0
+stands c = place-is (c .before .before .before .before .before .before .before .before .args .map .now)
+    (c .before .before .before .before .before .before .before .before .args .place .now) _ _ _ _
+    (c .before .before .before .before .wide .ensures) (c .before .before .wide2 .ensures) (c .wide3 .ensures)
 
 mul-other : tie.Need-mul-other
 mul-other c =
@@ -106,8 +115,10 @@ send-arcs-requires : tie.Need-send-arcs-requires
 send-arcs-requires c κs =
     let there = stands (c .before .before .before .before .before) in
     let noted = c .before .before .before .before .before .before .before .before .before .before .before .before .before .pre .1 .0 in
-    let asked = c .before .before .before .before .before .before .before .before .before .before .before .before .before .pre .1 .1 in
-    (c .before .before .before .before .before .before .before .before .before .before .before .before .before .pre .0, arcs-asked _ _ _ _ _ _ _ noted asked _ there (omega arith) _ _ (c .before .before .arcs-in .ensures) (omega arith))
+    let asked = c .before .before .before .before .before .before .before .before .before .before .before .before .before .pre .1 .1 in (
+      c .before .before .before .before .before .before .before .before .before .before .before .before .before .pre .0,
+      arcs-asked _ _ _ _ _ _ _ noted asked _ there (omega arith) _ _ (c .before .before .arcs-in .ensures) (omega arith),
+    )
 
 enum-known-step : tie.Need-enum-known-step
 enum-known-step c = search needs
@@ -118,9 +129,14 @@ enum-told c = search needs
 returns-3 : tie.Need-returns-3
 returns-3 c =
     let there = stands (c .before .before .before .before .before .before .before .before) in
-    let noted = c .before .before .before .before .before .before .before .before .before .before .before .before .before .before .before .before .pre .1 .0 in
-    let asked = c .before .before .before .before .before .before .before .before .before .before .before .before .before .before .before .before .pre .1 .1 in
-    (arcs-stuck _ _ _ _ _ _ _ noted asked _ there (omega arith) _ _ (c .before .before .before .before .before .arcs-in .ensures) (omega arith) _ (c .before .before .send-arcs .result) (cc) (c .before .before .send-arcs .ensures .0), c .before .before .send-arcs .ensures .1)
+    let noted = c .before .before .before .before .before .before .before .before .before .before .before .before .before .before .before
+    .before .pre .1 .0 in
+    let asked = c .before .before .before .before .before .before .before .before .before .before .before .before .before .before .before
+    .before .pre .1 .1 in (
+      arcs-stuck _ _ _ _ _ _ _ noted asked _ there (omega arith) _ _ (c .before .before .before .before .before .arcs-in .ensures)
+          (omega arith) _ (c .before .before .send-arcs .result) (cc) (c .before .before .send-arcs .ensures .0),
+      c .before .before .send-arcs .ensures .1,
+    )
 
 add-t28 : tie.Need-add-t28
 add-t28 c = search needs
@@ -137,9 +153,16 @@ add-t30 c = search needs
 returns-4 : tie.Need-returns-4
 returns-4 c =
     let there = stands (c .before .before .before .before .before .before .before .before .before .before) in
-    let noted = c .before .before .before .before .before .before .before .before .before .before .before .before .before .before .before .before .before .before .pre .1 .0 in
-    let asked = c .before .before .before .before .before .before .before .before .before .before .before .before .before .before .before .before .before .before .pre .1 .1 in
-    (arcs-went _ _ _ _ _ _ _ noted asked _ there (omega arith) _ _ (c .before .before .before .before .before .before .before .arcs-in .ensures) (omega arith) _ (c .before .before .before .before .send-arcs .result) (c .before .before .step .given .0 .0) (c .before .before .step .given .1) (c .before .before .before .before .send-arcs .ensures .0) _ (omega arith), c .before .before .before .before .send-arcs .ensures .1)
+    let noted = c .before .before .before .before .before .before .before .before .before .before .before .before .before .before .before
+    .before .before .before .pre .1 .0 in
+    let asked = c .before .before .before .before .before .before .before .before .before .before .before .before .before .before .before
+    .before .before .before .pre .1 .1 in (
+      arcs-went _ _ _ _ _ _ _ noted asked _ there (omega arith) _ _
+          (c .before .before .before .before .before .before .before .arcs-in .ensures) (omega arith) _
+          (c .before .before .before .before .send-arcs .result) (c .before .before .step .given .0 .0) (c .before .before .step .given .1)
+          (c .before .before .before .before .send-arcs .ensures .0) _ (omega arith),
+      c .before .before .before .before .send-arcs .ensures .1,
+    )
 
 pub send-node-spec : {M : Type 1} → statement M
 send-node-spec =

@@ -1,4 +1,5 @@
--- `fit::testing::test_description` and `fit::testing::test_disjunction`, which call each other, meet their contracts: the structure satisfies the whole when it satisfies what is left, and the depth falls.
+-- `fit::testing::test_description` and `fit::testing::test_disjunction`, which call each other, meet their contracts: the structure
+-- satisfies the whole when it satisfies what is left, and the depth falls.
 -- Assumes nothing.
 use borrow.Author.Needs.{needs}
 use native.Mathlib.Omega.{arith}
@@ -6,8 +7,10 @@ use mathlib.Core.Path.{_≡_, refl, _∙_}
 use lib.ListN.{length}
 use Rattle.fit.specs.Parts.{graphIn}
 use Rattle.fit.specs.Testing.{a-description, a-disjunction}
-use Rattle.fit.proofs.Things.{Left, left-asked, graph-first, graph-fails, after-graph, disjunctions-start, disjunction-next, disjunctions-step, disjunctions-stop, disjunctions-end, its-disjunctions}
-use Rattle.fit.proofs.Alternatives.{disjunction-there, alternatives-start, alternative-next, alternatives-step, alternatives-fit, alternatives-end, its-alternatives}
+use Rattle.fit.proofs.Things.{Left, left-asked, graph-first, graph-fails, after-graph, disjunctions-start, disjunction-next}
+use Rattle.fit.proofs.Things.{disjunctions-step, disjunctions-stop, disjunctions-end, its-disjunctions}
+use Rattle.fit.proofs.Alternatives.{disjunction-there, alternatives-start, alternative-next, alternatives-step, alternatives-fit}
+use Rattle.fit.proofs.Alternatives.{alternatives-end, its-alternatives}
 use Prim.Native.Nat.{ℕ, _<_, _+_, _*_, _-_}
 use borrow.Fn.Kinds.{In}
 use borrow.Fn.PlainCycle.{Measures, is, falls, and}
@@ -62,7 +65,8 @@ test-disjunction-below t =
     test-disjunction.Pre
 
 abbrev test-description-Inv-loop : test-description-lts.InvT-loop
-test-description-Inv-loop map₀ place structure ws p left q count₀ at₀ map count at = (length map ≡ length map₀) × Left ws (a-description (graphIn structure 0) left) p (its-disjunctions (graphIn structure 0) left count) at
+test-description-Inv-loop map₀ place structure ws p left q count₀ at₀ map count at =
+    (length map ≡ length map₀) × Left ws (a-description (graphIn structure 0) left) p (its-disjunctions (graphIn structure 0) left count) at
 
 abbrev test-description-μ-loop : test-description-lts.MeasureT-loop
 test-description-μ-loop map₀ place structure ws p left q count₀ at₀ map count at = count
@@ -75,8 +79,10 @@ test-description-test-graph-requires : (t : ℕ) → test-description-lts.Need-t
 ) (test-description-at t) test-description.Post test-description-Inv-loop test-description-μ-loop
 test-description-test-graph-requires t c κs =
     let H = graphIn (c .before .before .before .args .structure .now) 0 in
-    let left = c .before .before .before .args .left in
-    (c .before .before .before .pre .1 .0, (c .before .before .before .pre .1 .1 .0, graph-first _ H left _ (c .before .before .before .pre .1 .1 .1)))
+    let left = c .before .before .before .args .left in (
+      c .before .before .before .pre .1 .0,
+      (c .before .before .before .pre .1 .1 .0, graph-first _ H left _ (c .before .before .before .pre .1 .1 .1)),
+    )
 
 test-description-enum-known-graph : (t : ℕ) → test-description-lts.Need-enum-known-graph (
   test-graph-reads.Asked,
@@ -101,8 +107,10 @@ test-description-returns : (t : ℕ) → test-description-lts.Need-returns (
   test-disjunction.Post,
 ) (test-description-at t) test-description.Post test-description-Inv-loop test-description-μ-loop
 test-description-returns t c =
-    let H = graphIn (c .before .before .before .before .before .before .args .structure .now) 0 in
-    (graph-fails _ H _ _ (c .before .before .test-graph .result) (cc) (c .before .before .test-graph .ensures .0), c .before .before .test-graph .ensures .1)
+    let H = graphIn (c .before .before .before .before .before .before .args .structure .now) 0 in (
+      graph-fails _ H _ _ (c .before .before .test-graph .result) (cc) (c .before .before .test-graph .ensures .0),
+      c .before .before .test-graph .ensures .1,
+    )
 
 test-description-mul-count : (t : ℕ) → test-description-lts.Need-mul-count (
   test-graph-reads.Asked,
@@ -113,7 +121,11 @@ test-description-mul-count : (t : ℕ) → test-description-lts.Need-mul-count (
 test-description-mul-count t c =
     let H = graphIn (c .before .before .before .before .before .before .before .args .structure .now) 0 in
     let left = c .before .before .before .before .before .before .before .args .left in
-    omega (arith, after-graph _ H left _ (c .before .before .before .test-graph .result) _ (c .before .graph .given .1) (c .before .before .before .test-graph .ensures .0) (c .before .before .before .before .before .before .before .pre .1 .1 .1))
+    omega (
+      arith,
+      after-graph _ H left _ (c .before .before .before .test-graph .result) _ (c .before .graph .given .1)
+          (c .before .before .before .test-graph .ensures .0) (c .before .before .before .before .before .before .before .pre .1 .1 .1),
+    )
 
 test-description-shared-slice-read-count :
     (t : ℕ) → test-description-lts.Need-shared-slice-read-count (
@@ -129,7 +141,12 @@ test-description-shared-slice-read-count :
 test-description-shared-slice-read-count t c =
     let H = graphIn (c .before .before .before .before .before .before .before .before .args .structure .now) 0 in
     let left = c .before .before .before .before .before .before .before .before .args .left in
-    omega (arith, after-graph _ H left _ (c .before .before .before .before .test-graph .result) _ (c .before .before .graph .given .1) (c .before .before .before .before .test-graph .ensures .0) (c .before .before .before .before .before .before .before .before .pre .1 .1 .1))
+    omega (
+      arith,
+      after-graph _ H left _ (c .before .before .before .before .test-graph .result) _ (c .before .before .graph .given .1)
+          (c .before .before .before .before .test-graph .ensures .0)
+          (c .before .before .before .before .before .before .before .before .pre .1 .1 .1),
+    )
 
 test-description-add-at : (t : ℕ) → test-description-lts.Need-add-at (
   test-graph-reads.Asked,
@@ -140,7 +157,12 @@ test-description-add-at : (t : ℕ) → test-description-lts.Need-add-at (
 test-description-add-at t c =
     let H = graphIn (c .before .before .before .before .before .before .before .before .args .structure .now) 0 in
     let left = c .before .before .before .before .before .before .before .before .args .left in
-    omega (arith, after-graph _ H left _ (c .before .before .before .before .test-graph .result) _ (c .before .before .graph .given .1) (c .before .before .before .before .test-graph .ensures .0) (c .before .before .before .before .before .before .before .before .pre .1 .1 .1))
+    omega (
+      arith,
+      after-graph _ H left _ (c .before .before .before .before .test-graph .result) _ (c .before .before .graph .given .1)
+          (c .before .before .before .before .test-graph .ensures .0)
+          (c .before .before .before .before .before .before .before .before .pre .1 .1 .1),
+    )
 
 test-description-loop-holds : (t : ℕ) → test-description-lts.Need-loop-holds (
   test-graph-reads.Asked,
@@ -149,8 +171,11 @@ test-description-loop-holds : (t : ℕ) → test-description-lts.Need-loop-holds
   test-disjunction.Post,
 ) (test-description-at t) test-description.Post test-description-Inv-loop test-description-μ-loop
 test-description-loop-holds t c =
-    let H = graphIn (c .before .before .before .before .before .before .before .before .args .structure .now) 0 in
-    (refl, disjunctions-start _ H _ _ (c .before .before .before .before .test-graph .result) _ (c .before .before .graph .given .1) (c .before .before .before .before .test-graph .ensures .0))
+    let H = graphIn (c .before .before .before .before .before .before .before .before .args .structure .now) 0 in (
+      refl,
+      disjunctions-start _ H _ _ (c .before .before .before .before .test-graph .result) _ (c .before .before .graph .given .1)
+          (c .before .before .before .before .test-graph .ensures .0),
+    )
 
 test-description-test-disjunction-requires :
     (t : ℕ) → test-description-lts.Need-test-disjunction-requires (
@@ -165,8 +190,24 @@ test-description-test-disjunction-requires :
     test-description-μ-loop
 test-description-test-disjunction-requires t c κs =
     let H = graphIn (c .before .before .before .before .before .before .before .before .before .before .before .args .structure .now) 0 in
-    let left = c .before .before .before .before .before .before .before .before .before .before .before .args .left in
-    (omega arith, (let kept = c .before .before .before .before .before .before .before .test-graph .ensures .1 in omega (arith, c .before .before .loop .inv .0, c .before .before .before .before .before .before .before .before .before .before .before .pre .1 .0), (c .before .before .before .before .before .before .before .before .before .before .before .pre .1 .1 .0, disjunction-next _ H left (c .before .before .loop .count) _ (omega arith) (left-asked _ (a-description H left) (its-disjunctions H left (c .before .before .loop .count)) _ _ (c .before .before .before .before .before .before .before .before .before .before .before .pre .1 .1 .1) (c .before .before .loop .inv .1)))))
+    let left = c .before .before .before .before .before .before .before .before .before .before .before .args .left in (
+      omega arith,
+      (
+        let kept = c .before .before .before .before .before .before .before .test-graph .ensures .1 in
+            omega (
+              arith,
+              c .before .before .loop .inv .0,
+              c .before .before .before .before .before .before .before .before .before .before .before .pre .1 .0,
+            ),
+        (
+          c .before .before .before .before .before .before .before .before .before .before .before .pre .1 .1 .0,
+          disjunction-next _ H left (c .before .before .loop .count) _ (omega arith)
+              (left-asked _ (a-description H left) (its-disjunctions H left (c .before .before .loop .count)) _ _
+              (c .before .before .before .before .before .before .before .before .before .before .before .pre .1 .1 .1)
+              (c .before .before .loop .inv .1)),
+        ),
+      ),
+    )
 
 test-description-enum-known-disjunction :
     (t : ℕ) → test-description-lts.Need-enum-known-disjunction (
@@ -196,9 +237,15 @@ test-description-returns-2 : (t : ℕ) → test-description-lts.Need-returns-2 (
   test-disjunction.Post,
 ) (test-description-at t) test-description.Post test-description-Inv-loop test-description-μ-loop
 test-description-returns-2 t c =
-    let H = graphIn (c .before .before .before .before .before .before .before .before .before .before .before .before .before .before .args .structure .now) 0 in
-    let left = c .before .before .before .before .before .before .before .before .before .before .before .before .before .before .args .left in
-    (disjunctions-stop _ H _ _ _ (a-description H left) _ (c .before .before .before .before .before .loop .inv .1) (c .before .before .test-disjunction .result) (cc) (c .before .before .test-disjunction .ensures .0) (omega arith), c .before .before .test-disjunction .ensures .1 ∙ c .before .before .before .before .before .loop .inv .0 ∙ c .before .before .before .before .before .before .before .before .before .before .test-graph .ensures .1)
+    let H = graphIn (c .before .before .before .before .before .before .before .before .before .before .before .before .before .before .args
+    .structure .now) 0 in
+    let left = c .before .before .before .before .before .before .before .before .before .before .before .before .before .before .args
+    .left in (
+      disjunctions-stop _ H _ _ _ (a-description H left) _ (c .before .before .before .before .before .loop .inv .1)
+          (c .before .before .test-disjunction .result) (cc) (c .before .before .test-disjunction .ensures .0) (omega arith),
+      c .before .before .test-disjunction .ensures .1 ∙ c .before .before .before .before .before .loop .inv .0
+          ∙ c .before .before .before .before .before .before .before .before .before .before .test-graph .ensures .1,
+    )
 
 test-description-sub-count : (t : ℕ) → test-description-lts.Need-sub-count (
   test-graph-reads.Asked,
@@ -223,9 +270,15 @@ test-description-loop-again : (t : ℕ) → test-description-lts.Need-loop-again
   test-disjunction.Post,
 ) (test-description-at t) test-description.Post test-description-Inv-loop test-description-μ-loop
 test-description-loop-again t c =
-    let H = graphIn (c .before .before .before .before .before .before .before .before .before .before .before .before .before .before .before .args .structure .now) 0 in
-    let left = c .before .before .before .before .before .before .before .before .before .before .before .before .before .before .before .args .left in
-    (c .before .before .before .test-disjunction .ensures .1 ∙ c .before .before .before .before .before .before .loop .inv .0, disjunctions-step _ H _ _ _ (a-description H left) _ (c .before .before .before .before .before .before .loop .inv .1) (c .before .before .before .test-disjunction .result) _ (c .before .disjunction .given .1) (c .before .before .before .test-disjunction .ensures .0) (omega arith))
+    let H = graphIn (c .before .before .before .before .before .before .before .before .before .before .before .before .before .before
+    .before .args .structure .now) 0 in
+    let left = c .before .before .before .before .before .before .before .before .before .before .before .before .before .before .before
+    .args .left in (
+      c .before .before .before .test-disjunction .ensures .1 ∙ c .before .before .before .before .before .before .loop .inv .0,
+      disjunctions-step _ H _ _ _ (a-description H left) _ (c .before .before .before .before .before .before .loop .inv .1)
+          (c .before .before .before .test-disjunction .result) _ (c .before .disjunction .given .1)
+          (c .before .before .before .test-disjunction .ensures .0) (omega arith),
+    )
 
 test-description-returns-3 : (t : ℕ) → test-description-lts.Need-returns-3 (
   test-graph-reads.Asked,
@@ -235,11 +288,16 @@ test-description-returns-3 : (t : ℕ) → test-description-lts.Need-returns-3 (
 ) (test-description-at t) test-description.Post test-description-Inv-loop test-description-μ-loop
 test-description-returns-3 t c =
     let H = graphIn (c .before .before .before .before .before .before .before .before .before .before .args .structure .now) 0 in
-    let left = c .before .before .before .before .before .before .before .before .before .before .args .left in
-    (disjunctions-end _ H _ _ _ (a-description H left) _ (c .before .loop .inv .1) (omega arith), c .before .loop .inv .0 ∙ c .before .before .before .before .before .before .test-graph .ensures .1)
+    let left = c .before .before .before .before .before .before .before .before .before .before .args .left in (
+      disjunctions-end _ H _ _ _ (a-description H left) _ (c .before .loop .inv .1) (omega arith),
+      c .before .loop .inv .0
+          ∙ c .before .before .before .before .before .before .test-graph .ensures .1,
+    )
 
 abbrev test-disjunction-Inv-loop : test-disjunction-lts.InvT-loop
-test-disjunction-Inv-loop map₀ place structure ws p left count₀ at₀ map count at = (length map ≡ length map₀) × Left ws (a-disjunction (graphIn structure 0) left) p (its-alternatives (graphIn structure 0) (left - 1) count) at
+test-disjunction-Inv-loop map₀ place structure ws p left count₀ at₀ map count at =
+    (length map ≡ length map₀) × Left ws (a-disjunction (graphIn structure 0) left) p
+    (its-alternatives (graphIn structure 0) (left - 1) count) at
 
 abbrev test-disjunction-μ-loop : test-disjunction-lts.MeasureT-loop
 test-disjunction-μ-loop map₀ place structure ws p left count₀ at₀ map count at = count
@@ -328,8 +386,18 @@ test-disjunction-test-description-requires :
 test-disjunction-test-description-requires t c κs =
     let H = graphIn (c .before .before .before .before .before .before .args .structure .now) 0 in
     let left = c .before .before .before .before .before .before .args .left in
-    let some = disjunction-there _ H left _ (c .before .before .before .before .before .before .pre .1 .1 .1) .0 in
-    (omega arith, (omega (arith, c .before .before .loop .inv .0, c .before .before .before .before .before .before .pre .1 .0), (c .before .before .before .before .before .before .pre .1 .1 .0, alternative-next _ H (left - 1) (c .before .before .loop .count) _ (omega arith) (left-asked _ (a-disjunction H left) (its-alternatives H (left - 1) (c .before .before .loop .count)) _ _ (c .before .before .before .before .before .before .pre .1 .1 .1) (c .before .before .loop .inv .1)))))
+    let some = disjunction-there _ H left _ (c .before .before .before .before .before .before .pre .1 .1 .1) .0 in (
+      omega arith,
+      (
+        omega (arith, c .before .before .loop .inv .0, c .before .before .before .before .before .before .pre .1 .0),
+        (
+          c .before .before .before .before .before .before .pre .1 .1 .0,
+          alternative-next _ H (left - 1) (c .before .before .loop .count) _ (omega arith)
+              (left-asked _ (a-disjunction H left) (its-alternatives H (left - 1) (c .before .before .loop .count)) _ _
+              (c .before .before .before .before .before .before .pre .1 .1 .1) (c .before .before .loop .inv .1)),
+        ),
+      ),
+    )
 
 test-disjunction-enum-known-alternative :
     (t : ℕ) → test-disjunction-lts.Need-enum-known-alternative (
@@ -381,8 +449,14 @@ test-disjunction-returns : (t : ℕ) → test-disjunction-lts.Need-returns (
 ) (test-disjunction-at t) test-disjunction.Post test-disjunction-Inv-loop test-disjunction-μ-loop
 test-disjunction-returns t c =
     let H = graphIn (c .before .before .before .before .before .before .before .before .before .before .before .args .structure .now) 0 in
-    let left = c .before .before .before .before .before .before .before .before .before .before .before .args .left in
-    (alternatives-fit _ H _ _ _ (c .before .before .before .before .test-description .result) (c .before .before .before .before .test-description .ensures .0) (omega arith) (a-disjunction H left) _ (c .before .before .before .before .before .before .before .loop .inv .1) _ _ (c .before .before .alternative .given .1) (c .skip-alternatives .ensures), c .before .before .before .before .test-description .ensures .1 ∙ c .before .before .before .before .before .before .before .loop .inv .0)
+    let left = c .before .before .before .before .before .before .before .before .before .before .before .args .left in (
+      alternatives-fit _ H _ _ _ (c .before .before .before .before .test-description .result)
+          (c .before .before .before .before .test-description .ensures .0) (omega arith) (a-disjunction H left) _
+          (c .before .before .before .before .before .before .before .loop .inv .1) _ _ (c .before .before .alternative .given .1)
+          (c .skip-alternatives .ensures),
+      c .before .before .before .before .test-description .ensures .1
+          ∙ c .before .before .before .before .before .before .before .loop .inv .0,
+    )
 
 test-disjunction-enum-told : (t : ℕ) → test-disjunction-lts.Need-enum-told (
   test-description-below t,
@@ -439,8 +513,12 @@ test-disjunction-loop-again : (t : ℕ) → test-disjunction-lts.Need-loop-again
 ) (test-disjunction-at t) test-disjunction.Post test-disjunction-Inv-loop test-disjunction-μ-loop
 test-disjunction-loop-again t c =
     let H = graphIn (c .before .before .before .before .before .before .before .before .before .before .args .structure .now) 0 in
-    let left = c .before .before .before .before .before .before .before .before .before .before .args .left in
-    (c .before .before .before .test-description .ensures .1 ∙ c .before .before .before .before .before .before .loop .inv .0, alternatives-step _ H _ _ _ (c .before .before .before .test-description .result) (c .before .before .before .test-description .ensures .0) (omega arith) (a-disjunction H left) _ (c .before .before .before .before .before .before .loop .inv .1) _ (cc) (c .skip-description .ensures))
+    let left = c .before .before .before .before .before .before .before .before .before .before .args .left in (
+      c .before .before .before .test-description .ensures .1 ∙ c .before .before .before .before .before .before .loop .inv .0,
+      alternatives-step _ H _ _ _ (c .before .before .before .test-description .result)
+          (c .before .before .before .test-description .ensures .0) (omega arith) (a-disjunction H left) _
+          (c .before .before .before .before .before .before .loop .inv .1) _ (cc) (c .skip-description .ensures),
+    )
 
 test-disjunction-returns-2 : (t : ℕ) → test-disjunction-lts.Need-returns-2 (
   test-description-below t,

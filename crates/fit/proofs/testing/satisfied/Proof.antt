@@ -17,7 +17,15 @@ space-requires-2 : tie.Need-space-requires-2
 space-requires-2 c κs = search needs
 
 test-description-requires : tie.Need-test-description-requires
-test-description-requires c κs = (omega arith, (c .before .before .before .note .ensures, whole-asked _ (graphIn (c .before .before .before .before .before .before .before .before .args .structure .now) 0) (c .before .before .before .before .before .before .before .before .pre .few) (c .before .before .before .before .before .before .before .before .pre .image)))
+test-description-requires c κs = (
+  omega arith,
+  (
+    c .before .before .before .note .ensures,
+    whole-asked _ (graphIn (c .before .before .before .before .before .before .before .before .args .structure .now) 0)
+        (c .before .before .before .before .before .before .before .before .pre .few)
+        (c .before .before .before .before .before .before .before .before .pre .image),
+  ),
+)
 
 returns : tie.Need-returns
 returns c = whole-tested _ _ (c .test-description .result) (c .test-description .ensures .0)

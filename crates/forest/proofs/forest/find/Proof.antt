@@ -13,7 +13,8 @@ use Rattle.forest.proofs.forest.find.Statement.{statement}
 use Rattle.forest.proofs.forest.find.Tie as tie
 
 abbrev Inv-loop : tie.InvT-loop
-Inv-loop w n i x₀ p₀ x p = ((x ≤ i) × (p ≤ x)) × ((p ≡ getD (region PARENT n w) x 0) × ((L : List ℕ) → Forest (region PARENT n w) L → getD L i 0 ≡ getD L x 0))
+Inv-loop w n i x₀ p₀ x p = ((x ≤ i) × (p ≤ x))
+    × ((p ≡ getD (region PARENT n w) x 0) × ((L : List ℕ) → Forest (region PARENT n w) L → getD L i 0 ≡ getD L x 0))
 
 abbrev μ-loop : tie.MeasureT-loop
 μ-loop w n i x₀ p₀ x p = x
@@ -34,8 +35,14 @@ loop-again : tie.Need-loop-again Inv-loop μ-loop
 loop-again c =
     let a = c .before .before .before .before .before .args in
     let o = c .before .before .loop in
-    let l : length (region PARENT (a .n) (a .w .now)) ≡ a .n = length-region PARENT (a .n) (a .w .now) (omega arith) in
-    (omega arith, (c .parent2 .ensures .0, λ L f. o .inv .1 .1 L f ∙ f .follow (o .x) (omega arith) ∙ ap (λ (t : ℕ). getD L t 0) (sym (o .inv .1 .0))))
+    let l : length (region PARENT (a .n) (a .w .now)) ≡ a .n = length-region PARENT (a .n) (a .w .now) (omega arith) in (
+      omega arith,
+      (
+        c .parent2 .ensures .0,
+        λ L f. o .inv .1 .1 L f ∙ f .follow (o .x) (omega arith)
+            ∙ ap (λ (t : ℕ). getD L t 0) (sym (o .inv .1 .0)),
+      ),
+    )
 
 returns : tie.Need-returns Inv-loop μ-loop
 returns c =

@@ -32,7 +32,8 @@ put-requires c κs =
     let s = c .before .before .before .before .before in
     let a = s .args in
     let wn = a .w .now in
-    let rm = room (a .n) (a .k) (a .s) wn (a .a) (a .b) (omega arith) (omega arith) (omega arith) (omega arith) (s .pre .1 .0 .0) (s .pre .1 .0 .1) (s .pre .1 .1) in
+    let rm = room (a .n) (a .k) (a .s) wn (a .a) (a .b) (omega arith) (omega arith) (omega arith) (omega arith) (s .pre .1 .0 .0)
+    (s .pre .1 .0 .1) (s .pre .1 .1) in
     (s .pre .1 .1 .state .logged, (omega arith, (omega arith, omega arith)))
 
 same-length : tie.Need-same-length
@@ -44,7 +45,8 @@ returns c =
     let s = c .before .before .before .before .before .before .before .before in
     let a = s .args in
     let wn = a .w .now in
-    plain (a .n) (a .k) (a .s) wn (a .a) (a .b) (omega arith) (omega arith) (omega arith) (omega arith) (s .pre .1 .0 .0) (s .pre .1 .0 .1) (s .pre .1 .1) (put .result) (put .last .0) (put .ensures) (inl (c .before .before .before .before .if1 .taken))
+    plain (a .n) (a .k) (a .s) wn (a .a) (a .b) (omega arith) (omega arith) (omega arith) (omega arith) (s .pre .1 .0 .0) (s .pre .1 .0 .1)
+    (s .pre .1 .1) (put .result) (put .last .0) (put .ensures) (inl (c .before .before .before .before .if1 .taken))
 
 add-put-2 : tie.Need-add-put-2
 add-put-2 c = search needs
@@ -57,7 +59,8 @@ put-requires-2 c κs =
     let s = c .before .before .before .before .before .before in
     let a = s .args in
     let wn = a .w .now in
-    let rm = room (a .n) (a .k) (a .s) wn (a .a) (a .b) (omega arith) (omega arith) (omega arith) (omega arith) (s .pre .1 .0 .0) (s .pre .1 .0 .1) (s .pre .1 .1) in
+    let rm = room (a .n) (a .k) (a .s) wn (a .a) (a .b) (omega arith) (omega arith) (omega arith) (omega arith) (s .pre .1 .0 .0)
+    (s .pre .1 .0 .1) (s .pre .1 .1) in
     (s .pre .1 .1 .state .logged, (omega arith, (omega arith, omega arith)))
 
 put-requires-3 : tie.Need-put-requires-3
@@ -66,9 +69,12 @@ put-requires-3 c κs =
     let s = c .before .before .before .before .before .before .before .before .before .before in
     let a = s .args in
     let wn = a .w .now in
-    let rm = room (a .n) (a .k) (a .s) wn (a .a) (a .b) (omega arith) (omega arith) (omega arith) (omega arith) (s .pre .1 .0 .0) (s .pre .1 .0 .1) (s .pre .1 .1) in
-    let sm = s .pre .1 .1 .state .logged .small (a .b) (omega arith) in
-    (put2 .ensures .later .logged, (omega arith, (omega (arith, put2 .ensures .next), (omega arith, omega (arith, put2 .ensures .later .len)))))
+    let rm = room (a .n) (a .k) (a .s) wn (a .a) (a .b) (omega arith) (omega arith) (omega arith) (omega arith) (s .pre .1 .0 .0)
+    (s .pre .1 .0 .1) (s .pre .1 .1) in
+    let sm = s .pre .1 .1 .state .logged .small (a .b) (omega arith) in (
+      put2 .ensures .later .logged,
+      (omega arith, (omega (arith, put2 .ensures .next), (omega arith, omega (arith, put2 .ensures .later .len)))),
+    )
 
 same-length-2 : tie.Need-same-length-2
 same-length-2 c = search needs
@@ -80,7 +86,9 @@ returns-2 c =
     let s = c .before .before .before .before .before .before .before .before .before .before .before .before .before in
     let a = s .args in
     let wn = a .w .now in
-    moved (a .n) (a .k) (a .s) wn (a .a) (a .b) (omega arith) (omega arith) (omega arith) (omega arith) (s .pre .1 .0 .0) (s .pre .1 .0 .1) (s .pre .1 .1) (put2 .result) (put2 .last .0) (put2 .ensures) (getD wn (a .b) 0) (put3 .result) (put3 .last .0) refl (put3 .ensures) (c .before .before .before .before .before .before .before .before .if2 .taken)
+    moved (a .n) (a .k) (a .s) wn (a .a) (a .b) (omega arith) (omega arith) (omega arith) (omega arith) (s .pre .1 .0 .0) (s .pre .1 .0 .1)
+    (s .pre .1 .1) (put2 .result) (put2 .last .0) (put2 .ensures) (getD wn (a .b) 0) (put3 .result) (put3 .last .0) refl (put3 .ensures)
+    (c .before .before .before .before .before .before .before .before .if2 .taken)
 
 add-put-3 : tie.Need-add-put-3
 add-put-3 c = search needs
@@ -93,7 +101,8 @@ put-requires-4 c κs =
     let s = c .before .before .before .before .before .before .before .before in
     let a = s .args in
     let wn = a .w .now in
-    let rm = room (a .n) (a .k) (a .s) wn (a .a) (a .b) (omega arith) (omega arith) (omega arith) (omega arith) (s .pre .1 .0 .0) (s .pre .1 .0 .1) (s .pre .1 .1) in
+    let rm = room (a .n) (a .k) (a .s) wn (a .a) (a .b) (omega arith) (omega arith) (omega arith) (omega arith) (s .pre .1 .0 .0)
+    (s .pre .1 .0 .1) (s .pre .1 .1) in
     (s .pre .1 .1 .state .logged, (omega arith, (omega arith, omega arith)))
 
 same-length-3 : tie.Need-same-length-3
@@ -105,21 +114,27 @@ returns-3 c =
     let s = c .before .before .before .before .before .before .before .before .before .before .before in
     let a = s .args in
     let wn = a .w .now in
-    plain (a .n) (a .k) (a .s) wn (a .a) (a .b) (omega arith) (omega arith) (omega arith) (omega arith) (s .pre .1 .0 .0) (s .pre .1 .0 .1) (s .pre .1 .1) (put4 .result) (put4 .last .0) (put4 .ensures) (inr (c .before .before .before .before .before .if3 .taken, c .before .before .before .before .if4 .taken))
+    plain (a .n) (a .k) (a .s) wn (a .a) (a .b) (omega arith) (omega arith) (omega arith) (omega arith) (s .pre .1 .0 .0) (s .pre .1 .0 .1)
+    (s .pre .1 .1) (put4 .result) (put4 .last .0) (put4 .ensures)
+    (inr (c .before .before .before .before .before .if3 .taken, c .before .before .before .before .if4 .taken))
 
 returns-4 : tie.Need-returns-4
 returns-4 c =
     let s = c .before .before .before .before .before .before .before in
     let a = s .args in
     let wn = a .w .now in
-    clashed (a .n) (a .k) (a .s) wn (a .a) (a .b) (omega arith) (omega arith) (omega arith) (omega arith) (s .pre .1 .0 .0) (s .pre .1 .0 .1) (s .pre .1 .1) (c .before .before .before .if1 .left) (c .before .before .if2 .left) (c .if4 .left) (inl (c .before .if3 .taken))
+    clashed (a .n) (a .k) (a .s) wn (a .a) (a .b) (omega arith) (omega arith) (omega arith) (omega arith) (s .pre .1 .0 .0)
+    (s .pre .1 .0 .1) (s .pre .1 .1) (c .before .before .before .if1 .left) (c .before .before .if2 .left) (c .if4 .left)
+    (inl (c .before .if3 .taken))
 
 returns-5 : tie.Need-returns-5
 returns-5 c =
     let s = c .before .before .before .before .before .before .before in
     let a = s .args in
     let wn = a .w .now in
-    clashed (a .n) (a .k) (a .s) wn (a .a) (a .b) (omega arith) (omega arith) (omega arith) (omega arith) (s .pre .1 .0 .0) (s .pre .1 .0 .1) (s .pre .1 .1) (c .before .before .before .if1 .left) (c .before .before .if2 .left) (λ e. omega arith) (inr (c .if5 .taken))
+    clashed (a .n) (a .k) (a .s) wn (a .a) (a .b) (omega arith) (omega arith) (omega arith) (omega arith) (s .pre .1 .0 .0)
+    (s .pre .1 .0 .1) (s .pre .1 .1) (c .before .before .before .if1 .left) (c .before .before .if2 .left) (λ e. omega arith)
+    (inr (c .if5 .taken))
 
 knit-requires : tie.Need-knit-requires
 knit-requires c κs =

@@ -18,8 +18,10 @@ find-requires-2 c κs =
 fuse-requires : tie.Need-fuse-requires
 fuse-requires c κs =
     let find2 = c .before .before .find2 in
-    let s = c .before .before .before .before .before .before .before in
-    ((omega arith, (omega (arith, find2 .ensures .low), (omega arith, omega arith))), ((c .before .before .before .before .find .ensures .top, find2 .ensures .top), s .pre .1))
+    let s = c .before .before .before .before .before .before .before in (
+      (omega arith, (omega (arith, find2 .ensures .low), (omega arith, omega arith))),
+      ((c .before .before .before .before .find .ensures .top, find2 .ensures .top), s .pre .1),
+    )
 
 same-length : tie.Need-same-length
 same-length c = search needs
@@ -32,13 +34,16 @@ returns c =
     let s = c .before .before .before .before .before .before .before .before .before .before in
     let a = s .args in
     let wn = a .w .now in
-    joined-up (a .n) (a .k) (a .s) wn (a .x) (a .y) (omega arith) (omega arith) (omega arith) (omega arith) (find .result) (find2 .result) (find .ensures) (find2 .ensures) (fuse .result .k) (fuse .result .s) (fuse .result .bad) (fuse .last .0) (fuse .ensures)
+    joined-up (a .n) (a .k) (a .s) wn (a .x) (a .y) (omega arith) (omega arith) (omega arith) (omega arith) (find .result) (find2 .result)
+    (find .ensures) (find2 .ensures) (fuse .result .k) (fuse .result .s) (fuse .result .bad) (fuse .last .0) (fuse .ensures)
 
 fuse-requires-2 : tie.Need-fuse-requires-2
 fuse-requires-2 c κs =
     let find = c .before .before .before .before .before .find in
-    let s = c .before .before .before .before .before .before .before .before in
-    ((omega arith, (omega (arith, find .ensures .low), (omega arith, omega arith))), ((c .before .before .before .find2 .ensures .top, find .ensures .top), s .pre .1))
+    let s = c .before .before .before .before .before .before .before .before in (
+      (omega arith, (omega (arith, find .ensures .low), (omega arith, omega arith))),
+      ((c .before .before .before .find2 .ensures .top, find .ensures .top), s .pre .1),
+    )
 
 same-length-2 : tie.Need-same-length-2
 same-length-2 c = search needs
@@ -51,7 +56,8 @@ returns-2 c =
     let s = c .before .before .before .before .before .before .before .before .before .before .before in
     let a = s .args in
     let wn = a .w .now in
-    joined-down (a .n) (a .k) (a .s) wn (a .x) (a .y) (omega arith) (omega arith) (omega arith) (omega arith) (find .result) (find2 .result) (find .ensures) (find2 .ensures) (fuse2 .result .k) (fuse2 .result .s) (fuse2 .result .bad) (fuse2 .last .0) (fuse2 .ensures)
+    joined-down (a .n) (a .k) (a .s) wn (a .x) (a .y) (omega arith) (omega arith) (omega arith) (omega arith) (find .result) (find2 .result)
+    (find .ensures) (find2 .ensures) (fuse2 .result .k) (fuse2 .result .s) (fuse2 .result .bad) (fuse2 .last .0) (fuse2 .ensures)
 
 same-length-3 : tie.Need-same-length-3
 same-length-3 c = search needs
@@ -63,7 +69,8 @@ returns-3 c =
     let s = c .before .before .before .before .before .before .before in
     let a = s .args in
     let wn = a .w .now in
-    joined-same (a .n) (a .k) (a .s) wn (a .x) (a .y) (omega arith) (omega arith) (omega arith) (omega arith) (find .result) (find2 .result) (find .ensures) (find2 .ensures) (omega arith) (s .pre .1 .state .logged)
+    joined-same (a .n) (a .k) (a .s) wn (a .x) (a .y) (omega arith) (omega arith) (omega arith) (omega arith) (find .result) (find2 .result)
+    (find .ensures) (find2 .ensures) (omega arith) (s .pre .1 .state .logged)
 
 pub join-spec : {M : Type 1} → statement M
 join-spec =

@@ -17,8 +17,12 @@ last-requires : tie.Need-last-requires
 last-requires c κs =
     let s = c .before .before .before in
     let a = s .args in
-    let wn = a .w .now in
-    ((omega (arith, c .wide .ensures), omega arith), subst (λ (z : ℕ). Runs wn z) (sym (c .wide .ensures ∙ s .pre .1 .1 .0 .0 .0)) (ready-runs (a .n) (a .k) (a .s) wn (a .a) (a .b) (omega arith) (omega arith) (omega arith) (omega arith) (s .pre .1 .0 .0) (s .pre .1 .0 .1) (s .pre .1 .1 .1) (a .b) (omega arith) (s .pre .1 .0 .1) (omega arith)))
+    let wn = a .w .now in (
+      (omega (arith, c .wide .ensures), omega arith),
+      subst (λ (z : ℕ). Runs wn z) (sym (c .wide .ensures ∙ s .pre .1 .1 .0 .0 .0))
+          (ready-runs (a .n) (a .k) (a .s) wn (a .a) (a .b) (omega arith) (omega arith) (omega arith) (omega arith) (s .pre .1 .0 .0)
+          (s .pre .1 .0 .1) (s .pre .1 .1 .1) (a .b) (omega arith) (s .pre .1 .0 .1) (omega arith)),
+    )
 
 add-put : tie.Need-add-put
 add-put c = search needs
@@ -31,7 +35,8 @@ put-requires c κs =
     let s = c .before .before .before .before .before in
     let a = s .args in
     let wn = a .w .now in
-    let rm = room (a .n) (a .k) (a .s) wn (a .a) (a .b) (omega arith) (omega arith) (omega arith) (omega arith) (s .pre .1 .0 .0) (s .pre .1 .0 .1) (s .pre .1 .1 .1) in
+    let rm = room (a .n) (a .k) (a .s) wn (a .a) (a .b) (omega arith) (omega arith) (omega arith) (omega arith) (s .pre .1 .0 .0)
+    (s .pre .1 .0 .1) (s .pre .1 .1 .1) in
     (s .pre .1 .1 .1 .state .logged, (omega arith, (omega arith, (omega arith, omega arith))))
 
 add-put-2 : tie.Need-add-put-2
@@ -43,9 +48,15 @@ put-requires-2 c κs =
     let s = c .before .before .before .before .before .before .before .before .before in
     let a = s .args in
     let wn = a .w .now in
-    let rm = room (a .n) (a .k) (a .s) wn (a .a) (a .b) (omega arith) (omega arith) (omega arith) (omega arith) (s .pre .1 .0 .0) (s .pre .1 .0 .1) (s .pre .1 .1 .1) in
-    let l = c .before .before .before .before .before .last .ensures .below in
-    (put .ensures .later .logged, (omega arith, (omega (arith, put .ensures .next), (omega arith, omega (arith, put .ensures .later .len)))))
+    let rm = room (a .n) (a .k) (a .s) wn (a .a) (a .b) (omega arith) (omega arith) (omega arith) (omega arith) (s .pre .1 .0 .0)
+    (s .pre .1 .0 .1) (s .pre .1 .1 .1) in
+    let l = c .before .before .before .before .before .last .ensures .below in (
+      put .ensures .later .logged,
+      (
+        omega arith,
+        (omega (arith, put .ensures .next), (omega arith, omega (arith, put .ensures .later .len))),
+      ),
+    )
 
 put-requires-3 : tie.Need-put-requires-3
 put-requires-3 c κs =
@@ -54,8 +65,17 @@ put-requires-3 c κs =
     let s = c .before .before .before .before .before .before .before .before .before .before .before .before .before in
     let a = s .args in
     let wn = a .w .now in
-    let rm = room (a .n) (a .k) (a .s) wn (a .a) (a .b) (omega arith) (omega arith) (omega arith) (omega arith) (s .pre .1 .0 .0) (s .pre .1 .0 .1) (s .pre .1 .1 .1) in
-    (put2 .ensures .later .logged, (omega arith, (omega (arith, put .ensures .next, put2 .ensures .next), (omega arith, omega (arith, put .ensures .later .len, put2 .ensures .later .len)))))
+    let rm = room (a .n) (a .k) (a .s) wn (a .a) (a .b) (omega arith) (omega arith) (omega arith) (omega arith) (s .pre .1 .0 .0)
+    (s .pre .1 .0 .1) (s .pre .1 .1 .1) in (
+      put2 .ensures .later .logged,
+      (
+        omega arith,
+        (
+          omega (arith, put .ensures .next, put2 .ensures .next),
+          (omega arith, omega (arith, put .ensures .later .len, put2 .ensures .later .len)),
+        ),
+      ),
+    )
 
 mul-w : tie.Need-mul-w
 mul-w c = search needs
@@ -71,17 +91,27 @@ mul-w-2 c = search needs
 
 slice-write-w : tie.Need-slice-write-w
 slice-write-w c =
-    let s = c .before .before .before .before .before .before .before .before .before .before .before .before .before .before .before .before in
+    let s = c .before .before .before .before .before .before .before .before .before .before .before .before .before .before .before
+    .before in
     let a = s .args in
     let wn = a .w .now in
-    let hi = high (a .n) (a .k) (a .s) wn (a .a) (a .b) (omega arith) (omega arith) (omega arith) (omega arith) (s .pre .1 .0 .0) (s .pre .1 .0 .1) (s .pre .1 .1 .1) in
-    omega (arith, c .before .before .before .before .before .before .before .before .before .before .put .ensures .later .len, c .before .before .before .before .before .before .put2 .ensures .later .len, c .before .before .put3 .ensures .later .len, hi)
+    let hi = high (a .n) (a .k) (a .s) wn (a .a) (a .b) (omega arith) (omega arith) (omega arith) (omega arith) (s .pre .1 .0 .0)
+    (s .pre .1 .0 .1) (s .pre .1 .1 .1) in
+    omega (
+      arith,
+      c .before .before .before .before .before .before .before .before .before .before .put .ensures .later .len,
+      c .before .before .before .before .before .before .put2 .ensures .later .len,
+      c .before .before .put3 .ensures .later .len,
+      hi,
+    )
 
 add-t15 : tie.Need-add-t15
 add-t15 c = search needs
 
 same-length : tie.Need-same-length
-same-length c = simp length-set (c .before .before .put3 .ensures .later .len ∙ c .before .before .before .before .before .before .put2 .ensures .later .len ∙ c .before .before .before .before .before .before .before .before .before .before .put .ensures .later .len)
+same-length c = simp length-set (c .before .before .put3 .ensures .later .len
+    ∙ c .before .before .before .before .before .before .put2 .ensures .later .len
+    ∙ c .before .before .before .before .before .before .before .before .before .before .put .ensures .later .len)
 
 returns : tie.Need-returns
 returns c =
@@ -89,11 +119,18 @@ returns c =
     let put = c .before .before .before .before .before .before .before .before .before .before .put in
     let put2 = c .before .before .before .before .before .before .put2 in
     let put3 = c .before .before .put3 in
-    let s = c .before .before .before .before .before .before .before .before .before .before .before .before .before .before .before .before in
+    let s = c .before .before .before .before .before .before .before .before .before .before .before .before .before .before .before
+    .before in
     let a = s .args in
     let wn = a .w .now in
-    let la : Last wn (a .p) (last .result) = subst (λ (v : ℕ). Last wn v (last .result)) (c .before .before .before .before .before .before .before .before .before .before .before .before .before .wide .ensures) (last .ensures) in
-    knitted (a .n) (a .k) (a .s) wn (a .a) (a .b) (omega arith) (omega arith) (omega arith) (omega arith) (s .pre .1 .0 .0) (s .pre .1 .0 .1) (s .pre .1 .1 .1) (put .result) (put .last .0) (put .ensures) (a .p) (a .q) (last .result) (put2 .result) (put3 .result) (put2 .last .0) (put3 .last .0) (set (put3 .last .0) (STACK + a .s) (a .p + 4096 * a .q)) (s .pre .1 .1 .0 .0 .0) (s .pre .1 .1 .0 .0 .1) (omega arith) (omega arith) (omega arith) (omega arith) la (put2 .ensures) (put3 .ensures) refl
+    let la : Last wn (a .p) (last .result) =
+    subst (λ (v : ℕ). Last wn v (last .result))
+    (c .before .before .before .before .before .before .before .before .before .before .before .before .before .wide .ensures)
+    (last .ensures) in
+    knitted (a .n) (a .k) (a .s) wn (a .a) (a .b) (omega arith) (omega arith) (omega arith) (omega arith) (s .pre .1 .0 .0)
+    (s .pre .1 .0 .1) (s .pre .1 .1 .1) (put .result) (put .last .0) (put .ensures) (a .p) (a .q) (last .result) (put2 .result)
+    (put3 .result) (put2 .last .0) (put3 .last .0) (set (put3 .last .0) (STACK + a .s) (a .p + 4096 * a .q)) (s .pre .1 .1 .0 .0 .0)
+    (s .pre .1 .1 .0 .0 .1) (omega arith) (omega arith) (omega arith) (omega arith) la (put2 .ensures) (put3 .ensures) refl
 
 pub knit-spec : {M : Type 1} → statement M
 knit-spec =

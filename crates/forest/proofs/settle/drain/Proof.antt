@@ -43,7 +43,8 @@ step-requires c κs =
     ((omega arith, omega arith), (c .before .loop-test .taken, rw (wl, tl) v))
 
 same-length : tie.Need-same-length Inv-loop μ-loop
-same-length c = c .before .before .before .step .ensures .later .len ∙ c .before .before .before .before .before .before .loop .inv .later .len
+same-length c = c .before .before .before .step .ensures .later .len
+    ∙ c .before .before .before .before .before .before .loop .inv .later .len
 
 returns : tie.Need-returns Inv-loop μ-loop
 returns c =
@@ -57,7 +58,8 @@ returns c =
     let le : length (o .w) ≡ length wn = o .inv .later .len in
     let wl = words-later (a .k) wn (o .e) (o .w) (omega arith) (o .inv .later) in
     let tl = targets-later (a .k) wn (o .e) (o .w) (omega arith) (o .inv .later) in
-    drained-bad F T (a .n) (a .k) (a .s) wn (a .from) (a .to) (o .e) (o .h) (o .w) (o .x) (step .result .k) (step .result .s) (step .result .bad) (step .last .0) (o .inv) (rw (wl, tl) at (step .ensures)) (c .if1 .taken)
+    drained-bad F T (a .n) (a .k) (a .s) wn (a .from) (a .to) (o .e) (o .h) (o .w) (o .x) (step .result .k) (step .result .s)
+    (step .result .bad) (step .last .0) (o .inv) (rw (wl, tl) at (step .ensures)) (c .if1 .taken)
 
 sub-next : tie.Need-sub-next Inv-loop μ-loop
 sub-next c =
@@ -70,7 +72,8 @@ sub-next c =
     let o = c .before .before .before .before .before .before .before .loop in
     let le : length (o .w) ≡ length wn = o .inv .later .len in
     let v = walk-working F T (a .n) (a .k) (a .s) wn (a .from) (a .to) (o .e) (o .h) (o .w) (o .x) g (o .inv) in
-    let ps = arc-pos (v .G) (v .H) F T (a .n) (o .e) (o .h) (o .x) (a .to) (v .fs) (o .w) (omega arith) (omega arith) (v .state) (c .before .before .before .before .before .before .loop-test .taken) in
+    let ps = arc-pos (v .G) (v .H) F T (a .n) (o .e) (o .h) (o .x) (a .to) (v .fs) (o .w) (omega arith) (omega arith) (v .state)
+    (c .before .before .before .before .before .before .loop-test .taken) in
     search needs
 
 next-requires : tie.Need-next-requires Inv-loop μ-loop
@@ -84,7 +87,8 @@ next-requires c κs =
     let o = c .before .before .before .before .before .before .before .loop in
     let le : length (o .w) ≡ length wn = o .inv .later .len in
     let v = walk-working F T (a .n) (a .k) (a .s) wn (a .from) (a .to) (o .e) (o .h) (o .w) (o .x) g (o .inv) in
-    let al = arc-low (v .G) (v .H) F T (a .n) (o .e) (o .h) (o .x) (a .to) (v .fs) (o .w) (omega arith) (omega arith) (v .state) (c .before .before .before .before .before .before .loop-test .taken) in
+    let al = arc-low (v .G) (v .H) F T (a .n) (o .e) (o .h) (o .x) (a .to) (v .fs) (o .w) (omega arith) (omega arith) (v .state)
+    (c .before .before .before .before .before .before .loop-test .taken) in
     (omega arith, omega (arith, c .before .before .before .before .step .ensures .later .len))
 
 loop-less : tie.Need-loop-less Inv-loop μ-loop
@@ -102,7 +106,9 @@ loop-again c =
     let le : length (o .w) ≡ length wn = o .inv .later .len in
     let wl = words-later (a .k) wn (o .e) (o .w) (omega arith) (o .inv .later) in
     let tl = targets-later (a .k) wn (o .e) (o .w) (omega arith) (o .inv .later) in
-    drain-turn F T (a .n) (a .k) (a .s) wn (a .from) (a .to) (o .e) (o .h) (o .w) (o .x) (step .result .k) (step .result .s) (step .result .bad) (step .last .0) (c .next .result) (o .inv) (rw (wl, tl) at (step .ensures)) (c .before .before .if1 .left) (c .next .ensures)
+    drain-turn F T (a .n) (a .k) (a .s) wn (a .from) (a .to) (o .e) (o .h) (o .w) (o .x) (step .result .k) (step .result .s)
+    (step .result .bad) (step .last .0) (c .next .result) (o .inv) (rw (wl, tl) at (step .ensures)) (c .before .before .if1 .left)
+    (c .next .ensures)
 
 same-length-2 : tie.Need-same-length-2 Inv-loop μ-loop
 same-length-2 c = c .before .loop .inv .later .len

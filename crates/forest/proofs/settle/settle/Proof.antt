@@ -9,7 +9,8 @@ use Rattle.forest.specs.Forest.{tops}
 use Rattle.forest.specs.State.{targets}
 use Rattle.forest.proofs.Words.{words-later, targets-later}
 use Rattle.forest.proofs.Walks.{some}
-use Rattle.forest.proofs.Drain.{Settling, settle-start, settle-working, settle-stack, settle-turn, settle-less, settled-bad, settled-end}
+use Rattle.forest.proofs.Drain.{Settling, settle-start, settle-working, settle-stack, settle-turn, settle-less, settled-bad}
+use Rattle.forest.proofs.Drain.{settled-end}
 use borrow.Author.Needs.{needs}
 use Rattle.forest.proofs.settle.settle.Statement.{statement}
 use Rattle.forest.proofs.settle.settle.Tie as tie
@@ -103,11 +104,16 @@ drain-requires c κs =
     let wl = words-later (a .k) wn (o .e) (o .w) (omega arith) (o .inv .later) in
     let tl = targets-later (a .k) wn (o .e) (o .w) (omega arith) (o .inv .later) in
     let hp = some (o .h) (c .before .before .before .loop-test .taken) in
-    let hs = settle-stack F T (a .n) (a .k) (a .s) wn (o .e) (o .h) (o .w) g (o .inv) in
-    ((omega arith, omega arith), rw (wl, tl) (settle-working F T (a .n) (a .k) (a .s) wn (o .e) (o .h) (o .w) (wide .result % 4096) (wide .result / 4096) g (o .inv) hp (ap (λ (z : ℕ). z % 4096) (wide .ensures)) (ap (λ (z : ℕ). z / 4096) (wide .ensures))))
+    let hs = settle-stack F T (a .n) (a .k) (a .s) wn (o .e) (o .h) (o .w) g (o .inv) in (
+      (omega arith, omega arith),
+      rw (wl, tl)
+          (settle-working F T (a .n) (a .k) (a .s) wn (o .e) (o .h) (o .w) (wide .result % 4096) (wide .result / 4096) g (o .inv) hp
+          (ap (λ (z : ℕ). z % 4096) (wide .ensures)) (ap (λ (z : ℕ). z / 4096) (wide .ensures))),
+    )
 
 same-length : tie.Need-same-length Inv-loop μ-loop
-same-length c = c .before .before .before .drain .ensures .later .len ∙ c .before .before .before .before .before .before .before .before .loop .inv .later .len
+same-length c = c .before .before .before .drain .ensures .later .len
+    ∙ c .before .before .before .before .before .before .before .before .loop .inv .later .len
 
 returns : tie.Need-returns Inv-loop μ-loop
 returns c =
@@ -125,7 +131,9 @@ returns c =
     let tl = targets-later (a .k) wn (o .e) (o .w) (omega arith) (o .inv .later) in
     let hp = some (o .h) (c .before .before .before .before .before .before .before .loop-test .taken) in
     let hs = settle-stack F T (a .n) (a .k) (a .s) wn (o .e) (o .h) (o .w) g (o .inv) in
-    settled-bad F T (a .n) (a .k) (a .s) wn (o .e) (o .h) (o .w) (wide .result % 4096) (wide .result / 4096) (drain .result .k) (drain .result .s) (drain .result .bad) (drain .last .0) (o .inv) hp (ap (λ (z : ℕ). z % 4096) (wide .ensures)) (ap (λ (z : ℕ). z / 4096) (wide .ensures)) (rw (wl, tl) at (drain .ensures)) (c .if1 .taken)
+    settled-bad F T (a .n) (a .k) (a .s) wn (o .e) (o .h) (o .w) (wide .result % 4096) (wide .result / 4096) (drain .result .k)
+    (drain .result .s) (drain .result .bad) (drain .last .0) (o .inv) hp (ap (λ (z : ℕ). z % 4096) (wide .ensures))
+    (ap (λ (z : ℕ). z / 4096) (wide .ensures)) (rw (wl, tl) at (drain .ensures)) (c .if1 .taken)
 
 loop-less : tie.Need-loop-less Inv-loop μ-loop
 loop-less c =
@@ -143,7 +151,8 @@ loop-less c =
     let tl = targets-later (a .k) wn (o .e) (o .w) (omega arith) (o .inv .later) in
     let hp = some (o .h) (c .before .before .before .before .before .before .before .loop-test .taken) in
     let hs = settle-stack F T (a .n) (a .k) (a .s) wn (o .e) (o .h) (o .w) g (o .inv) in
-    settle-less F T (a .n) (o .e) (o .h) (o .w) (wide .result % 4096) (wide .result / 4096) (drain .result .k) (drain .result .s) (drain .result .bad) (drain .last .0) hp (rw (wl, tl) at (drain .ensures)) (c .if1 .left)
+    settle-less F T (a .n) (o .e) (o .h) (o .w) (wide .result % 4096) (wide .result / 4096) (drain .result .k) (drain .result .s)
+    (drain .result .bad) (drain .last .0) hp (rw (wl, tl) at (drain .ensures)) (c .if1 .left)
 
 loop-again : tie.Need-loop-again Inv-loop μ-loop
 loop-again c =
@@ -161,7 +170,9 @@ loop-again c =
     let tl = targets-later (a .k) wn (o .e) (o .w) (omega arith) (o .inv .later) in
     let hp = some (o .h) (c .before .before .before .before .before .before .before .loop-test .taken) in
     let hs = settle-stack F T (a .n) (a .k) (a .s) wn (o .e) (o .h) (o .w) g (o .inv) in
-    settle-turn F T (a .n) (a .k) (a .s) wn (o .e) (o .h) (o .w) (wide .result % 4096) (wide .result / 4096) (drain .result .k) (drain .result .s) (drain .result .bad) (drain .last .0) (o .inv) hp (ap (λ (z : ℕ). z % 4096) (wide .ensures)) (ap (λ (z : ℕ). z / 4096) (wide .ensures)) (rw (wl, tl) at (drain .ensures)) (c .if1 .left)
+    settle-turn F T (a .n) (a .k) (a .s) wn (o .e) (o .h) (o .w) (wide .result % 4096) (wide .result / 4096) (drain .result .k)
+    (drain .result .s) (drain .result .bad) (drain .last .0) (o .inv) hp (ap (λ (z : ℕ). z % 4096) (wide .ensures))
+    (ap (λ (z : ℕ). z / 4096) (wide .ensures)) (rw (wl, tl) at (drain .ensures)) (c .if1 .left)
 
 same-length-2 : tie.Need-same-length-2 Inv-loop μ-loop
 same-length-2 c = c .before .loop .inv .later .len

@@ -19,8 +19,10 @@ sub-j c =
     let F = words wn in
     let T = targets wn in
     let g = s .pre .1 .1 in
-    let ps = arc-pos (g .G) (g .H) F T (a .n) (a .k) (a .s) (a .x) (a .to) (g .fs) wn (omega arith) (omega arith) (g .state) (s .pre .1 .0) in
-    let lw = arc-low (g .G) (g .H) F T (a .n) (a .k) (a .s) (a .x) (a .to) (g .fs) wn (omega arith) (omega arith) (g .state) (s .pre .1 .0) in
+    let ps = arc-pos (g .G) (g .H) F T (a .n) (a .k) (a .s) (a .x) (a .to) (g .fs) wn (omega arith) (omega arith) (g .state)
+    (s .pre .1 .0) in
+    let lw = arc-low (g .G) (g .H) F T (a .n) (a .k) (a .s) (a .x) (a .to) (g .fs) wn (omega arith) (omega arith) (g .state)
+    (s .pre .1 .0) in
     search needs
 
 loaded-requires : tie.Need-loaded-requires
@@ -31,8 +33,10 @@ loaded-requires c κs =
     let F = words wn in
     let T = targets wn in
     let g = s .pre .1 .1 in
-    let ps = arc-pos (g .G) (g .H) F T (a .n) (a .k) (a .s) (a .x) (a .to) (g .fs) wn (omega arith) (omega arith) (g .state) (s .pre .1 .0) in
-    let lw = arc-low (g .G) (g .H) F T (a .n) (a .k) (a .s) (a .x) (a .to) (g .fs) wn (omega arith) (omega arith) (g .state) (s .pre .1 .0) in
+    let ps = arc-pos (g .G) (g .H) F T (a .n) (a .k) (a .s) (a .x) (a .to) (g .fs) wn (omega arith) (omega arith) (g .state)
+    (s .pre .1 .0) in
+    let lw = arc-low (g .G) (g .H) F T (a .n) (a .k) (a .s) (a .x) (a .to) (g .fs) wn (omega arith) (omega arith) (g .state)
+    (s .pre .1 .0) in
     (omega arith, omega arith)
 
 look-requires : tie.Need-look-requires
@@ -57,7 +61,8 @@ returns c =
     let F = words wn in
     let T = targets wn in
     let g = s .pre .1 .1 in
-    let lk : Looked F wn (getD F (a .x - 1) 0) (a .to) (look .result) = subst (λ (v : ℕ). Looked F wn v (a .to) (look .result)) (c .before .before .before .loaded .ensures) (look .ensures) in
+    let lk : Looked F wn (getD F (a .x - 1) 0) (a .to) (look .result) =
+    subst (λ (v : ℕ). Looked F wn v (a .to) (look .result)) (c .before .before .before .loaded .ensures) (look .ensures) in
     turned-miss F T (a .n) (a .k) (a .s) (a .x) (a .to) wn (omega arith) (omega arith) (s .pre .1 .0) g (rw (c .if1 .taken) at lk)
 
 sub-i : tie.Need-sub-i
@@ -73,8 +78,10 @@ target-requires c κs =
     let F = words wn in
     let T = targets wn in
     let g = s .pre .1 .1 in
-    let ps = arc-pos (g .G) (g .H) F T (a .n) (a .k) (a .s) (a .x) (a .to) (g .fs) wn (omega arith) (omega arith) (g .state) (s .pre .1 .0) in
-    let lw = arc-low (g .G) (g .H) F T (a .n) (a .k) (a .s) (a .x) (a .to) (g .fs) wn (omega arith) (omega arith) (g .state) (s .pre .1 .0) in
+    let ps = arc-pos (g .G) (g .H) F T (a .n) (a .k) (a .s) (a .x) (a .to) (g .fs) wn (omega arith) (omega arith) (g .state)
+    (s .pre .1 .0) in
+    let lw = arc-low (g .G) (g .H) F T (a .n) (a .k) (a .s) (a .x) (a .to) (g .fs) wn (omega arith) (omega arith) (g .state)
+    (s .pre .1 .0) in
     (omega arith, omega arith)
 
 target-requires-2 : tie.Need-target-requires-2
@@ -86,11 +93,14 @@ target-requires-2 c κs =
     let F = words wn in
     let T = targets wn in
     let g = s .pre .1 .1 in
-    let lk : Looked F wn (getD F (a .x - 1) 0) (a .to) (look .result) = subst (λ (v : ℕ). Looked F wn v (a .to) (look .result)) (c .before .before .before .before .before .before .loaded .ensures) (look .ensures) in
+    let lk : Looked F wn (getD F (a .x - 1) 0) (a .to) (look .result) =
+    subst (λ (v : ℕ). Looked F wn v (a .to) (look .result)) (c .before .before .before .before .before .before .loaded .ensures)
+    (look .ensures) in
     let r = look .result in
     let rp = some r (c .before .before .before .if1 .left) in
     let ri : r ≡ suc (r - 1) = omega arith in
-    let mt = match-target (g .G) (g .H) F T (a .n) (a .k) (a .s) (a .x) (a .to) (g .fs) wn (omega arith) (omega arith) (g .state) (s .pre .1 .0) r (r - 1) lk ri in
+    let mt = match-target (g .G) (g .H) F T (a .n) (a .k) (a .s) (a .x) (a .to) (g .fs) wn (omega arith) (omega arith) (g .state)
+    (s .pre .1 .0) r (r - 1) lk ri in
     let mi : r - 1 < 2047 = mt .1 in
     (omega arith, omega arith)
 
@@ -103,13 +113,25 @@ join-requires c κs =
     let F = words wn in
     let T = targets wn in
     let g = s .pre .1 .1 in
-    let lk : Looked F wn (getD F (a .x - 1) 0) (a .to) (look .result) = subst (λ (v : ℕ). Looked F wn v (a .to) (look .result)) (c .before .before .before .before .before .before .before .before .loaded .ensures) (look .ensures) in
+    let lk : Looked F wn (getD F (a .x - 1) 0) (a .to) (look .result) =
+    subst (λ (v : ℕ). Looked F wn v (a .to) (look .result))
+    (c .before .before .before .before .before .before .before .before .loaded .ensures) (look .ensures) in
     let r = look .result in
     let rp = some r (c .before .before .before .before .before .if1 .left) in
     let ri : r ≡ suc (r - 1) = omega arith in
-    let mt = match-target (g .G) (g .H) F T (a .n) (a .k) (a .s) (a .x) (a .to) (g .fs) wn (omega arith) (omega arith) (g .state) (s .pre .1 .0) r (r - 1) lk ri in
-    let mi : r - 1 < 2047 = mt .1 in
-    ((omega (arith, c .before .before .before .target .ensures, arc-target (g .G) (g .H) F T (a .n) (a .k) (a .s) (a .x) (a .to) (g .fs) wn (omega arith) (omega arith) (g .state) (s .pre .1 .0)), (omega (arith, c .before .target2 .ensures, mt .0), (omega arith, omega arith))), record { G = g .G; H = g .H; F = F; T = T; fs = _; state = g .state })
+    let mt = match-target (g .G) (g .H) F T (a .n) (a .k) (a .s) (a .x) (a .to) (g .fs) wn (omega arith) (omega arith) (g .state)
+    (s .pre .1 .0) r (r - 1) lk ri in
+    let mi : r - 1 < 2047 = mt .1 in (
+      (
+        omega (
+          arith,
+          c .before .before .before .target .ensures,
+          arc-target (g .G) (g .H) F T (a .n) (a .k) (a .s) (a .x) (a .to) (g .fs) wn (omega arith) (omega arith) (g .state) (s .pre .1 .0),
+        ),
+        (omega (arith, c .before .target2 .ensures, mt .0), (omega arith, omega arith)),
+      ),
+      record { G = g .G; H = g .H; F = F; T = T; fs = _; state = g .state },
+    )
 
 same-length-2 : tie.Need-same-length-2
 same-length-2 c = search needs
@@ -124,13 +146,19 @@ returns-2 c =
     let F = words wn in
     let T = targets wn in
     let g = s .pre .1 .1 in
-    let lk : Looked F wn (getD F (a .x - 1) 0) (a .to) (look .result) = subst (λ (v : ℕ). Looked F wn v (a .to) (look .result)) (c .before .before .before .before .before .before .before .before .before .before .before .loaded .ensures) (look .ensures) in
+    let lk : Looked F wn (getD F (a .x - 1) 0) (a .to) (look .result) =
+    subst (λ (v : ℕ). Looked F wn v (a .to) (look .result))
+    (c .before .before .before .before .before .before .before .before .before .before .before .loaded .ensures) (look .ensures) in
     let r = look .result in
     let rp = some r (c .before .before .before .before .before .before .before .before .if1 .left) in
     let ri : r ≡ suc (r - 1) = omega arith in
-    let mt = match-target (g .G) (g .H) F T (a .n) (a .k) (a .s) (a .x) (a .to) (g .fs) wn (omega arith) (omega arith) (g .state) (s .pre .1 .0) r (r - 1) lk ri in
+    let mt = match-target (g .G) (g .H) F T (a .n) (a .k) (a .s) (a .x) (a .to) (g .fs) wn (omega arith) (omega arith) (g .state)
+    (s .pre .1 .0) r (r - 1) lk ri in
     let mi : r - 1 < 2047 = mt .1 in
-    turned-hit F T (a .n) (a .k) (a .s) (a .x) (a .to) wn (omega arith) (omega arith) (s .pre .1 .0) g r (r - 1) (join .result .k) (join .result .s) (join .result .bad) (join .last .0) lk ri (rw (c .before .before .before .before .before .before .target .ensures, c .before .before .before .before .target2 .ensures) at (join .ensures))
+    turned-hit F T (a .n) (a .k) (a .s) (a .x) (a .to) wn (omega arith) (omega arith) (s .pre .1 .0) g r (r - 1) (join .result .k)
+    (join .result .s) (join .result .bad) (join .last .0) lk ri
+    (rw (c .before .before .before .before .before .before .target .ensures, c .before .before .before .before .target2 .ensures) at
+    (join .ensures))
 
 pub step-spec : {M : Type 1} → statement M
 step-spec =

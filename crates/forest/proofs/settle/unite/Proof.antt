@@ -29,7 +29,8 @@ returns c =
     let wn = a .w .now in
     let F = words wn in
     let T = targets wn in
-    united-bad F T (a .n) (a .k) wn (a .x) (a .y) (join .result .k) (join .result .s) (join .result .bad) (join .last .0) (join .ensures) (c .if1 .taken)
+    united-bad F T (a .n) (a .k) wn (a .x) (a .y) (join .result .k) (join .result .s) (join .result .bad) (join .last .0) (join .ensures)
+    (c .if1 .taken)
 
 settle-requires : tie.Need-settle-requires
 settle-requires c κs =
@@ -41,11 +42,15 @@ settle-requires c κs =
     let T = targets wn in
     let g = s .pre .1 .1 in
     let wl = words-later (a .k) wn (join .result .k) (join .last .0) (omega arith) (join .ensures .later) in
-    let tl = targets-later (a .k) wn (join .result .k) (join .last .0) (omega arith) (join .ensures .later) in
-    ((omega arith, omega (arith, join .ensures .later .len)), rw (wl, tl) (united-stacked F T (a .n) (a .k) wn (a .x) (a .y) (join .result .k) (join .result .s) (join .result .bad) (join .last .0) (g .G) (g .H) (g .state) (g .same) (join .ensures) (c .before .if1 .left)))
+    let tl = targets-later (a .k) wn (join .result .k) (join .last .0) (omega arith) (join .ensures .later) in (
+      (omega arith, omega (arith, join .ensures .later .len)),
+      rw (wl, tl) (united-stacked F T (a .n) (a .k) wn (a .x) (a .y) (join .result .k) (join .result .s) (join .result .bad)
+          (join .last .0) (g .G) (g .H) (g .state) (g .same) (join .ensures) (c .before .if1 .left)),
+    )
 
 same-length-2 : tie.Need-same-length-2
-same-length-2 c = c .before .before .settle .ensures .later .len ∙ c .before .before .before .before .before .before .before .join .ensures .later .len
+same-length-2 c = c .before .before .settle .ensures .later .len
+    ∙ c .before .before .before .before .before .before .before .join .ensures .later .len
 
 returns-2 : tie.Need-returns-2
 returns-2 c =
@@ -57,7 +62,9 @@ returns-2 c =
     let T = targets wn in
     let wl = words-later (a .k) wn (join .result .k) (join .last .0) (omega arith) (join .ensures .later) in
     let tl = targets-later (a .k) wn (join .result .k) (join .last .0) (omega arith) (join .ensures .later) in
-    united F T (a .n) (a .k) wn (a .x) (a .y) (join .result .k) (join .result .s) (join .result .bad) (join .last .0) (c .before .before .settle .result .k) (c .before .before .settle .result .bad) (c .before .before .settle .last .0) (join .ensures) (c .before .before .before .before .if1 .left) (rw (wl, tl) at (c .before .before .settle .ensures))
+    united F T (a .n) (a .k) wn (a .x) (a .y) (join .result .k) (join .result .s) (join .result .bad) (join .last .0)
+    (c .before .before .settle .result .k) (c .before .before .settle .result .bad) (c .before .before .settle .last .0) (join .ensures)
+    (c .before .before .before .before .if1 .left) (rw (wl, tl) at (c .before .before .settle .ensures))
 
 pub unite-spec : {M : Type 1} → statement M
 unite-spec =

@@ -8,7 +8,8 @@ back-requires : tie.Need-back-requires
 back-requires c κs = restart-back _ _ _ (c .before .before .pre)
 
 enter-requires : tie.Need-enter-requires
-enter-requires c κs = restart-first _ _ _ _ (c .before .before .before .back .ensures) (c .before .before .before .before .before .before .pre)
+enter-requires c κs = restart-first _ _ _ _ (c .before .before .before .back .ensures)
+    (c .before .before .before .before .before .before .pre)
 
 enum-known-first : tie.Need-enum-known-first
 enum-known-first c = search needs
@@ -20,16 +21,23 @@ same-length : tie.Need-same-length
 same-length c = search needs
 
 returns : tie.Need-returns
-returns c = restarts-clash _ _ _ _ (c .before .before .before .before .before .before .before .before .back .ensures) _ _ (c .before .before .before .before .enter .ensures) (c .enum-told .given .1)
+returns c = restarts-clash _ _ _ _ (c .before .before .before .before .before .before .before .before .back .ensures) _ _
+    (c .before .before .before .before .enter .ensures) (c .enum-told .given .1)
 
 enter-requires-2 : tie.Need-enter-requires-2
-enter-requires-2 c κs = restart-second _ _ _ _ (c .before .before .before .before .before .before .before .before .before .before .back .ensures) _ _ (c .before .before .before .before .before .before .enter .ensures) _ (c .before .before .first .given .1) (c .before .before .before .before .before .before .before .before .before .before .before .before .before .pre)
+enter-requires-2 c κs = restart-second _ _ _ _
+    (c .before .before .before .before .before .before .before .before .before .before .back .ensures) _ _
+    (c .before .before .before .before .before .before .enter .ensures) _ (c .before .before .first .given .1)
+    (c .before .before .before .before .before .before .before .before .before .before .before .before .before .pre)
 
 same-length-2 : tie.Need-same-length-2
 same-length-2 c = search needs
 
 returns-2 : tie.Need-returns-2
-returns-2 c = restarts _ _ _ _ (c .before .before .before .before .before .before .before .before .before .before .before .before .before .back .ensures) _ _ (c .before .before .before .before .before .before .before .before .before .enter .ensures) _ (c .before .before .before .before .before .first .given .1) _ _ (c .before .before .enter2 .ensures)
+returns-2 c = restarts _ _ _ _
+    (c .before .before .before .before .before .before .before .before .before .before .before .before .before .back .ensures) _ _
+    (c .before .before .before .before .before .before .before .before .before .enter .ensures) _
+    (c .before .before .before .before .before .first .given .1) _ _ (c .before .before .enter2 .ensures)
 
 pub restart-spec : {M : Type 1} → statement M
 restart-spec =

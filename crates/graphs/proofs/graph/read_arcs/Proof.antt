@@ -11,7 +11,8 @@ use Rattle.graphs.proofs.graph.read_arcs.Statement.{statement}
 use Rattle.graphs.proofs.graph.read_arcs.Tie as tie
 
 abbrev Inv-loop : tie.InvT-loop
-Inv-loop ws p count nodes first at₀ left₀ low₀ met₀ at left low met = (at + (left + left) ≤ length ws) × (readArcs ws nodes count first p ≡ arcsFrom ws nodes left low met at)
+Inv-loop ws p count nodes first at₀ left₀ low₀ met₀ at left low met =
+    (at + (left + left) ≤ length ws) × (readArcs ws nodes count first p ≡ arcsFrom ws nodes left low met at)
 
 abbrev μ-loop : tie.MeasureT-loop
 μ-loop ws p count nodes first at₀ left₀ low₀ met₀ at left low met = left
@@ -59,7 +60,8 @@ enum-told : tie.Need-enum-told Inv-loop μ-loop
 enum-told c = search needs
 
 returns-3 : tie.Need-returns-3 Inv-loop μ-loop
-returns-3 c = arcs-stop _ _ _ _ _ _ (omega arith) (sym (c .enum-told .given .1) ∙ c .before .before .read-arc .ensures) ∙ sym (c .before .before .before .before .before .before .loop .inv .1)
+returns-3 c = arcs-stop _ _ _ _ _ _ (omega arith) (sym (c .enum-told .given .1) ∙ c .before .before .read-arc .ensures)
+    ∙ sym (c .before .before .before .before .before .before .loop .inv .1)
 
 add-low : tie.Need-add-low Inv-loop μ-loop
 add-low c = let h = arc-feature _ _ _ _ _ _ (sym (c .before .arc .given .1) ∙ c .before .before .before .read-arc .ensures) in omega arith
@@ -74,7 +76,11 @@ loop-less : tie.Need-loop-less Inv-loop μ-loop
 loop-less c = search needs
 
 loop-again : tie.Need-loop-again Inv-loop μ-loop
-loop-again c = (omega arith, c .before .before .before .before .before .before .before .loop .inv .1 ∙ arcs-step _ _ _ _ _ _ _ (omega arith) (sym (c .before .arc .given .1) ∙ c .before .before .before .read-arc .ensures))
+loop-again c = (
+  omega arith,
+  c .before .before .before .before .before .before .before .loop .inv .1
+      ∙ arcs-step _ _ _ _ _ _ _ (omega arith) (sym (c .before .arc .given .1) ∙ c .before .before .before .read-arc .ensures),
+)
 
 returns-4 : tie.Need-returns-4 Inv-loop μ-loop
 returns-4 c = arcs-done _ _ _ _ _ _ (omega arith) ∙ sym (c .before .loop .inv .1)

@@ -1,11 +1,13 @@
--- `layout::reading::read_description` and `layout::reading::read_disjunction`, which call each other, meet their contracts: what is left of a list reads as the whole does, and the depth falls.
+-- `layout::reading::read_description` and `layout::reading::read_disjunction`, which call each other, meet their contracts: what is
+-- left of a list reads as the whole does, and the depth falls.
 -- Assumes nothing.
 use borrow.Author.Needs.{needs}
 use native.Mathlib.Omega.{arith}
 use mathlib.Core.Path.{_≡_, sym, _∙_}
 use Prim.Native.Nat.{ℕ, _<_, _+_, _*_, _-_}
 use Rattle.layout.specs.Reading.{times, readDisjunction, readDescription}
-use Rattle.layout.proofs.Laws.{times-done, times-stop, times-step, description-no-graph, description-none, description-times, disjunction-deep, disjunction-none, disjunction-few, disjunction-times}
+use Rattle.layout.proofs.Laws.{times-done, times-stop, times-step, description-no-graph, description-none, description-times}
+use Rattle.layout.proofs.Laws.{disjunction-deep, disjunction-none, disjunction-few, disjunction-times}
 use borrow.Fn.Kinds.{In}
 use borrow.Fn.PlainCycle.{Measures, is, falls, and}
 use Rattle.layout.proofs.reading.read_description.Reads as read-description

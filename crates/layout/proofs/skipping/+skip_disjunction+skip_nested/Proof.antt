@@ -1,11 +1,13 @@
--- `layout::skipping::skip_disjunction` and `layout::skipping::skip_nested`, which call each other, meet their contracts: what is left of a list ends where the whole does, and the depth falls.
+-- `layout::skipping::skip_disjunction` and `layout::skipping::skip_nested`, which call each other, meet their contracts: what is left
+-- of a list ends where the whole does, and the depth falls.
 -- Assumes nothing.
 use borrow.Author.Needs.{needs}
 use native.Mathlib.Omega.{arith}
 use mathlib.Core.Path.{_≡_, sym, _∙_}
 use Prim.Native.Nat.{ℕ, _<_, _+_, _*_, _-_}
 use Rattle.layout.specs.Skipping.{ends, disjunctionEnd, nestedEnd}
-use Rattle.layout.proofs.Skips.{ends-done, ends-out, ends-step, nested-end-none, nested-end-disjunctions, disjunction-end-deep, disjunction-end-none, disjunction-end-alternatives}
+use Rattle.layout.proofs.Skips.{ends-done, ends-out, ends-step, nested-end-none, nested-end-disjunctions, disjunction-end-deep}
+use Rattle.layout.proofs.Skips.{disjunction-end-none, disjunction-end-alternatives}
 use borrow.Fn.Kinds.{In}
 use borrow.Fn.PlainCycle.{Measures, is, falls, and}
 use Rattle.layout.proofs.skipping.skip_disjunction.Reads as skip-disjunction
@@ -129,7 +131,8 @@ skip-disjunction-loop-again : (t : ℕ) → skip-disjunction-lts.Need-loop-again
   skip-nested-below t,
   skip-nested.Post,
 ) (skip-disjunction-at t) skip-disjunction.Post skip-disjunction-Inv-loop skip-disjunction-μ-loop
-skip-disjunction-loop-again t c = c .before .before .before .loop .inv ∙ ends-step _ _ _ _ _ (omega arith) (omega arith) (c .skip-nested .ensures)
+skip-disjunction-loop-again t c = c .before .before .before .loop .inv
+    ∙ ends-step _ _ _ _ _ (omega arith) (omega arith) (c .skip-nested .ensures)
 
 skip-disjunction-returns-4 : (t : ℕ) → skip-disjunction-lts.Need-returns-4 (
   skip-nested-below t,
@@ -229,7 +232,8 @@ skip-nested-loop-again : (t : ℕ) → skip-nested-lts.Need-loop-again (
   skip-disjunction-below t,
   skip-disjunction.Post,
 ) (skip-nested-at t) skip-nested.Post skip-nested-Inv-loop skip-nested-μ-loop
-skip-nested-loop-again t c = c .before .before .before .loop .inv ∙ ends-step _ _ _ _ _ (omega arith) (omega arith) (c .skip-disjunction .ensures)
+skip-nested-loop-again t c = c .before .before .before .loop .inv
+    ∙ ends-step _ _ _ _ _ (omega arith) (omega arith) (c .skip-disjunction .ensures)
 
 skip-nested-returns-3 : (t : ℕ) → skip-nested-lts.Need-returns-3 (
   skip-graph-reads.Asked,

@@ -1,4 +1,5 @@
--- `loading::loading::load_description` and `loading::loading::load_disjunction`, which call each other, meet their contracts: what is left of a series goes on to load all of it, and the depth falls.
+-- `loading::loading::load_description` and `loading::loading::load_disjunction`, which call each other, meet their contracts: what is
+-- left of a series goes on to load all of it, and the depth falls.
 -- Assumes nothing.
 use borrow.Author.Needs.{needs}
 use native.Mathlib.Omega.{arith}
@@ -7,8 +8,10 @@ use Prim.Native.Nat.{ℕ, _<_, _≤_, _+_, _*_, _-_}
 use lib.ListN.{length, getD, length-set}
 use Rattle.loading.specs.Loading.{a-graph, a-disjunction, a-description}
 use Rattle.loading.proofs.Series.{Onward, begin, asks, asks-first, go-on, finish}
-use Rattle.loading.proofs.Sequels.{disjunctions-step, disjunctions-end, alternatives-step, alternatives-end, its-disjunctions, its-alternatives}
-use Rattle.loading.proofs.Parts.{room-keeps, loads-keeps, description-asks, description-goes, description-ends, description-loads, disjunction-there, disjunction-asks, disjunction-loads}
+use Rattle.loading.proofs.Sequels.{disjunctions-step, disjunctions-end, alternatives-step, alternatives-end, its-disjunctions}
+use Rattle.loading.proofs.Sequels.{its-alternatives}
+use Rattle.loading.proofs.Parts.{room-keeps, loads-keeps, description-asks, description-goes, description-ends, description-loads}
+use Rattle.loading.proofs.Parts.{disjunction-there, disjunction-asks, disjunction-loads}
 use borrow.Fn.Kinds.{In}
 use borrow.Fn.PlainCycle.{Measures, is, falls, and}
 use Rattle.loading.proofs.loading.load_description.Reads as load-description
@@ -60,7 +63,8 @@ load-disjunction-below t =
     load-disjunction.Pre
 
 abbrev load-description-Inv-loop : load-description-lts.InvT-loop
-load-description-Inv-loop t₀ ws p shift number left q count more₀ at₀ next₀ t more at next = (length t ≡ length t₀) × Onward ws shift at₀ next₀ (its-disjunctions left more₀) (its-disjunctions left more) t₀ t at next
+load-description-Inv-loop t₀ ws p shift number left q count more₀ at₀ next₀ t more at next =
+    (length t ≡ length t₀) × Onward ws shift at₀ next₀ (its-disjunctions left more₀) (its-disjunctions left more) t₀ t at next
 
 abbrev load-description-μ-loop : load-description-lts.MeasureT-loop
 load-description-μ-loop t₀ ws p shift number left q count more₀ at₀ next₀ t more at next = more
@@ -71,7 +75,10 @@ load-description-load-graph-requires : (t : ℕ) → load-description-lts.Need-l
   load-disjunction-below t,
   load-disjunction.Post,
 ) (load-description-at t) load-description.Post load-description-Inv-loop load-description-μ-loop
-load-description-load-graph-requires t c κs = (c .before .before .before .pre .1 .0, description-asks _ (c .before .before .before .pre .1 .0 .few) _ _ _ (c .before .before .before .pre .1 .1))
+load-description-load-graph-requires t c κs = (
+  c .before .before .before .pre .1 .0,
+  description-asks _ (c .before .before .before .pre .1 .0 .few) _ _ _ (c .before .before .before .pre .1 .1),
+)
 
 load-description-mul-count : (t : ℕ) → load-description-lts.Need-mul-count (
   load-graph-reads.Asked,
@@ -79,7 +86,12 @@ load-description-mul-count : (t : ℕ) → load-description-lts.Need-mul-count (
   load-disjunction-below t,
   load-disjunction.Post,
 ) (load-description-at t) load-description.Post load-description-Inv-loop load-description-μ-loop
-load-description-mul-count t c = omega (arith, description-goes _ (c .before .before .before .before .before .before .pre .1 .0 .few) _ _ _ _ _ _ _ _ (c .before .before .load-graph .ensures) (c .before .before .before .before .before .before .pre .1 .1) .0)
+load-description-mul-count t c =
+    omega (
+      arith,
+      description-goes _ (c .before .before .before .before .before .before .pre .1 .0 .few) _ _ _ _ _ _ _ _
+          (c .before .before .load-graph .ensures) (c .before .before .before .before .before .before .pre .1 .1) .0,
+    )
 
 load-description-shared-slice-read-count :
     (t : ℕ) → load-description-lts.Need-shared-slice-read-count (
@@ -92,7 +104,12 @@ load-description-shared-slice-read-count :
     load-description.Post
     load-description-Inv-loop
     load-description-μ-loop
-load-description-shared-slice-read-count t c = omega (arith, description-goes _ (c .before .before .before .before .before .before .before .pre .1 .0 .few) _ _ _ _ _ _ _ _ (c .before .before .before .load-graph .ensures) (c .before .before .before .before .before .before .before .pre .1 .1) .0)
+load-description-shared-slice-read-count t c =
+    omega (
+      arith,
+      description-goes _ (c .before .before .before .before .before .before .before .pre .1 .0 .few) _ _ _ _ _ _ _ _
+          (c .before .before .before .load-graph .ensures) (c .before .before .before .before .before .before .before .pre .1 .1) .0,
+    )
 
 load-description-add-at : (t : ℕ) → load-description-lts.Need-add-at (
   load-graph-reads.Asked,
@@ -100,7 +117,11 @@ load-description-add-at : (t : ℕ) → load-description-lts.Need-add-at (
   load-disjunction-below t,
   load-disjunction.Post,
 ) (load-description-at t) load-description.Post load-description-Inv-loop load-description-μ-loop
-load-description-add-at t c = omega (arith, description-goes _ (c .before .before .before .before .before .before .before .pre .1 .0 .few) _ _ _ _ _ _ _ _ (c .before .before .before .load-graph .ensures) (c .before .before .before .before .before .before .before .pre .1 .1) .0)
+load-description-add-at t c = omega (
+  arith,
+  description-goes _ (c .before .before .before .before .before .before .before .pre .1 .0 .few) _ _ _ _ _ _ _ _
+      (c .before .before .before .load-graph .ensures) (c .before .before .before .before .before .before .before .pre .1 .1) .0,
+)
 
 load-description-loop-holds : (t : ℕ) → load-description-lts.Need-loop-holds (
   load-graph-reads.Asked,
@@ -121,7 +142,22 @@ load-description-load-disjunction-requires :
     load-description.Post
     load-description-Inv-loop
     load-description-μ-loop
-load-description-load-disjunction-requires t c κs = (omega arith, (room-keeps _ _ _ _ (c .before .before .loop .inv .0 ∙ loads-keeps a-graph _ _ _ _ _ _ _ _ (description-asks _ (c .before .before .before .before .before .before .before .before .before .before .pre .1 .0 .few) _ _ _ (c .before .before .before .before .before .before .before .before .before .before .pre .1 .1)) (c .before .before .before .before .before .before .load-graph .ensures)) (c .before .before .before .before .before .before .before .before .before .before .pre .1 .0), asks-first (its-disjunctions _ _) (a-disjunction _) (its-disjunctions _ _) _ _ _ (disjunctions-step _ (omega arith) _) (asks _ _ _ _ (its-disjunctions _ _) (its-disjunctions _ _) _ _ _ _ (c .before .before .loop .inv .1) (description-goes _ (c .before .before .before .before .before .before .before .before .before .before .pre .1 .0 .few) _ _ _ _ _ _ _ _ (c .before .before .before .before .before .before .load-graph .ensures) (c .before .before .before .before .before .before .before .before .before .before .pre .1 .1) .1))))
+load-description-load-disjunction-requires t c κs = (
+  omega arith,
+  (
+    room-keeps _ _ _ _ (c .before .before .loop .inv .0
+        ∙ loads-keeps a-graph _ _ _ _ _ _ _ _
+        (description-asks _ (c .before .before .before .before .before .before .before .before .before .before .pre .1 .0 .few) _ _ _
+        (c .before .before .before .before .before .before .before .before .before .before .pre .1 .1))
+        (c .before .before .before .before .before .before .load-graph .ensures))
+        (c .before .before .before .before .before .before .before .before .before .before .pre .1 .0),
+    asks-first (its-disjunctions _ _) (a-disjunction _) (its-disjunctions _ _) _ _ _ (disjunctions-step _ (omega arith) _)
+        (asks _ _ _ _ (its-disjunctions _ _) (its-disjunctions _ _) _ _ _ _ (c .before .before .loop .inv .1)
+        (description-goes _ (c .before .before .before .before .before .before .before .before .before .before .pre .1 .0 .few) _ _ _ _ _ _ _ _
+        (c .before .before .before .before .before .before .load-graph .ensures)
+        (c .before .before .before .before .before .before .before .before .before .before .pre .1 .1) .1)),
+  ),
+)
 
 load-description-sub-more : (t : ℕ) → load-description-lts.Need-sub-more (
   load-graph-reads.Asked,
@@ -145,7 +181,18 @@ load-description-loop-again : (t : ℕ) → load-description-lts.Need-loop-again
   load-disjunction-below t,
   load-disjunction.Post,
 ) (load-description-at t) load-description.Post load-description-Inv-loop load-description-μ-loop
-load-description-loop-again t c = (loads-keeps (a-disjunction _) _ _ _ _ _ _ _ _ (asks-first (its-disjunctions _ _) (a-disjunction _) (its-disjunctions _ _) _ _ _ (disjunctions-step _ (omega arith) _) (asks _ _ _ _ (its-disjunctions _ _) (its-disjunctions _ _) _ _ _ _ (c .before .before .before .before .before .loop .inv .1) (description-goes _ (c .before .before .before .before .before .before .before .before .before .before .before .before .before .pre .1 .0 .few) _ _ _ _ _ _ _ _ (c .before .before .before .before .before .before .before .before .before .load-graph .ensures) (c .before .before .before .before .before .before .before .before .before .before .before .before .before .pre .1 .1) .1))) (c .before .before .load-disjunction .ensures) ∙ c .before .before .before .before .before .loop .inv .0, go-on _ _ _ _ (its-disjunctions _ _) (its-disjunctions _ _) _ _ _ _ (c .before .before .before .before .before .loop .inv .1) (a-disjunction _) (its-disjunctions _ _) _ _ _ (disjunctions-step _ (omega arith) _) (c .before .before .load-disjunction .ensures))
+load-description-loop-again t c = (
+  loads-keeps (a-disjunction _) _ _ _ _ _ _ _ _
+      (asks-first (its-disjunctions _ _) (a-disjunction _) (its-disjunctions _ _) _ _ _ (disjunctions-step _ (omega arith) _)
+      (asks _ _ _ _ (its-disjunctions _ _) (its-disjunctions _ _) _ _ _ _ (c .before .before .before .before .before .loop .inv .1)
+      (description-goes _ (c .before .before .before .before .before .before .before .before .before .before .before .before .before .pre .1
+      .0 .few) _ _ _ _ _ _ _ _ (c .before .before .before .before .before .before .before .before .before .load-graph .ensures)
+      (c .before .before .before .before .before .before .before .before .before .before .before .before .before .pre .1 .1) .1)))
+      (c .before .before .load-disjunction .ensures)
+      ∙ c .before .before .before .before .before .loop .inv .0,
+  go-on _ _ _ _ (its-disjunctions _ _) (its-disjunctions _ _) _ _ _ _ (c .before .before .before .before .before .loop .inv .1)
+      (a-disjunction _) (its-disjunctions _ _) _ _ _ (disjunctions-step _ (omega arith) _) (c .before .before .load-disjunction .ensures),
+)
 
 -- where the disjunctions end, and how many they are
 reach : (t : ℕ) (c : load-description-lts.After-loop (
@@ -154,8 +201,16 @@ reach : (t : ℕ) (c : load-description-lts.After-loop (
   load-disjunction-below t,
   load-disjunction.Post,
 ) (load-description-at t) load-description.Post load-description-Inv-loop load-description-μ-loop)
-    → (c .before .loop .at ≤ length (c .before .before .before .before .before .before .before .before .before .args .ws .now)) × (getD (c .before .before .before .before .before .before .before .before .before .args .ws .now) (c .before .before .before .before .before .load-graph .result .at) 0 ≤ length (c .before .before .before .before .before .before .before .before .before .args .ws .now)) × (c .before .before .before .before .before .load-graph .result .at < length (c .before .before .before .before .before .before .before .before .before .args .ws .now))
-reach t c = description-ends _ (c .before .before .before .before .before .before .before .before .before .pre .1 .0 .few) _ _ _ _ _ _ _ _ (c .before .before .before .before .before .load-graph .ensures) _ _ _ (c .before .before .before .before .before .before .before .before .before .pre .1 .1) (finish _ _ _ _ (its-disjunctions _ _) (its-disjunctions _ _) _ _ _ _ (c .before .loop .inv .1) (disjunctions-end _ (omega arith) _))
+    → (c .before .loop .at ≤ length (c .before .before .before .before .before .before .before .before .before .args .ws .now))
+    × (getD (c .before .before .before .before .before .before .before .before .before .args .ws .now)
+    (c .before .before .before .before .before .load-graph .result .at) 0
+    ≤ length (c .before .before .before .before .before .before .before .before .before .args .ws .now))
+    × (c .before .before .before .before .before .load-graph .result .at
+    < length (c .before .before .before .before .before .before .before .before .before .args .ws .now))
+reach t c = description-ends _ (c .before .before .before .before .before .before .before .before .before .pre .1 .0 .few) _ _ _ _ _ _ _ _
+    (c .before .before .before .before .before .load-graph .ensures) _ _ _
+    (c .before .before .before .before .before .before .before .before .before .pre .1 .1)
+    (finish _ _ _ _ (its-disjunctions _ _) (its-disjunctions _ _) _ _ _ _ (c .before .loop .inv .1) (disjunctions-end _ (omega arith) _))
 
 load-description-add-end : (t : ℕ) → load-description-lts.Need-add-end (
   load-graph-reads.Asked,
@@ -211,7 +266,15 @@ load-description-slice-write-t : (t : ℕ) → load-description-lts.Need-slice-w
   load-disjunction-below t,
   load-disjunction.Post,
 ) (load-description-at t) load-description.Post load-description-Inv-loop load-description-μ-loop
-load-description-slice-write-t t c = omega (arith, reach t c, loads-keeps a-graph _ _ _ _ _ _ _ _ (description-asks _ (c .before .before .before .before .before .before .before .before .before .pre .1 .0 .few) _ _ _ (c .before .before .before .before .before .before .before .before .before .pre .1 .1)) (c .before .before .before .before .before .load-graph .ensures))
+load-description-slice-write-t t c =
+    omega (
+      arith,
+      reach t c,
+      loads-keeps a-graph _ _ _ _ _ _ _ _
+          (description-asks _ (c .before .before .before .before .before .before .before .before .before .pre .1 .0 .few) _ _ _
+          (c .before .before .before .before .before .before .before .before .before .pre .1 .1))
+          (c .before .before .before .before .before .load-graph .ensures),
+    )
 
 load-description-same-length : (t : ℕ) → load-description-lts.Need-same-length (
   load-graph-reads.Asked,
@@ -219,7 +282,12 @@ load-description-same-length : (t : ℕ) → load-description-lts.Need-same-leng
   load-disjunction-below t,
   load-disjunction.Post,
 ) (load-description-at t) load-description.Post load-description-Inv-loop load-description-μ-loop
-load-description-same-length t c = simp length-set (c .before .loop .inv .0 ∙ loads-keeps a-graph _ _ _ _ _ _ _ _ (description-asks _ (c .before .before .before .before .before .before .before .before .before .pre .1 .0 .few) _ _ _ (c .before .before .before .before .before .before .before .before .before .pre .1 .1)) (c .before .before .before .before .before .load-graph .ensures))
+load-description-same-length t c =
+    simp length-set (c .before .loop .inv .0
+    ∙ loads-keeps a-graph _ _ _ _ _ _ _ _
+    (description-asks _ (c .before .before .before .before .before .before .before .before .before .pre .1 .0 .few) _ _ _
+    (c .before .before .before .before .before .before .before .before .before .pre .1 .1))
+    (c .before .before .before .before .before .load-graph .ensures))
 
 load-description-returns : (t : ℕ) → load-description-lts.Need-returns (
   load-graph-reads.Asked,
@@ -227,10 +295,16 @@ load-description-returns : (t : ℕ) → load-description-lts.Need-returns (
   load-disjunction-below t,
   load-disjunction.Post,
 ) (load-description-at t) load-description.Post load-description-Inv-loop load-description-μ-loop
-load-description-returns t c = description-loads _ (c .before .before .before .before .before .before .before .before .before .pre .1 .0 .few) _ _ _ _ _ _ _ _ (c .before .before .before .before .before .load-graph .ensures) _ _ _ _ (c .before .before .before .before .before .before .before .before .before .pre .1 .0 .room) (finish _ _ _ _ (its-disjunctions _ _) (its-disjunctions _ _) _ _ _ _ (c .before .loop .inv .1) (disjunctions-end _ (omega arith) _)) refl
+load-description-returns t c =
+    description-loads _ (c .before .before .before .before .before .before .before .before .before .pre .1 .0 .few) _ _ _ _ _ _ _ _
+    (c .before .before .before .before .before .load-graph .ensures) _ _ _ _
+    (c .before .before .before .before .before .before .before .before .before .pre .1 .0 .room)
+    (finish _ _ _ _ (its-disjunctions _ _) (its-disjunctions _ _) _ _ _ _ (c .before .loop .inv .1) (disjunctions-end _ (omega arith) _))
+    refl
 
 abbrev load-disjunction-Inv-loop : load-disjunction-lts.InvT-loop
-load-disjunction-Inv-loop t₀ ws p shift number left count₀ at₀ next₀ t count at next = (length t ≡ length t₀) × Onward ws shift at₀ next₀ (its-alternatives (left - 1) count₀) (its-alternatives (left - 1) count) t₀ t at next
+load-disjunction-Inv-loop t₀ ws p shift number left count₀ at₀ next₀ t count at next =
+    (length t ≡ length t₀) × Onward ws shift at₀ next₀ (its-alternatives (left - 1) count₀) (its-alternatives (left - 1) count) t₀ t at next
 
 abbrev load-disjunction-μ-loop : load-disjunction-lts.MeasureT-loop
 load-disjunction-μ-loop t₀ ws p shift number left count₀ at₀ next₀ t count at next = count
@@ -286,7 +360,8 @@ load-disjunction-sub-load-description : (t : ℕ) → load-disjunction-lts.Need-
   load-description-below t,
   load-description.Post,
 ) (load-disjunction-at t) load-disjunction.Post load-disjunction-Inv-loop load-disjunction-μ-loop
-load-disjunction-sub-load-description t c = omega (arith, disjunction-there _ _ _ _ (c .before .before .before .before .before .before .pre .1 .1))
+load-disjunction-sub-load-description t c =
+    omega (arith, disjunction-there _ _ _ _ (c .before .before .before .before .before .before .pre .1 .1))
 
 load-disjunction-load-description-requires :
     (t : ℕ) → load-disjunction-lts.Need-load-description-requires (
@@ -297,7 +372,15 @@ load-disjunction-load-description-requires :
     load-disjunction.Post
     load-disjunction-Inv-loop
     load-disjunction-μ-loop
-load-disjunction-load-description-requires t c κs = (omega (arith, disjunction-there _ _ _ _ (c .before .before .before .before .before .before .pre .1 .1)), (room-keeps _ _ _ _ (c .before .before .loop .inv .0 ∙ simp length-set) (c .before .before .before .before .before .before .pre .1 .0), asks-first (its-alternatives _ _) (a-description _) (its-alternatives _ _) _ _ _ (alternatives-step _ (omega arith) _) (asks _ _ _ _ (its-alternatives _ _) (its-alternatives _ _) _ _ _ _ (c .before .before .loop .inv .1) (disjunction-asks _ _ _ _ (c .before .before .before .before .before .before .pre .1 .1)))))
+load-disjunction-load-description-requires t c κs = (
+  omega (arith, disjunction-there _ _ _ _ (c .before .before .before .before .before .before .pre .1 .1)),
+  (
+    room-keeps _ _ _ _ (c .before .before .loop .inv .0 ∙ simp length-set) (c .before .before .before .before .before .before .pre .1 .0),
+    asks-first (its-alternatives _ _) (a-description _) (its-alternatives _ _) _ _ _ (alternatives-step _ (omega arith) _)
+        (asks _ _ _ _ (its-alternatives _ _) (its-alternatives _ _) _ _ _ _ (c .before .before .loop .inv .1)
+        (disjunction-asks _ _ _ _ (c .before .before .before .before .before .before .pre .1 .1))),
+  ),
+)
 
 load-disjunction-sub-count : (t : ℕ) → load-disjunction-lts.Need-sub-count (
   load-description-below t,
@@ -315,7 +398,16 @@ load-disjunction-loop-again : (t : ℕ) → load-disjunction-lts.Need-loop-again
   load-description-below t,
   load-description.Post,
 ) (load-disjunction-at t) load-disjunction.Post load-disjunction-Inv-loop load-disjunction-μ-loop
-load-disjunction-loop-again t c = (loads-keeps (a-description _) _ _ _ _ _ _ _ _ (asks-first (its-alternatives _ _) (a-description _) (its-alternatives _ _) _ _ _ (alternatives-step _ (omega arith) _) (asks _ _ _ _ (its-alternatives _ _) (its-alternatives _ _) _ _ _ _ (c .before .before .before .before .before .loop .inv .1) (disjunction-asks _ _ _ _ (c .before .before .before .before .before .before .before .before .before .pre .1 .1)))) (c .before .before .load-description .ensures) ∙ c .before .before .before .before .before .loop .inv .0, go-on _ _ _ _ (its-alternatives _ _) (its-alternatives _ _) _ _ _ _ (c .before .before .before .before .before .loop .inv .1) (a-description _) (its-alternatives _ _) _ _ _ (alternatives-step _ (omega arith) _) (c .before .before .load-description .ensures))
+load-disjunction-loop-again t c = (
+  loads-keeps (a-description _) _ _ _ _ _ _ _ _
+      (asks-first (its-alternatives _ _) (a-description _) (its-alternatives _ _) _ _ _ (alternatives-step _ (omega arith) _)
+      (asks _ _ _ _ (its-alternatives _ _) (its-alternatives _ _) _ _ _ _ (c .before .before .before .before .before .loop .inv .1)
+      (disjunction-asks _ _ _ _ (c .before .before .before .before .before .before .before .before .before .pre .1 .1))))
+      (c .before .before .load-description .ensures)
+      ∙ c .before .before .before .before .before .loop .inv .0,
+  go-on _ _ _ _ (its-alternatives _ _) (its-alternatives _ _) _ _ _ _ (c .before .before .before .before .before .loop .inv .1)
+      (a-description _) (its-alternatives _ _) _ _ _ (alternatives-step _ (omega arith) _) (c .before .before .load-description .ensures),
+)
 
 load-disjunction-same-length : (t : ℕ) → load-disjunction-lts.Need-same-length (
   load-description-below t,
@@ -327,7 +419,9 @@ load-disjunction-returns : (t : ℕ) → load-disjunction-lts.Need-returns (
   load-description-below t,
   load-description.Post,
 ) (load-disjunction-at t) load-disjunction.Post load-disjunction-Inv-loop load-disjunction-μ-loop
-load-disjunction-returns t c = disjunction-loads _ _ _ _ _ (c .before .before .before .before .before .pre .1 .0 .room) _ _ _ _ (finish _ _ _ _ (its-alternatives _ _) (its-alternatives _ _) _ _ _ _ (c .before .loop .inv .1) (alternatives-end _ (omega arith) _))
+load-disjunction-returns t c =
+    disjunction-loads _ _ _ _ _ (c .before .before .before .before .before .pre .1 .0 .room) _ _ _ _
+    (finish _ _ _ _ (its-alternatives _ _) (its-alternatives _ _) _ _ _ _ (c .before .loop .inv .1) (alternatives-end _ (omega arith) _))
 
 pub +load-description+load-disjunction-spec : {M : Type 1} → statement M
 +load-description+load-disjunction-spec =

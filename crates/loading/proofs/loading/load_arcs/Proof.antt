@@ -14,7 +14,8 @@ use Rattle.loading.proofs.loading.load_arcs.Statement.{statement}
 use Rattle.loading.proofs.loading.load_arcs.Tie as tie
 
 abbrev Inv-loop : tie.InvT-loop
-Inv-loop t₀ ws p shift count number at₀ left₀ t at left = (length t ≡ length t₀) × Onward ws shift p number (its-arcs count) (its-arcs left) t₀ t at number
+Inv-loop t₀ ws p shift count number at₀ left₀ t at left =
+    (length t ≡ length t₀) × Onward ws shift p number (its-arcs count) (its-arcs left) t₀ t at number
 
 abbrev μ-loop : tie.MeasureT-loop
 μ-loop t₀ ws p shift count number at₀ left₀ t at left = left
@@ -23,9 +24,12 @@ loop-holds : tie.Need-loop-holds Inv-loop μ-loop
 loop-holds c = (refl, begin _ _ _ _ _ _)
 
 -- an arc stands there
-there : (c : tie.In-loop Inv-loop μ-loop) → (c .before .loop .at + 1 < length (c .before .before .args .ws .now)) × (getD (c .before .before .args .ws .now) (c .before .loop .at + 1) 0 < input-limit) × (c .before .before .args .number ≤ input-limit)
+there : (c : tie.In-loop Inv-loop μ-loop) →
+    (c .before .loop .at + 1 < length (c .before .before .args .ws .now))
+    × (getD (c .before .before .args .ws .now) (c .before .loop .at + 1) 0 < input-limit) × (c .before .before .args .number ≤ input-limit)
 there c =
-    arc-there _ _ _ (asks-first _ _ _ _ _ _ (arcs-step _ (omega arith)) (asks _ _ _ _ _ _ _ _ _ _ (c .before .loop .inv .1) (c .before .before .pre .1)))
+    arc-there _ _ _ (asks-first _ _ _ _ _ _ (arcs-step _ (omega arith))
+    (asks _ _ _ _ _ _ _ _ _ _ (c .before .loop .inv .1) (c .before .before .pre .1)))
 
 mul-t : tie.Need-mul-t Inv-loop μ-loop
 mul-t c = omega (arith, there c)
@@ -76,7 +80,11 @@ loop-less : tie.Need-loop-less Inv-loop μ-loop
 loop-less c = search needs
 
 loop-again : tie.Need-loop-again Inv-loop μ-loop
-loop-again c = (simp length-set (c .before .before .before .loop .inv .0), go-on _ _ _ _ _ _ _ _ _ _ (c .before .before .before .loop .inv .1) _ _ _ _ _ (arcs-step _ (omega arith)) (arc-loads _ _ _ _ _ (omega arith)))
+loop-again c = (
+  simp length-set (c .before .before .before .loop .inv .0),
+  go-on _ _ _ _ _ _ _ _ _ _ (c .before .before .before .loop .inv .1) _ _ _ _ _ (arcs-step _ (omega arith))
+      (arc-loads _ _ _ _ _ (omega arith)),
+)
 
 same-length : tie.Need-same-length Inv-loop μ-loop
 same-length c = search needs

@@ -22,8 +22,12 @@ load-nodes-requires : tie.Need-load-nodes-requires
 load-nodes-requires c κs = (c .before .before .before .before .pre .0, graph-asks _ _ _ (c .before .before .before .before .pre .1))
 
 -- the nodes end after the graph begins, and within the words
-reach : (c : tie.After-slice-known2) → (c .before .before .before .before .before .before .before .args .p + 1 ≤ c .before .before .load-nodes .result) × (c .before .before .load-nodes .result ≤ length (c .before .before .before .before .before .before .before .args .ws .now))
-reach c = loads-reach (its-nodes _) _ _ _ _ _ _ _ _ (omega (arith, graph-there _ _ _ (c .before .before .before .before .before .before .before .pre .1))) (graph-asks _ _ _ (c .before .before .before .before .before .before .before .pre .1)) (c .before .before .load-nodes .ensures)
+reach : (c : tie.After-slice-known2) →
+    (c .before .before .before .before .before .before .before .args .p + 1 ≤ c .before .before .load-nodes .result)
+    × (c .before .before .load-nodes .result ≤ length (c .before .before .before .before .before .before .before .args .ws .now))
+reach c = loads-reach (its-nodes _) _ _ _ _ _ _ _ _
+    (omega (arith, graph-there _ _ _ (c .before .before .before .before .before .before .before .pre .1)))
+    (graph-asks _ _ _ (c .before .before .before .before .before .before .before .pre .1)) (c .before .before .load-nodes .ensures)
 
 sub-extent : tie.Need-sub-extent
 sub-extent c = omega (arith, reach c)
@@ -50,7 +54,12 @@ mul-t-3 : tie.Need-mul-t-3
 mul-t-3 c = omega (arith, reach c, graph-there _ _ _ (c .before .before .before .before .before .before .before .pre .1))
 
 slice-write-t : tie.Need-slice-write-t
-slice-write-t c = omega (arith, graph-there _ _ _ (c .before .before .before .before .before .before .before .pre .1), loads-keeps (its-nodes _) _ _ _ _ _ _ _ _ (graph-asks _ _ _ (c .before .before .before .before .before .before .before .pre .1)) (c .before .before .load-nodes .ensures))
+slice-write-t c = omega (
+  arith,
+  graph-there _ _ _ (c .before .before .before .before .before .before .before .pre .1),
+  loads-keeps (its-nodes _) _ _ _ _ _ _ _ _ (graph-asks _ _ _ (c .before .before .before .before .before .before .before .pre .1))
+      (c .before .before .load-nodes .ensures),
+)
 
 add-t11 : tie.Need-add-t11
 add-t11 c = omega (arith, reach c, graph-there _ _ _ (c .before .before .before .before .before .before .before .pre .1))
@@ -59,7 +68,8 @@ same-length : tie.Need-same-length
 same-length c = search needs
 
 returns : tie.Need-returns
-returns c = graph-loads _ _ _ _ _ (c .before .before .before .before .before .before .before .pre .0 .room) _ _ _ (c .before .before .load-nodes .ensures) (omega (arith, reach c))
+returns c = graph-loads _ _ _ _ _ (c .before .before .before .before .before .before .before .pre .0 .room) _ _ _
+    (c .before .before .load-nodes .ensures) (omega (arith, reach c))
 
 pub load-graph-spec : {M : Type 1} → statement M
 load-graph-spec =

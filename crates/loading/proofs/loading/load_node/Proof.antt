@@ -37,13 +37,19 @@ add-load-arcs : tie.Need-add-load-arcs
 add-load-arcs c = omega (arith, node-there _ _ _ (c .before .before .before .before .before .pre .1))
 
 load-arcs-requires : tie.Need-load-arcs-requires
-load-arcs-requires c κs = (room-keeps _ _ _ _ (simp length-set) (c .before .before .before .before .before .pre .0), node-asks _ _ _ (c .before .before .before .before .before .pre .1) (omega arith))
+load-arcs-requires c κs = (
+  room-keeps _ _ _ _ (simp length-set) (c .before .before .before .before .before .pre .0),
+  node-asks _ _ _ (c .before .before .before .before .before .pre .1) (omega arith),
+)
 
 same-length-2 : tie.Need-same-length-2
-same-length-2 c = loads-keeps (its-arcs _) _ _ _ _ _ _ _ _ (node-asks _ _ _ (c .before .before .before .before .before .before .before .before .pre .1) (omega arith)) (c .before .before .load-arcs .ensures) ∙ simp length-set
+same-length-2 c = loads-keeps (its-arcs _) _ _ _ _ _ _ _ _
+    (node-asks _ _ _ (c .before .before .before .before .before .before .before .before .pre .1) (omega arith))
+    (c .before .before .load-arcs .ensures) ∙ simp length-set
 
 returns-2 : tie.Need-returns-2
-returns-2 c = node-loads _ _ _ _ _ (c .before .before .before .before .before .before .before .before .pre .0 .room) _ _ (omega arith) (c .before .before .load-arcs .ensures)
+returns-2 c = node-loads _ _ _ _ _ (c .before .before .before .before .before .before .before .before .pre .0 .room) _ _ (omega arith)
+    (c .before .before .load-arcs .ensures)
 
 pub load-node-spec : {M : Type 1} → statement M
 load-node-spec =

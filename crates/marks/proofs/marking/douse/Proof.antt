@@ -42,7 +42,8 @@ loop-less : tie.Need-loop-less Inv-loop μ-loop
 loop-less c = omega arith
 
 loop-again : tie.Need-loop-again Inv-loop μ-loop
-loop-again c = change-one _ _ _ (omega arith) (c .before .before .before .before .before .pre) _ _ _ (c .before .before .before .loop .inv) (omega arith) (c .doused .ensures)
+loop-again c = change-one _ _ _ (omega arith) (c .before .before .before .before .before .pre) _ _ _ (c .before .before .before .loop .inv)
+    (omega arith) (c .doused .ensures)
 
 same-length : tie.Need-same-length Inv-loop μ-loop
 same-length c = c .before .loop .inv .len

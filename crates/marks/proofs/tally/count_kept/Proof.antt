@@ -8,7 +8,8 @@ use Rattle.marks.proofs.tally.count_kept.Statement.{statement}
 use Rattle.marks.proofs.tally.count_kept.Tie as tie
 
 abbrev Inv-loop : tie.InvT-loop
-Inv-loop w p count left₀ at₀ first₀ found₀ left at first found = ((s : Alternatives w p count) → Tallying w p count s left at first found) × (found + left ≤ count)
+Inv-loop w p count left₀ at₀ first₀ found₀ left at first found = ((s : Alternatives w p count) → Tallying w p count s left at first found)
+    × (found + left ≤ count)
 
 abbrev μ-loop : tie.MeasureT-loop
 μ-loop w p count left₀ at₀ first₀ found₀ left at first found = left
@@ -17,13 +18,26 @@ loop-holds : tie.Need-loop-holds Inv-loop μ-loop
 loop-holds c = (λ s. tally-none _ _ _ s, omega arith)
 
 number-at-requires : tie.Need-number-at-requires Inv-loop μ-loop
-number-at-requires c κs = (tally-read _ _ _ (c .before .before .before .pre) _ _ _ _ (c .before .loop .inv .0 (c .before .before .before .pre)) (omega arith) .0, c .before .before .before .pre .room)
+number-at-requires c κs = (
+  tally-read _ _ _ (c .before .before .before .pre) _ _ _ _
+      (c .before .loop .inv .0 (c .before .before .before .pre)) (omega arith) .0,
+  c .before .before .before .pre .room,
+)
 
 kept-requires : tie.Need-kept-requires Inv-loop μ-loop
-kept-requires c κs = (let low = tally-read _ _ _ (c .before .before .before .before .pre) _ _ _ _ (c .before .before .loop .inv .0 (c .before .before .before .before .pre)) (omega arith) .1 in omega arith, c .before .before .before .before .pre .room)
+kept-requires c κs = (
+  let low =
+      tally-read _ _ _ (c .before .before .before .before .pre) _ _ _ _
+      (c .before .before .loop .inv .0 (c .before .before .before .before .pre)) (omega arith) .1 in
+      omega arith,
+  c .before .before .before .before .pre .room,
+)
 
 after-at-requires : tie.Need-after-at-requires Inv-loop μ-loop
-after-at-requires c κs = let r = tally-read _ _ _ (c .before .before .before .before .before .pre) _ _ _ _ (c .before .before .before .loop .inv .0 (c .before .before .before .before .before .pre)) (omega arith) in ((r .0, c .before .before .before .before .before .pre .room), r .2)
+after-at-requires c κs = let r =
+    tally-read _ _ _ (c .before .before .before .before .before .pre) _ _ _ _
+    (c .before .before .before .loop .inv .0 (c .before .before .before .before .before .pre)) (omega arith) in
+    ((r .0, c .before .before .before .before .before .pre .room), r .2)
 
 add-found : tie.Need-add-found Inv-loop μ-loop
 add-found c = omega arith
@@ -35,7 +49,13 @@ loop-less : tie.Need-loop-less Inv-loop μ-loop
 loop-less c = omega arith
 
 loop-again : tie.Need-loop-again Inv-loop μ-loop
-loop-again c = (λ s. tally-step _ _ _ s _ _ _ _ _ _ _ (c .before .before .before .before .before .loop .inv .0 s) (omega arith) (c .before .after-at .ensures) (⊎-elim (λ u. one (cc) (u .1) (u .2)) (λ v. ⊎-elim (λ u. none (cc) (u .1 .taken) (u .2) (u .3)) (λ u. more (cc) (u .1 .left) (u .2) (u .3)) v) (c .if1 .came)), ⊎-elim (λ u. omega arith) (λ v. ⊎-elim (λ u. omega arith) (λ u. omega arith) v) (c .if1 .came))
+loop-again c = (
+  λ s. tally-step _ _ _ s _ _ _ _ _ _ _ (c .before .before .before .before .before .loop .inv .0 s) (omega arith)
+      (c .before .after-at .ensures)
+      (⊎-elim (λ u. one (cc) (u .1) (u .2))
+      (λ v. ⊎-elim (λ u. none (cc) (u .1 .taken) (u .2) (u .3)) (λ u. more (cc) (u .1 .left) (u .2) (u .3)) v) (c .if1 .came)),
+  ⊎-elim (λ u. omega arith) (λ v. ⊎-elim (λ u. omega arith) (λ u. omega arith) v) (c .if1 .came),
+)
 
 returns : tie.Need-returns Inv-loop μ-loop
 returns c = λ s. tally-all _ _ _ s _ _ _ _ (c .before .loop .inv .0 s) (omega arith)

@@ -18,16 +18,27 @@ same-length : tie.Need-same-length
 same-length c = search needs
 
 returns : tie.Need-returns
-returns c = record { tries = λ left e z. bare-clash _ _ _ _ left _ _ (c .before .before .before .before .push .ensures) e (c .enum-told .given .1) }
+returns c = record {
+  tries = λ left e z. bare-clash _ _ _ _ left _ _ (c .before .before .before .before .push .ensures) e
+      (c .enum-told .given .1);
+}
 
 back-requires : tie.Need-back-requires
-back-requires c κs = record { w₀ = c .before .before .before .before .before .before .before .before .before .args .w .now; since = c .before .before .before .before .before .before .push .ensures .inside _ (c .before .before .own .given .1) .0 }
+back-requires c κs = record {
+  w₀ = c .before .before .before .before .before .before .before .before .before .args .w .now;
+  since =
+      c .before .before .before .before .before .before .push .ensures .inside _ (c .before .before .own .given .1) .0;
+}
 
 same-length-2 : tie.Need-same-length-2
 same-length-2 c = search needs
 
 returns-2 : tie.Need-returns-2
-returns-2 c = record { tries = λ left e z. bare-stands _ _ _ _ left _ _ (c .before .before .before .before .before .before .before .before .before .push .ensures) e _ (c .before .before .before .before .before .own .given .1) z _ (c .before .before .back .ensures) }
+returns-2 c = record {
+  tries =
+      λ left e z. bare-stands _ _ _ _ left _ _ (c .before .before .before .before .before .before .before .before .before .push .ensures) e _
+      (c .before .before .before .before .before .own .given .1) z _ (c .before .before .back .ensures);
+}
 
 pub push-bare-spec : {M : Type 1} → statement M
 push-bare-spec =

@@ -28,7 +28,10 @@ same-length c = search needs
 returns : tie.Need-returns
 returns c =
     let a = c .before .before .before .before .before .before .args in
-    record { tries = λ left e z. told-stands (a .n) (a .k) (a .w .now) (a .g) left e z (subst (Guesses (a .n) (a .k) (a .w .now) (a .g)) (c .enum-told .given .1) (c .before .before .guess-through .ensures)) }
+    record {
+      tries = λ left e z. told-stands (a .n) (a .k) (a .w .now) (a .g) left e z
+          (subst (Guesses (a .n) (a .k) (a .w .now) (a .g)) (c .enum-told .given .1) (c .before .before .guess-through .ensures));
+    }
 
 same-length-2 : tie.Need-same-length-2
 same-length-2 c = search needs
@@ -36,7 +39,10 @@ same-length-2 c = search needs
 returns-2 : tie.Need-returns-2
 returns-2 c =
     let a = c .before .before .before .before .before .before .args in
-    record { tries = λ left e z. told-clash (a .n) (a .k) (a .w .now) (a .g) left e (subst (Guesses (a .n) (a .k) (a .w .now) (a .g)) (c .enum-told2 .given .1) (c .before .before .guess-through .ensures)) }
+    record {
+      tries = λ left e z. told-clash (a .n) (a .k) (a .w .now) (a .g) left e
+          (subst (Guesses (a .n) (a .k) (a .w .now) (a .g)) (c .enum-told2 .given .1) (c .before .before .guess-through .ensures));
+    }
 
 same-length-3 : tie.Need-same-length-3
 same-length-3 c = search needs

@@ -17,9 +17,13 @@ use Rattle.entering.specs.Moved.{Moved}
 use Rattle.entering.proofs.Entering.{asks-own}
 use Rattle.quick.proofs.Trying.{tries-clash, asks-narrow, asks-back, tries-fails, tries-stands}
 use Rattle.entering.proofs.Within.{tried-starts}
-use Rattle.quick.proofs.Sifting.{fewer-none, fewer-trans, fewer-small, Sifting, Turn, skipped, stood, failed, moved-none, sift-start, sift-here, sift-asks, turn-moved, turn-inside, turn-fewer, turn-on, sift-done}
-use Rattle.quick.proofs.Choosing.{chosen, chooses-none, asks-alone, chooses-one, asks-sift, asks-settle, chooses-still, chooses-fails, chooses-stands}
-use Rattle.quick.proofs.Narrowing.{Going, narrow-starts, narrow-runs, moved-start, narrow-begin, narrow-done, narrow-here, narrow-deep, asks-one, moved-on, runs-after, sieved-after, narrow-on, moved-back, fewer-back, narrow-fails, narrows-stands, narrows-fails, narrows-len}
+use Rattle.quick.proofs.Sifting.{fewer-none, fewer-trans, fewer-small, Sifting, Turn, skipped, stood, failed, moved-none, sift-start}
+use Rattle.quick.proofs.Sifting.{sift-here, sift-asks, turn-moved, turn-inside, turn-fewer, turn-on, sift-done}
+use Rattle.quick.proofs.Choosing.{chosen, chooses-none, asks-alone, chooses-one, asks-sift, asks-settle, chooses-still}
+use Rattle.quick.proofs.Choosing.{chooses-fails, chooses-stands}
+use Rattle.quick.proofs.Narrowing.{Going, narrow-starts, narrow-runs, moved-start, narrow-begin, narrow-done, narrow-here}
+use Rattle.quick.proofs.Narrowing.{narrow-deep, asks-one, moved-on, runs-after, sieved-after, narrow-on, moved-back, fewer-back}
+use Rattle.quick.proofs.Narrowing.{narrow-fails, narrows-stands, narrows-fails, narrows-len}
 use borrow.Fn.Kinds.{In}
 use borrow.Fn.PlainCycle.{Measures, is, falls, and}
 use Rattle.quick.proofs.narrow.narrow.Reads as narrow
@@ -90,7 +94,9 @@ abbrev try-one-below : ℕ → In 2 try-one-kinds.ps
 try-one-below t = and 2 try-one-kinds.ps (falls 2 try-one-kinds.ps _<_ μ-try-one t) try-one.Pre
 
 abbrev narrow-Inv-loop : narrow-lts.InvT-loop
-narrow-Inv-loop w₀ k n g left e more₀ t₀ at₀ log₀ drops₀ w more t at log drops = Moved k w₀ log w × Fewer drops (marking w₀) (marking w) × ((c : Narrowing n k w₀ g left) → Going n k w₀ g left c more at log w) × (length t ≡ 256) × Sieved w t
+narrow-Inv-loop w₀ k n g left e more₀ t₀ at₀ log₀ drops₀ w more t at log drops =
+    Moved k w₀ log w × Fewer drops (marking w₀) (marking w) × ((c : Narrowing n k w₀ g left) → Going n k w₀ g left c more at log w)
+    × (length t ≡ 256) × Sieved w t
 
 abbrev narrow-μ-loop : narrow-lts.MeasureT-loop
 narrow-μ-loop w₀ k n g left e more₀ t₀ at₀ log₀ drops₀ w more t at log drops = more
@@ -115,50 +121,102 @@ narrow-claims t = (
   renew-reads.Learnt,
 )
 
-narrow-tail-at-requires : (t : ℕ) → narrow-lts.Need-tail-at-requires (narrow-claims t) (narrow-at t) narrow.Post narrow-Inv-loop narrow-μ-loop
+narrow-tail-at-requires : (t : ℕ) →
+    narrow-lts.Need-tail-at-requires (narrow-claims t) (narrow-at t) narrow.Post narrow-Inv-loop narrow-μ-loop
 narrow-tail-at-requires t c κs = let p = c .before .before .pre .1 in (narrow-starts _ _ _ _ _ p .0, p .holds .long)
 
-narrow-disjunctions-at-requires : (t : ℕ) → narrow-lts.Need-disjunctions-at-requires (narrow-claims t) (narrow-at t) narrow.Post narrow-Inv-loop narrow-μ-loop
-narrow-disjunctions-at-requires t c κs = let p = c .before .before .before .before .pre .1 in (let e = c .before .tail-at .ensures in let h = narrow-starts _ _ _ _ _ p .1 in omega arith, p .holds .long)
+narrow-disjunctions-at-requires : (t : ℕ) →
+    narrow-lts.Need-disjunctions-at-requires (narrow-claims t) (narrow-at t) narrow.Post narrow-Inv-loop narrow-μ-loop
+narrow-disjunctions-at-requires t c κs = let p = c .before .before .before .before .pre .1 in
+    (let e = c .before .tail-at .ensures in let h = narrow-starts _ _ _ _ _ p .1 in omega arith, p .holds .long)
 
 narrow-same-length : (t : ℕ) → narrow-lts.Need-same-length (narrow-claims t) (narrow-at t) narrow.Post narrow-Inv-loop narrow-μ-loop
 narrow-same-length t c = search needs
 
 narrow-returns : (t : ℕ) → narrow-lts.Need-returns (narrow-claims t) (narrow-at t) narrow.Post narrow-Inv-loop narrow-μ-loop
-narrow-returns t c = let p = c .before .before .before .before .before .before .pre .1 in let q = c .if1 .taken in narrows-stands _ _ _ _ _ _ _ _ (moved-start _ _ _ _ _ p) (fewer-none _) (λ d. narrow-done _ _ _ _ _ d _ _ _ _ (moved-start _ _ _ _ _ d) (narrow-begin _ _ _ _ _ d _ _ (c .before .before .before .tail-at .ensures) (c .before .disjunctions-at .ensures)) (omega arith))
+narrow-returns t c = let p = c .before .before .before .before .before .before .pre .1 in let q = c .if1 .taken in
+    narrows-stands _ _ _ _ _ _ _ _ (moved-start _ _ _ _ _ p) (fewer-none _)
+    (λ d. narrow-done _ _ _ _ _ d _ _ _ _ (moved-start _ _ _ _ _ d)
+    (narrow-begin _ _ _ _ _ d _ _ (c .before .before .before .tail-at .ensures) (c .before .disjunctions-at .ensures)) (omega arith))
 
-narrow-slice-aggregate-gather : (t : ℕ) → narrow-lts.Need-slice-aggregate-gather (narrow-claims t) (narrow-at t) narrow.Post narrow-Inv-loop narrow-μ-loop
+narrow-slice-aggregate-gather : (t : ℕ) →
+    narrow-lts.Need-slice-aggregate-gather (narrow-claims t) (narrow-at t) narrow.Post narrow-Inv-loop narrow-μ-loop
 narrow-slice-aggregate-gather t c = search needs
 
 narrow-gather-requires : (t : ℕ) → narrow-lts.Need-gather-requires (narrow-claims t) (narrow-at t) narrow.Post narrow-Inv-loop narrow-μ-loop
-narrow-gather-requires t c κs = let p = c .before .before .before .before .before .before .before .before .pre .1 in ((p .holds .long, omega arith), (narrow-runs _ _ _ _ _ p, blank 256))
+narrow-gather-requires t c κs = let p = c .before .before .before .before .before .before .before .before .pre .1 in
+    ((p .holds .long, omega arith), (narrow-runs _ _ _ _ _ p, blank 256))
 
 narrow-add-at : (t : ℕ) → narrow-lts.Need-add-at (narrow-claims t) (narrow-at t) narrow.Post narrow-Inv-loop narrow-μ-loop
-narrow-add-at t c = let p = c .before .before .before .before .before .before .before .before .before .before .pre .1 in let e = c .before .before .before .before .before .before .before .tail-at .ensures in let h = narrow-starts _ _ _ _ _ p .1 in omega arith
+narrow-add-at t c = let p = c .before .before .before .before .before .before .before .before .before .before .pre .1 in
+    let e = c .before .before .before .before .before .before .before .tail-at .ensures in let h = narrow-starts _ _ _ _ _ p .1 in
+    omega arith
 
 narrow-loop-holds : (t : ℕ) → narrow-lts.Need-loop-holds (narrow-claims t) (narrow-at t) narrow.Post narrow-Inv-loop narrow-μ-loop
-narrow-loop-holds t c = let p = c .before .before .before .before .before .before .before .before .before .before .pre .1 in (moved-start _ _ _ _ _ p, fewer-none _, λ d. narrow-begin _ _ _ _ _ d _ _ (c .before .before .before .before .before .before .before .tail-at .ensures) (c .before .before .before .before .before .disjunctions-at .ensures), c .before .gather .kept .1 .0, c .before .gather .ensures)
+narrow-loop-holds t c = let p = c .before .before .before .before .before .before .before .before .before .before .pre .1 in (
+  moved-start _ _ _ _ _ p,
+  fewer-none _,
+  λ d. narrow-begin _ _ _ _ _ d _ _ (c .before .before .before .before .before .before .before .tail-at .ensures)
+      (c .before .before .before .before .before .disjunctions-at .ensures),
+  c .before .gather .kept .1 .0,
+  c .before .gather .ensures,
+)
 
-narrow-alternatives-at-requires : (t : ℕ) → narrow-lts.Need-alternatives-at-requires (narrow-claims t) (narrow-at t) narrow.Post narrow-Inv-loop narrow-μ-loop
-narrow-alternatives-at-requires t c κs = let p = c .before .before .before .before .before .before .before .before .before .before .before .before .before .pre .1 in let v = c .before .before .loop .inv in let q = c .before .loop-test in (narrow-here _ _ _ _ _ p _ _ _ _ (v .0) (v .2 p) (omega arith), omega (arith, v .0 .len, p .holds .long))
+narrow-alternatives-at-requires : (t : ℕ) →
+    narrow-lts.Need-alternatives-at-requires (narrow-claims t) (narrow-at t) narrow.Post narrow-Inv-loop narrow-μ-loop
+narrow-alternatives-at-requires t c κs = let p =
+    c .before .before .before .before .before .before .before .before .before .before .before .before .before .pre .1 in
+    let v = c .before .before .loop .inv in let q = c .before .loop-test in
+    (narrow-here _ _ _ _ _ p _ _ _ _ (v .0) (v .2 p) (omega arith), omega (arith, v .0 .len, p .holds .long))
 
 narrow-add-count-kept : (t : ℕ) → narrow-lts.Need-add-count-kept (narrow-claims t) (narrow-at t) narrow.Post narrow-Inv-loop narrow-μ-loop
-narrow-add-count-kept t c = let p = c .before .before .before .before .before .before .before .before .before .before .before .before .before .before .before .pre .1 in let v = c .before .before .before .before .loop .inv in let q = c .before .before .before .loop-test in let h = narrow-here _ _ _ _ _ p _ _ _ _ (v .0) (v .2 p) (omega arith) in omega arith
+narrow-add-count-kept t c = let p =
+    c .before .before .before .before .before .before .before .before .before .before .before .before .before .before .before .pre .1 in
+    let v = c .before .before .before .before .loop .inv in let q = c .before .before .before .loop-test in
+    let h = narrow-here _ _ _ _ _ p _ _ _ _ (v .0) (v .2 p) (omega arith) in omega arith
 
-narrow-count-kept-requires : (t : ℕ) → narrow-lts.Need-count-kept-requires (narrow-claims t) (narrow-at t) narrow.Post narrow-Inv-loop narrow-μ-loop
-narrow-count-kept-requires t c κs = let p = c .before .before .before .before .before .before .before .before .before .before .before .before .before .before .before .pre .1 in let v = c .before .before .before .before .loop .inv in let q = c .before .before .before .loop-test in chosen _ _ _ _ _ _ (asks-one _ _ _ _ _ p _ _ _ _ (v .0) (v .2 p) (omega arith) _ (c .before .alternatives-at .ensures))
+narrow-count-kept-requires : (t : ℕ) →
+    narrow-lts.Need-count-kept-requires (narrow-claims t) (narrow-at t) narrow.Post narrow-Inv-loop narrow-μ-loop
+narrow-count-kept-requires t c κs = let p =
+    c .before .before .before .before .before .before .before .before .before .before .before .before .before .before .before .pre .1 in
+    let v = c .before .before .before .before .loop .inv in let q = c .before .before .before .loop-test in
+    chosen _ _ _ _ _ _ (asks-one _ _ _ _ _ p _ _ _ _ (v .0) (v .2 p) (omega arith) _ (c .before .alternatives-at .ensures))
 
 narrow-add-narrow-one : (t : ℕ) → narrow-lts.Need-add-narrow-one (narrow-claims t) (narrow-at t) narrow.Post narrow-Inv-loop narrow-μ-loop
-narrow-add-narrow-one t c = let p = c .before .before .before .before .before .before .before .before .before .before .before .before .before .before .before .before .before .pre .1 in let v = c .before .before .before .before .before .before .loop .inv in let q = c .before .before .before .before .before .loop-test in let h = narrow-here _ _ _ _ _ p _ _ _ _ (v .0) (v .2 p) (omega arith) in omega arith
+narrow-add-narrow-one t c = let p =
+    c .before .before .before .before .before .before .before .before .before .before .before .before .before .before .before .before
+    .before .pre .1 in let v = c .before .before .before .before .before .before .loop .inv in
+    let q = c .before .before .before .before .before .loop-test in let h = narrow-here _ _ _ _ _ p _ _ _ _ (v .0) (v .2 p) (omega arith) in
+    omega arith
 
 narrow-sub-narrow-one : (t : ℕ) → narrow-lts.Need-sub-narrow-one (narrow-claims t) (narrow-at t) narrow.Post narrow-Inv-loop narrow-μ-loop
-narrow-sub-narrow-one t c = let p = c .before .before .before .before .before .before .before .before .before .before .before .before .before .before .before .before .before .pre .1 in let v = c .before .before .before .before .before .before .loop .inv in let q = c .before .before .before .before .before .loop-test in let h = narrow-deep _ _ _ _ _ p _ _ _ _ (v .0) (v .2 p) (omega arith) in omega arith
+narrow-sub-narrow-one t c = let p =
+    c .before .before .before .before .before .before .before .before .before .before .before .before .before .before .before .before
+    .before .pre .1 in let v = c .before .before .before .before .before .before .loop .inv in
+    let q = c .before .before .before .before .before .loop-test in let h = narrow-deep _ _ _ _ _ p _ _ _ _ (v .0) (v .2 p) (omega arith) in
+    omega arith
 
-narrow-slice-aggregate-narrow-one : (t : ℕ) → narrow-lts.Need-slice-aggregate-narrow-one (narrow-claims t) (narrow-at t) narrow.Post narrow-Inv-loop narrow-μ-loop
+narrow-slice-aggregate-narrow-one : (t : ℕ) →
+    narrow-lts.Need-slice-aggregate-narrow-one (narrow-claims t) (narrow-at t) narrow.Post narrow-Inv-loop narrow-μ-loop
 narrow-slice-aggregate-narrow-one t c = sym (c .before .before .before .before .before .before .before .loop .inv .3)
 
-narrow-narrow-one-requires : (t : ℕ) → narrow-lts.Need-narrow-one-requires (narrow-claims t) (narrow-at t) narrow.Post narrow-Inv-loop narrow-μ-loop
-narrow-narrow-one-requires t c κs = let p = c .before .before .before .before .before .before .before .before .before .before .before .before .before .before .before .before .before .before .pre .1 in let v = c .before .before .before .before .before .before .before .loop .inv in let q = c .before .before .before .before .before .before .loop-test in (let h = narrow-deep _ _ _ _ _ p _ _ _ _ (v .0) (v .2 p) (omega arith) in omega (arith, c .before .before .before .before .before .before .before .before .before .before .before .before .before .before .before .before .before .before .pre .0), (asks-one _ _ _ _ _ p _ _ _ _ (v .0) (v .2 p) (omega arith) _ (c .before .before .before .before .alternatives-at .ensures), ((_, c .before .before .count-kept .ensures), v .4)))
+narrow-narrow-one-requires : (t : ℕ) →
+    narrow-lts.Need-narrow-one-requires (narrow-claims t) (narrow-at t) narrow.Post narrow-Inv-loop narrow-μ-loop
+narrow-narrow-one-requires t c κs = let p =
+    c .before .before .before .before .before .before .before .before .before .before .before .before .before .before .before .before
+    .before .before .pre .1 in let v = c .before .before .before .before .before .before .before .loop .inv in
+    let q = c .before .before .before .before .before .before .loop-test in (
+      let h = narrow-deep _ _ _ _ _ p _ _ _ _ (v .0) (v .2 p) (omega arith) in
+          omega (
+            arith,
+            c .before .before .before .before .before .before .before .before .before .before .before .before .before .before .before
+                .before .before .before .pre .0,
+          ),
+      (
+        asks-one _ _ _ _ _ p _ _ _ _ (v .0) (v .2 p) (omega arith) _ (c .before .before .before .before .alternatives-at .ensures),
+        ((_, c .before .before .count-kept .ensures), v .4),
+      ),
+    )
 
 narrow-enum-known-one : (t : ℕ) → narrow-lts.Need-enum-known-one (narrow-claims t) (narrow-at t) narrow.Post narrow-Inv-loop narrow-μ-loop
 narrow-enum-known-one t c = search needs
@@ -167,34 +225,116 @@ narrow-enum-told : (t : ℕ) → narrow-lts.Need-enum-told (narrow-claims t) (na
 narrow-enum-told t c = search needs
 
 narrow-back-requires : (t : ℕ) → narrow-lts.Need-back-requires (narrow-claims t) (narrow-at t) narrow.Post narrow-Inv-loop narrow-μ-loop
-narrow-back-requires t c κs = let p = c .before .before .before .before .before .before .before .before .before .before .before .before .before .before .before .before .before .before .before .before .before .before .before .before .pre .1 in let v = c .before .before .before .before .before .before .before .before .before .before .before .before .before .loop .inv in let q = c .before .before .before .before .before .before .before .before .before .before .before .before .loop-test in record { w₀ = c .before .before .before .before .before .before .before .before .before .before .before .before .before .before .before .before .before .before .before .before .before .before .before .before .args .w .now; since = since-trans _ _ _ _ _ _ (v .0 .since) (c .before .before .before .before .before .narrow-one .ensures .failing (c .before .enum-told .given .1) .0 .since) }
+narrow-back-requires t c κs = let p =
+    c .before .before .before .before .before .before .before .before .before .before .before .before .before .before .before .before
+    .before .before .before .before .before .before .before .before .pre .1 in
+    let v = c .before .before .before .before .before .before .before .before .before .before .before .before .before .loop .inv in
+    let q = c .before .before .before .before .before .before .before .before .before .before .before .before .loop-test in
+    record {
+      w₀ = c .before .before .before .before .before .before .before .before .before .before .before .before .before .before .before
+          .before .before .before .before .before .before .before .before .before .args .w .now;
+      since =
+          since-trans _ _ _ _ _ _ (v .0 .since)
+          (c .before .before .before .before .before .narrow-one .ensures .failing (c .before .enum-told .given .1) .0 .since);
+    }
 
 narrow-same-length-2 : (t : ℕ) → narrow-lts.Need-same-length-2 (narrow-claims t) (narrow-at t) narrow.Post narrow-Inv-loop narrow-μ-loop
-narrow-same-length-2 t c = let p = c .before .before .before .before .before .before .before .before .before .before .before .before .before .before .before .before .before .before .before .before .before .before .before .before .before .before .before .pre .1 in let v = c .before .before .before .before .before .before .before .before .before .before .before .before .before .before .before .before .loop .inv in let q = c .before .before .before .before .before .before .before .before .before .before .before .before .before .before .before .loop-test in moved-back _ _ _ _ _ p _ _ _ _ (v .0) (v .2 p) (omega arith) _ (c .before .before .before .before .before .before .before .before .before .before .before .before .before .alternatives-at .ensures) _ _ (c .before .before .before .before .before .before .before .before .narrow-one .ensures) (c .before .before .before .before .enum-told .given .1) _ (c .before .before .back .ensures) .len
+narrow-same-length-2 t c = let p =
+    c .before .before .before .before .before .before .before .before .before .before .before .before .before .before .before .before
+    .before .before .before .before .before .before .before .before .before .before .before .pre .1 in
+    let v = c .before .before .before .before .before .before .before .before .before .before .before .before .before .before .before
+    .before .loop .inv in let q = c .before .before .before .before .before .before .before .before .before .before .before .before .before
+    .before .before .loop-test in moved-back _ _ _ _ _ p _ _ _ _ (v .0) (v .2 p) (omega arith) _
+    (c .before .before .before .before .before .before .before .before .before .before .before .before .before .alternatives-at .ensures) _
+    _ (c .before .before .before .before .before .before .before .before .narrow-one .ensures)
+    (c .before .before .before .before .enum-told .given .1) _ (c .before .before .back .ensures) .len
 
 narrow-returns-2 : (t : ℕ) → narrow-lts.Need-returns-2 (narrow-claims t) (narrow-at t) narrow.Post narrow-Inv-loop narrow-μ-loop
-narrow-returns-2 t c = let p = c .before .before .before .before .before .before .before .before .before .before .before .before .before .before .before .before .before .before .before .before .before .before .before .before .before .before .before .pre .1 in let v = c .before .before .before .before .before .before .before .before .before .before .before .before .before .before .before .before .loop .inv in let q = c .before .before .before .before .before .before .before .before .before .before .before .before .before .before .before .loop-test in narrows-fails _ _ _ _ _ _ (moved-back _ _ _ _ _ p _ _ _ _ (v .0) (v .2 p) (omega arith) _ (c .before .before .before .before .before .before .before .before .before .before .before .before .before .alternatives-at .ensures) _ _ (c .before .before .before .before .before .before .before .before .narrow-one .ensures) (c .before .before .before .before .enum-told .given .1) _ (c .before .before .back .ensures)) (fewer-back _ _ _ _ _ p _ _ _ _ (v .0) (v .2 p) (omega arith) _ (c .before .before .before .before .before .before .before .before .before .before .before .before .before .alternatives-at .ensures) _ _ (c .before .before .before .before .before .before .before .before .narrow-one .ensures) (c .before .before .before .before .enum-told .given .1) _ (c .before .before .back .ensures) _ (v .1)) (λ d. narrow-fails _ _ _ _ _ d _ _ _ _ (v .0) (v .2 d) (omega arith) _ (c .before .before .before .before .before .before .before .before .before .before .before .before .before .alternatives-at .ensures) _ _ (c .before .before .before .before .before .before .before .before .narrow-one .ensures) (c .before .before .before .before .enum-told .given .1) _ (c .before .before .back .ensures))
+narrow-returns-2 t c = let p =
+    c .before .before .before .before .before .before .before .before .before .before .before .before .before .before .before .before
+    .before .before .before .before .before .before .before .before .before .before .before .pre .1 in
+    let v = c .before .before .before .before .before .before .before .before .before .before .before .before .before .before .before
+    .before .loop .inv in let q = c .before .before .before .before .before .before .before .before .before .before .before .before .before
+    .before .before .loop-test in narrows-fails _ _ _ _ _ _
+    (moved-back _ _ _ _ _ p _ _ _ _ (v .0) (v .2 p) (omega arith) _
+    (c .before .before .before .before .before .before .before .before .before .before .before .before .before .alternatives-at .ensures) _
+    _ (c .before .before .before .before .before .before .before .before .narrow-one .ensures)
+    (c .before .before .before .before .enum-told .given .1) _ (c .before .before .back .ensures))
+    (fewer-back _ _ _ _ _ p _ _ _ _ (v .0) (v .2 p) (omega arith) _
+    (c .before .before .before .before .before .before .before .before .before .before .before .before .before .alternatives-at .ensures) _
+    _ (c .before .before .before .before .before .before .before .before .narrow-one .ensures)
+    (c .before .before .before .before .enum-told .given .1) _ (c .before .before .back .ensures) _ (v .1))
+    (λ d. narrow-fails _ _ _ _ _ d _ _ _ _ (v .0) (v .2 d) (omega arith) _
+    (c .before .before .before .before .before .before .before .before .before .before .before .before .before .alternatives-at .ensures) _
+    _ (c .before .before .before .before .before .before .before .before .narrow-one .ensures)
+    (c .before .before .before .before .enum-told .given .1) _ (c .before .before .back .ensures))
 
 narrow-renew-requires : (t : ℕ) → narrow-lts.Need-renew-requires (narrow-claims t) (narrow-at t) narrow.Post narrow-Inv-loop narrow-μ-loop
-narrow-renew-requires t c κs = let p = c .before .before .before .before .before .before .before .before .before .before .before .before .before .before .before .before .before .before .before .before .before .before .before .before .before .before .pre .1 in let v = c .before .before .before .before .before .before .before .before .before .before .before .before .before .before .before .loop .inv in let q = c .before .before .before .before .before .before .before .before .before .before .before .before .before .before .loop-test in let one = c .before .before .before .before .before .before .before .narrow-one .ensures in let stands = c .before .before .before .one .given .1 in ((omega (arith, one .standing _ _ stands .0 .len, v .0 .len, p .holds .long), v .3), (runs-after _ _ _ _ _ p _ _ _ _ (v .0) (v .2 p) (omega arith) _ (c .before .before .before .before .before .before .before .before .before .before .before .before .alternatives-at .ensures) _ _ one _ _ stands, sieved-after _ _ _ _ _ p _ _ _ _ (v .0) (v .2 p) (omega arith) _ (c .before .before .before .before .before .before .before .before .before .before .before .before .alternatives-at .ensures) _ _ one _ _ stands _ (v .4)))
+narrow-renew-requires t c κs = let p =
+    c .before .before .before .before .before .before .before .before .before .before .before .before .before .before .before .before
+    .before .before .before .before .before .before .before .before .before .before .pre .1 in
+    let v = c .before .before .before .before .before .before .before .before .before .before .before .before .before .before .before .loop
+    .inv in let q = c .before .before .before .before .before .before .before .before .before .before .before .before .before .before
+    .loop-test in let one = c .before .before .before .before .before .before .before .narrow-one .ensures in
+    let stands = c .before .before .before .one .given .1 in (
+      (omega (arith, one .standing _ _ stands .0 .len, v .0 .len, p .holds .long), v .3),
+      (
+        runs-after _ _ _ _ _ p _ _ _ _ (v .0) (v .2 p) (omega arith) _
+            (c .before .before .before .before .before .before .before .before .before .before .before .before .alternatives-at .ensures) _ _ one _
+            _ stands,
+        sieved-after _ _ _ _ _ p _ _ _ _ (v .0) (v .2 p) (omega arith) _
+            (c .before .before .before .before .before .before .before .before .before .before .before .before .alternatives-at .ensures) _ _ one _
+            _ stands _ (v .4),
+      ),
+    )
 
 narrow-add-drops : (t : ℕ) → narrow-lts.Need-add-drops (narrow-claims t) (narrow-at t) narrow.Post narrow-Inv-loop narrow-μ-loop
-narrow-add-drops t c = let p = c .before .before .before .before .before .before .before .before .before .before .before .before .before .before .before .before .before .before .before .before .before .before .before .before .before .before .before .pre .1 in let v = c .before .before .before .before .before .before .before .before .before .before .before .before .before .before .before .before .loop .inv in let q = c .before .before .before .before .before .before .before .before .before .before .before .before .before .before .before .loop-test in let a = fewer-small _ _ _ (v .1) in let b = fewer-small _ _ _ (c .before .before .before .before .before .before .before .before .narrow-one .ensures .standing _ _ (c .before .before .before .before .one .given .1) .1) in omega arith
+narrow-add-drops t c = let p =
+    c .before .before .before .before .before .before .before .before .before .before .before .before .before .before .before .before
+    .before .before .before .before .before .before .before .before .before .before .before .pre .1 in
+    let v = c .before .before .before .before .before .before .before .before .before .before .before .before .before .before .before
+    .before .loop .inv in let q = c .before .before .before .before .before .before .before .before .before .before .before .before .before
+    .before .before .loop-test in let a = fewer-small _ _ _ (v .1) in
+    let b = fewer-small _ _ _ (c .before .before .before .before .before .before .before .before .narrow-one .ensures .standing _ _
+    (c .before .before .before .before .one .given .1) .1) in omega arith
 
 narrow-sub-more : (t : ℕ) → narrow-lts.Need-sub-more (narrow-claims t) (narrow-at t) narrow.Post narrow-Inv-loop narrow-μ-loop
-narrow-sub-more t c = let q = c .before .before .before .before .before .before .before .before .before .before .before .before .before .before .before .loop-test in omega arith
+narrow-sub-more t c = let q = c .before .before .before .before .before .before .before .before .before .before .before .before .before
+    .before .before .loop-test in omega arith
 
 narrow-loop-less : (t : ℕ) → narrow-lts.Need-loop-less (narrow-claims t) (narrow-at t) narrow.Post narrow-Inv-loop narrow-μ-loop
-narrow-loop-less t c = let q = c .before .before .before .before .before .before .before .before .before .before .before .before .before .before .before .loop-test in omega arith
+narrow-loop-less t c = let q =
+    c .before .before .before .before .before .before .before .before .before .before .before .before .before .before .before .loop-test in
+    omega arith
 
 narrow-loop-again : (t : ℕ) → narrow-lts.Need-loop-again (narrow-claims t) (narrow-at t) narrow.Post narrow-Inv-loop narrow-μ-loop
-narrow-loop-again t c = let p = c .before .before .before .before .before .before .before .before .before .before .before .before .before .before .before .before .before .before .before .before .before .before .before .before .before .before .before .pre .1 in let v = c .before .before .before .before .before .before .before .before .before .before .before .before .before .before .before .before .loop .inv in let q = c .before .before .before .before .before .before .before .before .before .before .before .before .before .before .before .loop-test in (moved-on _ _ _ _ _ p _ _ _ _ (v .0) (v .2 p) (omega arith) _ (c .before .before .before .before .before .before .before .before .before .before .before .before .before .alternatives-at .ensures) _ _ (c .before .before .before .before .before .before .before .before .narrow-one .ensures) _ _ (c .before .before .before .before .one .given .1), fewer-trans _ _ _ _ _ (v .1) (c .before .before .before .before .before .before .before .before .narrow-one .ensures .standing _ _ (c .before .before .before .before .one .given .1) .1), λ d. narrow-on _ _ _ _ _ d _ _ _ _ (v .0) (v .2 d) (omega arith) _ (c .before .before .before .before .before .before .before .before .before .before .before .before .before .alternatives-at .ensures) _ _ (c .before .before .before .before .before .before .before .before .narrow-one .ensures) _ _ (c .before .before .before .before .one .given .1) _ _ _ (c .before .before .before .before .before .before .before .before .before .before .before .count-kept .ensures), c .renew .ensures .0, c .renew .ensures .1)
+narrow-loop-again t c = let p =
+    c .before .before .before .before .before .before .before .before .before .before .before .before .before .before .before .before
+    .before .before .before .before .before .before .before .before .before .before .before .pre .1 in
+    let v = c .before .before .before .before .before .before .before .before .before .before .before .before .before .before .before
+    .before .loop .inv in let q = c .before .before .before .before .before .before .before .before .before .before .before .before .before
+    .before .before .loop-test in (
+      moved-on _ _ _ _ _ p _ _ _ _ (v .0) (v .2 p) (omega arith) _
+          (c .before .before .before .before .before .before .before .before .before .before .before .before .before .alternatives-at .ensures) _
+          _ (c .before .before .before .before .before .before .before .before .narrow-one .ensures) _ _
+          (c .before .before .before .before .one .given .1),
+      fewer-trans _ _ _ _ _ (v .1) (c .before .before .before .before .before .before .before .before .narrow-one .ensures .standing _ _
+          (c .before .before .before .before .one .given .1) .1),
+      λ d. narrow-on _ _ _ _ _ d _ _ _ _ (v .0) (v .2 d) (omega arith) _
+          (c .before .before .before .before .before .before .before .before .before .before .before .before .before .alternatives-at .ensures) _
+          _ (c .before .before .before .before .before .before .before .before .narrow-one .ensures) _ _
+          (c .before .before .before .before .one .given .1) _ _ _
+          (c .before .before .before .before .before .before .before .before .before .before .before .count-kept .ensures),
+      c .renew .ensures .0,
+      c .renew .ensures .1,
+    )
 
 narrow-same-length-3 : (t : ℕ) → narrow-lts.Need-same-length-3 (narrow-claims t) (narrow-at t) narrow.Post narrow-Inv-loop narrow-μ-loop
 narrow-same-length-3 t c = c .before .loop .inv .0 .len
 
 narrow-returns-3 : (t : ℕ) → narrow-lts.Need-returns-3 (narrow-claims t) (narrow-at t) narrow.Post narrow-Inv-loop narrow-μ-loop
-narrow-returns-3 t c = let v = c .before .loop .inv in narrows-stands _ _ _ _ _ _ _ _ (v .0) (v .1) (λ d. narrow-done _ _ _ _ _ d _ _ _ _ (v .0) (v .2 d) (omega arith))
+narrow-returns-3 t c = let v = c .before .loop .inv in
+    narrows-stands _ _ _ _ _ _ _ _ (v .0) (v .1) (λ d. narrow-done _ _ _ _ _ d _ _ _ _ (v .0) (v .2 d) (omega arith))
 
 abbrev narrow-one-claims : ℕ → narrow-one-lts.Claims
 narrow-one-claims t = (
@@ -207,28 +347,48 @@ narrow-one-claims t = (
 )
 
 narrow-one-returns : (t : ℕ) → narrow-one-lts.Need-returns (narrow-one-claims t) (narrow-one-at t) narrow-one.Post
-narrow-one-returns t c = chooses-none _ _ _ _ _ _ _ _ _ (c .before .before .before .pre .1 .1 .0 .1) (c .before .before .before .pre .1 .0) (omega arith)
+narrow-one-returns t c = chooses-none _ _ _ _ _ _ _ _ _ (c .before .before .before .pre .1 .1 .0 .1) (c .before .before .before .pre .1 .0)
+    (omega arith)
 
 narrow-one-narrow-requires : (t : ℕ) → narrow-one-lts.Need-narrow-requires (narrow-one-claims t) (narrow-one-at t) narrow-one.Post
-narrow-one-narrow-requires t c κs = (omega (arith, c .before .before .before .before .before .pre .0), asks-alone _ _ _ _ _ _ _ _ _ (c .before .before .before .before .before .pre .1 .1 .0 .1) (omega arith) (c .before .before .before .before .before .pre .1 .0))
+narrow-one-narrow-requires t c κs = (
+  omega (arith, c .before .before .before .before .before .pre .0),
+  asks-alone _ _ _ _ _ _ _ _ _ (c .before .before .before .before .before .pre .1 .1 .0 .1) (omega arith)
+      (c .before .before .before .before .before .pre .1 .0),
+)
 
 narrow-one-same-length : (t : ℕ) → narrow-one-lts.Need-same-length (narrow-one-claims t) (narrow-one-at t) narrow-one.Post
 narrow-one-same-length t c = narrows-len _ _ _ _ _ _ _ (c .before .before .narrow .ensures)
 
 narrow-one-returns-2 : (t : ℕ) → narrow-one-lts.Need-returns-2 (narrow-one-claims t) (narrow-one-at t) narrow-one.Post
-narrow-one-returns-2 t c = chooses-one _ _ _ _ _ _ _ _ _ (c .before .before .before .before .before .before .before .before .pre .1 .1 .0 .1) (omega arith) _ _ (c .before .before .narrow .ensures)
+narrow-one-returns-2 t c = chooses-one _ _ _ _ _ _ _ _ _
+    (c .before .before .before .before .before .before .before .before .pre .1 .1 .0 .1) (omega arith) _ _
+    (c .before .before .narrow .ensures)
 
 narrow-one-sift-requires : (t : ℕ) → narrow-one-lts.Need-sift-requires (narrow-one-claims t) (narrow-one-at t) narrow-one.Post
-narrow-one-sift-requires t c κs = (omega (arith, c .before .before .before .before .before .pre .0), (asks-sift _ _ _ _ _ _ _ _ _ (c .before .before .before .before .before .pre .1 .1 .0 .1) (omega arith) (c .before .before .before .before .before .pre .1 .0), c .before .before .before .before .before .pre .1 .1 .1))
+narrow-one-sift-requires t c κs = (
+  omega (arith, c .before .before .before .before .before .pre .0),
+  (
+    asks-sift _ _ _ _ _ _ _ _ _ (c .before .before .before .before .before .pre .1 .1 .0 .1) (omega arith)
+        (c .before .before .before .before .before .pre .1 .0),
+    c .before .before .before .before .before .pre .1 .1 .1,
+  ),
+)
 
 narrow-one-same-length-2 : (t : ℕ) → narrow-one-lts.Need-same-length-2 (narrow-one-claims t) (narrow-one-at t) narrow-one.Post
 narrow-one-same-length-2 t c = c .before .before .before .sift .ensures .moved .len
 
 narrow-one-returns-3 : (t : ℕ) → narrow-one-lts.Need-returns-3 (narrow-one-claims t) (narrow-one-at t) narrow-one.Post
-narrow-one-returns-3 t c = chooses-still _ _ _ _ _ _ _ _ _ (c .before .before .before .before .before .before .before .before .before .pre .1 .1 .0 .1) (omega arith) (c .before .before .before .before .before .before .before .before .before .pre .1 .0) _ _ (c .before .before .before .sift .ensures) (omega arith)
+narrow-one-returns-3 t c = chooses-still _ _ _ _ _ _ _ _ _
+    (c .before .before .before .before .before .before .before .before .before .pre .1 .1 .0 .1) (omega arith)
+    (c .before .before .before .before .before .before .before .before .before .pre .1 .0) _ _ (c .before .before .before .sift .ensures)
+    (omega arith)
 
 narrow-one-settle-requires : (t : ℕ) → narrow-one-lts.Need-settle-requires (narrow-one-claims t) (narrow-one-at t) narrow-one.Post
-narrow-one-settle-requires t c κs = asks-settle _ _ _ _ _ _ _ _ _ (c .before .before .before .before .before .before .before .before .before .before .pre .1 .1 .0 .1) (omega arith) (c .before .before .before .before .before .before .before .before .before .before .pre .1 .0) _ _ (c .before .before .before .before .sift .ensures)
+narrow-one-settle-requires t c κs =
+    asks-settle _ _ _ _ _ _ _ _ _ (c .before .before .before .before .before .before .before .before .before .before .pre .1 .1 .0 .1)
+    (omega arith) (c .before .before .before .before .before .before .before .before .before .before .pre .1 .0) _ _
+    (c .before .before .before .before .sift .ensures)
 
 narrow-one-enum-known-end : (t : ℕ) → narrow-one-lts.Need-enum-known-end (narrow-one-claims t) (narrow-one-at t) narrow-one.Post
 narrow-one-enum-known-end t c = search needs
@@ -237,19 +397,32 @@ narrow-one-enum-told : (t : ℕ) → narrow-one-lts.Need-enum-told (narrow-one-c
 narrow-one-enum-told t c = search needs
 
 narrow-one-same-length-3 : (t : ℕ) → narrow-one-lts.Need-same-length-3 (narrow-one-claims t) (narrow-one-at t) narrow-one.Post
-narrow-one-same-length-3 t c = c .before .before .before .before .settle .ensures .len ∙ c .before .before .before .before .before .before .before .before .before .sift .ensures .moved .len
+narrow-one-same-length-3 t c = c .before .before .before .before .settle .ensures .len
+    ∙ c .before .before .before .before .before .before .before .before .before .sift .ensures .moved .len
 
 narrow-one-returns-4 : (t : ℕ) → narrow-one-lts.Need-returns-4 (narrow-one-claims t) (narrow-one-at t) narrow-one.Post
-narrow-one-returns-4 t c = chooses-fails _ _ _ _ _ _ _ _ _ (c .before .before .before .before .before .before .before .before .before .before .before .before .before .before .before .pre .1 .1 .0 .1) (omega arith) (c .before .before .before .before .before .before .before .before .before .before .before .before .before .before .before .pre .1 .0) _ _ (c .before .before .before .before .before .before .before .before .before .sift .ensures) _ _ (c .before .before .before .before .settle .ensures) (c .enum-told .given .1)
+narrow-one-returns-4 t c = chooses-fails _ _ _ _ _ _ _ _ _
+    (c .before .before .before .before .before .before .before .before .before .before .before .before .before .before .before .pre .1 .1 .0
+    .1) (omega arith) (c .before .before .before .before .before .before .before .before .before .before .before .before .before .before
+    .before .pre .1 .0) _ _ (c .before .before .before .before .before .before .before .before .before .sift .ensures) _ _
+    (c .before .before .before .before .settle .ensures) (c .enum-told .given .1)
 
 narrow-one-same-length-4 : (t : ℕ) → narrow-one-lts.Need-same-length-4 (narrow-one-claims t) (narrow-one-at t) narrow-one.Post
-narrow-one-same-length-4 t c = c .before .before .before .before .before .settle .ensures .len ∙ c .before .before .before .before .before .before .before .before .before .before .sift .ensures .moved .len
+narrow-one-same-length-4 t c = c .before .before .before .before .before .settle .ensures .len
+    ∙ c .before .before .before .before .before .before .before .before .before .before .sift .ensures .moved .len
 
 narrow-one-returns-5 : (t : ℕ) → narrow-one-lts.Need-returns-5 (narrow-one-claims t) (narrow-one-at t) narrow-one.Post
-narrow-one-returns-5 t c = chooses-stands _ _ _ _ _ _ _ _ _ (c .before .before .before .before .before .before .before .before .before .before .before .before .before .before .before .before .pre .1 .1 .0 .1) (omega arith) (c .before .before .before .before .before .before .before .before .before .before .before .before .before .before .before .before .pre .1 .0) _ _ (c .before .before .before .before .before .before .before .before .before .before .sift .ensures) _ _ (c .before .before .before .before .before .settle .ensures) _ (c .before .end .given .1)
+narrow-one-returns-5 t c = chooses-stands _ _ _ _ _ _ _ _ _
+    (c .before .before .before .before .before .before .before .before .before .before .before .before .before .before .before .before .pre
+    .1 .1 .0 .1) (omega arith) (c .before .before .before .before .before .before .before .before .before .before .before .before .before
+    .before .before .before .pre .1 .0) _ _
+    (c .before .before .before .before .before .before .before .before .before .before .sift .ensures) _ _
+    (c .before .before .before .before .before .settle .ensures) _ (c .before .end .given .1)
 
 abbrev sift-Inv-loop : sift-lts.InvT-loop
-sift-Inv-loop w₀ k n p count left t rest₀ at₀ drops₀ w rest at drops = Moved k w₀ k w × Fewer drops (marking w₀) (marking w) × ((c : Alternating n k w₀ p count left) → Sifting n k w₀ p count left c rest at w)
+sift-Inv-loop w₀ k n p count left t rest₀ at₀ drops₀ w rest at drops =
+    Moved k w₀ k w × Fewer drops (marking w₀) (marking w)
+    × ((c : Alternating n k w₀ p count left) → Sifting n k w₀ p count left c rest at w)
 
 abbrev sift-μ-loop : sift-lts.MeasureT-loop
 sift-μ-loop w₀ k n p count left t rest₀ at₀ drops₀ w rest at drops = rest
@@ -272,34 +445,90 @@ sift-loop-holds : (t : ℕ) → sift-lts.Need-loop-holds (sift-claims t) (sift-a
 sift-loop-holds t c = let p = c .before .before .pre .1 .0 in (moved-none _ _ _ _ _ _ p, fewer-none _, λ d. sift-start _ _ _ _ _ _ d)
 
 sift-number-at-requires : (t : ℕ) → sift-lts.Need-number-at-requires (sift-claims t) (sift-at t) sift.Post sift-Inv-loop sift-μ-loop
-sift-number-at-requires t c κs = let p = c .before .before .before .before .before .pre .1 .0 in let v = c .before .before .loop .inv in let q = c .before .loop-test in (sift-here _ _ _ _ _ _ p _ _ _ (v .0) (v .2 p) (omega arith) .0, omega (arith, v .0 .len, p .holds .long))
+sift-number-at-requires t c κs = let p = c .before .before .before .before .before .pre .1 .0 in let v = c .before .before .loop .inv in
+    let q = c .before .loop-test in
+    (sift-here _ _ _ _ _ _ p _ _ _ (v .0) (v .2 p) (omega arith) .0, omega (arith, v .0 .len, p .holds .long))
 
 sift-kept-requires : (t : ℕ) → sift-lts.Need-kept-requires (sift-claims t) (sift-at t) sift.Post sift-Inv-loop sift-μ-loop
-sift-kept-requires t c κs = let p = c .before .before .before .before .before .before .before .pre .1 .0 in let v = c .before .before .before .before .loop .inv in let q = c .before .before .before .loop-test in (let e = c .before .number-at .ensures in let h = sift-here _ _ _ _ _ _ p _ _ _ (v .0) (v .2 p) (omega arith) .1 in omega arith, omega (arith, v .0 .len, p .holds .long))
+sift-kept-requires t c κs = let p = c .before .before .before .before .before .before .before .pre .1 .0 in
+    let v = c .before .before .before .before .loop .inv in let q = c .before .before .before .loop-test in (
+      let e = c .before .number-at .ensures in let h = sift-here _ _ _ _ _ _ p _ _ _ (v .0) (v .2 p) (omega arith) .1 in
+          omega arith,
+      omega (arith, v .0 .len, p .holds .long),
+    )
 
 sift-try-one-requires : (t : ℕ) → sift-lts.Need-try-one-requires (sift-claims t) (sift-at t) sift.Post sift-Inv-loop sift-μ-loop
-sift-try-one-requires t c κs = let p = c .before .before .before .before .before .before .before .before .before .before .pre .1 .0 in let v = c .before .before .before .before .before .before .before .loop .inv in let q = c .before .before .before .before .before .before .loop-test in (omega (arith, c .before .before .before .before .before .before .before .before .before .before .pre .0), (sift-asks _ _ _ _ _ _ p _ _ _ (v .0) (v .2 p) (omega arith), sieved-since _ _ _ _ (p .holds .long) (v .0 .since) (c .before .before .before .before .before .before .before .before .before .before .pre .1 .1)))
+sift-try-one-requires t c κs = let p = c .before .before .before .before .before .before .before .before .before .before .pre .1 .0 in
+    let v = c .before .before .before .before .before .before .before .loop .inv in
+    let q = c .before .before .before .before .before .before .loop-test in (
+      omega (arith, c .before .before .before .before .before .before .before .before .before .before .pre .0),
+      (
+        sift-asks _ _ _ _ _ _ p _ _ _ (v .0) (v .2 p) (omega arith),
+        sieved-since _ _ _ _ (p .holds .long) (v .0 .since)
+            (c .before .before .before .before .before .before .before .before .before .before .pre .1 .1),
+      ),
+    )
 
 sift-enum-known-step : (t : ℕ) → sift-lts.Need-enum-known-step (sift-claims t) (sift-at t) sift.Post sift-Inv-loop sift-μ-loop
 sift-enum-known-step t c = search needs
 
 sift-add-drops : (t : ℕ) → sift-lts.Need-add-drops (sift-claims t) (sift-at t) sift.Post sift-Inv-loop sift-μ-loop
-sift-add-drops t c = let p = c .before .before .before .before .before .before .before .before .before .before .before .before .before .before .before .before .pre .1 .0 in let v = c .before .before .before .before .before .before .before .before .before .before .before .before .before .loop .inv in let q = c .before .before .before .before .before .before .before .before .before .before .before .before .loop-test in let a = fewer-small _ _ _ (v .1) in let b = fewer-small _ _ _ (c .before .before .before .before .before .try-one .ensures .standing _ _ (c .before .step .given .1) .0) in omega arith
+sift-add-drops t c = let p = c .before .before .before .before .before .before .before .before .before .before .before .before .before
+    .before .before .before .pre .1 .0 in
+    let v = c .before .before .before .before .before .before .before .before .before .before .before .before .before .loop .inv in
+    let q = c .before .before .before .before .before .before .before .before .before .before .before .before .loop-test in
+    let a = fewer-small _ _ _ (v .1) in
+    let b = fewer-small _ _ _ (c .before .before .before .before .before .try-one .ensures .standing _ _ (c .before .step .given .1) .0) in
+    omega arith
 
 sift-enum-told : (t : ℕ) → sift-lts.Need-enum-told (sift-claims t) (sift-at t) sift.Post sift-Inv-loop sift-μ-loop
 sift-enum-told t c = search needs
 
 sift-drop-requires : (t : ℕ) → sift-lts.Need-drop-requires (sift-claims t) (sift-at t) sift.Post sift-Inv-loop sift-μ-loop
-sift-drop-requires t c κs = let p = c .before .before .before .before .before .before .before .before .before .before .before .before .before .before .before .before .pre .1 .0 in let v = c .before .before .before .before .before .before .before .before .before .before .before .before .before .loop .inv in let q = c .before .before .before .before .before .before .before .before .before .before .before .before .loop-test in (let e = c .before .before .before .before .before .before .before .before .before .before .number-at .ensures in let h = sift-here _ _ _ _ _ _ p _ _ _ (v .0) (v .2 p) (omega arith) .1 in omega arith, omega (arith, c .before .before .before .before .before .try-one .ensures .moved .len, v .0 .len, p .holds .long))
+sift-drop-requires t c κs = let p =
+    c .before .before .before .before .before .before .before .before .before .before .before .before .before .before .before .before .pre
+    .1 .0 in let v = c .before .before .before .before .before .before .before .before .before .before .before .before .before .loop .inv in
+    let q = c .before .before .before .before .before .before .before .before .before .before .before .before .loop-test in (
+      let e = c .before .before .before .before .before .before .before .before .before .before .number-at .ensures in
+          let h = sift-here _ _ _ _ _ _ p _ _ _ (v .0) (v .2 p) (omega arith) .1 in
+          omega arith,
+      omega (arith, c .before .before .before .before .before .try-one .ensures .moved .len, v .0 .len, p .holds .long),
+    )
 
 sift-add-drops-2 : (t : ℕ) → sift-lts.Need-add-drops-2 (sift-claims t) (sift-at t) sift.Post sift-Inv-loop sift-μ-loop
-sift-add-drops-2 t c = let p = c .before .before .before .before .before .before .before .before .before .before .before .before .before .before .before .before .before .before .before .pre .1 .0 in let v = c .before .before .before .before .before .before .before .before .before .before .before .before .before .before .before .before .loop .inv in let q = c .before .before .before .before .before .before .before .before .before .before .before .before .before .before .before .loop-test in let a = fewer-small _ _ _ (v .1) in omega arith
+sift-add-drops-2 t c = let p =
+    c .before .before .before .before .before .before .before .before .before .before .before .before .before .before .before .before
+    .before .before .before .pre .1 .0 in
+    let v = c .before .before .before .before .before .before .before .before .before .before .before .before .before .before .before
+    .before .loop .inv in let q = c .before .before .before .before .before .before .before .before .before .before .before .before .before
+    .before .before .loop-test in let a = fewer-small _ _ _ (v .1) in omega arith
 
-turned : (t : ℕ) (c : sift-lts.Joined1 (sift-claims t) (sift-at t) sift.Post sift-Inv-loop sift-μ-loop) → Turn (c .before .before .before .before .before .before .before .before .before .args .n) (c .before .before .before .before .before .before .before .before .before .args .k) (c .before .before .before .before .before .before .loop .w) (c .before .before .before .before .before .before .loop .at) (c .before .before .before .number-at .result) (c .before .before .before .before .before .before .before .before .before .args .left) (c .before .before .before .before .before .before .loop .drops) (c .if1 .drops) (c .if1 .w)
-turned t c = ⊎-elim (λ u. stood _ _ _ _ (cc) (u .2 .ensures) (u .6 .given .1) (u .8) (u .9)) (⊎-elim (λ u. failed _ _ _ (cc) (u .2 .ensures) (u .6 .given .1) (u .8 .ensures) (u .11) (u .12)) (λ u. skipped (cc) (u .1) (u .2))) (c .if1 .came)
+turned : (t : ℕ) (c : sift-lts.Joined1 (sift-claims t) (sift-at t) sift.Post sift-Inv-loop sift-μ-loop) →
+    Turn (c .before .before .before .before .before .before .before .before .before .args .n)
+    (c .before .before .before .before .before .before .before .before .before .args .k)
+    (c .before .before .before .before .before .before .loop .w) (c .before .before .before .before .before .before .loop .at)
+    (c .before .before .before .number-at .result) (c .before .before .before .before .before .before .before .before .before .args .left)
+    (c .before .before .before .before .before .before .loop .drops) (c .if1 .drops) (c .if1 .w)
+turned t c = ⊎-elim (λ u. stood _ _ _ _ (cc) (u .2 .ensures) (u .6 .given .1) (u .8) (u .9))
+    (⊎-elim (λ u. failed _ _ _ (cc) (u .2 .ensures) (u .6 .given .1) (u .8 .ensures) (u .11) (u .12)) (λ u. skipped (cc) (u .1) (u .2)))
+    (c .if1 .came)
 
 sift-after-at-requires : (t : ℕ) → sift-lts.Need-after-at-requires (sift-claims t) (sift-at t) sift.Post sift-Inv-loop sift-μ-loop
-sift-after-at-requires t c κs = let p = c .before .before .before .before .before .before .before .before .before .before .pre .1 .0 in let v = c .before .before .before .before .before .before .before .loop .inv in let q = c .before .before .before .before .before .before .loop-test in ((sift-here _ _ _ _ _ _ p _ _ _ (v .0) (v .2 p) (omega arith) .0, omega (arith, turn-moved _ _ _ _ _ _ p _ _ _ (v .0) (v .2 p) (omega arith) _ (c .before .before .before .before .number-at .ensures) _ _ _ (turned t (c .before)) .len, p .holds .long)), turn-inside _ _ _ _ _ _ p _ _ _ (v .0) (v .2 p) (omega arith) _ (c .before .before .before .before .number-at .ensures) _ _ _ (turned t (c .before)))
+sift-after-at-requires t c κs = let p = c .before .before .before .before .before .before .before .before .before .before .pre .1 .0 in
+    let v = c .before .before .before .before .before .before .before .loop .inv in
+    let q = c .before .before .before .before .before .before .loop-test in (
+      (
+        sift-here _ _ _ _ _ _ p _ _ _ (v .0) (v .2 p) (omega arith) .0,
+        omega (
+          arith,
+          turn-moved _ _ _ _ _ _ p _ _ _ (v .0) (v .2 p) (omega arith) _ (c .before .before .before .before .number-at .ensures) _ _
+              _ (turned t (c .before)) .len,
+          p .holds .long,
+        ),
+      ),
+      turn-inside _ _ _ _ _ _ p _ _ _ (v .0) (v .2 p) (omega arith) _ (c .before .before .before .before .number-at .ensures) _ _ _
+          (turned t (c .before)),
+    )
 
 sift-sub-rest : (t : ℕ) → sift-lts.Need-sub-rest (sift-claims t) (sift-at t) sift.Post sift-Inv-loop sift-μ-loop
 sift-sub-rest t c = let q = c .before .before .before .before .before .before .before .loop-test in omega arith
@@ -308,13 +537,23 @@ sift-loop-less : (t : ℕ) → sift-lts.Need-loop-less (sift-claims t) (sift-at 
 sift-loop-less t c = let q = c .before .before .before .before .before .before .before .loop-test in omega arith
 
 sift-loop-again : (t : ℕ) → sift-lts.Need-loop-again (sift-claims t) (sift-at t) sift.Post sift-Inv-loop sift-μ-loop
-sift-loop-again t c = let p = c .before .before .before .before .before .before .before .before .before .before .before .pre .1 .0 in let v = c .before .before .before .before .before .before .before .before .loop .inv in let q = c .before .before .before .before .before .before .before .loop-test in (turn-moved _ _ _ _ _ _ p _ _ _ (v .0) (v .2 p) (omega arith) _ (c .before .before .before .before .before .number-at .ensures) _ _ _ (turned t (c .before .before)), turn-fewer _ _ _ _ _ _ p _ _ _ (v .0) (v .2 p) (omega arith) _ (c .before .before .before .before .before .number-at .ensures) _ _ _ (turned t (c .before .before)) (v .1), λ d. turn-on _ _ _ _ _ _ d _ _ _ (v .0) (v .2 d) (omega arith) _ (c .before .before .before .before .before .number-at .ensures) _ _ _ (turned t (c .before .before)) _ (c .after-at .ensures))
+sift-loop-again t c = let p = c .before .before .before .before .before .before .before .before .before .before .before .pre .1 .0 in
+    let v = c .before .before .before .before .before .before .before .before .loop .inv in
+    let q = c .before .before .before .before .before .before .before .loop-test in (
+      turn-moved _ _ _ _ _ _ p _ _ _ (v .0) (v .2 p) (omega arith) _ (c .before .before .before .before .before .number-at .ensures) _ _ _
+          (turned t (c .before .before)),
+      turn-fewer _ _ _ _ _ _ p _ _ _ (v .0) (v .2 p) (omega arith) _ (c .before .before .before .before .before .number-at .ensures) _ _ _
+          (turned t (c .before .before)) (v .1),
+      λ d. turn-on _ _ _ _ _ _ d _ _ _ (v .0) (v .2 d) (omega arith) _ (c .before .before .before .before .before .number-at .ensures) _ _ _
+          (turned t (c .before .before)) _ (c .after-at .ensures),
+    )
 
 sift-same-length : (t : ℕ) → sift-lts.Need-same-length (sift-claims t) (sift-at t) sift.Post sift-Inv-loop sift-μ-loop
 sift-same-length t c = c .before .loop .inv .0 .len
 
 sift-returns : (t : ℕ) → sift-lts.Need-returns (sift-claims t) (sift-at t) sift.Post sift-Inv-loop sift-μ-loop
-sift-returns t c = let v = c .before .loop .inv in record { moved = v .0; fewer = v .1; sifted = λ d. sift-done _ _ _ _ _ _ d _ _ _ (v .2 d) (omega arith) }
+sift-returns t c = let v = c .before .loop .inv in
+    record { moved = v .0; fewer = v .1; sifted = λ d. sift-done _ _ _ _ _ _ d _ _ _ (v .2 d) (omega arith) }
 
 abbrev try-one-claims : ℕ → try-one-lts.Claims
 try-one-claims t = (
@@ -336,16 +575,26 @@ try-one-tail-at-requires : (t : ℕ) → try-one-lts.Need-tail-at-requires (try-
 try-one-tail-at-requires t c κs = let p = c .before .before .before .pre .1 .0 in (tried-starts _ _ _ _ _ p .0, p .holds .long)
 
 try-one-disjunctions-at-requires : (t : ℕ) → try-one-lts.Need-disjunctions-at-requires (try-one-claims t) (try-one-at t) try-one.Post
-try-one-disjunctions-at-requires t c κs = let p = c .before .before .before .before .before .pre .1 .0 in (let e = c .before .tail-at .ensures in let h = tried-starts _ _ _ _ _ p .1 in omega arith, p .holds .long)
+try-one-disjunctions-at-requires t c κs = let p = c .before .before .before .before .before .pre .1 .0 in
+    (let e = c .before .tail-at .ensures in let h = tried-starts _ _ _ _ _ p .1 in omega arith, p .holds .long)
 
 try-one-try-bare-requires : (t : ℕ) → try-one-lts.Need-try-bare-requires (try-one-claims t) (try-one-at t) try-one.Post
-try-one-try-bare-requires t c κs = (asks-own _ _ _ _ _ (c .before .before .before .before .before .before .before .before .pre .1 .0), c .before .before .before .before .before .before .before .before .pre .1 .1)
+try-one-try-bare-requires t c κs = (
+  asks-own _ _ _ _ _ (c .before .before .before .before .before .before .before .before .pre .1 .0),
+  c .before .before .before .before .before .before .before .before .pre .1 .1,
+)
 
 try-one-same-length : (t : ℕ) → try-one-lts.Need-same-length (try-one-claims t) (try-one-at t) try-one.Post
-try-one-same-length t c = c .before .before .try-bare .ensures .tries _ (c .before .before .before .before .before .before .before .before .before .before .before .pre .1 .0) (ap (disjunctions-at _) (sym (c .before .before .before .before .before .before .before .tail-at .ensures)) ∙ sym (c .before .before .before .before .before .disjunctions-at .ensures) ∙ c .before .before .before .before .if1 .taken) .moved .len
+try-one-same-length t c = c .before .before .try-bare .ensures .tries _
+    (c .before .before .before .before .before .before .before .before .before .before .before .pre .1 .0)
+    (ap (disjunctions-at _) (sym (c .before .before .before .before .before .before .before .tail-at .ensures))
+    ∙ sym (c .before .before .before .before .before .disjunctions-at .ensures) ∙ c .before .before .before .before .if1 .taken) .moved .len
 
 try-one-returns : (t : ℕ) → try-one-lts.Need-returns (try-one-claims t) (try-one-at t) try-one.Post
-try-one-returns t c = c .before .before .try-bare .ensures .tries _ (c .before .before .before .before .before .before .before .before .before .before .before .pre .1 .0) (ap (disjunctions-at _) (sym (c .before .before .before .before .before .before .before .tail-at .ensures)) ∙ sym (c .before .before .before .before .before .disjunctions-at .ensures) ∙ c .before .before .before .before .if1 .taken)
+try-one-returns t c = c .before .before .try-bare .ensures .tries _
+    (c .before .before .before .before .before .before .before .before .before .before .before .pre .1 .0)
+    (ap (disjunctions-at _) (sym (c .before .before .before .before .before .before .before .tail-at .ensures))
+    ∙ sym (c .before .before .before .before .before .disjunctions-at .ensures) ∙ c .before .before .before .before .if1 .taken)
 
 try-one-enter-requires : (t : ℕ) → try-one-lts.Need-enter-requires (try-one-claims t) (try-one-at t) try-one.Post
 try-one-enter-requires t c κs = c .before .before .before .before .before .before .before .before .pre .1 .0
@@ -360,10 +609,21 @@ try-one-same-length-2 : (t : ℕ) → try-one-lts.Need-same-length-2 (try-one-cl
 try-one-same-length-2 t c = search needs
 
 try-one-returns-2 : (t : ℕ) → try-one-lts.Need-returns-2 (try-one-claims t) (try-one-at t) try-one.Post
-try-one-returns-2 t c = tries-clash _ _ _ _ _ _ _ (c .before .before .before .before .enter .ensures) (c .before .before .before .before .before .before .before .before .before .before .before .before .before .pre .1 .0) (c .enum-told .given .1)
+try-one-returns-2 t c = tries-clash _ _ _ _ _ _ _ (c .before .before .before .before .enter .ensures)
+    (c .before .before .before .before .before .before .before .before .before .before .before .before .before .pre .1 .0)
+    (c .enum-told .given .1)
 
 try-one-narrow-requires : (t : ℕ) → try-one-lts.Need-narrow-requires (try-one-claims t) (try-one-at t) try-one.Post
-try-one-narrow-requires t c κs = (omega (arith, c .before .before .before .before .before .before .before .before .before .before .before .before .before .before .before .pre .0), asks-narrow _ _ _ _ _ _ _ (c .before .before .before .before .before .before .enter .ensures) (c .before .before .before .before .before .before .before .before .before .before .before .before .before .before .before .pre .1 .0) _ (c .before .before .pushed .given .1))
+try-one-narrow-requires t c κs = (
+  omega (
+    arith,
+    c .before .before .before .before .before .before .before .before .before .before .before .before .before .before .before
+        .pre .0,
+  ),
+  asks-narrow _ _ _ _ _ _ _ (c .before .before .before .before .before .before .enter .ensures)
+      (c .before .before .before .before .before .before .before .before .before .before .before .before .before .before .before .pre .1 .0) _
+      (c .before .before .pushed .given .1),
+)
 
 try-one-enum-known-step : (t : ℕ) → try-one-lts.Need-enum-known-step (try-one-claims t) (try-one-at t) try-one.Post
 try-one-enum-known-step t c = search needs
@@ -372,22 +632,58 @@ try-one-enum-told-2 : (t : ℕ) → try-one-lts.Need-enum-told-2 (try-one-claims
 try-one-enum-told-2 t c = search needs
 
 try-one-back-requires : (t : ℕ) → try-one-lts.Need-back-requires (try-one-claims t) (try-one-at t) try-one.Post
-try-one-back-requires t c κs = asks-back _ _ _ _ _ _ _ (c .before .before .before .before .before .before .before .before .before .before .before .before .enter .ensures) (c .before .before .before .before .before .before .before .before .before .before .before .before .before .before .before .before .before .before .before .before .before .pre .1 .0) _ (c .before .before .before .before .before .before .before .before .pushed .given .1) _ _ (c .before .before .before .before .before .narrow .ensures) _ (c .before .before .before .before .before .narrow .ensures .failing (c .before .enum-told2 .given .1) .0)
+try-one-back-requires t c κs =
+    asks-back _ _ _ _ _ _ _ (c .before .before .before .before .before .before .before .before .before .before .before .before .enter
+    .ensures) (c .before .before .before .before .before .before .before .before .before .before .before .before .before .before .before
+    .before .before .before .before .before .before .pre .1 .0) _
+    (c .before .before .before .before .before .before .before .before .pushed .given .1) _ _
+    (c .before .before .before .before .before .narrow .ensures) _
+    (c .before .before .before .before .before .narrow .ensures .failing (c .before .enum-told2 .given .1) .0)
 
 try-one-same-length-3 : (t : ℕ) → try-one-lts.Need-same-length-3 (try-one-claims t) (try-one-at t) try-one.Post
-try-one-same-length-3 t c = tries-fails _ _ _ _ _ _ _ (c .before .before .before .before .before .before .before .before .before .before .before .before .before .before .before .enter .ensures) (c .before .before .before .before .before .before .before .before .before .before .before .before .before .before .before .before .before .before .before .before .before .before .before .before .pre .1 .0) _ (c .before .before .before .before .before .before .before .before .before .before .before .pushed .given .1) _ _ (c .before .before .before .before .before .before .before .before .narrow .ensures) (c .before .before .before .before .enum-told2 .given .1) _ (c .before .before .back .ensures) .moved .len
+try-one-same-length-3 t c = tries-fails _ _ _ _ _ _ _
+    (c .before .before .before .before .before .before .before .before .before .before .before .before .before .before .before .enter
+    .ensures) (c .before .before .before .before .before .before .before .before .before .before .before .before .before .before .before
+    .before .before .before .before .before .before .before .before .before .pre .1 .0) _
+    (c .before .before .before .before .before .before .before .before .before .before .before .pushed .given .1) _ _
+    (c .before .before .before .before .before .before .before .before .narrow .ensures)
+    (c .before .before .before .before .enum-told2 .given .1) _ (c .before .before .back .ensures) .moved .len
 
 try-one-returns-3 : (t : ℕ) → try-one-lts.Need-returns-3 (try-one-claims t) (try-one-at t) try-one.Post
-try-one-returns-3 t c = tries-fails _ _ _ _ _ _ _ (c .before .before .before .before .before .before .before .before .before .before .before .before .before .before .before .enter .ensures) (c .before .before .before .before .before .before .before .before .before .before .before .before .before .before .before .before .before .before .before .before .before .before .before .before .pre .1 .0) _ (c .before .before .before .before .before .before .before .before .before .before .before .pushed .given .1) _ _ (c .before .before .before .before .before .before .before .before .narrow .ensures) (c .before .before .before .before .enum-told2 .given .1) _ (c .before .before .back .ensures)
+try-one-returns-3 t c = tries-fails _ _ _ _ _ _ _
+    (c .before .before .before .before .before .before .before .before .before .before .before .before .before .before .before .enter
+    .ensures) (c .before .before .before .before .before .before .before .before .before .before .before .before .before .before .before
+    .before .before .before .before .before .before .before .before .before .pre .1 .0) _
+    (c .before .before .before .before .before .before .before .before .before .before .before .pushed .given .1) _ _
+    (c .before .before .before .before .before .before .before .before .narrow .ensures)
+    (c .before .before .before .before .enum-told2 .given .1) _ (c .before .before .back .ensures)
 
 try-one-back-requires-2 : (t : ℕ) → try-one-lts.Need-back-requires-2 (try-one-claims t) (try-one-at t) try-one.Post
-try-one-back-requires-2 t c κs = asks-back _ _ _ _ _ _ _ (c .before .before .before .before .before .before .before .before .before .before .before .before .before .enter .ensures) (c .before .before .before .before .before .before .before .before .before .before .before .before .before .before .before .before .before .before .before .before .before .before .pre .1 .0) _ (c .before .before .before .before .before .before .before .before .before .pushed .given .1) _ _ (c .before .before .before .before .before .before .narrow .ensures) _ (c .before .before .before .before .before .before .narrow .ensures .standing _ _ (c .before .before .step .given .1) .0)
+try-one-back-requires-2 t c κs =
+    asks-back _ _ _ _ _ _ _ (c .before .before .before .before .before .before .before .before .before .before .before .before .before
+    .enter .ensures) (c .before .before .before .before .before .before .before .before .before .before .before .before .before .before
+    .before .before .before .before .before .before .before .before .pre .1 .0) _
+    (c .before .before .before .before .before .before .before .before .before .pushed .given .1) _ _
+    (c .before .before .before .before .before .before .narrow .ensures) _
+    (c .before .before .before .before .before .before .narrow .ensures .standing _ _ (c .before .before .step .given .1) .0)
 
 try-one-same-length-4 : (t : ℕ) → try-one-lts.Need-same-length-4 (try-one-claims t) (try-one-at t) try-one.Post
-try-one-same-length-4 t c = tries-stands _ _ _ _ _ _ _ (c .before .before .before .before .before .before .before .before .before .before .before .before .before .before .before .before .enter .ensures) (c .before .before .before .before .before .before .before .before .before .before .before .before .before .before .before .before .before .before .before .before .before .before .before .before .before .pre .1 .0) _ (c .before .before .before .before .before .before .before .before .before .before .before .before .pushed .given .1) _ _ (c .before .before .before .before .before .before .before .before .before .narrow .ensures) _ _ (c .before .before .before .before .before .step .given .1) _ (c .before .before .back2 .ensures) .moved .len
+try-one-same-length-4 t c = tries-stands _ _ _ _ _ _ _
+    (c .before .before .before .before .before .before .before .before .before .before .before .before .before .before .before .before
+    .enter .ensures) (c .before .before .before .before .before .before .before .before .before .before .before .before .before .before
+    .before .before .before .before .before .before .before .before .before .before .before .pre .1 .0) _
+    (c .before .before .before .before .before .before .before .before .before .before .before .before .pushed .given .1) _ _
+    (c .before .before .before .before .before .before .before .before .before .narrow .ensures) _ _
+    (c .before .before .before .before .before .step .given .1) _ (c .before .before .back2 .ensures) .moved .len
 
 try-one-returns-4 : (t : ℕ) → try-one-lts.Need-returns-4 (try-one-claims t) (try-one-at t) try-one.Post
-try-one-returns-4 t c = tries-stands _ _ _ _ _ _ _ (c .before .before .before .before .before .before .before .before .before .before .before .before .before .before .before .before .enter .ensures) (c .before .before .before .before .before .before .before .before .before .before .before .before .before .before .before .before .before .before .before .before .before .before .before .before .before .pre .1 .0) _ (c .before .before .before .before .before .before .before .before .before .before .before .before .pushed .given .1) _ _ (c .before .before .before .before .before .before .before .before .before .narrow .ensures) _ _ (c .before .before .before .before .before .step .given .1) _ (c .before .before .back2 .ensures)
+try-one-returns-4 t c = tries-stands _ _ _ _ _ _ _
+    (c .before .before .before .before .before .before .before .before .before .before .before .before .before .before .before .before
+    .enter .ensures) (c .before .before .before .before .before .before .before .before .before .before .before .before .before .before
+    .before .before .before .before .before .before .before .before .before .before .before .pre .1 .0) _
+    (c .before .before .before .before .before .before .before .before .before .before .before .before .pushed .given .1) _ _
+    (c .before .before .before .before .before .before .before .before .before .narrow .ensures) _ _
+    (c .before .before .before .before .before .step .given .1) _ (c .before .before .back2 .ensures)
 
 pub +narrow+narrow-one+sift+try-one-spec : {M : Type 1} → statement M
 +narrow+narrow-one+sift+try-one-spec =

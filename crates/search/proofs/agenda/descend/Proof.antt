@@ -17,7 +17,8 @@ add-before : tie.Need-add-before
 add-before c = search needs
 
 before-requires : tie.Need-before-requires
-before-requires c κs = ⊎-elim (λ z. inl (c .disjunctions-at .ensures ∙ ap (disjunctions-at _) (c .before .tail-at .ensures) ∙ z)) (λ h. inr h) (c .before .before .before .pre .1 .1)
+before-requires c κs = ⊎-elim (λ z. inl (c .disjunctions-at .ensures ∙ ap (disjunctions-at _) (c .before .tail-at .ensures) ∙ z))
+    (λ h. inr h) (c .before .before .before .pre .1 .1)
 
 returns : tie.Need-returns
 returns c = λ l h. opens _ _ _ _ _ (c .before .before .tail-at .ensures) (c .before .disjunctions-at .ensures) l (c .before2 .ensures l h)

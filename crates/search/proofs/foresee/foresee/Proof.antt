@@ -17,7 +17,9 @@ enum-told : tie.Need-enum-told
 enum-told c = search needs
 
 returns : tie.Need-returns
-returns c = foresees-other _ _ _ _ _ (c .before .guess .result) (c .before .guess .ensures) (λ y. ⊎-elim (λ i. let z : _≡_ {A = ℕ} 0 1 = (rw y at i) in omega arith) (λ i. let z : _≡_ {A = ℕ} 0 2 = (rw y at i) in omega arith) (c .match .keys2))
+returns c = foresees-other _ _ _ _ _ (c .before .guess .result) (c .before .guess .ensures)
+    (λ y. ⊎-elim (λ i. let z : _≡_ {A = ℕ} 0 1 = (rw y at i) in omega arith) (λ i. let z : _≡_ {A = ℕ} 0 2 = (rw y at i) in
+    omega arith) (c .match .keys2))
 
 returns-2 : tie.Need-returns-2
 returns-2 c = foresees-unsure _ _ _ _ _
@@ -38,8 +40,11 @@ returns-3 c = foresees-unsure _ _ _ _ _
 returns-4 : tie.Need-returns-4
 returns-4 c =
     let a = c .before .before .before .before .before .before .before .before .args in
-    let none = ap (disjunctions-at (a .w .now)) (sym (c .before .before .tail-at .ensures)) ∙ sym (c .before .disjunctions-at .ensures) ∙ c .if2 .left in
-    foresees-one (a .n) (a .k) (a .w .now) (a .g) (a .left) (c .before .before .before .if1 .left) none (subst (Guesses (a .n) (a .k) (a .w .now) (a .g)) (c .before .before .before .before .enum-told .given .1) (c .before .before .before .before .before .before .guess .ensures))
+    let none = ap (disjunctions-at (a .w .now)) (sym (c .before .before .tail-at .ensures)) ∙ sym (c .before .disjunctions-at .ensures)
+    ∙ c .if2 .left in
+    foresees-one (a .n) (a .k) (a .w .now) (a .g) (a .left) (c .before .before .before .if1 .left) none
+    (subst (Guesses (a .n) (a .k) (a .w .now) (a .g)) (c .before .before .before .before .enum-told .given .1)
+    (c .before .before .before .before .before .before .guess .ensures))
 
 pub foresee-spec : {M : Type 1} → statement M
 foresee-spec =

@@ -11,8 +11,10 @@ use Rattle.search.proofs.Finding.{finds-small}
 use Rattle.search.proofs.Planning.{reach}
 use Rattle.search.proofs.Taking.{asks-enter, takes-clash, take-opens, take-asks, take-falls, take-back, take-notes, takes-found}
 use Rattle.search.proofs.Foreseeing.{takes-none, alone-notes, takes-one}
-use Rattle.search.proofs.Choosing.{Going, Turn, skipped, took, choose-moved, choose-start, choose-done, choose-small, choose-here, choose-asks, turn-moved, turn-inside, turn-on}
-use Rattle.search.proofs.Resuming.{resumes-leaf, resume-here, resume-reach, resume-some, resume-counts, resume-room, resumes-none, one-opens, one-asks, one-falls, one-notes, resumes-one, several-asks, resumes-several}
+use Rattle.search.proofs.Choosing.{Going, Turn, skipped, took, choose-moved, choose-start, choose-done, choose-small, choose-here}
+use Rattle.search.proofs.Choosing.{choose-asks, turn-moved, turn-inside, turn-on}
+use Rattle.search.proofs.Resuming.{resumes-leaf, resume-here, resume-reach, resume-some, resume-counts, resume-room, resumes-none}
+use Rattle.search.proofs.Resuming.{one-opens, one-asks, one-falls, one-notes, resumes-one, several-asks, resumes-several}
 use Prim.Native.Nat.{ℕ, _+_, _-_, _*_, _<_}
 use borrow.Fn.Kinds.{In}
 use borrow.Fn.PlainCycle.{Measures, is, falls, and}
@@ -69,7 +71,8 @@ abbrev take-below : ℕ → In 1 take-kinds.ps
 take-below t = and 1 take-kinds.ps (falls 1 take-kinds.ps _<_ μ-take t) take.Pre
 
 abbrev choose-Inv-loop : choose-lts.InvT-loop
-choose-Inv-loop w₀ k n p count a left₀ at₀ sum₀ w left at sum = Moved k w₀ k w × ((c : Branching n k w₀ p count a) → Going n k w₀ p count a c left at sum w)
+choose-Inv-loop w₀ k n p count a left₀ at₀ sum₀ w left at sum =
+    Moved k w₀ k w × ((c : Branching n k w₀ p count a) → Going n k w₀ p count a c left at sum w)
 
 abbrev choose-μ-loop : choose-lts.MeasureT-loop
 choose-μ-loop w₀ k n p count a left₀ at₀ sum₀ w left at sum = left
@@ -91,26 +94,55 @@ choose-claims t = (
 choose-loop-holds : (t : ℕ) → choose-lts.Need-loop-holds (choose-claims t) (choose-at t) choose.Post choose-Inv-loop choose-μ-loop
 choose-loop-holds t c = let p = c .before .pre .1 in (choose-moved _ _ _ _ _ _ p, λ d. choose-start _ _ _ _ _ _ d)
 
-choose-number-at-requires : (t : ℕ) → choose-lts.Need-number-at-requires (choose-claims t) (choose-at t) choose.Post choose-Inv-loop choose-μ-loop
-choose-number-at-requires t c κs = let p = c .before .before .before .before .pre .1 in let v = c .before .before .loop .inv in let q = c .before .loop-test in let h = choose-here _ _ _ _ _ _ p _ _ _ _ (v .0) (v .1 p) (omega arith) in (h .0, h .2)
+choose-number-at-requires : (t : ℕ) →
+    choose-lts.Need-number-at-requires (choose-claims t) (choose-at t) choose.Post choose-Inv-loop choose-μ-loop
+choose-number-at-requires t c κs = let p = c .before .before .before .before .pre .1 in let v = c .before .before .loop .inv in
+    let q = c .before .loop-test in let h = choose-here _ _ _ _ _ _ p _ _ _ _ (v .0) (v .1 p) (omega arith) in (h .0, h .2)
 
 choose-kept-requires : (t : ℕ) → choose-lts.Need-kept-requires (choose-claims t) (choose-at t) choose.Post choose-Inv-loop choose-μ-loop
-choose-kept-requires t c κs = let p = c .before .before .before .before .before .before .pre .1 in let v = c .before .before .before .before .loop .inv in let q = c .before .before .before .loop-test in let h = choose-here _ _ _ _ _ _ p _ _ _ _ (v .0) (v .1 p) (omega arith) in (let e = c .before .number-at .ensures in let l = h .1 in omega arith, h .2)
+choose-kept-requires t c κs = let p = c .before .before .before .before .before .before .pre .1 in
+    let v = c .before .before .before .before .loop .inv in let q = c .before .before .before .loop-test in
+    let h = choose-here _ _ _ _ _ _ p _ _ _ _ (v .0) (v .1 p) (omega arith) in
+    (let e = c .before .number-at .ensures in let l = h .1 in omega arith, h .2)
 
 choose-take-requires : (t : ℕ) → choose-lts.Need-take-requires (choose-claims t) (choose-at t) choose.Post choose-Inv-loop choose-μ-loop
-choose-take-requires t c κs = let p = c .before .before .before .before .before .before .before .before .before .pre .1 in let v = c .before .before .before .before .before .before .before .loop .inv in let q = c .before .before .before .before .before .before .loop-test in (let e = c .before .before .before .before .before .before .before .before .before .pre .0 in let on = v .1 p .on in omega arith, choose-asks _ _ _ _ _ _ p _ _ _ _ (v .0) (v .1 p) (omega arith) _ (c .before .before .before .before .number-at .ensures) (cc))
+choose-take-requires t c κs = let p = c .before .before .before .before .before .before .before .before .before .pre .1 in
+    let v = c .before .before .before .before .before .before .before .loop .inv in
+    let q = c .before .before .before .before .before .before .loop-test in (
+      let e = c .before .before .before .before .before .before .before .before .before .pre .0 in let on = v .1 p .on in
+          omega arith,
+      choose-asks _ _ _ _ _ _ p _ _ _ _ (v .0) (v .1 p) (omega arith) _ (c .before .before .before .before .number-at .ensures)
+          (cc),
+    )
 
 choose-add-capped : (t : ℕ) → choose-lts.Need-add-capped (choose-claims t) (choose-at t) choose.Post choose-Inv-loop choose-μ-loop
-choose-add-capped t c = let p = c .before .before .before .before .before .before .before .before .before .before .before .before .pre .1 in let v = c .before .before .before .before .before .before .before .before .before .before .loop .inv in let q = c .before .before .before .before .before .before .before .before .before .loop-test in let x = choose-small _ _ _ _ _ _ p _ _ _ _ (v .1 p) in let y = finds-small _ _ _ _ _ _ _ (c .before .before .take .ensures .found (choose-asks _ _ _ _ _ _ p _ _ _ _ (v .0) (v .1 p) (omega arith) _ (c .before .before .before .before .before .before .before .number-at .ensures) (cc))) in omega arith
+choose-add-capped t c = let p = c .before .before .before .before .before .before .before .before .before .before .before .before .pre .1 in
+    let v = c .before .before .before .before .before .before .before .before .before .before .loop .inv in
+    let q = c .before .before .before .before .before .before .before .before .before .loop-test in
+    let x = choose-small _ _ _ _ _ _ p _ _ _ _ (v .1 p) in
+    let y = finds-small _ _ _ _ _ _ _
+    (c .before .before .take .ensures .found
+    (choose-asks _ _ _ _ _ _ p _ _ _ _ (v .0) (v .1 p) (omega arith) _
+    (c .before .before .before .before .before .before .before .number-at .ensures) (cc))) in omega arith
 
 choose-capped-requires : (t : ℕ) → choose-lts.Need-capped-requires (choose-claims t) (choose-at t) choose.Post choose-Inv-loop choose-μ-loop
 choose-capped-requires t c κs = search needs
 
-turned : (t : ℕ) (c : choose-lts.Joined1 (choose-claims t) (choose-at t) choose.Post choose-Inv-loop choose-μ-loop) → Turn (c .before .before .before .before .before .before .before .before .args .n) (c .before .before .before .before .before .before .before .before .args .k) (c .before .before .before .before .before .before .loop .w) (c .before .before .before .before .before .before .loop .at) (c .before .before .before .number-at .result) (c .before .before .before .before .before .before .before .before .args .a) (c .before .before .before .before .before .before .loop .sum) (c .if1 .sum) (c .if1 .w)
+turned : (t : ℕ) (c : choose-lts.Joined1 (choose-claims t) (choose-at t) choose.Post choose-Inv-loop choose-μ-loop) →
+    Turn (c .before .before .before .before .before .before .before .before .args .n)
+    (c .before .before .before .before .before .before .before .before .args .k)
+    (c .before .before .before .before .before .before .loop .w) (c .before .before .before .before .before .before .loop .at)
+    (c .before .before .before .number-at .result) (c .before .before .before .before .before .before .before .before .args .a)
+    (c .before .before .before .before .before .before .loop .sum) (c .if1 .sum) (c .if1 .w)
 turned t c = ⊎-elim (λ u. took _ _ (cc) (u .2 .ensures) (u .6) (u .7 ∙ u .5 .ensures)) (λ u. skipped (cc) (u .1) (u .2)) (c .if1 .came)
 
-choose-after-at-requires : (t : ℕ) → choose-lts.Need-after-at-requires (choose-claims t) (choose-at t) choose.Post choose-Inv-loop choose-μ-loop
-choose-after-at-requires t c κs = let p = c .before .before .before .before .before .before .before .before .before .pre .1 in let v = c .before .before .before .before .before .before .before .loop .inv in let q = c .before .before .before .before .before .before .loop-test in turn-inside _ _ _ _ _ _ p _ _ _ _ (v .0) (v .1 p) (omega arith) _ (c .before .before .before .before .number-at .ensures) _ _ (turned t (c .before))
+choose-after-at-requires : (t : ℕ) →
+    choose-lts.Need-after-at-requires (choose-claims t) (choose-at t) choose.Post choose-Inv-loop choose-μ-loop
+choose-after-at-requires t c κs = let p = c .before .before .before .before .before .before .before .before .before .pre .1 in
+    let v = c .before .before .before .before .before .before .before .loop .inv in
+    let q = c .before .before .before .before .before .before .loop-test in
+    turn-inside _ _ _ _ _ _ p _ _ _ _ (v .0) (v .1 p) (omega arith) _ (c .before .before .before .before .number-at .ensures) _ _
+    (turned t (c .before))
 
 choose-sub-left : (t : ℕ) → choose-lts.Need-sub-left (choose-claims t) (choose-at t) choose.Post choose-Inv-loop choose-μ-loop
 choose-sub-left t c = let q = c .before .before .before .before .before .before .before .loop-test in omega arith
@@ -119,13 +151,21 @@ choose-loop-less : (t : ℕ) → choose-lts.Need-loop-less (choose-claims t) (ch
 choose-loop-less t c = let q = c .before .before .before .before .before .before .before .loop-test in omega arith
 
 choose-loop-again : (t : ℕ) → choose-lts.Need-loop-again (choose-claims t) (choose-at t) choose.Post choose-Inv-loop choose-μ-loop
-choose-loop-again t c = let p = c .before .before .before .before .before .before .before .before .before .before .pre .1 in let v = c .before .before .before .before .before .before .before .before .loop .inv in let q = c .before .before .before .before .before .before .before .loop-test in (turn-moved _ _ _ _ _ _ p _ _ _ _ (v .0) (v .1 p) (omega arith) _ (c .before .before .before .before .before .number-at .ensures) _ _ (turned t (c .before .before)), λ d. turn-on _ _ _ _ _ _ d _ _ _ _ (v .0) (v .1 d) (omega arith) _ (c .before .before .before .before .before .number-at .ensures) _ _ (turned t (c .before .before)) _ (c .after-at .ensures))
+choose-loop-again t c = let p = c .before .before .before .before .before .before .before .before .before .before .pre .1 in
+    let v = c .before .before .before .before .before .before .before .before .loop .inv in
+    let q = c .before .before .before .before .before .before .before .loop-test in (
+      turn-moved _ _ _ _ _ _ p _ _ _ _ (v .0) (v .1 p) (omega arith) _ (c .before .before .before .before .before .number-at .ensures) _ _
+          (turned t (c .before .before)),
+      λ d. turn-on _ _ _ _ _ _ d _ _ _ _ (v .0) (v .1 d) (omega arith) _ (c .before .before .before .before .before .number-at .ensures) _ _
+          (turned t (c .before .before)) _ (c .after-at .ensures),
+    )
 
 choose-same-length : (t : ℕ) → choose-lts.Need-same-length (choose-claims t) (choose-at t) choose.Post choose-Inv-loop choose-μ-loop
 choose-same-length t c = c .before .loop .inv .0 .len
 
 choose-returns : (t : ℕ) → choose-lts.Need-returns (choose-claims t) (choose-at t) choose.Post choose-Inv-loop choose-μ-loop
-choose-returns t c = let v = c .before .loop .inv in record { moved = v .0; found = λ d. choose-done _ _ _ _ _ _ d _ _ _ _ (v .1 d) (omega arith) }
+choose-returns t c = let v = c .before .loop .inv in
+    record { moved = v .0; found = λ d. choose-done _ _ _ _ _ _ d _ _ _ _ (v .1 d) (omega arith) }
 
 abbrev resume-claims : ℕ → resume-lts.Claims
 resume-claims t = (
@@ -154,52 +194,136 @@ resume-alternatives-at-requires : (t : ℕ) → resume-lts.Need-alternatives-at-
 resume-alternatives-at-requires t c κs = resume-here _ _ _ _ (c .before .if1 .left) (c .before .before .before .before .pre .1)
 
 resume-add-count-kept : (t : ℕ) → resume-lts.Need-add-count-kept (resume-claims t) (resume-at t) resume.Post
-resume-add-count-kept t c = let h = resume-here _ _ _ _ (c .before .before .before .if1 .left) (c .before .before .before .before .before .before .pre .1) .0 in omega arith
+resume-add-count-kept t c = let h =
+    resume-here _ _ _ _ (c .before .before .before .if1 .left) (c .before .before .before .before .before .before .pre .1) .0 in omega arith
 
 resume-count-kept-requires : (t : ℕ) → resume-lts.Need-count-kept-requires (resume-claims t) (resume-at t) resume.Post
-resume-count-kept-requires t c κs = resume-counts _ _ _ _ (c .before .before .before .if1 .left) _ (c .before .alternatives-at .ensures) (c .before .before .before .before .before .before .pre .1)
+resume-count-kept-requires t c κs =
+    resume-counts _ _ _ _ (c .before .before .before .if1 .left) _ (c .before .alternatives-at .ensures)
+    (c .before .before .before .before .before .before .pre .1)
 
 resume-after-requires : (t : ℕ) → resume-lts.Need-after-requires (resume-claims t) (resume-at t) resume.Post
-resume-after-requires t c κs = resume-some _ _ _ _ (c .before .before .before .before .if1 .left) (c .before .before .before .before .before .before .before .pre .1) .0
+resume-after-requires t c κs =
+    resume-some _ _ _ _ (c .before .before .before .before .if1 .left) (c .before .before .before .before .before .before .before .pre .1)
+    .0
 
 resume-sub-before : (t : ℕ) → resume-lts.Need-sub-before (resume-claims t) (resume-at t) resume.Post
-resume-sub-before t c = resume-some _ _ _ _ (c .before .before .before .before .before .if1 .left) (c .before .before .before .before .before .before .before .before .pre .1) .1
+resume-sub-before t c = resume-some _ _ _ _ (c .before .before .before .before .before .if1 .left)
+    (c .before .before .before .before .before .before .before .before .pre .1) .1
 
 resume-before-requires : (t : ℕ) → resume-lts.Need-before-requires (resume-claims t) (resume-at t) resume.Post
-resume-before-requires t c κs = resume-room _ _ _ _ (c .before .before .before .before .before .if1 .left) _ (c .before .before .before .alternatives-at .ensures) _ _ _ (c .before .count-kept .ensures) _ (c .after .ensures) (c .before .before .before .before .before .before .before .before .pre .1)
+resume-before-requires t c κs =
+    resume-room _ _ _ _ (c .before .before .before .before .before .if1 .left) _ (c .before .before .before .alternatives-at .ensures) _ _ _
+    (c .before .count-kept .ensures) _ (c .after .ensures) (c .before .before .before .before .before .before .before .before .pre .1)
 
 resume-same-length : (t : ℕ) → resume-lts.Need-same-length (resume-claims t) (resume-at t) resume.Post
 resume-same-length t c = search needs
 
 resume-returns-2 : (t : ℕ) → resume-lts.Need-returns-2 (resume-claims t) (resume-at t) resume.Post
-resume-returns-2 t c = resumes-none _ _ _ _ (c .before .before .before .before .before .before .before .before .if1 .left) _ (c .before .before .before .before .before .before .alternatives-at .ensures) _ _ _ (c .before .before .before .before .count-kept .ensures) _ (c .before .before .before .after .ensures) _ (c .before .before .before2 .ensures) (c .before .before .before .before .before .before .before .before .before .before .before .pre .1) (omega arith)
+resume-returns-2 t c = resumes-none _ _ _ _ (c .before .before .before .before .before .before .before .before .if1 .left) _
+    (c .before .before .before .before .before .before .alternatives-at .ensures) _ _ _
+    (c .before .before .before .before .count-kept .ensures) _ (c .before .before .before .after .ensures) _
+    (c .before .before .before2 .ensures)
+    (c .before .before .before .before .before .before .before .before .before .before .before .pre .1) (omega arith)
 
 resume-descend-requires : (t : ℕ) → resume-lts.Need-descend-requires (resume-claims t) (resume-at t) resume.Post
-resume-descend-requires t c κs = one-opens _ _ _ _ (c .before .before .before .before .before .before .before .before .before .before .before .if1 .left) _ (c .before .before .before .before .before .before .before .before .before .alternatives-at .ensures) _ _ _ (c .before .before .before .before .before .before .before .count-kept .ensures) _ (c .before .before .before .before .before .before .after .ensures) _ (c .before .before .before .before .before .before2 .ensures) (omega arith) (c .before .before .before .before .before .before .before .before .before .before .before .before .before .before .pre .1)
+resume-descend-requires t c κs =
+    one-opens _ _ _ _ (c .before .before .before .before .before .before .before .before .before .before .before .if1 .left) _
+    (c .before .before .before .before .before .before .before .before .before .alternatives-at .ensures) _ _ _
+    (c .before .before .before .before .before .before .before .count-kept .ensures) _
+    (c .before .before .before .before .before .before .after .ensures) _ (c .before .before .before .before .before .before2 .ensures)
+    (omega arith) (c .before .before .before .before .before .before .before .before .before .before .before .before .before .before .pre
+    .1)
 
 resume-resume-requires : (t : ℕ) → resume-lts.Need-resume-requires (resume-claims t) (resume-at t) resume.Post
-resume-resume-requires t c κs = (let h = one-falls _ _ _ _ (c .before .before .before .before .before .before .before .before .before .before .before .before .before .if1 .left) _ (c .before .before .before .before .before .before .before .before .before .before .before .alternatives-at .ensures) _ _ _ (c .before .before .before .before .before .before .before .before .before .count-kept .ensures) _ (c .before .before .before .before .before .before .before .before .after .ensures) _ (c .before .before .before .before .before .before .before .before2 .ensures) (omega arith) _ (c .before .descend .ensures) (c .before .before .before .before .before .before .before .before .before .before .before .before .before .before .before .before .pre .1) in let b = resume-here _ _ _ _ (c .before .before .before .before .before .before .before .before .before .before .before .before .before .if1 .left) (c .before .before .before .before .before .before .before .before .before .before .before .before .before .before .before .before .pre .1) .0 in let r = resume-reach _ _ _ _ (c .before .before .before .before .before .before .before .before .before .before .before .before .before .if1 .left) (c .before .before .before .before .before .before .before .before .before .before .before .before .before .before .before .before .pre .1) in let e = c .before .before .before .before .before .before .before .before .before .before .before .before .before .before .before .before .pre .0 in omega arith, one-asks _ _ _ _ (c .before .before .before .before .before .before .before .before .before .before .before .before .before .if1 .left) _ (c .before .before .before .before .before .before .before .before .before .before .before .alternatives-at .ensures) _ _ _ (c .before .before .before .before .before .before .before .before .before .count-kept .ensures) _ (c .before .before .before .before .before .before .before .before .after .ensures) _ (c .before .before .before .before .before .before .before .before2 .ensures) (omega arith) _ (c .before .descend .ensures) (c .before .before .before .before .before .before .before .before .before .before .before .before .before .before .before .before .pre .1))
+resume-resume-requires t c κs = (
+  let h = one-falls _ _ _ _ (c .before .before .before .before .before .before .before .before .before .before .before .before .before
+      .if1 .left) _ (c .before .before .before .before .before .before .before .before .before .before .before .alternatives-at .ensures) _ _
+      _ (c .before .before .before .before .before .before .before .before .before .count-kept .ensures) _
+      (c .before .before .before .before .before .before .before .before .after .ensures) _
+      (c .before .before .before .before .before .before .before .before2 .ensures) (omega arith) _ (c .before .descend .ensures)
+      (c .before .before .before .before .before .before .before .before .before .before .before .before .before .before .before .before .pre
+      .1) in let b = resume-here _ _ _ _
+      (c .before .before .before .before .before .before .before .before .before .before .before .before .before .if1 .left)
+      (c .before .before .before .before .before .before .before .before .before .before .before .before .before .before .before .before .pre
+      .1) .0 in let r = resume-reach _ _ _ _
+      (c .before .before .before .before .before .before .before .before .before .before .before .before .before .if1 .left)
+      (c .before .before .before .before .before .before .before .before .before .before .before .before .before .before .before .before .pre
+      .1) in let e = c .before .before .before .before .before .before .before .before .before .before .before .before .before .before .before
+      .before .pre .0 in omega arith,
+  one-asks _ _ _ _ (c .before .before .before .before .before .before .before .before .before .before .before .before .before .if1 .left)
+      _ (c .before .before .before .before .before .before .before .before .before .before .before .alternatives-at .ensures) _ _ _
+      (c .before .before .before .before .before .before .before .before .before .count-kept .ensures) _
+      (c .before .before .before .before .before .before .before .before .after .ensures) _
+      (c .before .before .before .before .before .before .before .before2 .ensures) (omega arith) _ (c .before .descend .ensures)
+      (c .before .before .before .before .before .before .before .before .before .before .before .before .before .before .before .before .pre
+      .1),
+)
 
 resume-note-requires : (t : ℕ) → resume-lts.Need-note-requires (resume-claims t) (resume-at t) resume.Post
-resume-note-requires t c κs = one-notes _ _ _ _ (c .before .before .before .before .before .before .before .before .before .before .before .before .before .before .before .before .before .if1 .left) _ (c .before .before .before .before .before .before .before .before .before .before .before .before .before .before .before .alternatives-at .ensures) _ _ _ (c .before .before .before .before .before .before .before .before .before .before .before .before .before .count-kept .ensures) _ (c .before .before .before .before .before .before .before .before .before .before .before .before .after .ensures) _ (c .before .before .before .before .before .before .before .before .before .before .before .before2 .ensures) (omega arith) _ (c .before .before .before .before .before .descend .ensures) _ _ (c .before .before .before .resume .ensures) (c .before .before .before .before .before .before .before .before .before .before .before .before .before .before .before .before .before .before .before .before .pre .1)
+resume-note-requires t c κs = one-notes _ _ _ _
+    (c .before .before .before .before .before .before .before .before .before .before .before .before .before .before .before .before
+    .before .if1 .left) _ (c .before .before .before .before .before .before .before .before .before .before .before .before .before .before
+    .before .alternatives-at .ensures) _ _ _
+    (c .before .before .before .before .before .before .before .before .before .before .before .before .before .count-kept .ensures) _
+    (c .before .before .before .before .before .before .before .before .before .before .before .before .after .ensures) _
+    (c .before .before .before .before .before .before .before .before .before .before .before .before2 .ensures) (omega arith) _
+    (c .before .before .before .before .before .descend .ensures) _ _ (c .before .before .before .resume .ensures)
+    (c .before .before .before .before .before .before .before .before .before .before .before .before .before .before .before .before
+    .before .before .before .before .pre .1)
 
 resume-same-length-2 : (t : ℕ) → resume-lts.Need-same-length-2 (resume-claims t) (resume-at t) resume.Post
-resume-same-length-2 t c = c .before .before .note .ensures .len ∙ c .before .before .before .before .before .before .resume .ensures .moved .len
+resume-same-length-2 t c = c .before .before .note .ensures .len
+    ∙ c .before .before .before .before .before .before .resume .ensures .moved .len
 
 resume-returns-3 : (t : ℕ) → resume-lts.Need-returns-3 (resume-claims t) (resume-at t) resume.Post
-resume-returns-3 t c = resumes-one _ _ _ _ (c .before .before .before .before .before .before .before .before .before .before .before .before .before .before .before .before .before .before .before .before .if1 .left) _ (c .before .before .before .before .before .before .before .before .before .before .before .before .before .before .before .before .before .before .alternatives-at .ensures) _ _ _ (c .before .before .before .before .before .before .before .before .before .before .before .before .before .before .before .before .count-kept .ensures) _ (c .before .before .before .before .before .before .before .before .before .before .before .before .before .before .before .after .ensures) _ (c .before .before .before .before .before .before .before .before .before .before .before .before .before .before .before2 .ensures) (omega arith) _ (c .before .before .before .before .before .before .before .before .descend .ensures) _ _ (c .before .before .before .before .before .before .resume .ensures) (c .before .before .before .before .before .before .before .before .before .before .before .before .before .before .before .before .before .before .before .before .before .before .before .pre .1) _ (c .before .before .note .ensures)
+resume-returns-3 t c = resumes-one _ _ _ _
+    (c .before .before .before .before .before .before .before .before .before .before .before .before .before .before .before .before
+    .before .before .before .before .if1 .left) _
+    (c .before .before .before .before .before .before .before .before .before .before .before .before .before .before .before .before
+    .before .before .alternatives-at .ensures) _ _ _
+    (c .before .before .before .before .before .before .before .before .before .before .before .before .before .before .before .before
+    .count-kept .ensures) _ (c .before .before .before .before .before .before .before .before .before .before .before .before .before
+    .before .before .after .ensures) _
+    (c .before .before .before .before .before .before .before .before .before .before .before .before .before .before .before2 .ensures)
+    (omega arith) _ (c .before .before .before .before .before .before .before .before .descend .ensures) _ _
+    (c .before .before .before .before .before .before .resume .ensures)
+    (c .before .before .before .before .before .before .before .before .before .before .before .before .before .before .before .before
+    .before .before .before .before .before .before .before .pre .1) _ (c .before .before .note .ensures)
 
 resume-add-choose : (t : ℕ) → resume-lts.Need-add-choose (resume-claims t) (resume-at t) resume.Post
-resume-add-choose t c = let h = resume-here _ _ _ _ (c .before .before .before .before .before .before .before .before .before .before .before .if1 .left) (c .before .before .before .before .before .before .before .before .before .before .before .before .before .before .pre .1) .0 in omega arith
+resume-add-choose t c = let h =
+    resume-here _ _ _ _ (c .before .before .before .before .before .before .before .before .before .before .before .if1 .left)
+    (c .before .before .before .before .before .before .before .before .before .before .before .before .before .before .pre .1) .0 in
+    omega arith
 
 resume-choose-requires : (t : ℕ) → resume-lts.Need-choose-requires (resume-claims t) (resume-at t) resume.Post
-resume-choose-requires t c κs = (let b = resume-here _ _ _ _ (c .before .before .before .before .before .before .before .before .before .before .before .if1 .left) (c .before .before .before .before .before .before .before .before .before .before .before .before .before .before .pre .1) .0 in let r = resume-reach _ _ _ _ (c .before .before .before .before .before .before .before .before .before .before .before .if1 .left) (c .before .before .before .before .before .before .before .before .before .before .before .before .before .before .pre .1) in let e = c .before .before .before .before .before .before .before .before .before .before .before .before .before .before .pre .0 in omega arith, several-asks _ _ _ _ (c .before .before .before .before .before .before .before .before .before .before .before .if1 .left) _ (c .before .before .before .before .before .before .before .before .before .alternatives-at .ensures) _ _ _ (c .before .before .before .before .before .before .before .count-kept .ensures) _ (c .before .before .before .before .before .before .after .ensures) _ (c .before .before .before .before .before .before2 .ensures) (omega arith) (c .before .before .before .before .before .before .before .before .before .before .before .before .before .before .pre .1))
+resume-choose-requires t c κs = (
+  let b = resume-here _ _ _ _ (c .before .before .before .before .before .before .before .before .before .before .before .if1 .left)
+      (c .before .before .before .before .before .before .before .before .before .before .before .before .before .before .pre .1) .0 in
+      let r = resume-reach _ _ _ _ (c .before .before .before .before .before .before .before .before .before .before .before .if1 .left)
+      (c .before .before .before .before .before .before .before .before .before .before .before .before .before .before .pre .1) in
+      let e = c .before .before .before .before .before .before .before .before .before .before .before .before .before .before .pre .0 in
+      omega arith,
+  several-asks _ _ _ _ (c .before .before .before .before .before .before .before .before .before .before .before .if1 .left)
+      _ (c .before .before .before .before .before .before .before .before .before .alternatives-at .ensures) _ _ _
+      (c .before .before .before .before .before .before .before .count-kept .ensures) _
+      (c .before .before .before .before .before .before .after .ensures) _ (c .before .before .before .before .before .before2 .ensures)
+      (omega arith) (c .before .before .before .before .before .before .before .before .before .before .before .before .before .before .pre
+      .1),
+)
 
 resume-same-length-3 : (t : ℕ) → resume-lts.Need-same-length-3 (resume-claims t) (resume-at t) resume.Post
 resume-same-length-3 t c = c .before .before .choose .ensures .moved .len
 
 resume-returns-4 : (t : ℕ) → resume-lts.Need-returns-4 (resume-claims t) (resume-at t) resume.Post
-resume-returns-4 t c = resumes-several _ _ _ _ (c .before .before .before .before .before .before .before .before .before .before .before .before .before .before .if1 .left) _ (c .before .before .before .before .before .before .before .before .before .before .before .before .alternatives-at .ensures) _ _ _ (c .before .before .before .before .before .before .before .before .before .before .count-kept .ensures) _ (c .before .before .before .before .before .before .before .before .before .after .ensures) _ (c .before .before .before .before .before .before .before .before .before2 .ensures) (omega arith) _ _ (c .before .before .choose .ensures)
+resume-returns-4 t c = resumes-several _ _ _ _
+    (c .before .before .before .before .before .before .before .before .before .before .before .before .before .before .if1 .left) _
+    (c .before .before .before .before .before .before .before .before .before .before .before .before .alternatives-at .ensures) _ _ _
+    (c .before .before .before .before .before .before .before .before .before .before .count-kept .ensures) _
+    (c .before .before .before .before .before .before .before .before .before .after .ensures) _
+    (c .before .before .before .before .before .before .before .before .before2 .ensures) (omega arith) _ _
+    (c .before .before .choose .ensures)
 
 abbrev take-claims : ℕ → take-lts.Claims
 take-claims t = (
@@ -230,7 +354,9 @@ take-same-length : (t : ℕ) → take-lts.Need-same-length (take-claims t) (take
 take-same-length t c = c .before .before .note .ensures .len
 
 take-returns : (t : ℕ) → take-lts.Need-returns (take-claims t) (take-at t) take.Post
-take-returns t c = takes-one _ _ _ _ _ (c .before .before .before .before .before .before .before .before .before .pre .1) _ (c .before .before .before .before .before .before .foresee .ensures) (c .before .before .before .before .enum-told .given .1) _ (c .before .before .note .ensures)
+take-returns t c = takes-one _ _ _ _ _ (c .before .before .before .before .before .before .before .before .before .pre .1) _
+    (c .before .before .before .before .before .before .foresee .ensures) (c .before .before .before .before .enum-told .given .1) _
+    (c .before .before .note .ensures)
 
 take-enum-told-2 : (t : ℕ) → take-lts.Need-enum-told-2 (take-claims t) (take-at t) take.Post
 take-enum-told-2 t c = search needs
@@ -239,7 +365,8 @@ take-same-length-2 : (t : ℕ) → take-lts.Need-same-length-2 (take-claims t) (
 take-same-length-2 t c = search needs
 
 take-returns-2 : (t : ℕ) → take-lts.Need-returns-2 (take-claims t) (take-at t) take.Post
-take-returns-2 t c = takes-none _ _ _ _ _ (c .before .before .before .before .before .pre .1) _ (c .before .before .foresee .ensures) (c .enum-told2 .given .1)
+take-returns-2 t c = takes-none _ _ _ _ _ (c .before .before .before .before .before .pre .1) _ (c .before .before .foresee .ensures)
+    (c .enum-told2 .given .1)
 
 take-enum-told-3 : (t : ℕ) → take-lts.Need-enum-told-3 (take-claims t) (take-at t) take.Post
 take-enum-told-3 t c = search needs
@@ -257,25 +384,60 @@ take-same-length-3 : (t : ℕ) → take-lts.Need-same-length-3 (take-claims t) (
 take-same-length-3 t c = c .before .before .before .before .enter .ensures .len
 
 take-returns-3 : (t : ℕ) → take-lts.Need-returns-3 (take-claims t) (take-at t) take.Post
-take-returns-3 t c = takes-clash _ _ _ _ _ _ _ (c .before .before .before .before .enter .ensures) (c .before .before .before .before .before .before .before .before .before .before .before .pre .1) (c .enum-told4 .given .1)
+take-returns-3 t c = takes-clash _ _ _ _ _ _ _ (c .before .before .before .before .enter .ensures)
+    (c .before .before .before .before .before .before .before .before .before .before .before .pre .1) (c .enum-told4 .given .1)
 
 take-descend-requires : (t : ℕ) → take-lts.Need-descend-requires (take-claims t) (take-at t) take.Post
-take-descend-requires t c κs = take-opens _ _ _ _ _ _ _ (c .before .before .before .before .before .before .enter .ensures) (c .before .before .before .before .before .before .before .before .before .before .before .before .before .pre .1) _ (c .before .before .pushed .given .1)
+take-descend-requires t c κs =
+    take-opens _ _ _ _ _ _ _ (c .before .before .before .before .before .before .enter .ensures)
+    (c .before .before .before .before .before .before .before .before .before .before .before .before .before .pre .1) _
+    (c .before .before .pushed .given .1)
 
 take-resume-requires : (t : ℕ) → take-lts.Need-resume-requires (take-claims t) (take-at t) take.Post
-take-resume-requires t c κs = (let h = take-falls _ _ _ _ _ _ _ (c .before .before .before .before .before .before .before .before .enter .ensures) (c .before .before .before .before .before .before .before .before .before .before .before .before .before .before .before .pre .1) _ (c .before .before .before .before .pushed .given .1) _ (c .before .descend .ensures) in let e = c .before .before .before .before .before .before .before .before .before .before .before .before .before .before .before .pre .0 in omega arith, take-asks _ _ _ _ _ _ _ (c .before .before .before .before .before .before .before .before .enter .ensures) (c .before .before .before .before .before .before .before .before .before .before .before .before .before .before .before .pre .1) _ (c .before .before .before .before .pushed .given .1) _ (c .before .descend .ensures))
+take-resume-requires t c κs = (
+  let h =
+      take-falls _ _ _ _ _ _ _ (c .before .before .before .before .before .before .before .before .enter .ensures)
+      (c .before .before .before .before .before .before .before .before .before .before .before .before .before .before .before .pre .1) _
+      (c .before .before .before .before .pushed .given .1) _ (c .before .descend .ensures) in
+      let e = c .before .before .before .before .before .before .before .before .before .before .before .before .before .before .before .pre
+      .0 in omega arith,
+  take-asks _ _ _ _ _ _ _ (c .before .before .before .before .before .before .before .before .enter .ensures)
+      (c .before .before .before .before .before .before .before .before .before .before .before .before .before .before .before .pre .1) _
+      (c .before .before .before .before .pushed .given .1) _ (c .before .descend .ensures),
+)
 
 take-back-requires : (t : ℕ) → take-lts.Need-back-requires (take-claims t) (take-at t) take.Post
-take-back-requires t c κs = take-back _ _ _ _ _ _ _ (c .before .before .before .before .before .before .before .before .before .before .before .before .enter .ensures) (c .before .before .before .before .before .before .before .before .before .before .before .before .before .before .before .before .before .before .before .pre .1) _ (c .before .before .before .before .before .before .before .before .pushed .given .1) _ (c .before .before .before .before .before .descend .ensures) _ _ (c .before .before .before .resume .ensures)
+take-back-requires t c κs = take-back _ _ _ _ _ _ _
+    (c .before .before .before .before .before .before .before .before .before .before .before .before .enter .ensures)
+    (c .before .before .before .before .before .before .before .before .before .before .before .before .before .before .before .before
+    .before .before .before .pre .1) _ (c .before .before .before .before .before .before .before .before .pushed .given .1) _
+    (c .before .before .before .before .before .descend .ensures) _ _ (c .before .before .before .resume .ensures)
 
 take-note-requires-2 : (t : ℕ) → take-lts.Need-note-requires-2 (take-claims t) (take-at t) take.Post
-take-note-requires-2 t c κs = take-notes _ _ _ _ _ _ _ (c .before .before .before .before .before .before .before .before .before .before .before .before .before .before .before .before .enter .ensures) (c .before .before .before .before .before .before .before .before .before .before .before .before .before .before .before .before .before .before .before .before .before .before .before .pre .1) _ (c .before .before .before .before .before .before .before .before .before .before .before .before .pushed .given .1) _ (c .before .before .before .before .before .before .before .before .before .descend .ensures) _ _ (c .before .before .before .before .before .before .before .resume .ensures) _ (c .before .before .before .back .ensures)
+take-note-requires-2 t c κs = take-notes _ _ _ _ _ _ _
+    (c .before .before .before .before .before .before .before .before .before .before .before .before .before .before .before .before
+    .enter .ensures) (c .before .before .before .before .before .before .before .before .before .before .before .before .before .before
+    .before .before .before .before .before .before .before .before .before .pre .1) _
+    (c .before .before .before .before .before .before .before .before .before .before .before .before .pushed .given .1) _
+    (c .before .before .before .before .before .before .before .before .before .descend .ensures) _ _
+    (c .before .before .before .before .before .before .before .resume .ensures) _ (c .before .before .before .back .ensures)
 
 take-same-length-4 : (t : ℕ) → take-lts.Need-same-length-4 (take-claims t) (take-at t) take.Post
-take-same-length-4 t c = c .before .before .note2 .ensures .len ∙ c .before .before .before .before .before .before .back .ensures .len ∙ c .before .before .before .before .before .before .before .before .before .before .resume .ensures .moved .len ∙ c .before .before .before .before .before .before .before .before .before .before .before .before .before .before .before .before .before .before .before .enter .ensures .len
+take-same-length-4 t c = c .before .before .note2 .ensures .len ∙ c .before .before .before .before .before .before .back .ensures .len
+    ∙ c .before .before .before .before .before .before .before .before .before .before .resume .ensures .moved .len
+    ∙ c .before .before .before .before .before .before .before .before .before .before .before .before .before .before .before .before
+    .before .before .before .enter .ensures .len
 
 take-returns-4 : (t : ℕ) → take-lts.Need-returns-4 (take-claims t) (take-at t) take.Post
-take-returns-4 t c = takes-found _ _ _ _ _ _ _ (c .before .before .before .before .before .before .before .before .before .before .before .before .before .before .before .before .before .before .before .enter .ensures) (c .before .before .before .before .before .before .before .before .before .before .before .before .before .before .before .before .before .before .before .before .before .before .before .before .before .before .pre .1) _ (c .before .before .before .before .before .before .before .before .before .before .before .before .before .before .before .pushed .given .1) _ (c .before .before .before .before .before .before .before .before .before .before .before .before .descend .ensures) _ _ (c .before .before .before .before .before .before .before .before .before .before .resume .ensures) _ (c .before .before .before .before .before .before .back .ensures) _ (c .before .before .note2 .ensures)
+take-returns-4 t c = takes-found _ _ _ _ _ _ _
+    (c .before .before .before .before .before .before .before .before .before .before .before .before .before .before .before .before
+    .before .before .before .enter .ensures)
+    (c .before .before .before .before .before .before .before .before .before .before .before .before .before .before .before .before
+    .before .before .before .before .before .before .before .before .before .before .pre .1) _
+    (c .before .before .before .before .before .before .before .before .before .before .before .before .before .before .before .pushed
+    .given .1) _ (c .before .before .before .before .before .before .before .before .before .before .before .before .descend .ensures) _ _
+    (c .before .before .before .before .before .before .before .before .before .before .resume .ensures) _
+    (c .before .before .before .before .before .before .back .ensures) _ (c .before .before .note2 .ensures)
 
 pub +choose+resume+take-spec : {M : Type 1} → statement M
 +choose+resume+take-spec = close μ-choose μ-resume μ-take (λ t. choose-lts.spec (choose-claims t)

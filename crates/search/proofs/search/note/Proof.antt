@@ -15,7 +15,8 @@ same-length : tie.Need-same-length
 same-length c = search needs
 
 returns : tie.Need-returns
-returns c = notes-some _ _ _ _ _ (c .before .before .before .before .before .before .before .before .pre) (omega arith) (c .before .before .before .before .before .number-at .ensures) (c .before .before .light .ensures)
+returns c = notes-some _ _ _ _ _ (c .before .before .before .before .before .before .before .before .pre) (omega arith)
+    (c .before .before .before .before .before .number-at .ensures) (c .before .before .light .ensures)
 
 same-length-2 : tie.Need-same-length-2
 same-length-2 c = search needs

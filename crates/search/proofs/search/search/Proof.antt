@@ -12,16 +12,21 @@ descend-requires : tie.Need-descend-requires
 descend-requires c κs = second-opens _ _ _ (c .before .before .before .pre) _ (c .before .nothing .ensures)
 
 descend-requires-2 : tie.Need-descend-requires-2
-descend-requires-2 c κs = first-opens _ _ _ (c .before .before .before .before .before .pre) _ (c .before .descend .ensures [] (c .before .before .before .nothing .ensures))
+descend-requires-2 c κs = first-opens _ _ _ (c .before .before .before .before .before .pre) _
+    (c .before .descend .ensures [] (c .before .before .before .nothing .ensures))
 
 resume-requires : tie.Need-resume-requires
-resume-requires c κs = search-asks _ _ _ (c .before .before .before .before .before .before .before .pre) _ (c .before .descend2 .ensures _ (c .before .before .before .descend .ensures [] (c .before .before .before .before .before .nothing .ensures)))
+resume-requires c κs = search-asks _ _ _ (c .before .before .before .before .before .before .before .pre) _
+    (c .before .descend2 .ensures _
+    (c .before .before .before .descend .ensures [] (c .before .before .before .before .before .nothing .ensures)))
 
 same-length : tie.Need-same-length
 same-length c = search needs
 
 returns : tie.Need-returns
-returns c = searches _ _ _ _ (c .before .before .before .before .descend2 .ensures _ (c .before .before .before .before .before .before .descend .ensures [] (c .before .before .before .before .before .before .before .before .nothing .ensures))) _ _ (c .before .before .resume .ensures)
+returns c = searches _ _ _ _ (c .before .before .before .before .descend2 .ensures _
+    (c .before .before .before .before .before .before .descend .ensures []
+    (c .before .before .before .before .before .before .before .before .nothing .ensures))) _ _ (c .before .before .resume .ensures)
 
 pub search-spec : {M : Type 1} → statement M
 search-spec =

@@ -11,7 +11,8 @@ use Rattle.showing.proofs.copy.copy_arcs.Tie as tie
 use Rattle.marks.proofs.positions.word_at.Reads as word-at-reads
 
 abbrev Inv-loop : tie.InvT-loop
-Inv-loop w₀ number p count o left₀ at₀ out₀ w left at out = (d : Copying (its-arcs count) w₀ number p o) → Arcs w₀ number p count o d left at out w
+Inv-loop w₀ number p count o left₀ at₀ out₀ w left at out = (d : Copying (its-arcs count) w₀ number p o) →
+    Arcs w₀ number p count o d left at out w
 
 abbrev μ-loop : tie.MeasureT-loop
 μ-loop w₀ number p count o left₀ at₀ out₀ w left at out = left
@@ -20,43 +21,73 @@ loop-holds : tie.Need-loop-holds Inv-loop μ-loop
 loop-holds c = λ d. arcs-start _ _ _ _ _ d
 
 word-at-requires : tie.Need-word-at-requires Inv-loop μ-loop
-word-at-requires c κs = let p = c .before .before .before .before .pre in let v = c .before .before .loop .inv p in let q = c .before .loop-test in let h = arcs-here _ _ _ _ _ p _ _ _ _ v (omega arith) in let x = h .0 in (omega arith, h .2)
+word-at-requires c κs = let p = c .before .before .before .before .pre in let v = c .before .before .loop .inv p in
+    let q = c .before .loop-test in let h = arcs-here _ _ _ _ _ p _ _ _ _ v (omega arith) in let x = h .0 in (omega arith, h .2)
 
 add-word-at : tie.Need-add-word-at Inv-loop μ-loop
-add-word-at c = let p = c .before .before .before .before .before .before .pre in let v = c .before .before .before .before .loop .inv p in let q = c .before .before .before .loop-test in let h = arcs-here _ _ _ _ _ p _ _ _ _ v (omega arith) in let x = h .0 in omega arith
+add-word-at c = let p = c .before .before .before .before .before .before .pre in let v = c .before .before .before .before .loop .inv p in
+    let q = c .before .before .before .loop-test in let h = arcs-here _ _ _ _ _ p _ _ _ _ v (omega arith) in let x = h .0 in omega arith
 
 word-at-requires-2 : tie.Need-word-at-requires-2 Inv-loop μ-loop
-word-at-requires-2 c κs = let p = c .before .before .before .before .before .before .pre in let v = c .before .before .before .before .loop .inv p in let q = c .before .before .before .loop-test in let h = arcs-here _ _ _ _ _ p _ _ _ _ v (omega arith) in (h .0, h .2)
+word-at-requires-2 c κs = let p = c .before .before .before .before .before .before .pre in
+    let v = c .before .before .before .before .loop .inv p in let q = c .before .before .before .loop-test in
+    let h = arcs-here _ _ _ _ _ p _ _ _ _ v (omega arith) in (h .0, h .2)
 
 add-w : tie.Need-add-w Inv-loop μ-loop
-add-w c = let p = c .before .before .before .before .before .before .before .pre in let v = c .before .before .before .before .before .loop .inv p in let q = c .before .before .before .before .loop-test in let h = arcs-here _ _ _ _ _ p _ _ _ _ v (omega arith) in let x = h .1 in omega arith
+add-w c = let p = c .before .before .before .before .before .before .before .pre in
+    let v = c .before .before .before .before .before .loop .inv p in let q = c .before .before .before .before .loop-test in
+    let h = arcs-here _ _ _ _ _ p _ _ _ _ v (omega arith) in let x = h .1 in omega arith
 
 mul-w : tie.Need-mul-w Inv-loop μ-loop
-mul-w c = let p = c .before .before .before .before .before .before .before .pre in let v = c .before .before .before .before .before .loop .inv p in let q = c .before .before .before .before .loop-test in let h = arcs-here _ _ _ _ _ p _ _ _ _ v (omega arith) in let x = h .1 in omega arith
+mul-w c = let p = c .before .before .before .before .before .before .before .pre in
+    let v = c .before .before .before .before .before .loop .inv p in let q = c .before .before .before .before .loop-test in
+    let h = arcs-here _ _ _ _ _ p _ _ _ _ v (omega arith) in let x = h .1 in omega arith
 
 slice-write-w : tie.Need-slice-write-w Inv-loop μ-loop
-slice-write-w c = let p = c .before .before .before .before .before .before .before .pre in let v = c .before .before .before .before .before .loop .inv p in let q = c .before .before .before .before .loop-test in let h = arcs-here _ _ _ _ _ p _ _ _ _ v (omega arith) in let x = h .1 in let y = h .2 in omega arith
+slice-write-w c = let p = c .before .before .before .before .before .before .before .pre in
+    let v = c .before .before .before .before .before .loop .inv p in let q = c .before .before .before .before .loop-test in
+    let h = arcs-here _ _ _ _ _ p _ _ _ _ v (omega arith) in let x = h .1 in let y = h .2 in omega arith
 
 sub-w : tie.Need-sub-w Inv-loop μ-loop
-sub-w c = let p = c .before .before .before .before .before .before .before .pre in let v = c .before .before .before .before .before .loop .inv p in let q = c .before .before .before .before .loop-test in let h = arcs-here _ _ _ _ _ p _ _ _ _ v (omega arith) in let a = arcs-above _ _ _ _ _ p _ _ _ _ v (omega arith) _ _ (c .before .before .word-at .ensures) (c .word-at2 .ensures) in omega arith
+sub-w c = let p = c .before .before .before .before .before .before .before .pre in
+    let v = c .before .before .before .before .before .loop .inv p in let q = c .before .before .before .before .loop-test in
+    let h = arcs-here _ _ _ _ _ p _ _ _ _ v (omega arith) in
+    let a = arcs-above _ _ _ _ _ p _ _ _ _ v (omega arith) _ _ (c .before .before .word-at .ensures) (c .word-at2 .ensures) in omega arith
 
 add-w-2 : tie.Need-add-w-2 Inv-loop μ-loop
-add-w-2 c = let p = c .before .before .before .before .before .before .before .pre in let v = c .before .before .before .before .before .loop .inv p in let q = c .before .before .before .before .loop-test in let h = arcs-here _ _ _ _ _ p _ _ _ _ v (omega arith) in let x = h .1 in omega arith
+add-w-2 c = let p = c .before .before .before .before .before .before .before .pre in
+    let v = c .before .before .before .before .before .loop .inv p in let q = c .before .before .before .before .loop-test in
+    let h = arcs-here _ _ _ _ _ p _ _ _ _ v (omega arith) in let x = h .1 in omega arith
 
 add-w-3 : tie.Need-add-w-3 Inv-loop μ-loop
-add-w-3 c = let p = c .before .before .before .before .before .before .before .pre in let v = c .before .before .before .before .before .loop .inv p in let q = c .before .before .before .before .loop-test in let h = arcs-here _ _ _ _ _ p _ _ _ _ v (omega arith) in let x = h .1 in omega arith
+add-w-3 c = let p = c .before .before .before .before .before .before .before .pre in
+    let v = c .before .before .before .before .before .loop .inv p in let q = c .before .before .before .before .loop-test in
+    let h = arcs-here _ _ _ _ _ p _ _ _ _ v (omega arith) in let x = h .1 in omega arith
 
 mul-w-2 : tie.Need-mul-w-2 Inv-loop μ-loop
-mul-w-2 c = let p = c .before .before .before .before .before .before .before .pre in let v = c .before .before .before .before .before .loop .inv p in let q = c .before .before .before .before .loop-test in let h = arcs-here _ _ _ _ _ p _ _ _ _ v (omega arith) in let x = h .1 in omega arith
+mul-w-2 c = let p = c .before .before .before .before .before .before .before .pre in
+    let v = c .before .before .before .before .before .loop .inv p in let q = c .before .before .before .before .loop-test in
+    let h = arcs-here _ _ _ _ _ p _ _ _ _ v (omega arith) in let x = h .1 in omega arith
 
 slice-write-w-2 : tie.Need-slice-write-w-2 Inv-loop μ-loop
-slice-write-w-2 c = let p = c .before .before .before .before .before .before .before .pre in let v = c .before .before .before .before .before .loop .inv p in let q = c .before .before .before .before .loop-test in let h = arcs-here _ _ _ _ _ p _ _ _ _ v (omega arith) in let x = h .1 in let y = h .2 in omega (arith, length-set (c .before .before .before .before .before .loop .w) (RESULT + c .before .before .before .before .before .loop .out) (c .before .before .word-at .result))
+slice-write-w-2 c = let p = c .before .before .before .before .before .before .before .pre in
+    let v = c .before .before .before .before .before .loop .inv p in let q = c .before .before .before .before .loop-test in
+    let h = arcs-here _ _ _ _ _ p _ _ _ _ v (omega arith) in let x = h .1 in let y = h .2 in
+    omega (
+      arith,
+      length-set (c .before .before .before .before .before .loop .w)
+          (RESULT + c .before .before .before .before .before .loop .out) (c .before .before .word-at .result),
+    )
 
 add-at : tie.Need-add-at Inv-loop μ-loop
-add-at c = let p = c .before .before .before .before .before .before .before .pre in let v = c .before .before .before .before .before .loop .inv p in let q = c .before .before .before .before .loop-test in let h = arcs-here _ _ _ _ _ p _ _ _ _ v (omega arith) in let x = h .0 in omega arith
+add-at c = let p = c .before .before .before .before .before .before .before .pre in
+    let v = c .before .before .before .before .before .loop .inv p in let q = c .before .before .before .before .loop-test in
+    let h = arcs-here _ _ _ _ _ p _ _ _ _ v (omega arith) in let x = h .0 in omega arith
 
 add-out : tie.Need-add-out Inv-loop μ-loop
-add-out c = let p = c .before .before .before .before .before .before .before .pre in let v = c .before .before .before .before .before .loop .inv p in let q = c .before .before .before .before .loop-test in let h = arcs-here _ _ _ _ _ p _ _ _ _ v (omega arith) in let x = h .1 in omega arith
+add-out c = let p = c .before .before .before .before .before .before .before .pre in
+    let v = c .before .before .before .before .before .loop .inv p in let q = c .before .before .before .before .loop-test in
+    let h = arcs-here _ _ _ _ _ p _ _ _ _ v (omega arith) in let x = h .1 in omega arith
 
 sub-left : tie.Need-sub-left Inv-loop μ-loop
 sub-left c = let q = c .before .before .before .before .loop-test in omega arith
@@ -65,7 +96,9 @@ loop-less : tie.Need-loop-less Inv-loop μ-loop
 loop-less c = let q = c .before .before .before .before .loop-test in omega arith
 
 loop-again : tie.Need-loop-again Inv-loop μ-loop
-loop-again c = let q = c .before .before .before .before .loop-test in λ d. arcs-on _ _ _ _ _ d _ _ _ _ (c .before .before .before .before .before .loop .inv d) (omega arith) _ _ (c .before .before .word-at .ensures) (c .word-at2 .ensures)
+loop-again c = let q = c .before .before .before .before .loop-test in
+    λ d. arcs-on _ _ _ _ _ d _ _ _ _ (c .before .before .before .before .before .loop .inv d) (omega arith) _ _
+    (c .before .before .word-at .ensures) (c .word-at2 .ensures)
 
 same-length : tie.Need-same-length Inv-loop μ-loop
 same-length c = let p = c .before .before .before .pre in arcs-same _ _ _ _ _ p _ _ _ _ (c .before .loop .inv p)

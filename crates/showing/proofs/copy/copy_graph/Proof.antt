@@ -17,10 +17,15 @@ number-at-requires : tie.Need-number-at-requires
 number-at-requires c κs = (let h = graph-here _ _ _ (c .before .before .pre) .0 in omega arith, c .before .before .pre .long)
 
 cast-number : tie.Need-cast-number
-cast-number c = let p = c .before .before .before .pre in let h = graph-here _ _ _ p in let a = h .1 in let b = h .3 in let e = c .number-at .ensures in omega arith
+cast-number c = let p = c .before .before .before .pre in let h = graph-here _ _ _ p in let a = h .1 in let b = h .3 in
+    let e = c .number-at .ensures in omega arith
 
 word-at-requires : tie.Need-word-at-requires
-word-at-requires c κs = (let h = graph-here _ _ _ (c .before .before .before .before .pre) .0 in omega arith, c .before .before .before .before .pre .long)
+word-at-requires c κs = (
+  let h = graph-here _ _ _ (c .before .before .before .before .pre) .0 in
+      omega arith,
+  c .before .before .before .before .pre .long,
+)
 
 nodes-of-requires : tie.Need-nodes-of-requires
 nodes-of-requires c κs = search needs
@@ -44,13 +49,23 @@ add-copy-nodes-2 : tie.Need-add-copy-nodes-2
 add-copy-nodes-2 c = search needs
 
 copy-nodes-requires : tie.Need-copy-nodes-requires
-copy-nodes-requires c κs = let p = c .before .before .before .before .before .before .before .pre in let h = graph-here _ _ _ p in graph-asks _ _ _ p _ (c .before .nodes-of .ensures ∙ ap (λ (x : ℕ). x % number-step) (c .before .before .word-at .ensures) ∙ h .2) _ (c .before .before .before .before .number-at .ensures ∙ h .1)
+copy-nodes-requires c κs = let p = c .before .before .before .before .before .before .before .pre in let h = graph-here _ _ _ p in
+    graph-asks _ _ _ p _ (c .before .nodes-of .ensures ∙ ap (λ (x : ℕ). x % number-step) (c .before .before .word-at .ensures)
+    ∙ h .2) _ (c .before .before .before .before .number-at .ensures ∙ h .1)
 
 same-length : tie.Need-same-length
-same-length c = let p = c .before .before .before .before .before .before .before .before .before .before .pre in let h = graph-here _ _ _ p in graph-copied _ _ _ p _ (c .before .before .before .before .nodes-of .ensures ∙ ap (λ (x : ℕ). x % number-step) (c .before .before .before .before .before .word-at .ensures) ∙ h .2) _ (c .before .before .before .before .before .before .before .number-at .ensures ∙ h .1) _ _ (c .before .before .copy-nodes .ensures) .same
+same-length c = let p = c .before .before .before .before .before .before .before .before .before .before .pre in
+    let h = graph-here _ _ _ p in graph-copied _ _ _ p _ (c .before .before .before .before .nodes-of .ensures
+    ∙ ap (λ (x : ℕ). x % number-step) (c .before .before .before .before .before .word-at .ensures)
+    ∙ h .2) _ (c .before .before .before .before .before .before .before .number-at .ensures
+    ∙ h .1) _ _ (c .before .before .copy-nodes .ensures) .same
 
 returns : tie.Need-returns
-returns c = λ d. let h = graph-here _ _ _ d in graph-copied _ _ _ d _ (c .before .before .before .before .nodes-of .ensures ∙ ap (λ (x : ℕ). x % number-step) (c .before .before .before .before .before .word-at .ensures) ∙ h .2) _ (c .before .before .before .before .before .before .before .number-at .ensures ∙ h .1) _ _ (c .before .before .copy-nodes .ensures)
+returns c = λ d. let h = graph-here _ _ _ d in
+    graph-copied _ _ _ d _ (c .before .before .before .before .nodes-of .ensures
+    ∙ ap (λ (x : ℕ). x % number-step) (c .before .before .before .before .before .word-at .ensures)
+    ∙ h .2) _ (c .before .before .before .before .before .before .before .number-at .ensures
+    ∙ h .1) _ _ (c .before .before .copy-nodes .ensures)
 
 pub copy-graph-spec : {M : Type 1} → statement M
 copy-graph-spec =

@@ -36,13 +36,16 @@ add-copy-arcs-2 : tie.Need-add-copy-arcs-2
 add-copy-arcs-2 c = search needs
 
 copy-arcs-requires : tie.Need-copy-arcs-requires
-copy-arcs-requires c κs = node-asks _ _ _ _ (c .before .before .before .before .before .pre) _ (c .before .before .word-at .ensures) (omega arith)
+copy-arcs-requires c κs = node-asks _ _ _ _ (c .before .before .before .before .before .pre) _ (c .before .before .word-at .ensures)
+    (omega arith)
 
 same-length-2 : tie.Need-same-length-2
-same-length-2 c = node-arcs _ _ _ _ (c .before .before .before .before .before .before .before .before .pre) _ (c .before .before .before .before .before .word-at .ensures) (omega arith) _ _ (c .before .before .copy-arcs .ensures) .same
+same-length-2 c = node-arcs _ _ _ _ (c .before .before .before .before .before .before .before .before .pre) _
+    (c .before .before .before .before .before .word-at .ensures) (omega arith) _ _ (c .before .before .copy-arcs .ensures) .same
 
 returns-2 : tie.Need-returns-2
-returns-2 c = λ d. node-arcs _ _ _ _ d _ (c .before .before .before .before .before .word-at .ensures) (omega arith) _ _ (c .before .before .copy-arcs .ensures)
+returns-2 c = λ d. node-arcs _ _ _ _ d _ (c .before .before .before .before .before .word-at .ensures) (omega arith) _ _
+    (c .before .before .copy-arcs .ensures)
 
 pub copy-node-spec : {M : Type 1} → statement M
 copy-node-spec =

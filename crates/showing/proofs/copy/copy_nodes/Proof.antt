@@ -8,7 +8,8 @@ use Rattle.showing.proofs.copy.copy_nodes.Tie as tie
 use Rattle.showing.proofs.copy.copy_node.Reads as copy-node-reads
 
 abbrev Inv-loop : tie.InvT-loop
-Inv-loop w₀ number p count o left₀ at₀ out₀ w left at out = (d : Copying (its-nodes count) w₀ number p o) → Nodes w₀ number p count o d left at out w
+Inv-loop w₀ number p count o left₀ at₀ out₀ w left at out = (d : Copying (its-nodes count) w₀ number p o) →
+    Nodes w₀ number p count o d left at out w
 
 abbrev μ-loop : tie.MeasureT-loop
 μ-loop w₀ number p count o left₀ at₀ out₀ w left at out = left
@@ -17,13 +18,18 @@ loop-holds : tie.Need-loop-holds Inv-loop μ-loop
 loop-holds c = λ d. nodes-start _ _ _ _ _ d
 
 copy-node-requires : tie.Need-copy-node-requires Inv-loop μ-loop
-copy-node-requires c κs = let p = c .before .before .before .before .pre in let q = c .before .loop-test in nodes-asks _ _ _ _ _ p _ _ _ _ (c .before .before .loop .inv p) (omega arith)
+copy-node-requires c κs = let p = c .before .before .before .before .pre in let q = c .before .loop-test in
+    nodes-asks _ _ _ _ _ p _ _ _ _ (c .before .before .loop .inv p) (omega arith)
 
 sub-at : tie.Need-sub-at Inv-loop μ-loop
-sub-at c = let p = c .before .before .before .before .before .before .before .pre in let q = c .before .before .before .before .loop-test in let h = nodes-near _ _ _ _ _ p _ _ _ _ (c .before .before .before .before .before .loop .inv p) (omega arith) _ _ (c .before .before .copy-node .ensures) .0 in omega arith
+sub-at c = let p = c .before .before .before .before .before .before .before .pre in let q = c .before .before .before .before .loop-test in
+    let h = nodes-near _ _ _ _ _ p _ _ _ _ (c .before .before .before .before .before .loop .inv p) (omega arith) _ _
+    (c .before .before .copy-node .ensures) .0 in omega arith
 
 add-at : tie.Need-add-at Inv-loop μ-loop
-add-at c = let p = c .before .before .before .before .before .before .before .pre in let q = c .before .before .before .before .loop-test in let h = nodes-near _ _ _ _ _ p _ _ _ _ (c .before .before .before .before .before .loop .inv p) (omega arith) _ _ (c .before .before .copy-node .ensures) .1 in omega arith
+add-at c = let p = c .before .before .before .before .before .before .before .pre in let q = c .before .before .before .before .loop-test in
+    let h = nodes-near _ _ _ _ _ p _ _ _ _ (c .before .before .before .before .before .loop .inv p) (omega arith) _ _
+    (c .before .before .copy-node .ensures) .1 in omega arith
 
 sub-left : tie.Need-sub-left Inv-loop μ-loop
 sub-left c = let q = c .before .before .before .before .loop-test in omega arith
@@ -32,7 +38,9 @@ loop-less : tie.Need-loop-less Inv-loop μ-loop
 loop-less c = let q = c .before .before .before .before .loop-test in omega arith
 
 loop-again : tie.Need-loop-again Inv-loop μ-loop
-loop-again c = let q = c .before .before .before .before .loop-test in λ d. nodes-on _ _ _ _ _ d _ _ _ _ (c .before .before .before .before .before .loop .inv d) (omega arith) _ _ (c .before .before .copy-node .ensures)
+loop-again c = let q = c .before .before .before .before .loop-test in
+    λ d. nodes-on _ _ _ _ _ d _ _ _ _ (c .before .before .before .before .before .loop .inv d) (omega arith) _ _
+    (c .before .before .copy-node .ensures)
 
 same-length : tie.Need-same-length Inv-loop μ-loop
 same-length c = let p = c .before .before .before .pre in nodes-same _ _ _ _ _ p _ _ _ _ (c .before .loop .inv p)

@@ -24,16 +24,23 @@ returns : tie.Need-returns
 returns c = λ d. absurd (not-clashed _ _ _ _ _ d _ _ (c .before .before .before .before .enter .ensures) (c .enum-told .given .1))
 
 write-graph-requires : tie.Need-write-graph-requires
-write-graph-requires c κs = asks-write _ _ _ _ _ (c .before .before .before .before .before .before .before .before .before .pre) _ _ (c .before .before .before .before .before .before .enter .ensures) _ (c .before .before .pushed .given .1)
+write-graph-requires c κs = asks-write _ _ _ _ _ (c .before .before .before .before .before .before .before .before .before .pre) _ _
+    (c .before .before .before .before .before .before .enter .ensures) _ (c .before .before .pushed .given .1)
 
 back-requires : tie.Need-back-requires
-back-requires c κs = asks-back _ _ _ _ _ (c .before .before .before .before .before .before .before .before .before .before .before .before .before .pre) _ _ (c .before .before .before .before .before .before .before .before .before .before .enter .ensures) _ (c .before .before .before .before .before .before .pushed .given .1) _ _ (c .before .before .before .write-graph .ensures)
+back-requires c κs = asks-back _ _ _ _ _
+    (c .before .before .before .before .before .before .before .before .before .before .before .before .before .pre) _ _
+    (c .before .before .before .before .before .before .before .before .before .before .enter .ensures) _
+    (c .before .before .before .before .before .before .pushed .given .1) _ _ (c .before .before .before .write-graph .ensures)
 
 same-length-2 : tie.Need-same-length-2
 same-length-2 c = search needs
 
 returns-2 : tie.Need-returns-2
-returns-2 c = λ d. led _ _ _ _ _ d _ _ (c .before .before .before .before .before .before .before .before .before .before .before .before .before .enter .ensures) _ (c .before .before .before .before .before .before .before .before .before .pushed .given .1) _ _ (c .before .before .before .before .before .before .write-graph .ensures) _ (c .before .before .back .ensures)
+returns-2 c = λ d. led _ _ _ _ _ d _ _
+    (c .before .before .before .before .before .before .before .before .before .before .before .before .before .enter .ensures) _
+    (c .before .before .before .before .before .before .before .before .before .pushed .given .1) _ _
+    (c .before .before .before .before .before .before .write-graph .ensures) _ (c .before .before .back .ensures)
 
 pub join-graph-spec : {M : Type 1} → statement M
 join-graph-spec =

@@ -24,10 +24,12 @@ copy-graph-requires : tie.Need-copy-graph-requires
 copy-graph-requires c κs = asks-copy _ _ _ _ _ (c .before .before .before .before .before .pre) _ (c .before .before .lone .ensures) (cc)
 
 same-length-2 : tie.Need-same-length-2
-same-length-2 c = owned _ _ _ _ _ (c .before .before .before .before .before .before .before .before .pre) _ (c .before .before .before .before .before .lone .ensures) (cc) _ _ (c .before .before .copy-graph .ensures) .len
+same-length-2 c = owned _ _ _ _ _ (c .before .before .before .before .before .before .before .before .pre) _
+    (c .before .before .before .before .before .lone .ensures) (cc) _ _ (c .before .before .copy-graph .ensures) .len
 
 returns-2 : tie.Need-returns-2
-returns-2 c = λ d. owned _ _ _ _ _ d _ (c .before .before .before .before .before .lone .ensures) (cc) _ _ (c .before .before .copy-graph .ensures)
+returns-2 c = λ d. owned _ _ _ _ _ d _ (c .before .before .before .before .before .lone .ensures) (cc) _ _
+    (c .before .before .copy-graph .ensures)
 
 pub put-graph-spec : {M : Type 1} → statement M
 put-graph-spec =

@@ -22,7 +22,8 @@ tail-at-requires : tie.Need-tail-at-requires Inv-loop μ-loop
 tail-at-requires c κs = (look-reads _ _ (c .before .pre) .0, c .before .pre .long)
 
 disjunctions-at-requires : tie.Need-disjunctions-at-requires Inv-loop μ-loop
-disjunctions-at-requires c κs = (let e = c .tail-at .ensures in let h = look-reads _ _ (c .before .before .pre) .1 in omega arith, c .before .before .pre .long)
+disjunctions-at-requires c κs =
+    (let e = c .tail-at .ensures in let h = look-reads _ _ (c .before .before .pre) .1 in omega arith, c .before .before .pre .long)
 
 add-at : tie.Need-add-at Inv-loop μ-loop
 add-at c = let e = c .before .tail-at .ensures in let h = look-reads _ _ (c .before .before .before .pre) .1 in omega arith
@@ -31,13 +32,16 @@ loop-holds : tie.Need-loop-holds Inv-loop μ-loop
 loop-holds c = λ d. look-start _ _ d _ _ (c .before .tail-at .ensures) (c .disjunctions-at .ensures)
 
 alternatives-at-requires : tie.Need-alternatives-at-requires Inv-loop μ-loop
-alternatives-at-requires c κs = let p = c .before .before .before .before .before .pre in let q = c .loop-test in (look-here _ _ p _ _ (c .before .loop .inv p) (omega arith), p .long)
+alternatives-at-requires c κs = let p = c .before .before .before .before .before .pre in let q = c .loop-test in
+    (look-here _ _ p _ _ (c .before .loop .inv p) (omega arith), p .long)
 
 add-count-kept : tie.Need-add-count-kept Inv-loop μ-loop
-add-count-kept c = let p = c .before .before .before .before .before .before .pre in let q = c .before .loop-test in let h = look-here _ _ p _ _ (c .before .before .loop .inv p) (omega arith) in omega arith
+add-count-kept c = let p = c .before .before .before .before .before .before .pre in let q = c .before .loop-test in
+    let h = look-here _ _ p _ _ (c .before .before .loop .inv p) (omega arith) in omega arith
 
 count-kept-requires : tie.Need-count-kept-requires Inv-loop μ-loop
-count-kept-requires c κs = let p = c .before .before .before .before .before .before .pre in let q = c .before .loop-test in look-counts _ _ p _ _ (c .before .before .loop .inv p) (omega arith) _ (c .alternatives-at .ensures)
+count-kept-requires c κs = let p = c .before .before .before .before .before .before .pre in let q = c .before .loop-test in
+    look-counts _ _ p _ _ (c .before .before .loop .inv p) (omega arith) _ (c .alternatives-at .ensures)
 
 returns : tie.Need-returns Inv-loop μ-loop
 returns c = λ d e. let z : _≡_ {A = ℕ} 0 1 = cc in absurd (omega arith)
@@ -49,7 +53,9 @@ loop-less : tie.Need-loop-less Inv-loop μ-loop
 loop-less c = let q = c .before .before .before .before .loop-test in omega arith
 
 loop-again : tie.Need-loop-again Inv-loop μ-loop
-loop-again c = let q = c .before .before .before .before .loop-test in λ d. look-on _ _ d _ _ (c .before .before .before .before .before .loop .inv d) (omega arith) _ (c .before .before .before .alternatives-at .ensures) _ _ _ (c .before .before .count-kept .ensures) (λ z. omega arith)
+loop-again c = let q = c .before .before .before .before .loop-test in
+    λ d. look-on _ _ d _ _ (c .before .before .before .before .before .loop .inv d) (omega arith) _
+    (c .before .before .before .alternatives-at .ensures) _ _ _ (c .before .before .count-kept .ensures) (λ z. omega arith)
 
 returns-2 : tie.Need-returns-2 Inv-loop μ-loop
 returns-2 c = λ d e. look-done _ _ d _ _ (c .before .loop .inv d) (omega arith)

@@ -1,4 +1,5 @@
--- The cycle of `put_description`, `put_disjunctions`, `put_one` and `put_alternatives` meets its contracts: each step goes on to the whole, and the depth falls.
+-- The cycle of `put_description`, `put_disjunctions`, `put_one` and `put_alternatives` meets its contracts: each step goes on to the
+-- whole, and the depth falls.
 -- Assumes nothing.
 use Prim.Native.Nat.{ℕ, _+_, _*_, _<_}
 use native.Mathlib.Omega.{arith}
@@ -9,7 +10,8 @@ use Rattle.showing.proofs.Disjoining as disjoining
 use Rattle.showing.proofs.Disjoining.{go-reads, go-start, go-done, go-small, go-same, go-here, go-deep, go-asks, go-few, go-on}
 use Rattle.showing.proofs.Varying.{vary-counts, vary-small, vary-inner, vary-one, vary-room, vary-offers, vary-several}
 use Rattle.showing.proofs.Offering as offering
-use Rattle.showing.proofs.Offering.{Turn, skipped, taken, offer-start, offer-done, offer-same, offer-long, offer-here, offer-asks, turn-inside, turn-on}
+use Rattle.showing.proofs.Offering.{Turn, skipped, taken, offer-start, offer-done, offer-same, offer-long, offer-here, offer-asks}
+use Rattle.showing.proofs.Offering.{turn-inside, turn-on}
 use borrow.Fn.Kinds.{In}
 use borrow.Fn.PlainCycle.{Measures, is, falls, and}
 use Rattle.showing.proofs.put.put_alternatives.Reads as put-alternatives
@@ -118,42 +120,86 @@ put-alternatives-claims t = (
 )
 
 abbrev put-alternatives-Inv-loop : put-alternatives-lts.InvT-loop
-put-alternatives-Inv-loop w₀ n p of left o rest₀ at₀ out₀ w rest at out = (d : Offering n w₀ p of left o) → offering.Going n w₀ p of left o d rest at out w
+put-alternatives-Inv-loop w₀ n p of left o rest₀ at₀ out₀ w rest at out = (d : Offering n w₀ p of left o) →
+    offering.Going n w₀ p of left o d rest at out w
 
 abbrev put-alternatives-μ-loop : put-alternatives-lts.MeasureT-loop
 put-alternatives-μ-loop w₀ n p of left o rest₀ at₀ out₀ w rest at out = rest
 
-put-alternatives-loop-holds : (t : ℕ) → put-alternatives-lts.Need-loop-holds (put-alternatives-claims t) (put-alternatives-at t) put-alternatives.Post put-alternatives-Inv-loop put-alternatives-μ-loop
+put-alternatives-loop-holds : (t : ℕ) →
+    put-alternatives-lts.Need-loop-holds (put-alternatives-claims t) (put-alternatives-at t) put-alternatives.Post put-alternatives-Inv-loop
+    put-alternatives-μ-loop
 put-alternatives-loop-holds t c = λ d. offer-start _ _ _ _ _ _ d
 
-put-alternatives-number-at-requires : (t : ℕ) → put-alternatives-lts.Need-number-at-requires (put-alternatives-claims t) (put-alternatives-at t) put-alternatives.Post put-alternatives-Inv-loop put-alternatives-μ-loop
-put-alternatives-number-at-requires t c κs = let p = c .before .before .before .before .pre .1 in let v = c .before .before .loop .inv p in let q = c .before .loop-test in (offer-here _ _ _ _ _ _ p _ _ _ _ v (omega arith) .0, offer-long _ _ _ _ _ _ p _ _ _ _ v)
+put-alternatives-number-at-requires : (t : ℕ) →
+    put-alternatives-lts.Need-number-at-requires (put-alternatives-claims t)
+    (put-alternatives-at t) put-alternatives.Post put-alternatives-Inv-loop put-alternatives-μ-loop
+put-alternatives-number-at-requires t c κs = let p = c .before .before .before .before .pre .1 in let v = c .before .before .loop .inv p in
+    let q = c .before .loop-test in (offer-here _ _ _ _ _ _ p _ _ _ _ v (omega arith) .0, offer-long _ _ _ _ _ _ p _ _ _ _ v)
 
-put-alternatives-kept-requires : (t : ℕ) → put-alternatives-lts.Need-kept-requires (put-alternatives-claims t) (put-alternatives-at t) put-alternatives.Post put-alternatives-Inv-loop put-alternatives-μ-loop
-put-alternatives-kept-requires t c κs = let p = c .before .before .before .before .before .before .pre .1 in let v = c .before .before .before .before .loop .inv p in let q = c .before .before .before .loop-test in (let e = c .before .number-at .ensures in let h = offer-here _ _ _ _ _ _ p _ _ _ _ v (omega arith) .1 in omega arith, offer-long _ _ _ _ _ _ p _ _ _ _ v)
+put-alternatives-kept-requires : (t : ℕ) →
+    put-alternatives-lts.Need-kept-requires (put-alternatives-claims t)
+    (put-alternatives-at t) put-alternatives.Post put-alternatives-Inv-loop put-alternatives-μ-loop
+put-alternatives-kept-requires t c κs = let p = c .before .before .before .before .before .before .pre .1 in
+    let v = c .before .before .before .before .loop .inv p in let q = c .before .before .before .loop-test in (
+      let e = c .before .number-at .ensures in let h = offer-here _ _ _ _ _ _ p _ _ _ _ v (omega arith) .1 in
+          omega arith,
+      offer-long _ _ _ _ _ _ p _ _ _ _ v,
+    )
 
-put-alternatives-put-description-requires : (t : ℕ) → put-alternatives-lts.Need-put-description-requires (put-alternatives-claims t) (put-alternatives-at t) put-alternatives.Post put-alternatives-Inv-loop put-alternatives-μ-loop
-put-alternatives-put-description-requires t c κs = let p = c .before .before .before .before .before .before .before .before .before .pre .1 in let v = c .before .before .before .before .before .before .before .loop .inv p in let q = c .before .before .before .before .before .before .loop-test in (omega (arith, c .before .before .before .before .before .before .before .before .before .pre .0), offer-asks _ _ _ _ _ _ p _ _ _ _ v (omega arith) _ (c .before .before .before .before .number-at .ensures) (cc))
+put-alternatives-put-description-requires : (t : ℕ) →
+    put-alternatives-lts.Need-put-description-requires (put-alternatives-claims t)
+    (put-alternatives-at t) put-alternatives.Post put-alternatives-Inv-loop put-alternatives-μ-loop
+put-alternatives-put-description-requires t c κs = let p =
+    c .before .before .before .before .before .before .before .before .before .pre .1 in
+    let v = c .before .before .before .before .before .before .before .loop .inv p in
+    let q = c .before .before .before .before .before .before .loop-test in (
+      omega (arith, c .before .before .before .before .before .before .before .before .before .pre .0),
+      offer-asks _ _ _ _ _ _ p _ _ _ _ v (omega arith) _ (c .before .before .before .before .number-at .ensures) (cc),
+    )
 
-turned : (t : ℕ) (c : put-alternatives-lts.Joined1 (put-alternatives-claims t) (put-alternatives-at t) put-alternatives.Post put-alternatives-Inv-loop put-alternatives-μ-loop) → Turn (c .before .before .before .before .before .before .before .before .args .n) (c .before .before .before .before .before .before .loop .w) (c .before .before .before .before .before .before .loop .at) (c .before .before .before .number-at .result) (c .before .before .before .before .before .before .before .before .args .left) (c .before .before .before .before .before .before .loop .out) (c .if1 .out) (c .if1 .w)
+turned : (t : ℕ) (c : put-alternatives-lts.Joined1 (put-alternatives-claims t)
+    (put-alternatives-at t) put-alternatives.Post put-alternatives-Inv-loop put-alternatives-μ-loop) →
+    Turn (c .before .before .before .before .before .before .before .before .args .n)
+    (c .before .before .before .before .before .before .loop .w) (c .before .before .before .before .before .before .loop .at)
+    (c .before .before .before .number-at .result) (c .before .before .before .before .before .before .before .before .args .left)
+    (c .before .before .before .before .before .before .loop .out) (c .if1 .out) (c .if1 .w)
 turned t c = ⊎-elim (λ u. taken _ _ (cc) (u .2 .ensures) (u .5) (u .6)) (λ u. skipped (cc) (u .1) (u .2)) (c .if1 .came)
 
-put-alternatives-after-at-requires : (t : ℕ) → put-alternatives-lts.Need-after-at-requires (put-alternatives-claims t) (put-alternatives-at t) put-alternatives.Post put-alternatives-Inv-loop put-alternatives-μ-loop
-put-alternatives-after-at-requires t c κs = let p = c .before .before .before .before .before .before .before .before .before .pre .1 in let v = c .before .before .before .before .before .before .before .loop .inv p in let q = c .before .before .before .before .before .before .loop-test in let i = turn-inside _ _ _ _ _ _ p _ _ _ _ v (omega arith) _ (c .before .before .before .before .number-at .ensures) _ _ (turned t (c .before)) in ((offer-here _ _ _ _ _ _ p _ _ _ _ v (omega arith) .0, i .1), i .0)
+put-alternatives-after-at-requires : (t : ℕ) →
+    put-alternatives-lts.Need-after-at-requires (put-alternatives-claims t)
+    (put-alternatives-at t) put-alternatives.Post put-alternatives-Inv-loop put-alternatives-μ-loop
+put-alternatives-after-at-requires t c κs = let p = c .before .before .before .before .before .before .before .before .before .pre .1 in
+    let v = c .before .before .before .before .before .before .before .loop .inv p in
+    let q = c .before .before .before .before .before .before .loop-test in
+    let i = turn-inside _ _ _ _ _ _ p _ _ _ _ v (omega arith) _ (c .before .before .before .before .number-at .ensures) _ _
+    (turned t (c .before)) in ((offer-here _ _ _ _ _ _ p _ _ _ _ v (omega arith) .0, i .1), i .0)
 
-put-alternatives-sub-rest : (t : ℕ) → put-alternatives-lts.Need-sub-rest (put-alternatives-claims t) (put-alternatives-at t) put-alternatives.Post put-alternatives-Inv-loop put-alternatives-μ-loop
+put-alternatives-sub-rest : (t : ℕ) →
+    put-alternatives-lts.Need-sub-rest (put-alternatives-claims t) (put-alternatives-at t) put-alternatives.Post put-alternatives-Inv-loop
+    put-alternatives-μ-loop
 put-alternatives-sub-rest t c = let q = c .before .before .before .before .before .before .before .loop-test in omega arith
 
-put-alternatives-loop-less : (t : ℕ) → put-alternatives-lts.Need-loop-less (put-alternatives-claims t) (put-alternatives-at t) put-alternatives.Post put-alternatives-Inv-loop put-alternatives-μ-loop
+put-alternatives-loop-less : (t : ℕ) →
+    put-alternatives-lts.Need-loop-less (put-alternatives-claims t) (put-alternatives-at t) put-alternatives.Post put-alternatives-Inv-loop
+    put-alternatives-μ-loop
 put-alternatives-loop-less t c = let q = c .before .before .before .before .before .before .before .loop-test in omega arith
 
-put-alternatives-loop-again : (t : ℕ) → put-alternatives-lts.Need-loop-again (put-alternatives-claims t) (put-alternatives-at t) put-alternatives.Post put-alternatives-Inv-loop put-alternatives-μ-loop
-put-alternatives-loop-again t c = let q = c .before .before .before .before .before .before .before .loop-test in λ d. turn-on _ _ _ _ _ _ d _ _ _ _ (c .before .before .before .before .before .before .before .before .loop .inv d) (omega arith) _ (c .before .before .before .before .before .number-at .ensures) _ _ (turned t (c .before .before)) _ (c .after-at .ensures)
+put-alternatives-loop-again : (t : ℕ) →
+    put-alternatives-lts.Need-loop-again (put-alternatives-claims t) (put-alternatives-at t) put-alternatives.Post put-alternatives-Inv-loop
+    put-alternatives-μ-loop
+put-alternatives-loop-again t c = let q = c .before .before .before .before .before .before .before .loop-test in
+    λ d. turn-on _ _ _ _ _ _ d _ _ _ _ (c .before .before .before .before .before .before .before .before .loop .inv d) (omega arith) _
+    (c .before .before .before .before .before .number-at .ensures) _ _ (turned t (c .before .before)) _ (c .after-at .ensures)
 
-put-alternatives-same-length : (t : ℕ) → put-alternatives-lts.Need-same-length (put-alternatives-claims t) (put-alternatives-at t) put-alternatives.Post put-alternatives-Inv-loop put-alternatives-μ-loop
+put-alternatives-same-length : (t : ℕ) →
+    put-alternatives-lts.Need-same-length (put-alternatives-claims t)
+    (put-alternatives-at t) put-alternatives.Post put-alternatives-Inv-loop put-alternatives-μ-loop
 put-alternatives-same-length t c = let p = c .before .before .before .pre .1 in offer-same _ _ _ _ _ _ p _ _ _ _ (c .before .loop .inv p)
 
-put-alternatives-returns : (t : ℕ) → put-alternatives-lts.Need-returns (put-alternatives-claims t) (put-alternatives-at t) put-alternatives.Post put-alternatives-Inv-loop put-alternatives-μ-loop
+put-alternatives-returns : (t : ℕ) →
+    put-alternatives-lts.Need-returns (put-alternatives-claims t) (put-alternatives-at t) put-alternatives.Post put-alternatives-Inv-loop
+    put-alternatives-μ-loop
 put-alternatives-returns t c = λ d. offer-done _ _ _ _ _ _ d _ _ _ _ (c .before .loop .inv d) (omega arith)
 
 abbrev put-description-claims : ℕ → put-description-lts.Claims
@@ -164,32 +210,55 @@ put-description-claims t = (
   put-disjunctions.Post,
 )
 
-put-description-put-graph-requires : (t : ℕ) → put-description-lts.Need-put-graph-requires (put-description-claims t) (put-description-at t) put-description.Post
+put-description-put-graph-requires : (t : ℕ) →
+    put-description-lts.Need-put-graph-requires (put-description-claims t) (put-description-at t) put-description.Post
 put-description-put-graph-requires t c κs = c .before .before .pre .1
 
-put-description-add-put-disjunctions : (t : ℕ) → put-description-lts.Need-add-put-disjunctions (put-description-claims t) (put-description-at t) put-description.Post
-put-description-add-put-disjunctions t c = let h = graph-end _ _ _ _ _ _ _ (c .before .before .before .put-graph .ensures) (c .before .before .before .before .before .before .pre .1) in omega arith
+put-description-add-put-disjunctions : (t : ℕ) →
+    put-description-lts.Need-add-put-disjunctions (put-description-claims t) (put-description-at t) put-description.Post
+put-description-add-put-disjunctions t c = let h =
+    graph-end _ _ _ _ _ _ _ (c .before .before .before .put-graph .ensures) (c .before .before .before .before .before .before .pre .1) in
+    omega arith
 
-put-description-put-disjunctions-requires : (t : ℕ) → put-description-lts.Need-put-disjunctions-requires (put-description-claims t) (put-description-at t) put-description.Post
-put-description-put-disjunctions-requires t c κs = (omega (arith, c .before .before .before .before .before .before .pre .0), asks-later _ _ _ _ _ _ _ (c .before .before .before .put-graph .ensures) (c .before .before .before .before .before .before .pre .1))
+put-description-put-disjunctions-requires : (t : ℕ) →
+    put-description-lts.Need-put-disjunctions-requires (put-description-claims t) (put-description-at t) put-description.Post
+put-description-put-disjunctions-requires t c κs = (
+  omega (arith, c .before .before .before .before .before .before .pre .0),
+  asks-later _ _ _ _ _ _ _ (c .before .before .before .put-graph .ensures) (c .before .before .before .before .before .before .pre .1),
+)
 
 put-description-cast-w : (t : ℕ) → put-description-lts.Need-cast-w (put-description-claims t) (put-description-at t) put-description.Post
-put-description-cast-w t c = let h = later-few _ _ _ _ _ _ _ (c .before .before .before .before .before .before .put-graph .ensures) (c .before .before .before .before .before .before .before .before .before .pre .1) _ _ _ (c .before .before .put-disjunctions .ensures) in omega arith
+put-description-cast-w t c = let h =
+    later-few _ _ _ _ _ _ _ (c .before .before .before .before .before .before .put-graph .ensures)
+    (c .before .before .before .before .before .before .before .before .before .pre .1) _ _ _
+    (c .before .before .put-disjunctions .ensures) in omega arith
 
 put-description-add-w : (t : ℕ) → put-description-lts.Need-add-w (put-description-claims t) (put-description-at t) put-description.Post
-put-description-add-w t c = let h = graph-end _ _ _ _ _ _ _ (c .before .before .before .before .before .before .put-graph .ensures) (c .before .before .before .before .before .before .before .before .before .pre .1) in omega arith
+put-description-add-w t c = let h =
+    graph-end _ _ _ _ _ _ _ (c .before .before .before .before .before .before .put-graph .ensures)
+    (c .before .before .before .before .before .before .before .before .before .pre .1) in omega arith
 
 put-description-mul-w : (t : ℕ) → put-description-lts.Need-mul-w (put-description-claims t) (put-description-at t) put-description.Post
-put-description-mul-w t c = let h = graph-end _ _ _ _ _ _ _ (c .before .before .before .before .before .before .put-graph .ensures) (c .before .before .before .before .before .before .before .before .before .pre .1) in omega arith
+put-description-mul-w t c = let h =
+    graph-end _ _ _ _ _ _ _ (c .before .before .before .before .before .before .put-graph .ensures)
+    (c .before .before .before .before .before .before .before .before .before .pre .1) in omega arith
 
-put-description-slice-write-w : (t : ℕ) → put-description-lts.Need-slice-write-w (put-description-claims t) (put-description-at t) put-description.Post
-put-description-slice-write-w t c = let h = later-long _ _ _ _ _ _ _ (c .before .before .before .before .before .before .put-graph .ensures) (c .before .before .before .before .before .before .before .before .before .pre .1) _ _ _ (c .before .before .put-disjunctions .ensures) in omega arith
+put-description-slice-write-w : (t : ℕ) →
+    put-description-lts.Need-slice-write-w (put-description-claims t) (put-description-at t) put-description.Post
+put-description-slice-write-w t c = let h =
+    later-long _ _ _ _ _ _ _ (c .before .before .before .before .before .before .put-graph .ensures)
+    (c .before .before .before .before .before .before .before .before .before .pre .1) _ _ _
+    (c .before .before .put-disjunctions .ensures) in omega arith
 
-put-description-same-length : (t : ℕ) → put-description-lts.Need-same-length (put-description-claims t) (put-description-at t) put-description.Post
-put-description-same-length t c = describes _ _ _ _ _ _ _ (c .before .before .before .before .before .before .put-graph .ensures) _ _ _ (c .before .before .put-disjunctions .ensures) (c .before .before .before .before .before .before .before .before .before .pre .1) .len
+put-description-same-length : (t : ℕ) →
+    put-description-lts.Need-same-length (put-description-claims t) (put-description-at t) put-description.Post
+put-description-same-length t c =
+    describes _ _ _ _ _ _ _ (c .before .before .before .before .before .before .put-graph .ensures) _ _ _
+    (c .before .before .put-disjunctions .ensures) (c .before .before .before .before .before .before .before .before .before .pre .1) .len
 
 put-description-returns : (t : ℕ) → put-description-lts.Need-returns (put-description-claims t) (put-description-at t) put-description.Post
-put-description-returns t c = describes _ _ _ _ _ _ _ (c .before .before .before .before .before .before .put-graph .ensures) _ _ _ (c .before .before .put-disjunctions .ensures)
+put-description-returns t c = describes _ _ _ _ _ _ _ (c .before .before .before .before .before .before .put-graph .ensures) _ _ _
+    (c .before .before .put-disjunctions .ensures)
 
 abbrev put-disjunctions-claims : ℕ → put-disjunctions-lts.Claims
 put-disjunctions-claims t = (
@@ -204,51 +273,105 @@ put-disjunctions-claims t = (
 )
 
 abbrev put-disjunctions-Inv-loop : put-disjunctions-lts.InvT-loop
-put-disjunctions-Inv-loop w₀ n g left o e more₀ at₀ out₀ count₀ w more at out count = (d : Disjoining n w₀ g left o) → disjoining.Going n w₀ g left o d more at out count w
+put-disjunctions-Inv-loop w₀ n g left o e more₀ at₀ out₀ count₀ w more at out count = (d : Disjoining n w₀ g left o) →
+    disjoining.Going n w₀ g left o d more at out count w
 
 abbrev put-disjunctions-μ-loop : put-disjunctions-lts.MeasureT-loop
 put-disjunctions-μ-loop w₀ n g left o e more₀ at₀ out₀ count₀ w more at out count = more
 
-put-disjunctions-tail-at-requires : (t : ℕ) → put-disjunctions-lts.Need-tail-at-requires (put-disjunctions-claims t) (put-disjunctions-at t) put-disjunctions.Post put-disjunctions-Inv-loop put-disjunctions-μ-loop
+put-disjunctions-tail-at-requires : (t : ℕ) →
+    put-disjunctions-lts.Need-tail-at-requires (put-disjunctions-claims t)
+    (put-disjunctions-at t) put-disjunctions.Post put-disjunctions-Inv-loop put-disjunctions-μ-loop
 put-disjunctions-tail-at-requires t c κs = (go-reads _ _ _ _ _ (c .before .before .pre .1) .0, c .before .before .pre .1 .base .holds .long)
 
-put-disjunctions-disjunctions-at-requires : (t : ℕ) → put-disjunctions-lts.Need-disjunctions-at-requires (put-disjunctions-claims t) (put-disjunctions-at t) put-disjunctions.Post put-disjunctions-Inv-loop put-disjunctions-μ-loop
-put-disjunctions-disjunctions-at-requires t c κs = (let e = c .before .tail-at .ensures in let h = go-reads _ _ _ _ _ (c .before .before .before .before .pre .1) .1 in omega arith, c .before .before .before .before .pre .1 .base .holds .long)
+put-disjunctions-disjunctions-at-requires : (t : ℕ) →
+    put-disjunctions-lts.Need-disjunctions-at-requires (put-disjunctions-claims t)
+    (put-disjunctions-at t) put-disjunctions.Post put-disjunctions-Inv-loop put-disjunctions-μ-loop
+put-disjunctions-disjunctions-at-requires t c κs = (
+  let e = c .before .tail-at .ensures in let h = go-reads _ _ _ _ _ (c .before .before .before .before .pre .1) .1 in
+      omega arith,
+  c .before .before .before .before .pre .1 .base .holds .long,
+)
 
-put-disjunctions-add-at : (t : ℕ) → put-disjunctions-lts.Need-add-at (put-disjunctions-claims t) (put-disjunctions-at t) put-disjunctions.Post put-disjunctions-Inv-loop put-disjunctions-μ-loop
-put-disjunctions-add-at t c = let e = c .before .before .tail-at .ensures in let h = go-reads _ _ _ _ _ (c .before .before .before .before .before .pre .1) .1 in omega arith
+put-disjunctions-add-at : (t : ℕ) →
+    put-disjunctions-lts.Need-add-at (put-disjunctions-claims t) (put-disjunctions-at t) put-disjunctions.Post put-disjunctions-Inv-loop
+    put-disjunctions-μ-loop
+put-disjunctions-add-at t c = let e = c .before .before .tail-at .ensures in
+    let h = go-reads _ _ _ _ _ (c .before .before .before .before .before .pre .1) .1 in omega arith
 
-put-disjunctions-loop-holds : (t : ℕ) → put-disjunctions-lts.Need-loop-holds (put-disjunctions-claims t) (put-disjunctions-at t) put-disjunctions.Post put-disjunctions-Inv-loop put-disjunctions-μ-loop
+put-disjunctions-loop-holds : (t : ℕ) →
+    put-disjunctions-lts.Need-loop-holds (put-disjunctions-claims t) (put-disjunctions-at t) put-disjunctions.Post put-disjunctions-Inv-loop
+    put-disjunctions-μ-loop
 put-disjunctions-loop-holds t c = λ d. go-start _ _ _ _ _ d _ _ (c .before .before .tail-at .ensures) (c .disjunctions-at .ensures)
 
-put-disjunctions-alternatives-at-requires : (t : ℕ) → put-disjunctions-lts.Need-alternatives-at-requires (put-disjunctions-claims t) (put-disjunctions-at t) put-disjunctions.Post put-disjunctions-Inv-loop put-disjunctions-μ-loop
-put-disjunctions-alternatives-at-requires t c κs = let p = c .before .before .before .before .before .before .before .before .pre .1 in let v = c .before .before .loop .inv p in let q = c .before .loop-test in (go-here _ _ _ _ _ p _ _ _ _ _ v (omega arith), go-small _ _ _ _ _ p _ _ _ _ _ v .1)
+put-disjunctions-alternatives-at-requires : (t : ℕ) →
+    put-disjunctions-lts.Need-alternatives-at-requires (put-disjunctions-claims t)
+    (put-disjunctions-at t) put-disjunctions.Post put-disjunctions-Inv-loop put-disjunctions-μ-loop
+put-disjunctions-alternatives-at-requires t c κs = let p = c .before .before .before .before .before .before .before .before .pre .1 in
+    let v = c .before .before .loop .inv p in let q = c .before .loop-test in
+    (go-here _ _ _ _ _ p _ _ _ _ _ v (omega arith), go-small _ _ _ _ _ p _ _ _ _ _ v .1)
 
-put-disjunctions-add-put-one : (t : ℕ) → put-disjunctions-lts.Need-add-put-one (put-disjunctions-claims t) (put-disjunctions-at t) put-disjunctions.Post put-disjunctions-Inv-loop put-disjunctions-μ-loop
-put-disjunctions-add-put-one t c = let p = c .before .before .before .before .before .before .before .before .before .before .pre .1 in let v = c .before .before .before .before .loop .inv p in let q = c .before .before .before .loop-test in let h = go-here _ _ _ _ _ p _ _ _ _ _ v (omega arith) in omega arith
+put-disjunctions-add-put-one : (t : ℕ) →
+    put-disjunctions-lts.Need-add-put-one (put-disjunctions-claims t)
+    (put-disjunctions-at t) put-disjunctions.Post put-disjunctions-Inv-loop put-disjunctions-μ-loop
+put-disjunctions-add-put-one t c = let p = c .before .before .before .before .before .before .before .before .before .before .pre .1 in
+    let v = c .before .before .before .before .loop .inv p in let q = c .before .before .before .loop-test in
+    let h = go-here _ _ _ _ _ p _ _ _ _ _ v (omega arith) in omega arith
 
-put-disjunctions-sub-put-one : (t : ℕ) → put-disjunctions-lts.Need-sub-put-one (put-disjunctions-claims t) (put-disjunctions-at t) put-disjunctions.Post put-disjunctions-Inv-loop put-disjunctions-μ-loop
-put-disjunctions-sub-put-one t c = let p = c .before .before .before .before .before .before .before .before .before .before .pre .1 in let v = c .before .before .before .before .loop .inv p in let q = c .before .before .before .loop-test in let h = go-deep _ _ _ _ _ p _ _ _ _ _ v (omega arith) in omega arith
+put-disjunctions-sub-put-one : (t : ℕ) →
+    put-disjunctions-lts.Need-sub-put-one (put-disjunctions-claims t)
+    (put-disjunctions-at t) put-disjunctions.Post put-disjunctions-Inv-loop put-disjunctions-μ-loop
+put-disjunctions-sub-put-one t c = let p = c .before .before .before .before .before .before .before .before .before .before .pre .1 in
+    let v = c .before .before .before .before .loop .inv p in let q = c .before .before .before .loop-test in
+    let h = go-deep _ _ _ _ _ p _ _ _ _ _ v (omega arith) in omega arith
 
-put-disjunctions-put-one-requires : (t : ℕ) → put-disjunctions-lts.Need-put-one-requires (put-disjunctions-claims t) (put-disjunctions-at t) put-disjunctions.Post put-disjunctions-Inv-loop put-disjunctions-μ-loop
-put-disjunctions-put-one-requires t c κs = let p = c .before .before .before .before .before .before .before .before .before .before .pre .1 in let v = c .before .before .before .before .loop .inv p in let q = c .before .before .before .loop-test in (let h = go-deep _ _ _ _ _ p _ _ _ _ _ v (omega arith) in omega (arith, c .before .before .before .before .before .before .before .before .before .before .pre .0), go-asks _ _ _ _ _ p _ _ _ _ _ v (omega arith) _ (c .before .alternatives-at .ensures))
+put-disjunctions-put-one-requires : (t : ℕ) →
+    put-disjunctions-lts.Need-put-one-requires (put-disjunctions-claims t)
+    (put-disjunctions-at t) put-disjunctions.Post put-disjunctions-Inv-loop put-disjunctions-μ-loop
+put-disjunctions-put-one-requires t c κs = let p =
+    c .before .before .before .before .before .before .before .before .before .before .pre .1 in
+    let v = c .before .before .before .before .loop .inv p in let q = c .before .before .before .loop-test in (
+      let h = go-deep _ _ _ _ _ p _ _ _ _ _ v (omega arith) in
+          omega (arith, c .before .before .before .before .before .before .before .before .before .before .pre .0),
+      go-asks _ _ _ _ _ p _ _ _ _ _ v (omega arith) _ (c .before .alternatives-at .ensures),
+    )
 
-put-disjunctions-add-count : (t : ℕ) → put-disjunctions-lts.Need-add-count (put-disjunctions-claims t) (put-disjunctions-at t) put-disjunctions.Post put-disjunctions-Inv-loop put-disjunctions-μ-loop
-put-disjunctions-add-count t c = let p = c .before .before .before .before .before .before .before .before .before .before .before .before .before .before .pre .1 in let v = c .before .before .before .before .before .before .before .before .loop .inv p in let q = c .before .before .before .before .before .before .before .loop-test in let a = go-small _ _ _ _ _ p _ _ _ _ _ v .0 in let b = go-few _ _ _ _ _ p _ _ _ _ _ v (omega arith) _ (c .before .before .before .before .before .alternatives-at .ensures) _ _ _ _ (c .before .before .before .put-one .ensures) in omega arith
+put-disjunctions-add-count : (t : ℕ) →
+    put-disjunctions-lts.Need-add-count (put-disjunctions-claims t) (put-disjunctions-at t) put-disjunctions.Post put-disjunctions-Inv-loop
+    put-disjunctions-μ-loop
+put-disjunctions-add-count t c = let p =
+    c .before .before .before .before .before .before .before .before .before .before .before .before .before .before .pre .1 in
+    let v = c .before .before .before .before .before .before .before .before .loop .inv p in
+    let q = c .before .before .before .before .before .before .before .loop-test in let a = go-small _ _ _ _ _ p _ _ _ _ _ v .0 in
+    let b = go-few _ _ _ _ _ p _ _ _ _ _ v (omega arith) _ (c .before .before .before .before .before .alternatives-at .ensures) _ _ _ _
+    (c .before .before .before .put-one .ensures) in omega arith
 
-put-disjunctions-sub-more : (t : ℕ) → put-disjunctions-lts.Need-sub-more (put-disjunctions-claims t) (put-disjunctions-at t) put-disjunctions.Post put-disjunctions-Inv-loop put-disjunctions-μ-loop
+put-disjunctions-sub-more : (t : ℕ) →
+    put-disjunctions-lts.Need-sub-more (put-disjunctions-claims t) (put-disjunctions-at t) put-disjunctions.Post put-disjunctions-Inv-loop
+    put-disjunctions-μ-loop
 put-disjunctions-sub-more t c = let q = c .before .before .before .before .before .before .before .loop-test in omega arith
 
-put-disjunctions-loop-less : (t : ℕ) → put-disjunctions-lts.Need-loop-less (put-disjunctions-claims t) (put-disjunctions-at t) put-disjunctions.Post put-disjunctions-Inv-loop put-disjunctions-μ-loop
+put-disjunctions-loop-less : (t : ℕ) →
+    put-disjunctions-lts.Need-loop-less (put-disjunctions-claims t) (put-disjunctions-at t) put-disjunctions.Post put-disjunctions-Inv-loop
+    put-disjunctions-μ-loop
 put-disjunctions-loop-less t c = let q = c .before .before .before .before .before .before .before .loop-test in omega arith
 
-put-disjunctions-loop-again : (t : ℕ) → put-disjunctions-lts.Need-loop-again (put-disjunctions-claims t) (put-disjunctions-at t) put-disjunctions.Post put-disjunctions-Inv-loop put-disjunctions-μ-loop
-put-disjunctions-loop-again t c = let q = c .before .before .before .before .before .before .before .loop-test in λ d. go-on _ _ _ _ _ d _ _ _ _ _ (c .before .before .before .before .before .before .before .before .loop .inv d) (omega arith) _ (c .before .before .before .before .before .alternatives-at .ensures) _ _ _ _ (c .before .before .before .put-one .ensures)
+put-disjunctions-loop-again : (t : ℕ) →
+    put-disjunctions-lts.Need-loop-again (put-disjunctions-claims t) (put-disjunctions-at t) put-disjunctions.Post put-disjunctions-Inv-loop
+    put-disjunctions-μ-loop
+put-disjunctions-loop-again t c = let q = c .before .before .before .before .before .before .before .loop-test in
+    λ d. go-on _ _ _ _ _ d _ _ _ _ _ (c .before .before .before .before .before .before .before .before .loop .inv d) (omega arith) _
+    (c .before .before .before .before .before .alternatives-at .ensures) _ _ _ _ (c .before .before .before .put-one .ensures)
 
-put-disjunctions-same-length : (t : ℕ) → put-disjunctions-lts.Need-same-length (put-disjunctions-claims t) (put-disjunctions-at t) put-disjunctions.Post put-disjunctions-Inv-loop put-disjunctions-μ-loop
-put-disjunctions-same-length t c = let p = c .before .before .before .before .before .before .before .pre .1 in go-same _ _ _ _ _ p _ _ _ _ _ (c .before .loop .inv p)
+put-disjunctions-same-length : (t : ℕ) →
+    put-disjunctions-lts.Need-same-length (put-disjunctions-claims t)
+    (put-disjunctions-at t) put-disjunctions.Post put-disjunctions-Inv-loop put-disjunctions-μ-loop
+put-disjunctions-same-length t c = let p = c .before .before .before .before .before .before .before .pre .1 in
+    go-same _ _ _ _ _ p _ _ _ _ _ (c .before .loop .inv p)
 
-put-disjunctions-returns : (t : ℕ) → put-disjunctions-lts.Need-returns (put-disjunctions-claims t) (put-disjunctions-at t) put-disjunctions.Post put-disjunctions-Inv-loop put-disjunctions-μ-loop
+put-disjunctions-returns : (t : ℕ) →
+    put-disjunctions-lts.Need-returns (put-disjunctions-claims t) (put-disjunctions-at t) put-disjunctions.Post put-disjunctions-Inv-loop
+    put-disjunctions-μ-loop
 put-disjunctions-returns t c = λ d. go-done _ _ _ _ _ d _ _ _ _ _ (c .before .loop .inv d) (omega arith)
 
 abbrev put-one-claims : ℕ → put-one-lts.Claims
@@ -265,37 +388,57 @@ put-one-count-kept-requires : (t : ℕ) → put-one-lts.Need-count-kept-requires
 put-one-count-kept-requires t c κs = vary-counts _ _ _ _ _ _ (c .before .before .pre .1)
 
 put-one-put-disjunctions-requires : (t : ℕ) → put-one-lts.Need-put-disjunctions-requires (put-one-claims t) (put-one-at t) put-one.Post
-put-one-put-disjunctions-requires t c κs = (omega (arith, c .before .before .before .before .before .pre .0), vary-inner _ _ _ _ _ _ (c .before .before .before .before .before .pre .1) _ _ _ (c .before .before .count-kept .ensures) (omega arith))
+put-one-put-disjunctions-requires t c κs = (
+  omega (arith, c .before .before .before .before .before .pre .0),
+  vary-inner _ _ _ _ _ _ (c .before .before .before .before .before .pre .1) _ _ _ (c .before .before .count-kept .ensures) (omega arith),
+)
 
 put-one-same-length : (t : ℕ) → put-one-lts.Need-same-length (put-one-claims t) (put-one-at t) put-one.Post
-put-one-same-length t c = c .before .before .put-disjunctions .ensures (vary-inner _ _ _ _ _ _ (c .before .before .before .before .before .before .before .before .pre .1) _ _ _ (c .before .before .before .before .before .count-kept .ensures) (omega arith)) .0 .len
+put-one-same-length t c = c .before .before .put-disjunctions .ensures
+    (vary-inner _ _ _ _ _ _ (c .before .before .before .before .before .before .before .before .pre .1) _ _ _
+    (c .before .before .before .before .before .count-kept .ensures) (omega arith)) .0 .len
 
 put-one-returns : (t : ℕ) → put-one-lts.Need-returns (put-one-claims t) (put-one-at t) put-one.Post
-put-one-returns t c = λ d. vary-one _ _ _ _ _ _ d _ _ _ (c .before .before .before .before .before .count-kept .ensures) (omega arith) _ _ _ (c .before .before .put-disjunctions .ensures)
+put-one-returns t c = λ d. vary-one _ _ _ _ _ _ d _ _ _ (c .before .before .before .before .before .count-kept .ensures) (omega arith) _ _ _
+    (c .before .before .put-disjunctions .ensures)
 
 put-one-cast-w : (t : ℕ) → put-one-lts.Need-cast-w (put-one-claims t) (put-one-at t) put-one.Post
-put-one-cast-w t c = let h = vary-small _ _ _ _ _ _ (c .before .before .before .before .pre .1) _ _ _ (c .before .count-kept .ensures) in omega arith
+put-one-cast-w t c = let h = vary-small _ _ _ _ _ _ (c .before .before .before .before .pre .1) _ _ _ (c .before .count-kept .ensures) in
+    omega arith
 
 put-one-add-w : (t : ℕ) → put-one-lts.Need-add-w (put-one-claims t) (put-one-at t) put-one.Post
-put-one-add-w t c = let h = vary-room _ _ _ _ _ _ (c .before .before .before .before .pre .1) _ _ _ (c .before .count-kept .ensures) (λ z. omega arith) .0 in omega arith
+put-one-add-w t c = let h = vary-room _ _ _ _ _ _ (c .before .before .before .before .pre .1) _ _ _ (c .before .count-kept .ensures)
+    (λ z. omega arith) .0 in omega arith
 
 put-one-mul-w : (t : ℕ) → put-one-lts.Need-mul-w (put-one-claims t) (put-one-at t) put-one.Post
-put-one-mul-w t c = let h = vary-room _ _ _ _ _ _ (c .before .before .before .before .pre .1) _ _ _ (c .before .count-kept .ensures) (λ z. omega arith) .0 in omega arith
+put-one-mul-w t c = let h = vary-room _ _ _ _ _ _ (c .before .before .before .before .pre .1) _ _ _ (c .before .count-kept .ensures)
+    (λ z. omega arith) .0 in omega arith
 
 put-one-slice-write-w : (t : ℕ) → put-one-lts.Need-slice-write-w (put-one-claims t) (put-one-at t) put-one.Post
-put-one-slice-write-w t c = let h = vary-room _ _ _ _ _ _ (c .before .before .before .before .pre .1) _ _ _ (c .before .count-kept .ensures) (λ z. omega arith) .1 in omega arith
+put-one-slice-write-w t c = let h =
+    vary-room _ _ _ _ _ _ (c .before .before .before .before .pre .1) _ _ _ (c .before .count-kept .ensures) (λ z. omega arith) .1 in
+    omega arith
 
 put-one-add-put-alternatives : (t : ℕ) → put-one-lts.Need-add-put-alternatives (put-one-claims t) (put-one-at t) put-one.Post
-put-one-add-put-alternatives t c = let h = vary-room _ _ _ _ _ _ (c .before .before .before .before .before .pre .1) _ _ _ (c .before .before .count-kept .ensures) (λ z. omega arith) .0 in omega arith
+put-one-add-put-alternatives t c = let h =
+    vary-room _ _ _ _ _ _ (c .before .before .before .before .before .pre .1) _ _ _ (c .before .before .count-kept .ensures)
+    (λ z. omega arith) .0 in omega arith
 
 put-one-put-alternatives-requires : (t : ℕ) → put-one-lts.Need-put-alternatives-requires (put-one-claims t) (put-one-at t) put-one.Post
-put-one-put-alternatives-requires t c κs = (omega (arith, c .before .before .before .before .before .pre .0), vary-offers _ _ _ _ _ _ (c .before .before .before .before .before .pre .1) _ _ _ (c .before .before .count-kept .ensures) (λ z. omega arith))
+put-one-put-alternatives-requires t c κs = (
+  omega (arith, c .before .before .before .before .before .pre .0),
+  vary-offers _ _ _ _ _ _ (c .before .before .before .before .before .pre .1) _ _ _ (c .before .before .count-kept .ensures)
+      (λ z. omega arith),
+)
 
 put-one-same-length-2 : (t : ℕ) → put-one-lts.Need-same-length-2 (put-one-claims t) (put-one-at t) put-one.Post
-put-one-same-length-2 t c = vary-several _ _ _ _ _ _ (c .before .before .before .before .before .before .before .before .pre .1) _ _ _ (c .before .before .before .before .before .count-kept .ensures) (λ z. omega arith) _ _ (c .before .before .put-alternatives .ensures) .0 .len
+put-one-same-length-2 t c = vary-several _ _ _ _ _ _ (c .before .before .before .before .before .before .before .before .pre .1) _ _ _
+    (c .before .before .before .before .before .count-kept .ensures) (λ z. omega arith) _ _
+    (c .before .before .put-alternatives .ensures) .0 .len
 
 put-one-returns-2 : (t : ℕ) → put-one-lts.Need-returns-2 (put-one-claims t) (put-one-at t) put-one.Post
-put-one-returns-2 t c = λ d. vary-several _ _ _ _ _ _ d _ _ _ (c .before .before .before .before .before .count-kept .ensures) (λ z. omega arith) _ _ (c .before .before .put-alternatives .ensures)
+put-one-returns-2 t c = λ d. vary-several _ _ _ _ _ _ d _ _ _ (c .before .before .before .before .before .count-kept .ensures)
+    (λ z. omega arith) _ _ (c .before .before .put-alternatives .ensures)
 
 pub +put-alternatives+put-description+put-disjunctions+put-one-spec : {M : Type 1} → statement M
 +put-alternatives+put-description+put-disjunctions+put-one-spec =

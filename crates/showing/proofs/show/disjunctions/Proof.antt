@@ -27,7 +27,9 @@ add-result c = let a = c .before .before .disjunctions-at .ensures in let b = c 
 returns : tie.Need-returns
 returns c =
     let w = c .before .before .before .before .before .args .w .now in
-    ap₂ _+_ (c .before .before .disjunctions-at .ensures ∙ ap (disjunctions-at w) (c .before .before .before .tail-at .ensures)) (c .disjunctions-at2 .ensures ∙ ap (disjunctions-at w) (c .before .tail-at2 .ensures))
+    ap₂ _+_ (c .before .before .disjunctions-at .ensures ∙ ap (disjunctions-at w) (c .before .before .before .tail-at .ensures))
+    (c .disjunctions-at2 .ensures ∙ ap (disjunctions-at w) (c .before .tail-at2 .ensures))
 
 pub disjunctions-spec : {M : Type 1} → statement M
-disjunctions-spec = tie.close (tie.spec tail-at-requires disjunctions-at-requires tail-at-requires-2 disjunctions-at-requires-2 add-result returns)
+disjunctions-spec = tie.close (tie.spec tail-at-requires disjunctions-at-requires tail-at-requires-2 disjunctions-at-requires-2 add-result
+    returns)

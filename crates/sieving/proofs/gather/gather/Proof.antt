@@ -1,4 +1,5 @@
--- `sieving::gather::gather` meets its contract. The loop's invariant: a feature is on the chain where it is found from the arc that is noted for it on, or ahead. Assumes nothing.
+-- `sieving::gather::gather` meets its contract. The loop's invariant: a feature is on the chain where it is found from the arc that is
+-- noted for it on, or ahead. Assumes nothing.
 use Prim.Native.Nat.{ℕ, _%_, _≤_, _<_}
 use mathlib.Core.Path.{_≡_, refl, ap, _∙_}
 use mathlib.Core.Logic.{⊎-elim}
@@ -29,14 +30,20 @@ returns c = note-none _ _ _ (c .before .before .before .before .before .pre .1 .
 loop-holds : tie.Need-loop-holds Inv-loop μ-loop
 loop-holds c =
     let e = c .before .wide .ensures in
-    let l : getD (c .before .before .before .before .before .args .w .now) 0 0 ≤ 2048 = let h = c .if1 .left in omega arith in
-    (refl, note-start _ _ _ (c .before .before .before .before .before .pre .1 .1) e (rw e (c .before .before .before .before .before .pre .1 .0 l)))
+    let l : getD (c .before .before .before .before .before .args .w .now) 0 0 ≤ 2048 = let h = c .if1 .left in omega arith in (
+      refl,
+      note-start _ _ _ (c .before .before .before .before .before .pre .1 .1) e
+          (rw e (c .before .before .before .before .before .pre .1 .0 l)),
+    )
 
 sub-j : tie.Need-sub-j Inv-loop μ-loop
 sub-j c = some _ (c .loop-test .taken)
 
 loaded-requires : tie.Need-loaded-requires Inv-loop μ-loop
-loaded-requires c κs = (runs-below _ _ (c .before .loop .inv .1 .runs) (some _ (c .loop-test .taken)), c .before .before .before .before .before .before .before .pre .0 .0)
+loaded-requires c κs = (
+  runs-below _ _ (c .before .loop .inv .1 .runs) (some _ (c .loop-test .taken)),
+  c .before .before .before .before .before .before .before .pre .0 .0,
+)
 
 wide-requires-2 : tie.Need-wide-requires-2 Inv-loop μ-loop
 wide-requires-2 c κs = search needs
@@ -45,30 +52,52 @@ mul-if2 : tie.Need-mul-if2 Inv-loop μ-loop
 mul-if2 c = search needs
 
 slice-read-if2 : tie.Need-slice-read-if2 Inv-loop μ-loop
-slice-read-if2 c = omega (arith, c .before .before .before .before .loop .inv .0, c .before .before .before .before .before .before .before .before .before .before .pre .0 .1)
+slice-read-if2 c = omega (
+  arith,
+  c .before .before .before .before .loop .inv .0,
+  c .before .before .before .before .before .before .before .before .before .before .pre .0 .1,
+)
 
 cast-t : tie.Need-cast-t Inv-loop μ-loop
-cast-t c = let l = runs-below _ _ (c .before .before .before .before .before .loop .inv .1 .runs) (some _ (c .before .before .before .before .loop-test .taken)) in omega arith
+cast-t c = let l = runs-below _ _ (c .before .before .before .before .before .loop .inv .1 .runs)
+    (some _ (c .before .before .before .before .loop-test .taken)) in omega arith
 
 mul-t : tie.Need-mul-t Inv-loop μ-loop
 mul-t c = search needs
 
 slice-write-t : tie.Need-slice-write-t Inv-loop μ-loop
-slice-write-t c = omega (arith, c .before .before .before .before .before .loop .inv .0, c .before .before .before .before .before .before .before .before .before .before .before .pre .0 .1)
+slice-write-t c = omega (
+  arith,
+  c .before .before .before .before .before .loop .inv .0,
+  c .before .before .before .before .before .before .before .before .before .before .before .pre .0 .1,
+)
 
 next-requires : tie.Need-next-requires Inv-loop μ-loop
-next-requires c κs = (runs-below _ _ (c .before .before .before .before .before .loop .inv .1 .runs) (some _ (c .before .before .before .before .loop-test .taken)), c .before .before .before .before .before .before .before .before .before .before .before .pre .0 .0)
+next-requires c κs = (
+  runs-below _ _ (c .before .before .before .before .before .loop .inv .1 .runs)
+      (some _ (c .before .before .before .before .loop-test .taken)),
+  c .before .before .before .before .before .before .before .before .before .before .before .pre .0 .0,
+)
 
 loop-less : tie.Need-loop-less Inv-loop μ-loop
-loop-less c = runs-less _ _ _ (c .before .before .before .before .before .before .loop .inv .1 .runs) (some _ (c .before .before .before .before .before .loop-test .taken)) (c .next .ensures)
+loop-less c = runs-less _ _ _ (c .before .before .before .before .before .before .loop .inv .1 .runs)
+    (some _ (c .before .before .before .before .before .loop-test .taken)) (c .next .ensures)
 
 loop-again : tie.Need-loop-again Inv-loop μ-loop
 loop-again c =
     let o = c .before .before .before .before .before .before .loop in
     let i = c .before .before .before .wide2 .result % 256 in
-    let l : i < length (o .t) = omega (arith, o .inv .0, c .before .before .before .before .before .before .before .before .before .before .before .before .pre .0 .1) in
-    let n : Noted (o .t) i (o .y) (c .before .if2 .t) = ⊎-elim (λ u. noted-new _ _ _ _ l (u .0 .taken) (u .1)) (λ u. noted-old _ _ _ _ (u .0 .left) (u .1)) (c .before .if2 .came) in
-    (n .len ∙ o .inv .0, note-turn _ _ _ (o .inv .1) (c .before .before .before .before .before .loop-test .taken) _ (c .next .ensures) _ (ap (λ (z : ℕ). z % 256) (c .before .before .before .wide2 .ensures ∙ c .before .before .before .before .loaded .ensures)) _ n)
+    let l : i < length (o .t) = omega (
+      arith,
+      o .inv .0,
+      c .before .before .before .before .before .before .before .before .before .before .before .before .pre .0 .1,
+    ) in
+    let n : Noted (o .t) i (o .y) (c .before .if2 .t) =
+    ⊎-elim (λ u. noted-new _ _ _ _ l (u .0 .taken) (u .1)) (λ u. noted-old _ _ _ _ (u .0 .left) (u .1)) (c .before .if2 .came) in (
+      n .len ∙ o .inv .0,
+      note-turn _ _ _ (o .inv .1) (c .before .before .before .before .before .loop-test .taken) _ (c .next .ensures) _
+          (ap (λ (z : ℕ). z % 256) (c .before .before .before .wide2 .ensures ∙ c .before .before .before .before .loaded .ensures)) _ n,
+    )
 
 same-length : tie.Need-same-length Inv-loop μ-loop
 same-length c = c .before .loop .inv .0

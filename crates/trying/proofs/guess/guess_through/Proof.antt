@@ -65,7 +65,13 @@ returns-2 c = guesses-unsure _ _ _ _
 returns-3 : tie.Need-returns-3
 returns-3 c =
     let a = c .before .before .before .before .before .before .before .before .before .before .before .args in
-    guesses-root (a .n) (a .k) (a .w .now) (a .g) (c .before .before .before .before .before .before .before .wide .result) (c .before .before .before .before .before .wide2 .result) (c .before .before .before .before .before .before .before .wide .ensures ∙ c .before .before .before .before .before .before .before .before .loaded .ensures) (c .before .before .before .before .before .wide2 .ensures ∙ c .before .before .before .before .before .before .loaded2 .ensures) (c .before .before .before .before .if1 .left) (c .before .before .before .class-of .result) (c .before .before .before .class-of .ensures) (some (c .before .before .before .before .before .wide2 .result) (c .if3 .left)) (c .before .if2 .taken)
+    guesses-root (a .n) (a .k) (a .w .now) (a .g) (c .before .before .before .before .before .before .before .wide .result)
+    (c .before .before .before .before .before .wide2 .result) (c .before .before .before .before .before .before .before .wide .ensures
+    ∙ c .before .before .before .before .before .before .before .before .loaded .ensures)
+    (c .before .before .before .before .before .wide2 .ensures ∙ c .before .before .before .before .before .before .loaded2 .ensures)
+    (c .before .before .before .before .if1 .left) (c .before .before .before .class-of .result)
+    (c .before .before .before .class-of .ensures) (some (c .before .before .before .before .before .wide2 .result) (c .if3 .left))
+    (c .before .if2 .taken)
 
 wide-requires-3 : tie.Need-wide-requires-3
 wide-requires-3 c κs = search needs
@@ -73,13 +79,38 @@ wide-requires-3 c κs = search needs
 lead-all-requires : tie.Need-lead-all-requires
 lead-all-requires c κs =
     let s = c .before .before .before .before .before .before .before .before .before .before .before in
-    let a = s .args in
-    (guess-anchored (a .n) (a .k) (a .w .now) (a .g) (c .before .before .before .before .before .before .before .wide .result) (c .before .before .before .before .before .wide2 .result) (c .before .before .before .before .before .before .before .wide .ensures ∙ c .before .before .before .before .before .before .before .before .loaded .ensures) (c .before .before .before .before .before .wide2 .ensures ∙ c .before .before .before .before .before .before .loaded2 .ensures) (c .before .before .before .before .if1 .left) (c .before .before .before .class-of .result) (c .before .before .before .class-of .ensures) (s .pre .0) (c .wide3 .result) (c .wide3 .ensures) (c .before .if2 .left), (s .pre .1, (omega arith, guess-room (a .n) (a .k) (a .w .now) (a .g) (c .before .before .before .before .before .before .before .wide .result) (c .before .before .before .before .before .wide2 .result) (c .before .before .before .before .before .before .before .wide .ensures ∙ c .before .before .before .before .before .before .before .before .loaded .ensures) (c .before .before .before .before .before .wide2 .ensures ∙ c .before .before .before .before .before .before .loaded2 .ensures) (c .before .before .before .before .if1 .left) (s .pre .0))))
+    let a = s .args in (
+      guess-anchored (a .n) (a .k) (a .w .now) (a .g) (c .before .before .before .before .before .before .before .wide .result)
+          (c .before .before .before .before .before .wide2 .result) (c .before .before .before .before .before .before .before .wide .ensures
+          ∙ c .before .before .before .before .before .before .before .before .loaded .ensures)
+          (c .before .before .before .before .before .wide2 .ensures ∙ c .before .before .before .before .before .before .loaded2 .ensures)
+          (c .before .before .before .before .if1 .left) (c .before .before .before .class-of .result)
+          (c .before .before .before .class-of .ensures) (s .pre .0) (c .wide3 .result) (c .wide3 .ensures) (c .before .if2 .left),
+      (
+        s .pre .1,
+        (
+          omega arith,
+          guess-room (a .n) (a .k) (a .w .now) (a .g)
+              (c .before .before .before .before .before .before .before .wide .result) (c .before .before .before .before .before .wide2 .result)
+              (c .before .before .before .before .before .before .before .wide .ensures
+              ∙ c .before .before .before .before .before .before .before .before .loaded .ensures)
+              (c .before .before .before .before .before .wide2 .ensures ∙ c .before .before .before .before .before .before .loaded2 .ensures)
+              (c .before .before .before .before .if1 .left) (s .pre .0),
+        ),
+      ),
+    )
 
 returns-4 : tie.Need-returns-4
 returns-4 c =
     let a = c .before .before .before .before .before .before .before .before .before .before .before .before .args in
-    guesses-arcs (a .n) (a .k) (a .w .now) (a .g) (c .before .before .before .before .before .before .before .before .wide .result) (c .before .before .before .before .before .before .wide2 .result) (c .before .before .before .before .before .before .before .before .wide .ensures ∙ c .before .before .before .before .before .before .before .before .before .loaded .ensures) (c .before .before .before .before .before .before .wide2 .ensures ∙ c .before .before .before .before .before .before .before .loaded2 .ensures) (c .before .before .before .before .before .if1 .left) (c .before .before .before .before .class-of .result) (c .before .before .before .before .class-of .ensures) (c .before .before .if2 .left) (c .lead-all .result) (c .lead-all .ensures)
+    guesses-arcs (a .n) (a .k) (a .w .now) (a .g) (c .before .before .before .before .before .before .before .before .wide .result)
+    (c .before .before .before .before .before .before .wide2 .result)
+    (c .before .before .before .before .before .before .before .before .wide .ensures
+    ∙ c .before .before .before .before .before .before .before .before .before .loaded .ensures)
+    (c .before .before .before .before .before .before .wide2 .ensures
+    ∙ c .before .before .before .before .before .before .before .loaded2 .ensures)
+    (c .before .before .before .before .before .if1 .left) (c .before .before .before .before .class-of .result)
+    (c .before .before .before .before .class-of .ensures) (c .before .before .if2 .left) (c .lead-all .result) (c .lead-all .ensures)
 
 pub guess-through-spec : {M : Type 1} → statement M
 guess-through-spec =

@@ -43,7 +43,8 @@ loaded-requires : tie.Need-loaded-requires
 loaded-requires c κs = search needs
 
 returns-2 : tie.Need-returns-2
-returns-2 c = leads-bare _ _ _ _ _ _ (sym (c .before .before .before .target .ensures) ∙ c .before .before .if1 .left) (sym (c .before .loaded .ensures) ∙ c .if2 .taken)
+returns-2 c = leads-bare _ _ _ _ _ _ (sym (c .before .before .before .target .ensures)
+    ∙ c .before .before .if1 .left) (sym (c .before .loaded .ensures) ∙ c .if2 .taken)
 
 returns-3 : tie.Need-returns-3
 returns-3 c = leads-unsure _ _ _ _ _ _
@@ -58,7 +59,9 @@ returns-4 : tie.Need-returns-4
 returns-4 c =
     let a = c .before .before .before .before .before .before .before .before .before .args in
     let e = c .before .before .before .before .loaded .ensures in
-    leads-atom (a .n) (a .w .now) (a .g) (a .base) (a .d) (a .i) (sym (c .before .before .before .before .before .before .target .ensures) ∙ c .before .before .before .before .before .if1 .left) (omega (arith, c .before .before .if3 .left)) (c .suit .result) (rw (← e, ← c .before .loaded2 .ensures) (c .suit .ensures))
+    leads-atom (a .n) (a .w .now) (a .g) (a .base) (a .d) (a .i) (sym (c .before .before .before .before .before .before .target .ensures)
+    ∙ c .before .before .before .before .before .if1 .left) (omega (arith, c .before .before .if3 .left)) (c .suit .result)
+    (rw (← e, ← c .before .loaded2 .ensures) (c .suit .ensures))
 
 pub lead-spec : {M : Type 1} → statement M
 lead-spec =

@@ -1,4 +1,5 @@
--- `trying::guess::lead_all` meets its contract. The loop's invariant: the first i arcs lead to leaves that say nothing new. Assumes nothing.
+-- `trying::guess::lead_all` meets its contract. The loop's invariant: the first i arcs lead to leaves that say nothing new. Assumes
+-- nothing.
 use Prim.Native.Nat.{ℕ, _-_, _≤_}
 use mathlib.Core.Path.{_≡_, subst}
 use mathlib.Core.Logic.{⊎-elim}
@@ -28,7 +29,9 @@ returns : tie.Need-returns Inv-loop μ-loop
 returns c =
     let a = c .before .before .before .before .before .before .args in
     let o = c .before .before .before .loop in
-    all-stop (a .n) (a .w .now) (a .g) (a .base) (a .d) (o .i) (c .before .lead .result) (omega arith) (o .inv .1) (c .before .lead .ensures) (λ y. ⊎-elim (λ i. let z : _≡_ {A = ℕ} 0 1 = (rw y at i) in omega arith) (λ i. let z : _≡_ {A = ℕ} 0 2 = (rw y at i) in omega arith) (c .match .keys2))
+    all-stop (a .n) (a .w .now) (a .g) (a .base) (a .d) (o .i) (c .before .lead .result) (omega arith) (o .inv .1)
+    (c .before .lead .ensures) (λ y. ⊎-elim (λ i. let z : _≡_ {A = ℕ} 0 1 = (rw y at i) in
+    omega arith) (λ i. let z : _≡_ {A = ℕ} 0 2 = (rw y at i) in omega arith) (c .match .keys2))
 
 add-i : tie.Need-add-i Inv-loop μ-loop
 add-i c = search needs
@@ -39,8 +42,11 @@ loop-less c = search needs
 loop-again : tie.Need-loop-again Inv-loop μ-loop
 loop-again c =
     let a = c .before .before .before .before .before .before .before .args in
-    let o = c .before .before .before .before .loop in
-    (omega arith, leaves-more (a .n) (a .w .now) (a .g) (a .base) (a .d) (o .i) (o .inv .1) (subst (LeafTold (a .n) (a .w .now) (a .g) (a .base) (a .d) (o .i)) (c .enum-told .given .1) (c .before .before .lead .ensures)))
+    let o = c .before .before .before .before .loop in (
+      omega arith,
+      leaves-more (a .n) (a .w .now) (a .g) (a .base) (a .d) (o .i) (o .inv .1)
+          (subst (LeafTold (a .n) (a .w .now) (a .g) (a .base) (a .d) (o .i)) (c .enum-told .given .1) (c .before .before .lead .ensures)),
+    )
 
 returns-2 : tie.Need-returns-2 Inv-loop μ-loop
 returns-2 c =

@@ -20,25 +20,35 @@ enum-known-left : tie.Need-enum-known-left
 enum-known-left c = search needs
 
 show-requires : tie.Need-show-requires
-show-requires c κs = asks-show-full _ _ _ _ (c .before .before .before .before .before .before .before .before .before .before .douse .ensures) (c .before .before .before .before .before .before .full .result) _ (c .before .before .before .before .before .before .full .ensures) _ _ (c .before .before .left .given .1) (c .before .before .before .before .before .before .before .before .before .before .before .before .before .pre)
+show-requires c κs = asks-show-full _ _ _ _
+    (c .before .before .before .before .before .before .before .before .before .before .douse .ensures)
+    (c .before .before .before .before .before .before .full .result) _ (c .before .before .before .before .before .before .full .ensures) _
+    _ (c .before .before .left .given .1)
+    (c .before .before .before .before .before .before .before .before .before .before .before .before .before .pre)
 
 same-length : tie.Need-same-length
 same-length c = search needs
 
 returns : tie.Need-returns
-returns c = completes-many _ _ _ _ (c .before .before .before .before .before .before .before .before .douse .ensures) (c .before .before .before .before .full .result) _ (c .before .before .before .before .full .ensures) (cc)
+returns c = completes-many _ _ _ _ (c .before .before .before .before .before .before .before .before .douse .ensures)
+    (c .before .before .before .before .full .result) _ (c .before .before .before .before .full .ensures) (cc)
 
 same-length-2 : tie.Need-same-length-2
 same-length-2 c = search needs
 
 returns-2 : tie.Need-returns-2
-returns-2 c = completes-nothing _ _ _ _ (c .before .before .before .before .before .before .before .before .douse .ensures) (c .before .before .before .before .full .result) _ (c .before .before .before .before .full .ensures) (cc)
+returns-2 c = completes-nothing _ _ _ _ (c .before .before .before .before .before .before .before .before .douse .ensures)
+    (c .before .before .before .before .full .result) _ (c .before .before .before .before .full .ensures) (cc)
 
 same-length-3 : tie.Need-same-length-3
 same-length-3 c = search needs
 
 returns-3 : tie.Need-returns-3
-returns-3 c = completes-left _ _ _ _ (c .before .before .before .before .before .before .before .before .before .before .before .before .before .douse .ensures) (c .before .before .before .before .before .before .before .before .before .full .result) _ (c .before .before .before .before .before .before .before .before .before .full .ensures) _ _ (c .before .before .before .before .before .left .given .1) _ _ (c .before .before .show .ensures)
+returns-3 c = completes-left _ _ _ _
+    (c .before .before .before .before .before .before .before .before .before .before .before .before .before .douse .ensures)
+    (c .before .before .before .before .before .before .before .before .before .full .result) _
+    (c .before .before .before .before .before .before .before .before .before .full .ensures) _ _
+    (c .before .before .before .before .before .left .given .1) _ _ (c .before .before .show .ensures)
 
 pub complete-spec : {M : Type 1} → statement M
 complete-spec =

@@ -33,7 +33,8 @@ loop-less : tie.Need-loop-less Inv-loop μ-loop
 loop-less c = omega arith
 
 loop-again : tie.Need-loop-again Inv-loop μ-loop
-loop-again c = let o = c .before .loop in (omega arith, cleared-more (o .i) (c .before .before .args .w .now) (o .w) (omega arith) (omega arith) (o .inv .1))
+loop-again c = let o = c .before .loop in
+    (omega arith, cleared-more (o .i) (c .before .before .args .w .now) (o .w) (omega arith) (omega arith) (o .inv .1))
 
 same-length : tie.Need-same-length Inv-loop μ-loop
 same-length c = c .before .loop .inv .1 .len

@@ -27,13 +27,15 @@ wide-requires c κs = search needs
 mul-h : tie.Need-mul-h
 mul-h c =
     let s = c .before .before .before in
-    let l = noding-low (s .args .n) (s .args .k) (s .args .w .now) (s .args .i) (s .args .at) (s .args .m) (c .wide .result) (c .wide .ensures) (s .pre) .0 in
+    let l = noding-low (s .args .n) (s .args .k) (s .args .w .now) (s .args .i) (s .args .at) (s .args .m) (c .wide .result)
+    (c .wide .ensures) (s .pre) .0 in
     omega arith
 
 slice-read-h : tie.Need-slice-read-h
 slice-read-h c =
     let s = c .before .before .before .before in
-    let l = noding-low (s .args .n) (s .args .k) (s .args .w .now) (s .args .i) (s .args .at) (s .args .m) (c .before .wide .result) (c .before .wide .ensures) (s .pre) in
+    let l = noding-low (s .args .n) (s .args .k) (s .args .w .now) (s .args .i) (s .args .at) (s .args .m) (c .before .wide .result)
+    (c .before .wide .ensures) (s .pre) in
     omega arith
 
 add-w : tie.Need-add-w
@@ -54,7 +56,8 @@ same-length c = search needs
 returns : tie.Need-returns
 returns c =
     let s = c .before .before .before .before .before in
-    noded-atom (s .args .n) (s .args .k) (s .args .w .now) (s .args .i) (s .args .at) (s .args .m) (c .before .before .wide .result) (c .before .before .wide .ensures) (s .pre) (omega arith)
+    noded-atom (s .args .n) (s .args .k) (s .args .w .now) (s .args .i) (s .args .at) (s .args .m) (c .before .before .wide .result)
+    (c .before .before .wide .ensures) (s .pre) (omega arith)
 
 wide-requires-2 : tie.Need-wide-requires-2
 wide-requires-2 c κs = search needs
@@ -67,7 +70,9 @@ arcs-requires c κs =
     let s = c .before .before .before .before .before .before .before in
     let x = c .before .before .before .before .wide .result in
     let b : getD (s .args .w .now) x 0 ≤ 2048 = (let l = c .before .before .if1 .left in omega arith) in
-    subst (λ (z : ℕ). Arcing (s .args .n) (s .args .k) (s .args .w .now) z (s .args .at + 1) (s .args .m)) (sym (c .wide2 .ensures)) (noding-arcs (s .args .n) (s .args .k) (s .args .w .now) (s .args .i) (s .args .at) (s .args .m) (c .before .before .before .before .wide .result) (c .before .before .before .before .wide .ensures) (s .pre) b)
+    subst (λ (z : ℕ). Arcing (s .args .n) (s .args .k) (s .args .w .now) z (s .args .at + 1) (s .args .m)) (sym (c .wide2 .ensures))
+    (noding-arcs (s .args .n) (s .args .k) (s .args .w .now) (s .args .i) (s .args .at) (s .args .m)
+    (c .before .before .before .before .wide .result) (c .before .before .before .before .wide .ensures) (s .pre) b)
 
 sub-w : tie.Need-sub-w
 sub-w c = search needs
@@ -78,8 +83,12 @@ cast-w c =
     let arcs = c .before .before .arcs in
     let x = c .before .before .before .before .before .before .before .wide .result in
     let b : getD (s .args .w .now) x 0 ≤ 2048 = (let l = c .before .before .before .before .before .if1 .left in omega arith) in
-    let r = subst (λ (z : ℕ). Arced (s .args .n) (s .args .k) (s .args .w .now) z (s .args .at + 1) (s .args .m) (arcs .result .at) (arcs .result .met) (arcs .last .0)) (c .before .before .before .wide2 .ensures) (arcs .ensures) in
-    let l = noded-small (s .args .n) (s .args .k) (s .args .w .now) (s .args .i) (s .args .at) (s .args .m) (c .before .before .before .before .before .before .before .wide .result) (c .before .before .before .before .before .before .before .wide .ensures) (s .pre) b (arcs .result .at) (arcs .result .met) (arcs .last .0) r in
+    let r = subst (λ (z : ℕ). Arced (s .args .n) (s .args .k) (s .args .w .now) z (s .args .at + 1) (s .args .m) (arcs .result .at)
+    (arcs .result .met) (arcs .last .0)) (c .before .before .before .wide2 .ensures) (arcs .ensures) in
+    let l = noded-small (s .args .n) (s .args .k) (s .args .w .now) (s .args .i) (s .args .at) (s .args .m)
+    (c .before .before .before .before .before .before .before .wide .result)
+    (c .before .before .before .before .before .before .before .wide .ensures) (s .pre) b (arcs .result .at) (arcs .result .met)
+    (arcs .last .0) r in
     omega arith
 
 add-w-2 : tie.Need-add-w-2
@@ -100,8 +109,12 @@ returns-2 c =
     let arcs = c .before .before .arcs in
     let x = c .before .before .before .before .before .before .before .wide .result in
     let b : getD (s .args .w .now) x 0 ≤ 2048 = (let l = c .before .before .before .before .before .if1 .left in omega arith) in
-    let r = subst (λ (z : ℕ). Arced (s .args .n) (s .args .k) (s .args .w .now) z (s .args .at + 1) (s .args .m) (arcs .result .at) (arcs .result .met) (arcs .last .0)) (c .before .before .before .wide2 .ensures) (arcs .ensures) in
-    noded-arcs (s .args .n) (s .args .k) (s .args .w .now) (s .args .i) (s .args .at) (s .args .m) (c .before .before .before .before .before .before .before .wide .result) (c .before .before .before .before .before .before .before .wide .ensures) (s .pre) b (arcs .result .at) (arcs .result .met) (arcs .last .0) r
+    let r = subst (λ (z : ℕ). Arced (s .args .n) (s .args .k) (s .args .w .now) z (s .args .at + 1) (s .args .m) (arcs .result .at)
+    (arcs .result .met) (arcs .last .0)) (c .before .before .before .wide2 .ensures) (arcs .ensures) in
+    noded-arcs (s .args .n) (s .args .k) (s .args .w .now) (s .args .i) (s .args .at) (s .args .m)
+    (c .before .before .before .before .before .before .before .wide .result)
+    (c .before .before .before .before .before .before .before .wide .ensures) (s .pre) b (arcs .result .at) (arcs .result .met)
+    (arcs .last .0) r
 
 pub node-spec : {M : Type 1} → statement M
 node-spec =

@@ -18,7 +18,8 @@ node-requires : tie.Need-node-requires Inv-loop μ-loop
 node-requires c κs =
     let s = c .before .before .before .before in
     let o = c .before .before .loop in
-    going-noding (s .args .n) (s .args .k) (s .args .w .now) (s .args .from) (o .at) (o .met) (o .i) (o .w) (o .inv) (c .before .loop-test .taken) (s .pre)
+    going-noding (s .args .n) (s .args .k) (s .args .w .now) (s .args .from) (o .at) (o .met) (o .i) (o .w) (o .inv)
+    (c .before .loop-test .taken) (s .pre)
 
 add-i : tie.Need-add-i Inv-loop μ-loop
 add-i c =
@@ -45,7 +46,8 @@ loop-again c =
     let s = c .before .before .before .before .before .before .before in
     let o = c .before .before .before .before .before .loop in
     let node = c .before .before .node in
-    going-turn (s .args .n) (s .args .k) (s .args .w .now) (s .args .from) (o .at) (o .met) (o .i) (o .w) (o .inv) (c .before .before .before .before .loop-test .taken) (node .result .at) (node .result .met) (node .last .0) (node .ensures)
+    going-turn (s .args .n) (s .args .k) (s .args .w .now) (s .args .from) (o .at) (o .met) (o .i) (o .w) (o .inv)
+    (c .before .before .before .before .loop-test .taken) (node .result .at) (node .result .met) (node .last .0) (node .ensures)
 
 same-length : tie.Need-same-length Inv-loop μ-loop
 same-length c = c .before .loop .inv .kept .len

@@ -12,12 +12,15 @@ clear-requires c κs = search needs
 find-requires : tie.Need-find-requires
 find-requires c κs =
     let s = c .before .before .before .before .before .before in
-    writing-find (s .args .n) (s .args .k) (s .args .w .now) (s .args .o) (s .pre) (c .before .before .before .clear .last .0) (c .before .before .before .clear .ensures)
+    writing-find (s .args .n) (s .args .k) (s .args .w .now) (s .args .o) (s .pre) (c .before .before .before .clear .last .0)
+    (c .before .before .before .clear .ensures)
 
 number-requires : tie.Need-number-requires
 number-requires c κs =
     let s = c .before .before .before .before .before .before .before .before in
-    writing-number (s .args .n) (s .args .k) (s .args .w .now) (s .args .o) (s .pre) (c .before .before .before .before .before .clear .last .0) (c .before .before .before .before .before .clear .ensures) (c .before .find .result) (c .before .find .ensures)
+    writing-number (s .args .n) (s .args .k) (s .args .w .now) (s .args .o) (s .pre)
+    (c .before .before .before .before .before .clear .last .0) (c .before .before .before .before .before .clear .ensures)
+    (c .before .find .result) (c .before .find .ensures)
 
 add-nodes : tie.Need-add-nodes
 add-nodes c = search needs
@@ -26,14 +29,24 @@ nodes-requires : tie.Need-nodes-requires
 nodes-requires c κs =
     let s = c .before .before .before .before .before .before .before .before .before .before .before .before in
     let number = c .before .before .before .number in
-    writing-nodes (s .args .n) (s .args .k) (s .args .w .now) (s .args .o) (s .pre) (c .before .before .before .before .before .before .before .before .before .clear .last .0) (c .before .before .before .before .before .before .before .before .before .clear .ensures) (c .before .before .before .before .before .find .result) (c .before .before .before .before .before .find .ensures) (number .result) (number .last .0) (number .ensures)
+    writing-nodes (s .args .n) (s .args .k) (s .args .w .now) (s .args .o) (s .pre)
+    (c .before .before .before .before .before .before .before .before .before .clear .last .0)
+    (c .before .before .before .before .before .before .before .before .before .clear .ensures)
+    (c .before .before .before .before .before .find .result) (c .before .before .before .before .before .find .ensures)
+    (number .result) (number .last .0) (number .ensures)
 
 cast-w : tie.Need-cast-w
 cast-w c =
-    let s = c .before .before .before .before .before .before .before .before .before .before .before .before .before .before .before .before in
+    let s = c .before .before .before .before .before .before .before .before .before .before .before .before .before .before .before
+    .before in
     let number = c .before .before .before .before .before .before .before .number in
     let nodes = c .before .before .before .nodes in
-    let l = writing-small (s .args .n) (s .args .k) (s .args .w .now) (s .args .o) (s .pre) (c .before .before .before .before .before .before .before .before .before .before .before .before .before .clear .last .0) (c .before .before .before .before .before .before .before .before .before .before .before .before .before .clear .ensures) (c .before .before .before .before .before .before .before .before .before .find .result) (c .before .before .before .before .before .before .before .before .before .find .ensures) (number .result) (number .last .0) (number .ensures) (nodes .result .at) (nodes .result .met) (nodes .last .0) (nodes .ensures) .0 in
+    let l = writing-small (s .args .n) (s .args .k) (s .args .w .now) (s .args .o) (s .pre)
+    (c .before .before .before .before .before .before .before .before .before .before .before .before .before .clear .last .0)
+    (c .before .before .before .before .before .before .before .before .before .before .before .before .before .clear .ensures)
+    (c .before .before .before .before .before .before .before .before .before .find .result)
+    (c .before .before .before .before .before .before .before .before .before .find .ensures) (number .result) (number .last .0)
+    (number .ensures) (nodes .result .at) (nodes .result .met) (nodes .last .0) (nodes .ensures) .0 in
     omega arith
 
 add-w : tie.Need-add-w
@@ -47,18 +60,30 @@ slice-write-w c = search needs
 
 same-length : tie.Need-same-length
 same-length c =
-    let s = c .before .before .before .before .before .before .before .before .before .before .before .before .before .before .before .before in
+    let s = c .before .before .before .before .before .before .before .before .before .before .before .before .before .before .before
+    .before in
     let number = c .before .before .before .before .before .before .before .number in
     let nodes = c .before .before .before .nodes in
-    let l = writing-small (s .args .n) (s .args .k) (s .args .w .now) (s .args .o) (s .pre) (c .before .before .before .before .before .before .before .before .before .before .before .before .before .clear .last .0) (c .before .before .before .before .before .before .before .before .before .before .before .before .before .clear .ensures) (c .before .before .before .before .before .before .before .before .before .find .result) (c .before .before .before .before .before .before .before .before .before .find .ensures) (number .result) (number .last .0) (number .ensures) (nodes .result .at) (nodes .result .met) (nodes .last .0) (nodes .ensures) .1 in
+    let l = writing-small (s .args .n) (s .args .k) (s .args .w .now) (s .args .o) (s .pre)
+    (c .before .before .before .before .before .before .before .before .before .before .before .before .before .clear .last .0)
+    (c .before .before .before .before .before .before .before .before .before .before .before .before .before .clear .ensures)
+    (c .before .before .before .before .before .before .before .before .before .find .result)
+    (c .before .before .before .before .before .before .before .before .before .find .ensures) (number .result) (number .last .0)
+    (number .ensures) (nodes .result .at) (nodes .result .met) (nodes .last .0) (nodes .ensures) .1 in
     simp length-set (omega arith)
 
 returns : tie.Need-returns
 returns c =
-    let s = c .before .before .before .before .before .before .before .before .before .before .before .before .before .before .before .before in
+    let s = c .before .before .before .before .before .before .before .before .before .before .before .before .before .before .before
+    .before in
     let number = c .before .before .before .before .before .before .before .number in
     let nodes = c .before .before .before .nodes in
-    writes (s .args .n) (s .args .k) (s .args .w .now) (s .args .o) (s .pre) (c .before .before .before .before .before .before .before .before .before .before .before .before .before .clear .last .0) (c .before .before .before .before .before .before .before .before .before .before .before .before .before .clear .ensures) (c .before .before .before .before .before .before .before .before .before .find .result) (c .before .before .before .before .before .before .before .before .before .find .ensures) (number .result) (number .last .0) (number .ensures) (nodes .result .at) (nodes .result .met) (nodes .last .0) (nodes .ensures)
+    writes (s .args .n) (s .args .k) (s .args .w .now) (s .args .o) (s .pre)
+    (c .before .before .before .before .before .before .before .before .before .before .before .before .before .clear .last .0)
+    (c .before .before .before .before .before .before .before .before .before .before .before .before .before .clear .ensures)
+    (c .before .before .before .before .before .before .before .before .before .find .result)
+    (c .before .before .before .before .before .before .before .before .before .find .ensures) (number .result) (number .last .0)
+    (number .ensures) (nodes .result .at) (nodes .result .met) (nodes .last .0) (nodes .ensures)
 
 pub write-graph-spec : {M : Type 1} → statement M
 write-graph-spec =
