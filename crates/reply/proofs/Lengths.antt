@@ -144,7 +144,7 @@ module _ (asked : Call) (work : ℕ) (d e : Desc) (A : Accepted asked work d e) 
   -- "its result has over 4,096 choices" is refused, and no reading is lost on the way to it
   module _ (c : ¬ (Clashes mode d e)) (t : ¬ (TooMany mode d e)) where
     complete-few : mode ≡ 2 → consistent d e ≤ choice-limit
-    unfolding consistent
+    unfolding Rattle.descriptions.specs.Answer.consistent
     complete-few m = go (joined d e) refl (quick d e) refl
       where
         go : (j : Option Desc) → joined d e ≡ j → (q : Option Desc) → quick d e ≡ q
