@@ -10,9 +10,6 @@ use Rattle.engine.proofs.Sane.{Sane}
 use Rattle.theory.proofs.Laws.{laws}
 use Rattle.theory.specs.JoiningOne.{joining-one}
 
-abbrev pub fold-some : Option Desc → Option Desc
-fold-some = Rattle.modes_by_marks.proofs.Shown.fold-some joining-one
-
 abbrev pub shown-some : Option Desc → Option Desc
 shown-some = Rattle.modes_by_marks.proofs.Shown.shown-some joining-one
 

@@ -3,7 +3,7 @@
 use Rattle.theory.specs.LayoutOne.{layout-one}
 use Rattle.theory.specs.JoiningOne.{joining-one}
 use Rattle.theory.specs.Demands.{Unifier}
-pub use Rattle.descriptions.specs.Programs.{Left, Program, in-words, blank}
+pub use Rattle.descriptions.specs.Programs.{Program, in-words, blank}
 
 abbrev pub Meets : Program → Type 0
 Meets = Rattle.descriptions.specs.Programs.Meets joining-one layout-one
