@@ -14,8 +14,9 @@ use Rattle.engine.specs.Placed.{Placed, place, Places, stop, _also_}
 use Rattle.engine.specs.Marks.{Marking}
 use Rattle.engine.specs.Beside.{_next_, joined-placed}
 use Rattle.engine.specs.Counting.{count-at, count-all-at, count-any-at}
+use Rattle.marks.specs.Readable.{Readable}
 use Rattle.marks.specs.Marked.{marking}
-use Rattle.counting.specs.Counted.{Countable, Counted, CountedBoth, beside}
+use Rattle.counting.specs.Counted.{Counted, CountedBoth, beside}
 use Rattle.counting.proofs.Products.{cap-first}
 use Rattle.counting.proofs.Descent.{count-small}
 
@@ -38,7 +39,7 @@ count-beside m (place g ds) (place h es) = count-next m ds es
 pub counted-both : (w : List ℕ) (left x y r : ℕ) → Counted w 0 left x → Counted w SECOND left y → r ≡ min (x * y) choice-stop →
     CountedBoth w left r
 counted-both w left x y r first second is c e = is ∙ ap₂ {C = ℕ} (λ (a b : ℕ). min (a * b) choice-stop) (first .is c) (second .is e)
-    ∙ sym (count-beside _ (c .d) (e .d))
+    ∙ sym (count-beside _ (c .lies .d) (e .lies .d))
 
 count-joined : (m : Marking) (d e j : Placed) → joined-placed d e ≡ some j →
     count-all-at choice-stop m (beside d e) ≡ count-at choice-stop m j
@@ -52,6 +53,6 @@ count-joined m (place g ds) (place h es) j is = go (join (g ∷ h ∷ [])) is
 
 -- what both come to is counted over the description that joins them
 pub counted-joined : (w : List ℕ) (left r : ℕ) → CountedBoth w left r →
-    (c : Countable w 0 left) (e : Countable w SECOND left) (j : Placed) → joined-placed (c .d) (e .d) ≡ some j →
+    (c : Readable w 0 left) (e : Readable w SECOND left) (j : Placed) → joined-placed (c .lies .d) (e .lies .d) ≡ some j →
     r ≡ count-at choice-stop (marking w) j
-counted-joined w left r counted c e j is = counted c e ∙ count-joined (marking w) (c .d) (e .d) j is
+counted-joined w left r counted c e j is = counted c e ∙ count-joined (marking w) (c .lies .d) (e .lies .d) j is

@@ -16,13 +16,15 @@ use Rattle.engine.specs.Counting.{count-at, count-all-at, count-any-at}
 use Rattle.modes_by_marks.proofs.Counting.{count-left}
 use Rattle.loading.specs.Loaded.{number-step}
 use Rattle.loading.specs.Numbered.{places, options}
-use Rattle.loading.specs.At.{At, AtAll, AtAny}
+use Rattle.loading.specs.At.{AtAll, AtAny}
+use Rattle.loading.specs.Lying.{Here}
 use Rattle.loading.proofs.Walking.{any-bounds, all-bounds}
 use Rattle.marks.specs.Positions.{number-at, tail-at, disjunctions-at, alternatives-at, after-at}
+use Rattle.marks.specs.Readable.{Readable}
 use Rattle.marks.specs.Marked.{marking}
-use Rattle.marks.proofs.Reading.{tail-is, disjunctions-is, alternatives-is, read-at, read-option, read-first}
-use Rattle.counting.specs.Nesting.{Nests, NestsAll, NestsAny}
-use Rattle.counting.specs.Counted.{Countable, Counted}
+use Rattle.marks.proofs.Reading.{reads, tail-of, disjunctions-of, alternatives-is, read-option, read-first}
+use Rattle.loading.specs.Nesting.{Nests, NestsAll, NestsAny}
+use Rattle.counting.specs.Counted.{Counted}
 use Rattle.counting.proofs.Products.{cap-same, cap-first, cap-whole}
 
 any-kept : (m : Marking) (x : ℕ) (d : Placed) (a : Options) → m x ≡ true →
@@ -44,15 +46,15 @@ any-dropped m x d a e = ap (λ (t : Bool). elim t [
 pub count-small : (m : Marking) (d : Placed) → count-at choice-stop m d ≤ choice-stop
 count-small m d = omega (arith, count-left d choice-stop (omega arith) m)
 
-module _ (w : List ℕ) (p left : ℕ) (c : Countable w p left) where
+module _ (w : List ℕ) (p left : ℕ) (c : Readable w p left) where
   -- `more` disjunctions are still to be counted, from `at` on, after a product of those before
   pub record Multiplying (more at product : ℕ) : Type 0 where
     pub ds : Places
     pub n : ℕ
-    pub stand : AtAll (words w) at n ds (c .q) (c .m)
+    pub stand : AtAll (words w) at n ds (c .lies .end) (c .lies .to)
     pub many : places ds ≡ more
     pub nests : NestsAll ds left
-    pub total : count-at choice-stop (marking w) (c .d) ≡ min (product * count-all-at choice-stop (marking w) ds) choice-stop
+    pub total : count-at choice-stop (marking w) (c .lies .d) ≡ min (product * count-all-at choice-stop (marking w) ds) choice-stop
 
   -- `rest` alternatives of one are still to be counted, from `at` on, after a sum of those before
   pub record Summing (more product at rest sum : ℕ) : Type 0 where
@@ -63,13 +65,13 @@ module _ (w : List ℕ) (p left : ℕ) (c : Countable w p left) where
     pub l : ℕ
     pub stand : AtAny (words w) at n a r l
     pub low : l < number-step
-    pub others : AtAll (words w) r l ds (c .q) (c .m)
+    pub others : AtAll (words w) r l ds (c .lies .end) (c .lies .to)
     pub many : options a ≡ rest
     pub later : places ds + 1 ≡ more
     pub deep : 0 < left
     pub inner : NestsAny a (left - 1)
     pub nests : NestsAll ds left
-    pub total : count-at choice-stop (marking w) (c .d)
+    pub total : count-at choice-stop (marking w) (c .lies .d)
         ≡ min (product * ((sum + count-any-at choice-stop (marking w) a) * count-all-at choice-stop (marking w) ds)) choice-stop
 
   -- what a turn at `at` does to the sum
@@ -79,42 +81,42 @@ module _ (w : List ℕ) (p left : ℕ) (c : Countable w p left) where
 
   -- the graph and its closing word
   pub starts : (p < 2048) × (tail-at w p < 2048)
-  starts = let r = read-at w (c .room) (c .d) p (c .n) (c .q) (c .m) (c .at) (c .low) in (r .here, r .inside)
+  starts = let r = reads c in (r .here, r .inside)
 
   pub multiply-none : (e more : ℕ) → e ≡ tail-at w p → more ≡ disjunctions-at w e → Multiplying more (e + 1) 1
   unfolding count-at
-  multiply-none e more f h = go (c .d) (c .at) (c .nests) refl
+  multiply-none e more f h = go (c .lies .d) (c .lies .at) (c .lies .nests) refl
     where
-      go : (d : Placed) → At (words w) p (c .n) d (c .q) (c .m) → Nests d left → c .d ≡ d → Multiplying more (e + 1) 1
+      go : (d : Placed) → Here (c .lies) d → Nests d left → c .lies .d ≡ d → Multiplying more (e + 1) 1
       go (place g ds) at nests same =
-          let tail = f ∙ tail-is w (c .room) g ds p (c .n) (c .q) (c .m) at (c .low) in
-          let all : count-at choice-stop (marking w) (c .d) ≡ count-all-at choice-stop (marking w) ds =
+          let tail = f ∙ tail-of c g ds at in
+          let all : count-at choice-stop (marking w) (c .lies .d) ≡ count-all-at choice-stop (marking w) ds =
           ap (count-at choice-stop (marking w)) same in
-          let small = count-small (marking w) (c .d) in
+          let small = count-small (marking w) (c .lies .d) in
           record {
             ds = ds;
-            n = c .n + length g;
+            n = c .lies .from + length g;
             stand = rw tail (at .6);
-            many = sym (h ∙ ap (disjunctions-at w) tail ∙ disjunctions-is w (c .room) g ds p (c .n) (c .q) (c .m) at (c .low));
+            many = sym (h ∙ ap (disjunctions-at w) tail ∙ disjunctions-of c g ds at);
             nests = nests;
             total = omega arith;
           }
 
   pub multiply-all : (more at product : ℕ) → Multiplying more at product → more ≤ 0 → product ≤ choice-stop →
-      product ≡ count-at choice-stop (marking w) (c .d)
+      product ≡ count-at choice-stop (marking w) (c .lies .d)
   unfolding count-at
   multiply-all more at product t h small = go (t .ds) (t .many) (t .total)
     where
       go : (ds : Places) → places ds ≡ more →
-          count-at choice-stop (marking w) (c .d) ≡ min (product * count-all-at choice-stop (marking w) ds) choice-stop →
-          product ≡ count-at choice-stop (marking w) (c .d)
+          count-at choice-stop (marking w) (c .lies .d) ≡ min (product * count-all-at choice-stop (marking w) ds) choice-stop →
+          product ≡ count-at choice-stop (marking w) (c .lies .d)
       go stop many total = sym (total ∙ cap-whole choice-stop product small)
       go (a also ds) many total = absurd (omega arith)
 
   pub multiply-here : (more at product : ℕ) → Multiplying more at product → 0 < more → at < 2048
   multiply-here more at product t h = go (t .ds) (t .stand) (t .many)
     where
-      go : (ds : Places) → AtAll (words w) at (t .n) ds (c .q) (c .m) → places ds ≡ more → at < 2048
+      go : (ds : Places) → AtAll (words w) at (t .n) ds (c .lies .end) (c .lies .to) → places ds ≡ more → at < 2048
       go stop s many = absurd (omega arith)
       go (a also ds) s many = let there = s .2 in omega (arith, words-many w (c .room))
 
@@ -123,15 +125,16 @@ module _ (w : List ℕ) (p left : ℕ) (c : Countable w p left) where
   unfolding count-at
   sum-none more at product rest t h e = go (t .ds) (t .stand) (t .many) (t .nests) (t .total)
     where
-      go : (ds : Places) → AtAll (words w) at (t .n) ds (c .q) (c .m) → places ds ≡ more → NestsAll ds left →
-          count-at choice-stop (marking w) (c .d) ≡ min (product * count-all-at choice-stop (marking w) ds) choice-stop →
+      go : (ds : Places) → AtAll (words w) at (t .n) ds (c .lies .end) (c .lies .to) → places ds ≡ more → NestsAll ds left →
+          count-at choice-stop (marking w) (c .lies .d) ≡ min (product * count-all-at choice-stop (marking w) ds) choice-stop →
           Summing more product (at + 1) rest 0
       go stop s many nests total = absurd (omega arith)
       go (a also ds) s many nests total =
           let there = s .2 in
           let first = any-bounds (words w) a (at + 1) (t .n) (s .0) (s .1) (omega arith) (s .4) in
-          let last = all-bounds (words w) ds (s .0) (s .1) (c .q) (c .m) (first .1) (s .5) .2 in
-          let low = c .low in
+          let last = all-bounds (words w) ds (s .0) (s .1) (c .lies .end) (c .lies .to) (first .1) (s .5) .2 in
+          let low = c .lies .low in
+          let few = c .few in
           let sums = count-any-at choice-stop (marking w) a in
           let products = count-all-at choice-stop (marking w) ds in
           let same : sums ≡ 0 + sums = omega arith in
@@ -144,7 +147,7 @@ module _ (w : List ℕ) (p left : ℕ) (c : Countable w p left) where
             stand = s .4;
             low = omega arith;
             others = s .5;
-            many = sym (e ∙ alternatives-is w a ds at (t .n) (c .q) (c .m) s);
+            many = sym (e ∙ alternatives-is w a ds at (t .n) (c .lies .end) (c .lies .to) s);
             later = omega arith;
             deep = nests .0;
             inner = nests .1;
@@ -158,24 +161,19 @@ module _ (w : List ℕ) (p left : ℕ) (c : Countable w p left) where
     sum-here h = read-first w (c .room) (t .a) at (t .n) (t .r) (t .l) rest (t .stand) (t .low) (t .many) h
 
     asks-one : (x : ℕ) (d : Placed) (a : Options) → AtAny (words w) at (t .n) (option x d a) (t .r) (t .l) → Nests d (left - 1) →
-        Countable w at (left - 1)
+        Readable w at (left - 1)
     asks-one x d a o inner = record {
       room = c .room;
-      d = d;
-      n = t .n;
-      q = o .0;
-      m = o .1;
-      at = o .3;
-      low =
-          read-option w (c .room) x d a at (t .n) (t .r) (t .l) o (t .low) .1;
-      nests = inner;
+      n = o .1;
+      few = read-option w (c .room) x d a at (t .n) (t .r) (t .l) o (t .low) .1;
+      lies = record { d = d; from = t .n; end = o .0; to = o .1; at = o .3; low = omega arith; nests = inner };
     }
 
-    pub sum-asks : 0 < rest → Countable w at (left - 1)
+    pub sum-asks : 0 < rest → Readable w at (left - 1)
     sum-asks h = go (t .a) (t .stand) (t .many) (t .inner)
       where
         go : (a : Options) → AtAny (words w) at (t .n) a (t .r) (t .l) → options a ≡ rest → NestsAny a (left - 1) →
-            Countable w at (left - 1)
+            Readable w at (left - 1)
         go no-more o many inner = absurd (omega arith)
         go (option x d a) o many inner = asks-one x d a o (inner .0)
 
@@ -184,7 +182,7 @@ module _ (w : List ℕ) (p left : ℕ) (c : Countable w p left) where
     sum-on next sum' h e turn = go (t .a) (t .stand) (t .many) (t .inner) (t .total)
       where
         go : (a : Options) → AtAny (words w) at (t .n) a (t .r) (t .l) → options a ≡ rest → NestsAny a (left - 1) →
-            count-at choice-stop (marking w) (c .d)
+            count-at choice-stop (marking w) (c .lies .d)
             ≡ min (product * ((sum + count-any-at choice-stop (marking w) a) * count-all-at choice-stop (marking w) (t .ds)))
             choice-stop → Summing more product next (rest - 1) sum'
         go no-more o many inner total = absurd (omega arith)
@@ -223,7 +221,7 @@ module _ (w : List ℕ) (p left : ℕ) (c : Countable w p left) where
     sum-all product' h e = go (t .a) (t .stand) (t .many) (t .total)
       where
         go : (a : Options) → AtAny (words w) at (t .n) a (t .r) (t .l) → options a ≡ rest →
-            count-at choice-stop (marking w) (c .d)
+            count-at choice-stop (marking w) (c .lies .d)
             ≡ min (product * ((sum + count-any-at choice-stop (marking w) a) * count-all-at choice-stop (marking w) (t .ds)))
             choice-stop → Multiplying (more - 1) at product'
         go no-more o many total =
@@ -233,7 +231,7 @@ module _ (w : List ℕ) (p left : ℕ) (c : Countable w p left) where
             record {
               ds = t .ds;
               n = t .l;
-              stand = subst (λ (k : ℕ). AtAll (words w) k (t .l) (t .ds) (c .q) (c .m)) (sym (o .0)) (t .others);
+              stand = subst (λ (k : ℕ). AtAll (words w) k (t .l) (t .ds) (c .lies .end) (c .lies .to)) (sym (o .0)) (t .others);
               many = omega arith;
               nests = t .nests;
               total = total ∙ ap (λ (k : ℕ). min (product * (k * products)) choice-stop) same ∙ cap-first choice-stop product sum products

@@ -20,9 +20,10 @@ use Rattle.loading.specs.Loaded.{number-step, nodes-in, nodes-any}
 use Rattle.loading.specs.Numbered.{numbered, numbered-all, numbered-any}
 use Rattle.loading.specs.At.{At}
 use Rattle.loading.proofs.Names.{numbered-strip}
+use Rattle.marks.specs.Readable.{Readable}
 use Rattle.marks.specs.Marked.{marking}
-use Rattle.counting.specs.Nesting.{Nests, NestsAll, NestsAny}
-use Rattle.counting.specs.Counted.{Countable, Counted}
+use Rattle.loading.specs.Nesting.{Nests, NestsAll, NestsAny}
+use Rattle.counting.specs.Counted.{Counted}
 
 -- a description nests as deep as its words may
 mutual
@@ -46,13 +47,18 @@ count-every d n = count-left (numbered n d) choice-stop (omega arith) all-kept
 
 module _ (w : List ℕ) (room : 16384 ≤ length w) (d : Desc) (p n q m left : ℕ) (fine : WellFormed d left)
     (at : At (words w) p n (numbered n d) q m) (low : m < number-step) where
-  -- such an input may be counted
-  abbrev pub loaded-countable : Countable w p left
-  loaded-countable = record { room = room; d = numbered n d; n = n; q = q; m = m; at = at; low = low; nests = well-nests d n left fine }
+  -- such an input may be read
+  abbrev pub loaded-readable : Readable w p left
+  loaded-readable = record {
+    room = room;
+    n = m;
+    few = low;
+    lies = record { d = numbered n d; from = n; end = q; to = m; at = at; low = omega arith; nests = well-nests d n left fine };
+  }
 
   module _ (every : marking w ≡ all-kept) (r : ℕ) (counted : Counted w p left r) where
     pub counted-every : r ≡ capped d
-    counted-every = counted .is loaded-countable ∙ ap (λ (k : Marking). count-at choice-stop k (numbered n d)) every ∙ count-every d n
+    counted-every = counted .is loaded-readable ∙ ap (λ (k : Marking). count-at choice-stop k (numbered n d)) every ∙ count-every d n
 
     -- the answer is over 4,096 exactly when there are so many choices
     pub over-every : ltb choice-limit r ≡ ltb choice-limit (number d)

@@ -1,3 +1,2 @@
--- `Nesting` says how deep the alternatives of a placed description nest, `Counted` what is counted.
-pub mod Nesting
+-- `Counted` says what counting choices asks, and what is counted.
 pub mod Counted

@@ -11,7 +11,8 @@ ghost use mathlib.Core.Path.{_≡_};
 ghost use Prim.Native.Nat.{min};
 ghost use Rattle.area.specs.Map.{SECOND};
 ghost use Rattle.theory.specs.Limits.{choice-stop};
-ghost use Rattle.counting.specs.Counted.{Countable, Counted, CountedBoth};
+ghost use Rattle.marks.specs.Readable.{Readable};
+ghost use Rattle.counting.specs.Counted.{Counted, CountedBoth};
 
 // The lesser of x and the stop.
 pub fn capped(x: u32) -> u32
@@ -23,7 +24,7 @@ pub fn capped(x: u32) -> u32
 // The number of choices of the description at p, under which alternatives nest at most `left` deep: the product over its disjunctions
 // of the sum over their kept alternatives.
 pub fn count_choices(w: &[u32], p: usize, left: u32) -> u32
-    requires { ⌜ Countable (now w) p left ⌝ }
+    requires { ⌜ Readable (now w) p left ⌝ }
     ensures { λ r. ⌜ Counted (now (w .entry)) p left r ⌝ }
 {
     let e = tail_at(w, p);
@@ -50,7 +51,7 @@ pub fn count_choices(w: &[u32], p: usize, left: u32) -> u32
 
 // The number of choices of both inputs together.
 pub fn count_both(w: &[u32], left: u32) -> u32
-    requires { ⌜ Countable (now w) 0 left × Countable (now w) SECOND left ⌝ }
+    requires { ⌜ Readable (now w) 0 left × Readable (now w) SECOND left ⌝ }
     ensures { λ r. ⌜ CountedBoth (now (w .entry)) left r ⌝ }
 {
     let first = count_choices(w, 0, left);

@@ -8,7 +8,8 @@ use Rattle.area.specs.Region.{words}
 use Rattle.loading.specs.Entry.{Entry}
 use Rattle.loading.specs.At.{AtAny}
 use Rattle.marks.specs.Marked.{marking}
-use Rattle.marks.specs.Tallied.{Alternatives, Tallied}
+use Rattle.marks.specs.Readable.{Alternatives}
+use Rattle.marks.specs.Tallied.{Tallied}
 use Rattle.entering.specs.Entered.{Entering, entered}
 use Rattle.entering.specs.Settled.{Alternating, settled}
 use Rattle.entering.proofs.Certain.{free-narrow, Lone, lone-at}

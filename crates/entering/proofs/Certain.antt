@@ -19,7 +19,7 @@ use Rattle.loading.specs.At.{At, AtAll, AtAny}
 use Rattle.loading.proofs.Walking.{at-bounds, all-bounds, any-bounds}
 use Rattle.marks.specs.Tallied.{from-kept}
 use Rattle.marks.proofs.First.{kept-true, kept-false, from-true, from-false}
-use Rattle.counting.specs.Nesting.{Nests, NestsAny}
+use Rattle.loading.specs.Nesting.{Nests, NestsAny}
 use Rattle.classes.proofs.Comings.{graphs-append}
 use Rattle.engine.specs.Quickly.{any-at, inside-at}
 use Rattle.entering.specs.Clear.{ByMark, Clear, ClearLone}

@@ -23,10 +23,11 @@ use Rattle.loading.proofs.Entries.{entry}
 use Rattle.loading.proofs.Walking.{at-bounds, all-bounds, any-bounds}
 use Rattle.marks.specs.Positions.{tail-at, disjunctions-at, alternatives-at}
 use Rattle.marks.specs.Marked.{marking}
-use Rattle.marks.specs.Tallied.{Alternatives, Tallied}
+use Rattle.marks.specs.Readable.{Alternatives}
+use Rattle.marks.specs.Tallied.{Tallied}
 use Rattle.marks.proofs.Reading.{tail-is, disjunctions-is, alternatives-is, read-at}
 use Rattle.marks.proofs.Marks.{marking-frame}
-use Rattle.counting.specs.Nesting.{Nests, NestsAll, NestsAny}
+use Rattle.loading.specs.Nesting.{Nests, NestsAll, NestsAny}
 use Rattle.classes.specs.Entry.{Comes}
 use Rattle.classes.specs.Holds.{Holds, Since, Pushing, Pushes}
 use Rattle.classes.specs.declared.push.Pushed.{Pushed}

@@ -18,7 +18,8 @@ use Rattle.engine.specs.Quickly.{Step, fails, stands, settle-at}
 use Rattle.loading.specs.Entry.{Entry, graphs}
 use Rattle.loading.specs.At.{At}
 use Rattle.marks.specs.Marked.{marking}
-use Rattle.marks.specs.Tallied.{Alternatives, Tallied}
+use Rattle.marks.specs.Readable.{Alternatives}
+use Rattle.marks.specs.Tallied.{Tallied}
 use Rattle.classes.specs.Holds.{Holds, Since}
 use Rattle.classes.specs.declared.push.Pushed.{Pushed}
 use Rattle.classes.specs.declared.push.Pushed.the-variants.{In, Clashed}

@@ -11,7 +11,7 @@ use Rattle.engine.specs.Placed.{Placed}
 use Rattle.loading.specs.Entry.{Entry, graphs}
 use Rattle.loading.specs.At.{At}
 use Rattle.marks.specs.Marked.{marking}
-use Rattle.counting.specs.Nesting.{Nests}
+use Rattle.loading.specs.Nesting.{Nests}
 use Rattle.classes.specs.Holds.{Holds, Since}
 use Rattle.classes.specs.declared.push.Pushed.{Pushed}
 use Rattle.classes.specs.declared.push.Pushed.the-variants.{In, Clashed}

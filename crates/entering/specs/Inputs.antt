@@ -10,7 +10,7 @@ use Rattle.engine.specs.Placed.{Placed}
 use Rattle.loading.specs.Entry.{Entry}
 use Rattle.loading.specs.At.{At}
 use Rattle.marks.specs.Marked.{marking}
-use Rattle.counting.specs.Nesting.{Nests}
+use Rattle.loading.specs.Nesting.{Nests}
 use Rattle.classes.specs.Holds.{Holds}
 use Rattle.entering.specs.Taken.{Among, Inside}
 use Rattle.entering.specs.Ground.{Ground}

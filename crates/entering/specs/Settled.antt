@@ -12,7 +12,7 @@ use Rattle.loading.specs.Entry.{Entry, graphs}
 use Rattle.loading.specs.Numbered.{options}
 use Rattle.loading.specs.At.{AtAny}
 use Rattle.marks.specs.Marked.{marking}
-use Rattle.counting.specs.Nesting.{NestsAny}
+use Rattle.loading.specs.Nesting.{NestsAny}
 use Rattle.classes.specs.Holds.{Holds, Since}
 use Rattle.classes.specs.declared.push.Pushed.{Pushed}
 use Rattle.classes.specs.declared.push.Pushed.the-variants.{In, Clashed}

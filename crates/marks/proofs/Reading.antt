@@ -2,18 +2,21 @@
 -- Assumes nothing.
 use Prim.Native.Nat.{ℕ, _+_, _≤_, _<_}
 use native.Mathlib.Omega.{arith}
-use mathlib.Core.Path.{_≡_, ap, _∙_}
+use mathlib.Core.Path.{_≡_, ap, sym, subst, _∙_}
 use mathlib.Core.List.{List}
 use lib.ListN.{length}
 use Rattle.theory.specs.Net.{Graph}
+use Rattle.area.specs.Map.{SIZE}
 use Rattle.area.specs.Region.{words}
 use Rattle.area.proofs.Region.{words-many}
 use Rattle.engine.specs.Placed.{Placed, place, Places, _also_, Options, no-more, option}
 use Rattle.loading.specs.Loaded.{extent, number-step}
 use Rattle.loading.specs.Numbered.{places, options}
 use Rattle.loading.specs.At.{At, AtAll, AtAny}
+use Rattle.loading.specs.Lying.{Lying, LyingAny, Here}
 use Rattle.loading.proofs.Walking.{at-bounds, any-bounds, at-counts, at-header, at-closing}
 use Rattle.marks.specs.Positions.{number-at, tail-at, disjunctions-at, end-at, alternatives-at, after-at}
+use Rattle.marks.specs.Readable.{Readable, Alternatives}
 
 -- at p stands a description with this number, which ends at q
 pub record Read (w : List ℕ) (p n q : ℕ) : Type 0 where
@@ -99,3 +102,56 @@ pub alternatives-is : (w : List ℕ) (a : Options) (ds : Places) (p n q m : ℕ)
     alternatives-at w p ≡ options a
 unfolding alternatives-at
 alternatives-is w a ds p n q m at = at .3
+
+-- ---- what is readable
+-- what stands loaded in words that an area has may be read there
+module _ {n : ℕ} {t : List ℕ} (w : List ℕ) (room : SIZE ≤ length w) (loaded : words w ≡ t) (few : n < number-step) where
+  abbrev pub readable : {g left : ℕ} → Lying n t g left → Readable w g left
+  readable {g} {left} l = record {
+    room = room;
+    n = n;
+    few = few;
+    lies = record {
+      d = l .d;
+      from = l .from;
+      end = l .end;
+      to = l .to;
+      at = subst (λ (s : List ℕ). At s g (l .from) (l .d) (l .end) (l .to)) (sym loaded) (l .at);
+      low = l .low;
+      nests = l .nests;
+    };
+  }
+
+  abbrev pub alternatives : {p count left : ℕ} → LyingAny n t p count left → Alternatives w p count
+  alternatives {p} {count} {left} l = record {
+    room = room;
+    n = n;
+    few = few;
+    left = left;
+    lies = record {
+      a = l .a;
+      from = l .from;
+      end = l .end;
+      to = l .to;
+      at = subst (λ (s : List ℕ). AtAny s p (l .from) (l .a) (l .end) (l .to)) (sym loaded) (l .at);
+      within = subst (λ (s : List ℕ). p ≤ length s) (sym loaded) (l .within);
+      low = l .low;
+      many = l .many;
+      nests = l .nests;
+    };
+  }
+
+module _ {w : List ℕ} {g left : ℕ} (r : Readable w g left) where
+  small : r .lies .to < number-step
+  small = omega (arith, r .lies .low, r .few)
+
+  pub reads : Read w g (r .lies .from) (r .lies .end)
+  reads = read-at w (r .room) (r .lies .d) g (r .lies .from) (r .lies .end) (r .lies .to) (r .lies .at) small
+
+  -- its graph and its disjunctions
+  module _ (K : Graph) (ds : Places) (here : Here (r .lies) (place K ds)) where
+    pub tail-of : tail-at w g ≡ g + extent K
+    tail-of = tail-is w (r .room) K ds g (r .lies .from) (r .lies .end) (r .lies .to) here small
+
+    pub disjunctions-of : disjunctions-at w (g + extent K) ≡ places ds
+    disjunctions-of = disjunctions-is w (r .room) K ds g (r .lies .from) (r .lies .end) (r .lies .to) here small

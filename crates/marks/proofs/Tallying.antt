@@ -9,29 +9,34 @@ use mathlib.Core.List.{List}
 use Rattle.area.specs.Region.{words}
 use Rattle.engine.specs.Placed.{Options, no-more, option}
 use Rattle.engine.specs.Marks.{Marking, kept-of}
+use Rattle.loading.specs.Loaded.{number-step}
 use Rattle.loading.specs.Numbered.{options}
 use Rattle.loading.specs.At.{AtAny}
 use Rattle.marks.specs.Positions.{number-at, tail-at, after-at}
 use Rattle.marks.specs.Marked.{marking}
-use Rattle.marks.specs.Tallied.{from-kept, Alternatives, Tallied}
+use Rattle.marks.specs.Readable.{Alternatives}
+use Rattle.marks.specs.Tallied.{from-kept, Tallied}
 use Rattle.marks.proofs.Reading.{read-option, read-first}
 use Rattle.marks.proofs.First.{kept-true, kept-false, from-true, from-false}
 
 module _ (w : List ℕ) (p count : ℕ) (s : Alternatives w p count) where
+  small : s .lies .to < number-step
+  small = omega (arith, s .lies .low, s .few)
+
   -- none was found, and the first may be the next; or those from the first on stand at `first`
   abbrev Before : Options → (at first found : ℕ) → Type 0
-  Before rest at first found = (found ≡ 0) × (first ≡ at) × (from-kept (marking w) (s .a) ≡ from-kept (marking w) rest)
+  Before rest at first found = (found ≡ 0) × (first ≡ at) × (from-kept (marking w) (s .lies .a) ≡ from-kept (marking w) rest)
 
   abbrev Since : (first found : ℕ) → Type 0
-  Since first found = (0 < found) × ((k : ℕ) × AtAny (words w) first k (from-kept (marking w) (s .a)) (s .q) (s .m))
+  Since first found = (0 < found) × ((k : ℕ) × AtAny (words w) first k (from-kept (marking w) (s .lies .a)) (s .lies .end) (s .lies .to))
 
   -- `left` of the alternatives are still to be counted, from `at` on
   pub record Tallying (left at first found : ℕ) : Type 0 where
     pub rest : Options
     pub k : ℕ
-    pub stand : AtAny (words w) at k rest (s .q) (s .m)
+    pub stand : AtAny (words w) at k rest (s .lies .end) (s .lies .to)
     pub many : options rest ≡ left
-    pub total : kept-of (marking w) (s .a) ≡ found + kept-of (marking w) rest
+    pub total : kept-of (marking w) (s .lies .a) ≡ found + kept-of (marking w) rest
     pub mark : Before rest at first found ⊎ Since first found
 
   -- what a turn at `at` does to what was found, where the next alternative stands at `next`
@@ -41,11 +46,11 @@ module _ (w : List ℕ) (p count : ℕ) (s : Alternatives w p count) where
     more : marking w (number-at w at) ≡ false → (found ≡ 0 → ⊥) → first' ≡ first → found' ≡ found → Turn at next first found first' found'
 
   pub tally-none : Tallying count p p 0
-  tally-none = record { rest = s .a; k = s .n; stand = s .at; many = s .many; total = omega arith; mark = inl (refl, refl, refl) }
+  tally-none = record { rest = s .lies .a; k = s .lies .from; stand = s .lies .at; many = s .lies .many; total = omega arith; mark = inl (refl, refl, refl) }
 
   pub tally-read : (left at first found : ℕ) → Tallying left at first found → 0 < left →
       (at < 2048) × (number-at w at < 1024) × (tail-at w at < 2048)
-  tally-read left at first found t h = read-first w (s .room) (t .rest) at (t .k) (s .q) (s .m) left (t .stand) (s .low) (t .many) h
+  tally-read left at first found t h = read-first w (s .room) (t .rest) at (t .k) (s .lies .end) (s .lies .to) left (t .stand) small (t .many) h
 
   pub tally-step : (left at first found next first' found' : ℕ) → Tallying left at first found → 0 < left → next ≡ after-at w at →
       Turn at next first found first' found' → Tallying (left - 1) next first' found'
@@ -54,25 +59,25 @@ module _ (w : List ℕ) (p count : ℕ) (s : Alternatives w p count) where
       m : Marking
       m = marking w
 
-      go : (a : Options) → AtAny (words w) at (t .k) a (s .q) (s .m) → options a ≡ left → kept-of m (s .a) ≡ found + kept-of m a →
+      go : (a : Options) → AtAny (words w) at (t .k) a (s .lies .end) (s .lies .to) → options a ≡ left → kept-of m (s .lies .a) ≡ found + kept-of m a →
           Before a at first found ⊎ Since first found → Tallying (left - 1) next first' found'
       go no-more o many total mark = absurd (omega arith)
       go (option x d a) o many total mark =
-          let r = read-option w (s .room) x d a at (t .k) (s .q) (s .m) o (s .low) .0 in
+          let r = read-option w (s .room) x d a at (t .k) (s .lies .end) (s .lies .to) o small .0 in
           let far : o .0 ≡ next = sym (e ∙ r .after) in
           record {
             rest = a;
             k = o .1;
-            stand = subst (λ (j : ℕ). AtAny (words w) j (o .1) a (s .q) (s .m)) far (o .4);
+            stand = subst (λ (j : ℕ). AtAny (words w) j (o .1) a (s .lies .end) (s .lies .to)) far (o .4);
             many = omega arith;
             total = totals turn;
             mark = marks turn mark;
           }
         where
           own : (b : Bool) → m (number-at w at) ≡ b → m x ≡ b
-          own b f = ap m (sym (read-option w (s .room) x d a at (t .k) (s .q) (s .m) o (s .low) .0 .number)) ∙ f
+          own b f = ap m (sym (read-option w (s .room) x d a at (t .k) (s .lies .end) (s .lies .to) o small .0 .number)) ∙ f
 
-          totals : Turn at next first found first' found' → kept-of m (s .a) ≡ found' + kept-of m a
+          totals : Turn at next first found first' found' → kept-of m (s .lies .a) ≡ found' + kept-of m a
           totals (one f g h) = omega (arith, kept-true m x d a (own true f))
           totals (none f z g h) = omega (arith, kept-false m x d a (own false f))
           totals (more f z g h) = omega (arith, kept-false m x d a (own false f))
@@ -83,8 +88,8 @@ module _ (w : List ℕ) (p count : ℕ) (s : Alternatives w p count) where
             omega arith,
             (
               t .k,
-              subst (λ (c : Options). AtAny (words w) first' (t .k) c (s .q) (s .m)) (sym (b .2 ∙ from-true m x d a (own true f)))
-                  (subst (λ (j : ℕ). AtAny (words w) j (t .k) (option x d a) (s .q) (s .m)) (sym (g ∙ b .1)) o),
+              subst (λ (c : Options). AtAny (words w) first' (t .k) c (s .lies .end) (s .lies .to)) (sym (b .2 ∙ from-true m x d a (own true f)))
+                  (subst (λ (j : ℕ). AtAny (words w) j (t .k) (option x d a) (s .lies .end) (s .lies .to)) (sym (g ∙ b .1)) o),
             ),
           )
           marks (one f g h) (inr b) = inr (omega arith, rw g (b .1))
@@ -96,8 +101,8 @@ module _ (w : List ℕ) (p count : ℕ) (s : Alternatives w p count) where
   pub tally-all : (left at first found : ℕ) → Tallying left at first found → left ≤ 0 → Tallied w s found first at
   tally-all left at first found t h = go (t .rest) (t .stand) (t .many) (t .total) (t .mark)
     where
-      go : (a : Options) → AtAny (words w) at (t .k) a (s .q) (s .m) → options a ≡ left →
-          kept-of (marking w) (s .a) ≡ found + kept-of (marking w) a → Before a at first found ⊎ Since first found →
+      go : (a : Options) → AtAny (words w) at (t .k) a (s .lies .end) (s .lies .to) → options a ≡ left →
+          kept-of (marking w) (s .lies .a) ≡ found + kept-of (marking w) a → Before a at first found ⊎ Since first found →
           Tallied w s found first at
       go no-more o many total mark = record {
         kept-are = omega arith;

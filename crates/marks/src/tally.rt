@@ -2,7 +2,8 @@
 use crate::marking::kept;
 use crate::positions::after_at;
 use crate::positions::number_at;
-ghost use Rattle.marks.specs.Tallied.{Alternatives, Tallied};
+ghost use Rattle.marks.specs.Readable.{Alternatives};
+ghost use Rattle.marks.specs.Tallied.{Tallied};
 
 // Of some alternatives: how many are kept, the position of the first of these, or the end where there is none, and the end.
 pub struct Tally {

@@ -11,7 +11,8 @@ use Rattle.engine.specs.Quickly.{fails, stands, any-at, settle-at}
 use Rattle.loading.specs.Entry.{graphs}
 use Rattle.loading.specs.At.{AtAny}
 use Rattle.marks.specs.Marked.{marking}
-use Rattle.marks.specs.Tallied.{Alternatives, Tallied}
+use Rattle.marks.specs.Readable.{Alternatives}
+use Rattle.marks.specs.Tallied.{Tallied}
 use Rattle.marks.proofs.Marks.{marking-frame}
 use Rattle.classes.specs.Holds.{Holds, Since}
 use Rattle.classes.specs.declared.push.Pushed.{Pushed}

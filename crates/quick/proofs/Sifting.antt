@@ -23,7 +23,7 @@ use Rattle.loading.proofs.Walking.{at-bounds, any-bounds}
 use Rattle.marks.specs.Positions.{number-at, tail-at, after-at}
 use Rattle.marks.specs.Marked.{marking, Dropped}
 use Rattle.marks.proofs.Reading.{Read, read-option}
-use Rattle.counting.specs.Nesting.{NestsAny}
+use Rattle.loading.specs.Nesting.{NestsAny}
 use Rattle.classes.specs.Holds.{Holds}
 use Rattle.classes.proofs.Laws.{since-refl, holds-frame, since-frame}
 use Rattle.quick.specs.declared.step.Step.{Step}

@@ -17,7 +17,7 @@ use Rattle.loading.specs.Numbered.{options}
 use Rattle.loading.specs.At.{At, AtAny}
 use Rattle.marks.specs.Positions.{tail-at, disjunctions-at}
 use Rattle.marks.specs.Marked.{marking}
-use Rattle.counting.specs.Nesting.{Nests, NestsAny}
+use Rattle.loading.specs.Nesting.{Nests, NestsAny}
 use Rattle.classes.specs.Holds.{Holds}
 use Rattle.quick.specs.declared.step.Step.{Step}
 use Rattle.quick.specs.declared.step.Step.the-variants.{Stands, Fails}

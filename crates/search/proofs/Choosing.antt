@@ -22,7 +22,7 @@ use Rattle.loading.proofs.Walking.{at-bounds, any-bounds}
 use Rattle.marks.specs.Positions.{number-at, tail-at, after-at}
 use Rattle.marks.specs.Marked.{marking}
 use Rattle.marks.proofs.Reading.{Read, read-option}
-use Rattle.counting.specs.Nesting.{NestsAny}
+use Rattle.loading.specs.Nesting.{NestsAny}
 use Rattle.classes.proofs.Laws.{since-refl}
 use Rattle.entering.specs.Taken.{AmongAny}
 use Rattle.entering.specs.Moved.{Moved}

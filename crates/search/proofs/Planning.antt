@@ -19,7 +19,7 @@ use Rattle.loading.specs.At.{At}
 use Rattle.loading.proofs.Walking.{all-bounds}
 use Rattle.marks.specs.Positions.{tail-at, disjunctions-at}
 use Rattle.marks.proofs.Reading.{tail-is, disjunctions-is, read-at}
-use Rattle.counting.specs.Nesting.{Nests, NestsAll, NestsAny}
+use Rattle.loading.specs.Nesting.{Nests, NestsAll, NestsAny}
 use Rattle.entering.specs.Taken.{Among}
 use Rattle.entering.specs.Clear.{Clear, ClearAll}
 use Rattle.entering.proofs.Clearing.{all-alike}

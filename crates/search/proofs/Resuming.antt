@@ -22,10 +22,11 @@ use Rattle.loading.specs.Numbered.{places, options}
 use Rattle.loading.specs.At.{At, AtAll, AtAny}
 use Rattle.loading.proofs.Walking.{all-bounds, any-bounds}
 use Rattle.marks.specs.Positions.{tail-at, disjunctions-at, alternatives-at}
-use Rattle.marks.specs.Tallied.{from-kept, Alternatives, Tallied}
+use Rattle.marks.specs.Readable.{Alternatives}
+use Rattle.marks.specs.Tallied.{from-kept, Tallied}
 use Rattle.marks.proofs.Reading.{Read, read-at, alternatives-is}
 use Rattle.marks.proofs.First.{first-kept}
-use Rattle.counting.specs.Nesting.{NestsAll}
+use Rattle.loading.specs.Nesting.{NestsAll}
 use Rattle.classes.proofs.Laws.{since-refl}
 use Rattle.entering.specs.Taken.{AmongAll, Free}
 use Rattle.entering.specs.Clear.{ByCount, Clear, ClearAll, ClearLone}

@@ -9,7 +9,7 @@ use Rattle.engine.specs.Marks.{Marking}
 use Rattle.loading.specs.Entry.{Entry}
 use Rattle.loading.specs.Numbered.{places}
 use Rattle.loading.specs.At.{AtAll}
-use Rattle.counting.specs.Nesting.{NestsAll}
+use Rattle.loading.specs.Nesting.{NestsAll}
 use Rattle.entering.specs.Taken.{AmongAll}
 use Rattle.entering.specs.Clear.{ClearAll}
 use Rattle.search.specs.declared.agenda.Agenda.{Agenda}

@@ -20,7 +20,7 @@ use Rattle.loading.specs.Numbered.{options}
 use Rattle.loading.specs.At.{At, AtAny}
 use Rattle.marks.specs.Marked.{marking, lights}
 use Rattle.marks.specs.Positions.{number-at}
-use Rattle.counting.specs.Nesting.{Nests, NestsAny}
+use Rattle.loading.specs.Nesting.{Nests, NestsAny}
 use Rattle.classes.specs.Holds.{Holds}
 use Rattle.entering.specs.Taken.{Among, AmongAny, Inside, Free}
 use Rattle.entering.specs.Ground.{Ground}

@@ -20,7 +20,7 @@ use Rattle.loading.specs.At.{At, AtAll, AtAny}
 use Rattle.loading.proofs.Walking.{all-bounds, any-bounds}
 use Rattle.marks.specs.Positions.{tail-at, disjunctions-at, alternatives-at}
 use Rattle.marks.proofs.Reading.{read-at, tail-is, disjunctions-is, alternatives-is}
-use Rattle.counting.specs.Nesting.{Nests, NestsAll, NestsAny}
+use Rattle.loading.specs.Nesting.{Nests, NestsAll, NestsAny}
 use Rattle.entering.specs.Taken.{Among, AmongAll, AmongAny}
 use Rattle.showing.specs.Putting.{Written, Base, left-all, Disjoining, folded, Varying, Varies}
 use Rattle.showing.proofs.Written.{written-none, written-order, written-append, based}

@@ -19,7 +19,8 @@ use Rattle.loading.specs.At.{At, AtAll, AtAny}
 use Rattle.loading.proofs.Walking.{all-bounds, any-bounds}
 use Rattle.marks.specs.Positions.{tail-at, disjunctions-at, alternatives-at}
 use Rattle.marks.specs.Marked.{marking}
-use Rattle.marks.specs.Tallied.{Alternatives, Tallied}
+use Rattle.marks.specs.Readable.{Alternatives}
+use Rattle.marks.specs.Tallied.{Tallied}
 use Rattle.marks.proofs.Reading.{read-at, tail-is, disjunctions-is, alternatives-is}
 use Rattle.showing.specs.Putting.{left-all}
 use Rattle.showing.specs.Alone.{Looking}

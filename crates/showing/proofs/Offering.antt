@@ -23,7 +23,7 @@ use Rattle.loading.proofs.Walking.{at-bounds, any-bounds}
 use Rattle.marks.specs.Positions.{number-at, tail-at, after-at}
 use Rattle.marks.specs.Marked.{marking}
 use Rattle.marks.proofs.Reading.{Read, read-option}
-use Rattle.counting.specs.Nesting.{NestsAny}
+use Rattle.loading.specs.Nesting.{NestsAny}
 use Rattle.entering.specs.Taken.{AmongAny}
 use Rattle.showing.specs.Putting.{Written, Base, Describing, Describes, Offering}
 use Rattle.showing.proofs.Written.{written-none, written-order, written-append, based}

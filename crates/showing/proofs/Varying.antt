@@ -20,7 +20,8 @@ use Rattle.engine.proofs.Sane.{SaneAny}
 use Rattle.loading.specs.Numbered.{options}
 use Rattle.loading.specs.At.{AtAny}
 use Rattle.loading.proofs.Walking.{any-bounds, any-counts}
-use Rattle.marks.specs.Tallied.{from-kept, Alternatives, Tallied}
+use Rattle.marks.specs.Readable.{Alternatives}
+use Rattle.marks.specs.Tallied.{from-kept, Tallied}
 use Rattle.entering.proofs.Certain.{Lone, lone-at}
 use Rattle.showing.specs.Putting.{Written, left-all, Disjoining, Disjoins, folded, Varying, Offering, Offers}
 use Rattle.showing.proofs.Written.{written-append, written-word, based}

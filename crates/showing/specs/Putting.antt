@@ -22,7 +22,7 @@ use Rattle.loading.specs.Entry.{Entry}
 use Rattle.loading.specs.Numbered.{options}
 use Rattle.loading.specs.At.{At, AtAny}
 use Rattle.marks.specs.Marked.{marking}
-use Rattle.counting.specs.Nesting.{Nests, NestsAny}
+use Rattle.loading.specs.Nesting.{Nests, NestsAny}
 use Rattle.classes.specs.Holds.{Holds}
 use Rattle.entering.specs.Taken.{Among, AmongAny}
 use Rattle.entering.specs.Ground.{Ground}

@@ -9,7 +9,7 @@ use borrow.Author.Needs.{needs}
 use borrow.Fn.Kinds.{In}
 use borrow.Fn.PlainCycle.{Measures, is, falls, and}
 use Rattle.theory.specs.Limits.{choice-stop}
-use Rattle.counting.specs.Counted.{Countable}
+use Rattle.marks.specs.Readable.{Readable}
 use Rattle.counting.proofs.Products.{cap-fits}
 use Rattle.counting.proofs.Descent.{Multiplying, Summing, one, none, starts, multiply-none, multiply-all, multiply-here, sum-none}
 use Rattle.counting.proofs.Descent.{sum-here, sum-asks, sum-on, sum-all}
@@ -42,14 +42,14 @@ count-choices-below t =
     count-choices.Pre
 
 abbrev Inv-loop2 : count-choices-lts.InvT-loop2
-Inv-loop2 w p left e more at₀ product rest₀ sum₀ at rest sum = ((c : Countable w p left) → Summing w p left c more product at rest sum)
+Inv-loop2 w p left e more at₀ product rest₀ sum₀ at rest sum = ((c : Readable w p left) → Summing w p left c more product at rest sum)
     × (sum ≤ choice-stop)
 
 abbrev μ-loop2 : count-choices-lts.MeasureT-loop2
 μ-loop2 w p left e more at₀ product rest₀ sum₀ at rest sum = rest
 
 abbrev Inv-loop : count-choices-lts.InvT-loop
-Inv-loop w p left e more₀ at₀ product₀ more at product = ((c : Countable w p left) → Multiplying w p left c more at product)
+Inv-loop w p left e more₀ at₀ product₀ more at product = ((c : Readable w p left) → Multiplying w p left c more at product)
     × (product ≤ choice-stop)
 
 abbrev μ-loop : count-choices-lts.MeasureT-loop

@@ -2,7 +2,7 @@
 use native.Mathlib.Omega.{arith}
 use mathlib.Core.Logic.{⊎-elim}
 use Prim.Native.Nat.{_+_, _≤_}
-use Rattle.marks.specs.Tallied.{Alternatives}
+use Rattle.marks.specs.Readable.{Alternatives}
 use Rattle.marks.proofs.Tallying.{Tallying, one, none, more, tally-none, tally-read, tally-step, tally-all}
 use Rattle.marks.proofs.tally.count_kept.Statement.{statement}
 use Rattle.marks.proofs.tally.count_kept.Tie as tie
