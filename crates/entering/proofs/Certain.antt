@@ -16,15 +16,16 @@ use Rattle.modes_by_marks.proofs.Marks.{kept-alts, keep-true, keep-false}
 use Rattle.loading.specs.Entry.{Entry, graphs}
 use Rattle.loading.specs.Loaded.{extent}
 use Rattle.loading.specs.At.{At, AtAll, AtAny}
+use Rattle.loading.specs.Lying.{Lying, LyingAny}
 use Rattle.loading.proofs.Walking.{at-bounds, all-bounds, any-bounds}
 use Rattle.marks.specs.Tallied.{from-kept}
 use Rattle.marks.proofs.First.{kept-true, kept-false, from-true, from-false}
-use Rattle.loading.specs.Nesting.{Nests, NestsAny}
+use Rattle.loading.specs.Nesting.{NestsAny}
 use Rattle.classes.proofs.Comings.{graphs-append}
 use Rattle.engine.specs.Quickly.{any-at, inside-at}
-use Rattle.entering.specs.Clear.{ByMark, Clear, ClearLone}
+use Rattle.entering.specs.Clear.{ByMark, Clear, ClearLone, ClearOf}
 use Rattle.entering.proofs.Mirror.{any-dropped, any-alone, kept-alike}
-use Rattle.entering.specs.Taken.{taken, taken-all, taken-any, Among, AmongAll, AmongAny, Inside, Free}
+use Rattle.entering.specs.Taken.{taken, taken-all, taken-any, Among, AmongAll, AmongAny, taken-of, taken-any-of, AmongOf, AmongAnyOf, Inside, Free}
 
 -- fewer numbers are free too
 pub free-narrow : (n m n′ m′ : ℕ) (es : List Entry) → n ≤ n′ → m′ ≤ m → Free n m es → Free n′ m′ es
@@ -169,24 +170,18 @@ none-left k (option x d a) z = go (k x) refl (none-left k a)
 -- the alternative at `first` is the one of a that is kept, and what is taken of a is taken of it
 pub record Lone (U : List Entry) (t : List ℕ) (k : Marking) (left p n : ℕ) (a : Options) (q m : ℕ) (at : AtAny t p n a q m)
     (first : ℕ) : Type 0 where
-  pub d : Placed
-  pub from : ℕ
-  pub end : ℕ
-  pub to : ℕ
-  pub here : At t first from d end to
+  pub lies : Lying m t first left
   pub near : p ≤ first
-  pub far : end ≤ q
-  pub low : n ≤ from
-  pub high : to ≤ m
-  pub nests : Nests d left
-  pub among : Among U t first from d end to here
-  pub same : taken-any t k p n a q m at ≡ taken t k first from d end to here
-  pub kept : k from ≡ true
-  pub alone : keep-any k a ≡ option from (keep k d) no-more
-  pub any : (S : List Graph) → any-at S k a ≡ inside-at S k d
-  pub opens : (E : List Entry) → ClearLone E t k p n a q m at → Clear E t k first from d end to here
-  pub closes : (E : List Entry) (k′ : Marking) → ((y : ℕ) → n ≤ y → y < m → (y ≤ from) ⊎ (to ≤ y) → k′ y ≡ k y) →
-      Clear E t k′ first from d end to here → (kept-of k′ a ≡ 1) × ClearLone E t k′ p n a q m at
+  pub far : lies .end ≤ q
+  pub low : n ≤ lies .from
+  pub among : AmongOf U lies
+  pub same : taken-any t k p n a q m at ≡ taken-of k lies
+  pub kept : k (lies .from) ≡ true
+  pub alone : keep-any k a ≡ option (lies .from) (keep k (lies .d)) no-more
+  pub any : (S : List Graph) → any-at S k a ≡ inside-at S k (lies .d)
+  pub opens : (E : List Entry) → ClearLone E t k p n a q m at → ClearOf E k lies
+  pub closes : (E : List Entry) (k′ : Marking) → ((y : ℕ) → n ≤ y → y < m → (y ≤ lies .from) ⊎ (lies .to ≤ y) → k′ y ≡ k y) →
+      ClearOf E k′ lies → (kept-of k′ a ≡ 1) × ClearLone E t k′ p n a q m at
 
 module _ (U : List Entry) (t t′ : List ℕ) (k : Marking) (left : ℕ) where
   lone-here : (x : ℕ) (d : Placed) (a : Options) (p n q m : ℕ) → p ≤ length t → (at : AtAny t p n (option x d a) q m) →
@@ -198,16 +193,10 @@ module _ (U : List Entry) (t t′ : List ℕ) (k : Marking) (left : ℕ) where
       let far = last .2 in
       let one = taken t k p n d (at .0) (at .1) (at .3) in
       record {
-        d = d;
-        from = n;
-        end = at .0;
-        to = at .1;
-        here = at .3;
+        lies = record { d = d; from = n; end = at .0; to = at .1; at = at .3; low = far; nests = s .0 };
         near = omega arith;
         far = last .0;
         low = omega arith;
-        high = far;
-        nests = s .0;
         among = u .0;
         same = ap (λ (b : Bool). elim b [
           | true ↦ elim (kept-of k a) [ zero ↦ one | suc l ↦ [] ]
@@ -236,16 +225,10 @@ module _ (U : List Entry) (t t′ : List ℕ) (k : Marking) (left : ℕ) where
       let near = bounds .2 in
       let low = l .low in
       record {
-        d = l .d;
-        from = l .from;
-        end = l .end;
-        to = l .to;
-        here = l .here;
+        lies = l .lies;
         near = omega (arith, bounds .0, l .near);
         far = l .far;
         low = omega arith;
-        high = l .high;
-        nests = l .nests;
         among = l .among;
         same = ap (λ (b : Bool). elim b [
           | true ↦ elim (kept-of k a) [ zero ↦ taken t k p n d (at .0) (at .1) (at .3) | suc l ↦ [] ]
@@ -298,3 +281,38 @@ taken-none t k (option x d a) p n q m at h = go (k x) refl (kept-of k a) refl (t
     go true e zero f on = absurd (h (omega (arith, kept-true k x d a e)))
     go true e (suc l) f on = refl
     go false e c f on = on (λ z. h (kept-false k x d a e ∙ z))
+
+-- ---- by what stands loaded
+module _ {n : ℕ} {t : List ℕ} {p left : ℕ} (k : Marking) where
+  module _ (l : Lying n t p left) where
+    pub flat-of : graphs (taken-of k l) ≡ flat (strip (keep k (l .d)))
+    flat-of = taken-flat t k p (l .from) (l .d) (l .end) (l .to) (l .at)
+
+    pub inside-of : (U : List Entry) → AmongOf U l → Inside U (taken-of k l)
+    inside-of U u = taken-inside t k U p (l .from) (l .d) (l .end) (l .to) (l .at) u
+
+    pub between-of : (o : Entry) → List·Memᴰ o (taken-of k l) → (l .from ≤ o .number) × (o .number < l .to)
+    between-of = taken-between t k p (l .from) (l .d) (l .end) (l .to) (l .at)
+
+  module _ {count : ℕ} (l : LyingAny n t p count left) where
+    pub lone-of : graphs (taken-any-of k l) ≡ sure-any (strip-any (keep-any k (l .a)))
+    lone-of = taken-lone t k p (l .from) (l .a) (l .end) (l .to) (l .at)
+
+    pub none-of : (kept-of k (l .a) ≡ 1 → ⊥) → taken-any-of k l ≡ []
+    none-of = taken-none t k (l .a) p (l .from) (l .end) (l .to) (l .at)
+
+    pub any-inside-of : (U : List Entry) → AmongAnyOf U l → Inside U (taken-any-of k l)
+    any-inside-of U u = taken-any-inside t k U p (l .from) (l .a) (l .end) (l .to) (l .at) u
+
+    pub any-between-of : (o : Entry) → List·Memᴰ o (taken-any-of k l) → (l .from ≤ o .number) × (o .number < l .to)
+    any-between-of = taken-any-between t k p (l .from) (l .a) (l .end) (l .to) (l .within) (l .at)
+
+    -- the one of them that is kept stands at `first`
+    abbrev pub LoneOf : List Entry → ℕ → Type 0
+    LoneOf U first = Lone U t k left p (l .from) (l .a) (l .end) (l .to) (l .at) first
+
+pub lone-alone : {n : ℕ} {t : List ℕ} {p count left : ℕ} (U : List Entry) (t′ : List ℕ) (k : Marking) (l : LyingAny n t p count left) →
+    AmongAnyOf U l → kept-of k (l .a) ≡ 1 → (first : ℕ) → (j : ℕ) × AtAny t′ first j (from-kept k (l .a)) (l .end) (l .to) →
+    LoneOf k l U first
+lone-alone {n} {t} {p} {count} {left} U t′ k l u one first stands =
+    lone-at U t t′ k left (l .a) p (l .from) (l .end) (l .to) (l .within) (l .at) u (l .nests) one first (stands .0) (stands .1)

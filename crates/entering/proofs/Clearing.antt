@@ -12,9 +12,10 @@ use Rattle.engine.specs.Marks.{Marking, kept-of}
 use Rattle.loading.specs.Entry.{Entry}
 use Rattle.loading.specs.Loaded.{extent}
 use Rattle.loading.specs.At.{At, AtAll, AtAny}
+use Rattle.loading.specs.Lying.{Lying, LyingAny}
 use Rattle.loading.proofs.Walking.{at-bounds, all-bounds, any-bounds}
-use Rattle.entering.specs.Taken.{taken, taken-all, taken-any, Free}
-use Rattle.entering.specs.Clear.{Outside, ByCount, ByMark, Clear, ClearAll, ClearLone, ClearAny}
+use Rattle.entering.specs.Taken.{taken, taken-all, taken-any, taken-of, taken-any-of, Free}
+use Rattle.entering.specs.Clear.{Outside, ByCount, ByMark, Clear, ClearAll, ClearLone, ClearAny, ClearOf, ClearAnyOf}
 use Rattle.entering.proofs.Mirror.{Alike, kept-alike}
 use Rattle.entering.proofs.Certain.{taken-all-between, taken-any-between, taken-none}
 
@@ -188,3 +189,11 @@ pub any-alike : (t : List ℕ) (k k′ : Marking) (E E′ : List Entry) (p n : �
 any-alike t k k′ E E′ p n a q m h at s u x =
     by-count t k k′ E E′ (kept-of k a) (kept-of k′ a) (kept-alike t k k′ a p n q m h at s) n m (ClearLone E t k p n a q m at)
     (ClearLone E′ t k′ p n a q m at) u (λ y. lone-alike t k k′ E E′ p n a q m h at s u y) x
+
+-- ---- by what stands loaded
+module _ {n : ℕ} {t : List ℕ} {p left : ℕ} (k : Marking) (E : List Entry) where
+  pub clear-of : (l : Lying n t p left) → Holding (l .from) (l .to) (taken-of k l) E → ClearOf E k l
+  clear-of l = clear-taken t k E p (l .from) (l .d) (l .end) (l .to) (l .at)
+
+  pub clear-any-of : {count : ℕ} (l : LyingAny n t p count left) → Holding (l .from) (l .to) (taken-any-of k l) E → ClearAnyOf E k l
+  clear-any-of l = clear-any t k E p (l .from) (l .a) (l .end) (l .to) (l .within) (l .at)

@@ -16,16 +16,17 @@ use Rattle.area.proofs.Region.{words-same, words-many}
 use Rattle.engine.specs.Placed.{Placed, place, Places, stop, _also_, Options}
 use Rattle.engine.specs.Marks.{Marking, kept-of}
 use Rattle.loading.specs.Entry.{Entry, graphs}
-use Rattle.loading.specs.Loaded.{extent, number-step}
+use Rattle.loading.specs.Loaded.{extent}
 use Rattle.loading.specs.Numbered.{places, options}
-use Rattle.loading.specs.At.{At, AtAll, AtAny}
+use Rattle.loading.specs.At.{AtAll, AtAny}
+use Rattle.loading.specs.Lying.{Here, Rest}
 use Rattle.loading.proofs.Entries.{entry}
 use Rattle.loading.proofs.Walking.{at-bounds, all-bounds, any-bounds}
 use Rattle.marks.specs.Positions.{tail-at, disjunctions-at, alternatives-at}
 use Rattle.marks.specs.Marked.{marking}
-use Rattle.marks.specs.Readable.{Alternatives}
+use Rattle.marks.specs.Readable.{Readable, Alternatives}
 use Rattle.marks.specs.Tallied.{Tallied}
-use Rattle.marks.proofs.Reading.{tail-is, disjunctions-is, alternatives-is, read-at}
+use Rattle.marks.proofs.Reading.{readable, reads, tail-of, disjunctions-of, alternatives-is}
 use Rattle.marks.proofs.Marks.{marking-frame}
 use Rattle.loading.specs.Nesting.{Nests, NestsAll, NestsAny}
 use Rattle.classes.specs.Entry.{Comes}
@@ -34,11 +35,11 @@ use Rattle.classes.specs.declared.push.Pushed.{Pushed}
 use Rattle.classes.specs.declared.push.Pushed.the-variants.{In, Clashed}
 use Rattle.classes.proofs.Laws.{since-trans}
 use Rattle.classes.proofs.Comings.{graphs-append}
-use Rattle.entering.specs.Taken.{taken, taken-all, taken-any, Among, AmongAll, AmongAny, Inside, Free}
+use Rattle.entering.specs.Taken.{taken-any, AmongAny, taken-here, taken-rest, taken-of, AmongHere, AmongRest, Inside, Free}
 use Rattle.entering.specs.Ground.{Ground}
 use Rattle.entering.specs.Entered.{Entering, entered, Enters}
 use Rattle.entering.specs.Settled.{Alternating, settled}
-use Rattle.entering.proofs.Certain.{taken-inside, taken-any-inside, free-narrow, taken-any-between, taken-none}
+use Rattle.entering.proofs.Certain.{inside-of, taken-any-inside, free-narrow, taken-any-between, taken-none}
 use Rattle.entering.proofs.Alone.{counted, inner, inner-entered}
 
 -- ---- lists of entries
@@ -68,107 +69,104 @@ pub record Reached (k : ℕ) (w : List ℕ) (log : ℕ) (w₁ : List ℕ) : Type
 
 module _ (n k : ℕ) (w : List ℕ) (g left : ℕ) (c : Entering n k w g left) where
   room : 16384 ≤ length w
-  room = c .holds .long
+  room = c .s .holds .long
 
   -- ---- the description's own graph
-  pub own-comes : (K : Graph) (ds : Places) (at : At (c .t) g (c .from) (place K ds) (c .end) (c .to)) →
-      Among (c .U) (c .t) g (c .from) (place K ds) (c .end) (c .to) at → Comes n (c .es) (entry g (c .from) K) w
+  pub own-comes : (K : Graph) (ds : Places) (at : Here (c .lies) (place K ds)) →
+      AmongHere (c .s .U) (c .lies) (place K ds) at → Comes n (c .s .es) (entry g (c .lies .from) K) w
   own-comes K ds at u =
-      let more = at-bounds (c .t) (place K ds) g (c .from) (c .end) (c .to) at .2 in
-      c .ground .comes w (c .es) k (c .loaded) (c .holds) (c .inside) (entry g (c .from) K) (u .0)
+      let more = at-bounds (c .s .t) (place K ds) g (c .lies .from) (c .lies .end) (c .lies .to) at .2 in
+      c .s .ground .comes w (c .s .es) k (c .s .loaded) (c .s .holds) (c .s .inside) (entry g (c .lies .from) K) (u .0)
       (λ o i q. ⊎-elim (λ b. omega arith) (λ b. omega arith) (c .free o i))
 
   pub asks-own : Pushing n k w g
-  asks-own = go (c .d) (c .at) (c .among)
+  asks-own = go (c .lies .d) (c .lies .at) (c .among)
     where
-      go : (d : Placed) (at : At (c .t) g (c .from) d (c .end) (c .to)) → Among (c .U) (c .t) g (c .from) d (c .end) (c .to) at →
+      go : (d : Placed) (at : Here (c .lies) d) → AmongHere (c .s .U) (c .lies) d at →
           Pushing n k w g
-      go (place K ds) at u = record { es = c .es; e = entry g (c .from) K; is = refl; holds = c .holds; comes = own-comes K ds at u }
+      go (place K ds) at u = record { es = c .s .es; e = entry g (c .lies .from) K; is = refl; holds = c .s .holds; comes = own-comes K ds at u }
 
-  inside-all : Inside (c .U) (entered c)
-  inside-all = inside-append (c .U) (c .es) (taken (c .t) (marking w) g (c .from) (c .d) (c .end) (c .to) (c .at)) (c .inside)
-      (taken-inside (c .t) (marking w) (c .U) g (c .from) (c .d) (c .end) (c .to) (c .at) (c .among))
+  inside-all : Inside (c .s .U) (entered c)
+  inside-all = inside-append (c .s .U) (c .s .es) (taken-of (marking w) (c .lies)) (c .s .inside)
+      (inside-of (marking w) (c .lies) (c .s .U) (c .among))
 
   -- ---- `more` disjunctions are left, from `at` on; before them some graphs were pushed
   pub record Walking (more at log : ℕ) (w₁ : List ℕ) : Type 0 where
     pub ds : Places
     pub from : ℕ
-    pub stand : AtAll (c .t) at from ds (c .end) (c .to)
+    pub stand : Rest (c .lies) at from ds
     pub many : places ds ≡ more
     pub nests : NestsAll ds left
-    pub among : AmongAll (c .U) (c .t) at from ds (c .end) (c .to) stand
+    pub among : AmongRest (c .s .U) (c .lies) at from ds stand
     pub es : List Entry
     pub holds : Holds n es log w₁
-    pub inside : Inside (c .U) es
-    pub free : Free from (c .to) es
-    pub total : entered c ≡ es ++ taken-all (c .t) (marking w) at from ds (c .end) (c .to) stand
-
-  low : c .to < number-step
-  low = omega (arith, c .low, c .ground .few)
+    pub inside : Inside (c .s .U) es
+    pub free : Free from (c .lies .to) es
+    pub total : entered c ≡ es ++ taken-rest (marking w) (c .lies) at from ds stand
 
   module _ (log : ℕ) (w₁ : List ℕ) (r : Reached k w log w₁) where
     room₁ : 16384 ≤ length w₁
     room₁ = omega (arith, r .len, room)
 
-    loaded₁ : words w₁ ≡ c .t
-    loaded₁ = words-same w w₁ room (r .len) (λ j a b. r .rest j a) ∙ c .loaded
+    loaded₁ : words w₁ ≡ c .s .t
+    loaded₁ = words-same w w₁ room (r .len) (λ j a b. r .rest j a) ∙ c .s .loaded
 
     marks₁ : marking w₁ ≡ marking w
     marks₁ = marking-frame w w₁ room (r .len) (λ j a b. r .rest j (omega arith))
 
-    at₁ : At (words w₁) g (c .from) (c .d) (c .end) (c .to)
-    at₁ = subst (λ (t : List ℕ). At t g (c .from) (c .d) (c .end) (c .to)) (sym loaded₁) (c .at)
+    abbrev read₁ : Readable w₁ g left
+    read₁ = readable w₁ room₁ loaded₁ (c .s .ground .few) (c .lies)
 
     pub starts : (g < 2048) × (tail-at w₁ g < 2048)
-    starts = let s = read-at w₁ room₁ (c .d) g (c .from) (c .end) (c .to) at₁ low in (s .here, s .inside)
+    starts = let s = reads read₁ in (s .here, s .inside)
 
     pub walk-start : (o : Pushed) → Pushes n k w g o w₁ → o ≡ In log → (e more : ℕ) → e ≡ tail-at w₁ g → more ≡ disjunctions-at w₁ e →
         Walking more (e + 1) log w₁
-    walk-start o u z e more f h = go (c .d) (c .at) at₁ (c .among) (c .nests) refl
+    walk-start o u z e more f h = go (c .lies .d) (c .lies .at) (read₁ .lies .at) (c .among) (c .lies .nests) refl
       where
-        go : (d : Placed) (at : At (c .t) g (c .from) d (c .end) (c .to)) → At (words w₁) g (c .from) d (c .end) (c .to) →
-            Among (c .U) (c .t) g (c .from) d (c .end) (c .to) at → Nests d left →
-            entered c ≡ c .es ++ taken (c .t) (marking w) g (c .from) d (c .end) (c .to) at → Walking more (e + 1) log w₁
+        go : (d : Placed) (at : Here (c .lies) d) → Here (read₁ .lies) d →
+            AmongHere (c .s .U) (c .lies) d at → Nests d left →
+            entered c ≡ c .s .es ++ taken-here (marking w) (c .lies) d at → Walking more (e + 1) log w₁
         go (place K ds) at here s nests same =
-            let own = entry g (c .from) K in
-            let tail : e ≡ g + extent K = f ∙ tail-is w₁ room₁ K ds g (c .from) (c .end) (c .to) here low in
+            let own = entry g (c .lies .from) K in
+            let tail : e ≡ g + extent K = f ∙ tail-of read₁ K ds here in
             let some = at .0 in
-            let more-than = at-bounds (c .t) (place K ds) g (c .from) (c .end) (c .to) at .2 in
+            let more-than = at-bounds (c .s .t) (place K ds) g (c .lies .from) (c .lies .end) (c .lies .to) at .2 in
             subst (λ (p : ℕ). Walking more (p + 1) log w₁) (sym tail) (record {
               ds = ds;
-              from = c .from + length K;
+              from = c .lies .from + length K;
               stand = at .6;
-              many = sym (h ∙ ap (disjunctions-at w₁) tail ∙ disjunctions-is w₁ room₁ K ds g (c .from) (c .end) (c .to) here low);
+              many = sym (h ∙ ap (disjunctions-at w₁) tail ∙ disjunctions-of read₁ K ds here);
               nests = nests;
               among = s .1;
-              es = c .es ++ own ∷ [];
-              holds = u .inside log z .1 (c .es) own refl (c .holds) (own-comes K ds at s);
-              inside = inside-append (c .U) (c .es) (own ∷ []) (c .inside)
-                  (λ o i. ⊎-elim (λ q. subst (λ (x : Entry). List·Memᴰ x (c .U)) (sym q) (s .0)) (λ j. absurd (List·Memᴰ·not-nil j))
+              es = c .s .es ++ own ∷ [];
+              holds = u .inside log z .1 (c .s .es) own refl (c .s .holds) (own-comes K ds at s);
+              inside = inside-append (c .s .U) (c .s .es) (own ∷ []) (c .s .inside)
+                  (λ o i. ⊎-elim (λ q. subst (λ (x : Entry). List·Memᴰ x (c .s .U)) (sym q) (s .0)) (λ j. absurd (List·Memᴰ·not-nil j))
                   (List·Memᴰ·cases-cons i));
-              free = free-append (c .from + length K) (c .to) (c .es) (own ∷ [])
-                  (free-narrow (c .from) (c .to) (c .from + length K) (c .to) (c .es) (omega arith) (omega arith) (c .free))
-                  (λ o i. ⊎-elim (λ q. let v : o .number ≡ c .from = ap (λ (x : Entry). x .number) q in
+              free = free-append (c .lies .from + length K) (c .lies .to) (c .s .es) (own ∷ [])
+                  (free-narrow (c .lies .from) (c .lies .to) (c .lies .from + length K) (c .lies .to) (c .s .es) (omega arith) (omega arith) (c .free))
+                  (λ o i. ⊎-elim (λ q. let v : o .number ≡ c .lies .from = ap (λ (x : Entry). x .number) q in
                   inl (omega arith)) (λ j. absurd (List·Memᴰ·not-nil j)) (List·Memᴰ·cases-cons i));
-              total = same ∙ sym (append-assoc (c .es) (own ∷ [])
-                  (taken-all (c .t) (marking w) (g + extent K + 1) (c .from + length K) ds (c .end) (c .to) (at .6)));
+              total = same ∙ sym (append-assoc (c .s .es) (own ∷ [])
+                  (taken-rest (marking w) (c .lies) (g + extent K + 1) (c .lies .from + length K) ds (at .6)));
             })
 
     module _ (more at : ℕ) (v : Walking more at log w₁) where
       pub walk-done : more ≤ 0 → Holds n (entered c) log w₁
       walk-done h = go (v .ds) (v .stand) (v .many) (v .total)
         where
-          go : (ds : Places) (s : AtAll (c .t) at (v .from) ds (c .end) (c .to)) → places ds ≡ more →
-              entered c ≡ v .es ++ taken-all (c .t) (marking w) at (v .from) ds (c .end) (c .to) s → Holds n (entered c) log w₁
+          go : (ds : Places) (s : Rest (c .lies) at (v .from) ds) → places ds ≡ more →
+              entered c ≡ v .es ++ taken-rest (marking w) (c .lies) at (v .from) ds s → Holds n (entered c) log w₁
           go stop s many total = subst (λ (l : List Entry). Holds n l log w₁) (sym (total ∙ append-nil (v .es))) (v .holds)
           go (a also ds) s many total = absurd (omega arith)
 
       pub walk-here : 0 < more → at < 2048
       walk-here h = go (v .ds) (v .stand) (v .many)
         where
-          go : (ds : Places) → AtAll (c .t) at (v .from) ds (c .end) (c .to) → places ds ≡ more → at < 2048
+          go : (ds : Places) → Rest (c .lies) at (v .from) ds → places ds ≡ more → at < 2048
           go stop s many = absurd (omega arith)
-          go (a also ds) s many = let there = s .2 in omega (arith, words-many w room, ap length (c .loaded))
+          go (a also ds) s many = let there = s .2 in omega (arith, words-many w room, ap length (c .s .loaded))
 
       -- the next disjunction
       record Next : Type 0 where
@@ -176,31 +174,31 @@ module _ (n k : ℕ) (w : List ℕ) (g left : ℕ) (c : Entering n k w g left) w
         later : Places
         q : ℕ
         m : ℕ
-        any : AtAny (c .t) (at + 1) (v .from) a q m
-        all : AtAll (c .t) q m later (c .end) (c .to)
-        within : at + 1 ≤ length (c .t)
+        any : AtAny (c .s .t) (at + 1) (v .from) a q m
+        all : Rest (c .lies) q m later
+        within : at + 1 ≤ length (c .s .t)
         low-end : v .from ≤ m
-        end-low : m ≤ c .to
+        end-low : m ≤ c .lies .to
         count : alternatives-at w₁ at ≡ options a
         many-later : places later + 1 ≡ more
         deep : 0 < left
         inner : NestsAny a (left - 1)
         nests-later : NestsAll later left
-        among-any : AmongAny (c .U) (c .t) (at + 1) (v .from) a q m any
-        among-later : AmongAll (c .U) (c .t) q m later (c .end) (c .to) all
+        among-any : AmongAny (c .s .U) (c .s .t) (at + 1) (v .from) a q m any
+        among-later : AmongRest (c .s .U) (c .lies) q m later all
         total-next : entered c ≡ v .es
-            ++ (taken-any (c .t) (marking w) (at + 1) (v .from) a q m any ++ taken-all (c .t) (marking w) q m later (c .end) (c .to) all)
+            ++ (taken-any (c .s .t) (marking w) (at + 1) (v .from) a q m any ++ taken-rest (marking w) (c .lies) q m later all)
 
       next : 0 < more → Next
       next h = go (v .ds) (v .stand) (v .many) (v .nests) (v .among) (v .total)
         where
-          go : (ds : Places) (s : AtAll (c .t) at (v .from) ds (c .end) (c .to)) → places ds ≡ more → NestsAll ds left →
-              AmongAll (c .U) (c .t) at (v .from) ds (c .end) (c .to) s →
-              entered c ≡ v .es ++ taken-all (c .t) (marking w) at (v .from) ds (c .end) (c .to) s → Next
+          go : (ds : Places) (s : Rest (c .lies) at (v .from) ds) → places ds ≡ more → NestsAll ds left →
+              AmongRest (c .s .U) (c .lies) at (v .from) ds s →
+              entered c ≡ v .es ++ taken-rest (marking w) (c .lies) at (v .from) ds s → Next
           go stop s many nests u total = absurd (omega arith)
           go (a also ds) s many nests u total =
               let there = s .2 in
-              let first = any-bounds (c .t) a (at + 1) (v .from) (s .0) (s .1) (omega arith) (s .4) in
+              let first = any-bounds (c .s .t) a (at + 1) (v .from) (s .0) (s .1) (omega arith) (s .4) in
               record {
                 a = a;
                 later = ds;
@@ -210,9 +208,9 @@ module _ (n k : ℕ) (w : List ℕ) (g left : ℕ) (c : Entering n k w g left) w
                 all = s .5;
                 within = omega arith;
                 low-end = first .2;
-                end-low = all-bounds (c .t) ds (s .0) (s .1) (c .end) (c .to) (first .1) (s .5) .2;
-                count = alternatives-is w₁ a ds at (v .from) (c .end) (c .to)
-                    (subst (λ (t : List ℕ). AtAll t at (v .from) (a also ds) (c .end) (c .to)) (sym loaded₁) s);
+                end-low = all-bounds (c .s .t) ds (s .0) (s .1) (c .lies .end) (c .lies .to) (first .1) (s .5) .2;
+                count = alternatives-is w₁ a ds at (v .from) (c .lies .end) (c .lies .to)
+                    (subst (λ (t : List ℕ). AtAll t at (v .from) (a also ds) (c .lies .end) (c .lies .to)) (sym loaded₁) s);
                 many-later = omega arith;
                 deep = nests .0;
                 inner = nests .1;
@@ -230,24 +228,30 @@ module _ (n k : ℕ) (w : List ℕ) (g left : ℕ) (c : Entering n k w g left) w
         these =
             let x = next h in
             record {
-              t = c .t;
-              loaded = loaded₁;
-              U = c .U;
-              ground = c .ground;
-              a = x .a;
-              from = v .from;
-              end = x .q;
-              to = x .m;
-              at = x .any;
-              within = x .within;
-              low = omega (arith, x .end-low, c .low);
-              many = sym (e ∙ x .count);
-              nests = x .inner;
+              s = record {
+                t = c .s .t;
+                loaded = loaded₁;
+                m = marking w₁;
+                marks = refl;
+                U = c .s .U;
+                ground = c .s .ground;
+                es = v .es;
+                holds = v .holds;
+                inside = v .inside;
+              };
+              lies = record {
+                a = x .a;
+                from = v .from;
+                end = x .q;
+                to = x .m;
+                at = x .any;
+                within = x .within;
+                low = omega (arith, x .end-low, c .lies .low);
+                many = sym (e ∙ x .count);
+                nests = x .inner;
+              };
               among = x .among-any;
-              es = v .es;
-              holds = v .holds;
-              inside = v .inside;
-              free = free-narrow (v .from) (c .to) (v .from) (x .m) (v .es) (omega arith) (x .end-low) (v .free);
+              free = free-narrow (v .from) (c .lies .to) (v .from) (x .m) (v .es) (omega arith) (x .end-low) (v .free);
             }
 
         pub walk-asks : Alternatives w₁ (at + 1) count
@@ -255,16 +259,16 @@ module _ (n k : ℕ) (w : List ℕ) (g left : ℕ) (c : Entering n k w g left) w
 
         -- what is taken of it, and after it
         abbrev list : List Entry
-        list = taken-any (c .t) (marking w) (at + 1) (v .from) (next h .a) (next h .q) (next h .m) (next h .any)
+        list = taken-any (c .s .t) (marking w) (at + 1) (v .from) (next h .a) (next h .q) (next h .m) (next h .any)
 
         abbrev rest-list : List Entry
-        rest-list = taken-all (c .t) (marking w) (next h .q) (next h .m) (next h .later) (c .end) (c .to) (next h .all)
+        rest-list = taken-rest (marking w) (c .lies) (next h .q) (next h .m) (next h .later) (next h .all)
 
         total-alone : entered c ≡ (v .es ++ list) ++ rest-list
         total-alone = next h .total-next ∙ sym (append-assoc (v .es) list rest-list)
 
         settled-is : settled these ≡ v .es ++ list
-        settled-is = ap (λ (u : Marking). v .es ++ taken-any (c .t) u (at + 1) (v .from) (next h .a) (next h .q) (next h .m) (next h .any))
+        settled-is = ap (λ (u : Marking). v .es ++ taken-any (c .s .t) u (at + 1) (v .from) (next h .a) (next h .q) (next h .m) (next h .any))
             marks₁
 
         -- past it
@@ -281,11 +285,11 @@ module _ (n k : ℕ) (w : List ℕ) (g left : ℕ) (c : Entering n k w g left) w
               among = x .among-later;
               es = v .es ++ list;
               holds = held;
-              inside = inside-append (c .U) (v .es) list (v .inside)
-                  (taken-any-inside (c .t) (marking w) (c .U) (at + 1) (v .from) (x .a) (x .q) (x .m) (x .any) (x .among-any));
-              free = free-append (x .m) (c .to) (v .es) list
-                  (free-narrow (v .from) (c .to) (x .m) (c .to) (v .es) (x .low-end) (omega arith) (v .free))
-                  (λ o j. let f = taken-any-between (c .t) (marking w) (at + 1) (v .from) (x .a) (x .q) (x .m) (x .within)
+              inside = inside-append (c .s .U) (v .es) list (v .inside)
+                  (taken-any-inside (c .s .t) (marking w) (c .s .U) (at + 1) (v .from) (x .a) (x .q) (x .m) (x .any) (x .among-any));
+              free = free-append (x .m) (c .lies .to) (v .es) list
+                  (free-narrow (v .from) (c .lies .to) (x .m) (c .lies .to) (v .es) (x .low-end) (omega arith) (v .free))
+                  (λ o j. let f = taken-any-between (c .s .t) (marking w) (at + 1) (v .from) (x .a) (x .q) (x .m) (x .within)
                   (x .any) o j .1 in inl (omega arith));
               total = total-alone;
             }
@@ -296,7 +300,7 @@ module _ (n k : ℕ) (w : List ℕ) (g left : ℕ) (c : Entering n k w g left) w
 
           pub walk-skip : (kept ≡ 1 → ⊥) → Walking (more - 1) after log w₁
           walk-skip z =
-              let none = taken-none (c .t) (marking w) (next h .a) (at + 1) (v .from) (next h .q) (next h .m) (next h .any)
+              let none = taken-none (c .s .t) (marking w) (next h .a) (at + 1) (v .from) (next h .q) (next h .m) (next h .any)
               (λ f. z (told .kept-are ∙ ap (λ (u : Marking). kept-of u (next h .a)) marks₁ ∙ f)) in
               subst (λ (p : ℕ). Walking (more - 1) p log w₁) (sym (told .after-is))
               (past log w₁ (subst (λ (l : List Entry). Holds n l log w₁)
@@ -315,7 +319,7 @@ module _ (n k : ℕ) (w : List ℕ) (g left : ℕ) (c : Entering n k w g left) w
               walk-clash z =
                   let k = subst (λ (l : List Entry). Clash (graphs l)) walk-entered (u .clashed z .1 walk-inner .0) in
                   subst (λ (l : List Entry). Clash (graphs l)) (sym total-alone)
-                  (clash-more n (c .t) (c .U) (v .es ++ list) rest-list (c .ground) (subst (Inside (c .U)) total-alone inside-all) k)
+                  (clash-more n (c .s .t) (c .s .U) (v .es ++ list) rest-list (c .s .ground) (subst (Inside (c .s .U)) total-alone inside-all) k)
 
               pub walk-in : (i : ℕ) → o ≡ In i → Walking (more - 1) after i w₂
               walk-in i z = subst (λ (p : ℕ). Walking (more - 1) p i w₂) (sym (told .after-is))
@@ -338,20 +342,20 @@ enters-own n k w g left o w₁ u z = record {
   len = u .len;
   rest = u .rest;
   pushed = λ i y. let x : _≡_ {A = ℕ} 0 1 = cc in absurd (omega arith);
-  clashed = λ y. (u .clashed z .0 .0, λ c. own-clash c (c .d) (c .at) (c .among) refl);
+  clashed = λ y. (u .clashed z .0 .0, λ c. own-clash c (c .lies .d) (c .lies .at) (c .among) refl);
 }
   where
-    own-clash : (c : Entering n k w g left) (d : Placed) (at : At (c .t) g (c .from) d (c .end) (c .to)) →
-        Among (c .U) (c .t) g (c .from) d (c .end) (c .to) at →
-        entered c ≡ c .es ++ taken (c .t) (marking w) g (c .from) d (c .end) (c .to) at → Clash (graphs (entered c)) × Holds n (c .es) k w₁
+    own-clash : (c : Entering n k w g left) (d : Placed) (at : Here (c .lies) d) →
+        AmongHere (c .s .U) (c .lies) d at →
+        entered c ≡ c .s .es ++ taken-here (marking w) (c .lies) d at → Clash (graphs (entered c)) × Holds n (c .s .es) k w₁
     own-clash c (place K ds) at s same =
-        let own = entry g (c .from) K in
-        let told = u .clashed z .1 (c .es) own refl (c .holds) (own-comes n k w g left c K ds at s) in
-        let rest = taken-all (c .t) (marking w) (g + extent K + 1) (c .from + length K) ds (c .end) (c .to) (at .6) in
-        let all : entered c ≡ (c .es ++ own ∷ []) ++ rest = same ∙ sym (append-assoc (c .es) (own ∷ []) rest) in
-        let first = subst Clash (sym (graphs-append (c .es) (own ∷ []))) (told .0) in (
+        let own = entry g (c .lies .from) K in
+        let told = u .clashed z .1 (c .s .es) own refl (c .s .holds) (own-comes n k w g left c K ds at s) in
+        let rest = taken-rest (marking w) (c .lies) (g + extent K + 1) (c .lies .from + length K) ds (at .6) in
+        let all : entered c ≡ (c .s .es ++ own ∷ []) ++ rest = same ∙ sym (append-assoc (c .s .es) (own ∷ []) rest) in
+        let first = subst Clash (sym (graphs-append (c .s .es) (own ∷ []))) (told .0) in (
           subst (λ (l : List Entry). Clash (graphs l)) (sym all)
-              (clash-more n (c .t) (c .U) (c .es ++ own ∷ []) rest (c .ground) (subst (Inside (c .U)) all (inside-all n k w g left c)) first),
+              (clash-more n (c .s .t) (c .s .U) (c .s .es ++ own ∷ []) rest (c .s .ground) (subst (Inside (c .s .U)) all (inside-all n k w g left c)) first),
           told .1,
         )
 

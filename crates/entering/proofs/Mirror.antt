@@ -17,6 +17,7 @@ use Rattle.modes_by_marks.proofs.Marks.{keep-false}
 use Rattle.engine.proofs.QuickStep.{sift-at-ok}
 use Rattle.loading.specs.Loaded.{extent}
 use Rattle.loading.specs.At.{At, AtAll, AtAny}
+use Rattle.loading.specs.Lying.{Lying, LyingAny}
 use Rattle.loading.proofs.Names.{Between, between-one, between-apart, between-wide}
 use Rattle.loading.proofs.Walking.{at-bounds, any-bounds, at-names, all-names, any-names}
 use Rattle.marks.proofs.First.{kept-true, kept-false}
@@ -148,3 +149,10 @@ kept-alike t k k′ (option x d a) p n q m h at s =
     let far = any-bounds t a (at .0) (at .1) q m (first .1) (at .4) .2 in
     ap₂ {C = ℕ} (λ (b : Bool) (c : ℕ). elim b [ true ↦ suc c | false ↦ c ]) (s x (omega arith) (omega arith))
     (kept-alike t k k′ a (at .0) (at .1) q m (first .1) (at .4) (λ y l u. s y (omega arith) u))
+
+-- by what stands loaded
+pub distinct-of : {n : ℕ} {t : List ℕ} {g left : ℕ} (l : Lying n t g left) → Distinct (l .d)
+distinct-of {n} {t} {g} {left} l = at-distinct t (l .d) g (l .from) (l .end) (l .to) (l .at)
+
+pub any-distinct-of : {n : ℕ} {t : List ℕ} {p count left : ℕ} (l : LyingAny n t p count left) → DistinctAny (l .a)
+any-distinct-of {n} {t} {p} {count} {left} l = any-distinct t (l .a) p (l .from) (l .end) (l .to) (l .within) (l .at)

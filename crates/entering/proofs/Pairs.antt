@@ -18,54 +18,51 @@ use Rattle.engine.proofs.Beside.{joined-strip, joined-distinct}
 use Rattle.modes_by_marks.proofs.Beside.{strip-some, SomeDistinct}
 use Rattle.loading.specs.Loaded.{nodes-in}
 use Rattle.loading.proofs.Names.{numbered-strip, between-apart, between-wide}
-use Rattle.loading.proofs.Walking.{at-names, at-bounds}
+use Rattle.loading.proofs.Walking.{at-names}
 use Rattle.entering.specs.Stage.{Pair}
-use Rattle.entering.specs.Inputs.{Inputs}
-use Rattle.entering.proofs.Mirror.{at-distinct}
-
--- the numbers of the first input end before those of the second
-pub half-low : (n : ℕ) (t : List ℕ) (i : Inputs n t) → i .half < n
-half-low n t i = at-bounds t (i .b) SECOND (i .half) (i .end-b) n (i .at-b) .2
+use Rattle.entering.proofs.Mirror.{distinct-of}
 
 module _ (n : ℕ) (t : List ℕ) (p : Pair n t) where
-  pub strip-first : strip (p .inputs .a) ≡ p .d
+  pub strip-first : strip (p .inputs .first .d) ≡ p .d
   strip-first = ap strip (p .first-is) ∙ numbered-strip 0 (p .d)
 
-  pub strip-second : strip (p .inputs .b) ≡ p .e
+  pub strip-second : strip (p .inputs .second .d) ≡ p .e
   strip-second = ap strip (p .second-is) ∙ numbered-strip (nodes-in (p .d)) (p .e)
 
-  pub first-can : Can (strip (p .inputs .a))
+  pub first-can : Can (strip (p .inputs .first .d))
   first-can = subst Can (sym strip-first) (well-can (p .d) (p .first-well))
 
-  pub second-can : Can (strip (p .inputs .b))
+  pub second-can : Can (strip (p .inputs .second .d))
   second-can = subst Can (sym strip-second) (well-can (p .e) (p .second-well))
 
-  pub first-proper : Proper (strip (p .inputs .a))
+  pub first-proper : Proper (strip (p .inputs .first .d))
   first-proper = subst Proper (sym strip-first) (well-proper (p .d) depth-limit (p .first-well))
 
-  pub second-proper : Proper (strip (p .inputs .b))
+  pub second-proper : Proper (strip (p .inputs .second .d))
   second-proper = subst Proper (sym strip-second) (well-proper (p .e) depth-limit (p .second-well))
 
-  pub first-distinct : Distinct (p .inputs .a)
-  first-distinct = at-distinct t (p .inputs .a) 0 0 (p .inputs .end-a) (p .inputs .half) (p .inputs .at-a)
+  pub first-distinct : Distinct (p .inputs .first .d)
+  first-distinct = distinct-of (p .inputs .first)
 
-  pub second-distinct : Distinct (p .inputs .b)
-  second-distinct = at-distinct t (p .inputs .b) SECOND (p .inputs .half) (p .inputs .end-b) n (p .inputs .at-b)
+  pub second-distinct : Distinct (p .inputs .second .d)
+  second-distinct = distinct-of (p .inputs .second)
 
-  pub both-apart : Apart (names (p .inputs .a)) (names (p .inputs .b))
-  both-apart = between-apart 1 (p .inputs .half) n (names (p .inputs .a)) (names (p .inputs .b))
-      (between-wide (0 + 1) 1 (p .inputs .half) (p .inputs .half) (names (p .inputs .a)) (omega arith) (omega arith)
-      (at-names t (p .inputs .a) 0 0 (p .inputs .end-a) (p .inputs .half) (p .inputs .at-a)))
-      (between-wide (p .inputs .half + 1) (p .inputs .half) n n (names (p .inputs .b)) (omega arith) (omega arith)
-      (at-names t (p .inputs .b) SECOND (p .inputs .half) (p .inputs .end-b) n (p .inputs .at-b)))
+  pub both-apart : Apart (names (p .inputs .first .d)) (names (p .inputs .second .d))
+  both-apart =
+      let a = p .inputs .first in
+      let b = p .inputs .second in
+      between-apart (a .from + 1) (a .to) (b .to) (names (a .d)) (names (b .d))
+      (at-names t (a .d) 0 (a .from) (a .end) (a .to) (a .at))
+      (between-wide (b .from + 1) (a .to) (b .to) (b .to) (names (b .d)) (omega (arith, p .inputs .apart)) (omega arith)
+      (at-names t (b .d) SECOND (b .from) (b .end) (b .to) (b .at)))
 
   -- mode 0, without the numbers
-  pub joined-is : joined (strip (p .inputs .a)) (strip (p .inputs .b)) ≡ some (strip (p .j))
-  joined-is = joined-strip (p .inputs .a) (p .inputs .b) ∙ ap strip-some (p .joined)
+  pub joined-is : joined (strip (p .inputs .first .d)) (strip (p .inputs .second .d)) ≡ some (strip (p .j))
+  joined-is = joined-strip (p .inputs .first .d) (p .inputs .second .d) ∙ ap strip-some (p .joined)
 
   pub whole-comes : Can (strip (p .j)) × Proper (strip (p .j))
   whole-comes = subst Comes joined-is
-      (joined-comes (strip (p .inputs .a)) (strip (p .inputs .b)) first-can second-can first-proper second-proper)
+      (joined-comes (strip (p .inputs .first .d)) (strip (p .inputs .second .d)) first-can second-can first-proper second-proper)
 
   pub whole-distinct : Distinct (p .j)
-  whole-distinct = subst SomeDistinct (p .joined) (joined-distinct (p .inputs .a) (p .inputs .b) first-distinct second-distinct both-apart)
+  whole-distinct = subst SomeDistinct (p .joined) (joined-distinct (p .inputs .first .d) (p .inputs .second .d) first-distinct second-distinct both-apart)

@@ -17,6 +17,7 @@ use Rattle.engine.specs.Certain.{certain-any}
 use Rattle.engine.specs.Quickly.{Step, fails, stands, settle-at}
 use Rattle.loading.specs.Entry.{Entry, graphs}
 use Rattle.loading.specs.At.{At}
+use Rattle.loading.specs.Lying.{Lying}
 use Rattle.marks.specs.Marked.{marking}
 use Rattle.marks.specs.Readable.{Alternatives}
 use Rattle.marks.specs.Tallied.{Tallied}
@@ -25,10 +26,10 @@ use Rattle.classes.specs.declared.push.Pushed.{Pushed}
 use Rattle.classes.specs.declared.push.Pushed.the-variants.{In, Clashed}
 use Rattle.classes.proofs.Comings.{graphs-append}
 use Rattle.classes.proofs.Laws.{holds-agree, since-refl}
-use Rattle.entering.specs.Taken.{taken, taken-any, Inside}
+use Rattle.entering.specs.Taken.{taken, taken-of, taken-any-of, Inside}
 use Rattle.entering.specs.Entered.{Entering, entered, Enters}
 use Rattle.entering.specs.Settled.{Alternating, settled, Settles}
-use Rattle.entering.proofs.Certain.{taken-lone, taken-none, taken-any-inside}
+use Rattle.entering.proofs.Certain.{lone-of, none-of, any-inside-of}
 use Rattle.entering.proofs.Alone.{counted, inner, inner-entered, inner-es}
 use Rattle.entering.proofs.Entering.{inside-append, canonical-all}
 use mathlib.Core.Option.{Option, none, some}
@@ -76,19 +77,23 @@ agree-joins (g ∷ gs) f a = go (join (g ∷ gs)) refl
     go (some G) q = (G, q)
     go none q = absurd (a (join-none g gs (f .1) q))
 
-pub some-taken : (t : List ℕ) (k : Marking) (p n : ℕ) (d : Placed) (q m : ℕ) (at : At t p n d q m) →
+some-taken : (t : List ℕ) (k : Marking) (p n : ℕ) (d : Placed) (q m : ℕ) (at : At t p n d q m) →
     0 < length (graphs (taken t k p n d q m at))
 some-taken t k p n (place g ds) q m at = omega arith
 
+-- of a description something is taken
+pub some-of : {n : ℕ} {t : List ℕ} {g left : ℕ} (k : Marking) (l : Lying n t g left) → 0 < length (graphs (taken-of k l))
+some-of {n} {t} {g} {left} k l = some-taken t k g (l .from) (l .d) (l .end) (l .to) (l .at)
+
 module _ (n k : ℕ) (w : List ℕ) (p count left : ℕ) where
   module _ (c : Alternating n k w p count left) where
-    settled-graphs : graphs (settled c) ≡ graphs (c .es) ++ certain-any (marking w) (c .a)
-    settled-graphs = graphs-append (c .es) (taken-any (c .t) (marking w) p (c .from) (c .a) (c .end) (c .to) (c .at))
-        ∙ ap (λ (l : List Graph). graphs (c .es) ++ l) (taken-lone (c .t) (marking w) p (c .from) (c .a) (c .end) (c .to) (c .at))
+    settled-graphs : graphs (settled c) ≡ graphs (c .s .es) ++ certain-any (marking w) (c .lies .a)
+    settled-graphs = graphs-append (c .s .es) (taken-any-of (marking w) (c .lies))
+        ∙ ap (λ (l : List Graph). graphs (c .s .es) ++ l) (lone-of (marking w) (c .lies))
 
-    pub settled-inside : Inside (c .U) (settled c)
-    settled-inside = inside-append (c .U) (c .es) (taken-any (c .t) (marking w) p (c .from) (c .a) (c .end) (c .to) (c .at)) (c .inside)
-        (taken-any-inside (c .t) (marking w) (c .U) p (c .from) (c .a) (c .end) (c .to) (c .at) (c .among))
+    pub settled-inside : Inside (c .s .U) (settled c)
+    settled-inside = inside-append (c .s .U) (c .s .es) (taken-any-of (marking w) (c .lies)) (c .s .inside)
+        (any-inside-of (marking w) (c .lies) (c .s .U) (c .among))
 
   module _ (kept first after : ℕ) (tally : (s : Alternatives w p count) → Tallied w s kept first after) where
     pub settles-none : Alternating n k w p count left → kept ≡ 0 → Settles n k w p count left Clashed w
@@ -97,8 +102,8 @@ module _ (n k : ℕ) (w : List ℕ) (p count left : ℕ) where
       rest = λ j h. refl;
       pushed = λ i y. let x : _≡_ {A = ℕ} 0 1 = cc in absurd (omega arith);
       clashed = λ y. (
-        since-refl n (c₀ .es) k w (c₀ .holds),
-        λ c. (c .holds, settle-none (graphs (c .es)) (marking w) (c .a) (sym (tally (counted n k w p count left c) .kept-are) ∙ z)),
+        since-refl n (c₀ .s .es) k w (c₀ .s .holds),
+        λ c. (c .s .holds, settle-none (graphs (c .s .es)) (marking w) (c .lies .a) (sym (tally (counted n k w p count left c) .kept-are) ∙ z)),
       );
     }
 
@@ -109,27 +114,27 @@ module _ (n k : ℕ) (w : List ℕ) (p count left : ℕ) where
       pushed = λ i y. let x : k ≡ i = cc in
           subst (λ (i : ℕ). Since k w i w
           × ((c : Alternating n k w p count left) →
-          Holds n (settled c) i w × (settle-at (graphs (c .es)) (marking w) (c .a) ≡ stands (graphs (settled c)) (marking w)))) x
-          (since-refl n (c₀ .es) k w (c₀ .holds), several);
+          Holds n (settled c) i w × (settle-at (graphs (c .s .es)) (marking w) (c .lies .a) ≡ stands (graphs (settled c)) (marking w)))) x
+          (since-refl n (c₀ .s .es) k w (c₀ .s .holds), several);
       clashed = λ y. let x : _≡_ {A = ℕ} 0 1 = cc in absurd (omega arith);
     }
       where
         several : (c : Alternating n k w p count left) →
-            Holds n (settled c) k w × (settle-at (graphs (c .es)) (marking w) (c .a) ≡ stands (graphs (settled c)) (marking w))
+            Holds n (settled c) k w × (settle-at (graphs (c .s .es)) (marking w) (c .lies .a) ≡ stands (graphs (settled c)) (marking w))
         several c =
             let are = tally (counted n k w p count left c) .kept-are in
-            let none = taken-none (c .t) (marking w) (c .a) p (c .from) (c .end) (c .to) (c .at) (λ f. let g = are in omega arith) in
-            let same : settled c ≡ c .es = ap (λ (l : List Entry). c .es ++ l) none ∙ append-nil (c .es) in (
-              subst (λ (l : List Entry). Holds n l k w) (sym same) (c .holds),
-              go (kept-of (marking w) (c .a)) refl (sym are)
+            let none = none-of (marking w) (c .lies) (λ f. let g = are in omega arith) in
+            let same : settled c ≡ c .s .es = ap (λ (l : List Entry). c .s .es ++ l) none ∙ append-nil (c .s .es) in (
+              subst (λ (l : List Entry). Holds n l k w) (sym same) (c .s .holds),
+              go (kept-of (marking w) (c .lies .a)) refl (sym are)
                   ∙ ap (λ (l : List Entry). stands (graphs l) (marking w)) (sym same),
             )
           where
-            go : (b : ℕ) → kept-of (marking w) (c .a) ≡ b → kept-of (marking w) (c .a) ≡ kept →
-                settle-at (graphs (c .es)) (marking w) (c .a) ≡ stands (graphs (c .es)) (marking w)
+            go : (b : ℕ) → kept-of (marking w) (c .lies .a) ≡ b → kept-of (marking w) (c .lies .a) ≡ kept →
+                settle-at (graphs (c .s .es)) (marking w) (c .lies .a) ≡ stands (graphs (c .s .es)) (marking w)
             go zero e f = absurd (omega arith)
             go (suc zero) e f = absurd (omega arith)
-            go (suc (suc l)) e f = settle-several (graphs (c .es)) (marking w) (c .a) l e
+            go (suc (suc l)) e f = settle-several (graphs (c .s .es)) (marking w) (c .lies .a) l e
 
     module _ (one : kept ≡ 1) where
       -- the one that is kept
@@ -140,19 +145,19 @@ module _ (n k : ℕ) (w : List ℕ) (p count left : ℕ) where
       unfolding asks-inner
       same-entered c = inner-entered n k w p count left c kept first after (tally (counted n k w p count left c)) one
 
-      same-es : (c : Alternating n k w p count left) → asks-inner c .es ≡ c .es
+      same-es : (c : Alternating n k w p count left) → asks-inner c .s .es ≡ c .s .es
       unfolding asks-inner
       same-es c = inner-es n k w p count left c kept first after (tally (counted n k w p count left c)) one
 
-      fine : (c : Alternating n k w p count left) → Fine (graphs (c .es) ++ certain-any (marking w) (c .a))
+      fine : (c : Alternating n k w p count left) → Fine (graphs (c .s .es) ++ certain-any (marking w) (c .lies .a))
       fine c =
           let d = asks-inner c in
-          let list = taken (d .t) (marking w) first (d .from) (d .d) (d .end) (d .to) (d .at) in
-          let some = some-taken (d .t) (marking w) first (d .from) (d .d) (d .end) (d .to) (d .at) in
+          let list = taken-of (marking w) (d .lies) in
+          let some = some-of (marking w) (d .lies) in
           subst Fine (ap graphs (same-entered c) ∙ settled-graphs c) (
-            (rw (graphs-append (d .es) list) (simp length-append (omega arith))),
+            (rw (graphs-append (d .s .es) list) (simp length-append (omega arith))),
             subst (λ (l : List Entry). AllCanonical (graphs l)) (sym (same-entered c))
-                (canonical-all n (c .t) (c .U) (settled c) (c .ground) (settled-inside c)),
+                (canonical-all n (c .s .t) (c .s .U) (settled c) (c .s .ground) (settled-inside c)),
           )
 
       module _ (r : Pushed) (w' : List ℕ) (u : Enters n k w first left r w') where
@@ -164,10 +169,10 @@ module _ (n k : ℕ) (w : List ℕ) (p count left : ℕ) where
             u .pushed i y .0,
             λ c.
                 let held = subst (λ (l : List Entry). Holds n l i w') (same-entered c) (u .pushed i y .1 (asks-inner c)) in
-                let good = agrees-true (graphs (c .es) ++ certain-any (marking w) (c .a)) (fine c)
+                let good = agrees-true (graphs (c .s .es) ++ certain-any (marking w) (c .lies .a)) (fine c)
                 (subst Agree (settled-graphs c) (holds-agree n (settled c) i w' held)) in (
                   held,
-                  settle-one (graphs (c .es)) (marking w) (c .a) true (kept-one c) good
+                  settle-one (graphs (c .s .es)) (marking w) (c .lies .a) true (kept-one c) good
                       ∙ ap (λ (l : List Graph). stands l (marking w)) (sym (settled-graphs c)),
                 ),
           );
@@ -175,13 +180,13 @@ module _ (n k : ℕ) (w : List ℕ) (p count left : ℕ) where
             u .clashed y .0,
             λ c.
                 let told = u .clashed y .1 (asks-inner c) in
-                let bad = clash-false (graphs (c .es) ++ certain-any (marking w) (c .a)) (fine c)
+                let bad = clash-false (graphs (c .s .es) ++ certain-any (marking w) (c .lies .a)) (fine c)
                 (subst Clash (ap graphs (same-entered c) ∙ settled-graphs c) (told .0)) in (
                   subst (λ (l : List Entry). Holds n l k w') (same-es c) (told .1),
-                  settle-one (graphs (c .es)) (marking w) (c .a) false (kept-one c) bad,
+                  settle-one (graphs (c .s .es)) (marking w) (c .lies .a) false (kept-one c) bad,
                 ),
           );
         }
           where
-            kept-one : (c : Alternating n k w p count left) → kept-of (marking w) (c .a) ≡ 1
+            kept-one : (c : Alternating n k w p count left) → kept-of (marking w) (c .lies .a) ≡ 1
             kept-one c = sym (tally (counted n k w p count left c) .kept-are) ∙ one

@@ -45,7 +45,7 @@ use Rattle.opening.specs.Opening.{Stand, definite}
 use Rattle.opening.proofs.Universe.{universe, in-one, in-two}
 use Rattle.opening.proofs.Opens.{number-definite}
 use Rattle.entering.specs.Taken.{taken}
-use Rattle.entering.specs.Clear.{Outside, Clear}
+use Rattle.entering.specs.Clear.{Outside, ClearOf}
 use Rattle.entering.specs.Inputs.{Inputs, Ready}
 use Rattle.entering.specs.Stage.{Pair, Stage}
 use Rattle.entering.proofs.Clearing.{clear-taken}
@@ -113,17 +113,27 @@ module _ (w : List ℕ) (d e : Desc) (n : ℕ) (long : SIZE ≤ length w) (wd : 
   inputs = record {
     U = universe d e;
     ground = ground w d e n long wd we fd fe s;
-    a = a;
-    b = b;
-    end-a = end-a;
-    end-b = end-b;
-    half = half;
-    at-a = at-a;
-    at-b = at-b;
-    nests-a = well-nests d 0 depth-limit wd;
-    nests-b = well-nests e half depth-limit we;
-    among-a = numbered-among t (universe d e) d 0 0 0 end-a half refl at-a (λ x i. Memᴰ·append-left (entries SECOND half e) i);
-    among-b = numbered-among t (universe d e) e SECOND half half end-b n refl at-b (λ x i. Memᴰ·append-right (entries 0 0 d) i);
+    first = record {
+      d = a;
+      from = 0;
+      end = end-a;
+      to = half;
+      at = at-a;
+      low = omega (arith, s .count);
+      nests = well-nests d 0 depth-limit wd;
+    };
+    second = record {
+      d = b;
+      from = half;
+      end = end-b;
+      to = n;
+      at = at-b;
+      low = omega arith;
+      nests = well-nests e half depth-limit we;
+    };
+    apart = omega arith;
+    among-first = numbered-among t (universe d e) d 0 0 0 end-a half refl at-a (λ x i. Memᴰ·append-left (entries SECOND half e) i);
+    among-second = numbered-among t (universe d e) e SECOND half half end-b n refl at-b (λ x i. Memᴰ·append-right (entries 0 0 d) i);
   }
 
   abbrev both : List Entry
@@ -135,11 +145,11 @@ module _ (w : List ℕ) (d e : Desc) (n : ℕ) (long : SIZE ≤ length w) (wd : 
       loaded = refl;
       holds = held;
       inside = two-cases (λ o. List·Memᴰ o (universe d e)) (definite 0 0 d) (definite SECOND half e) (in-one d e) (in-two d e);
-      clear-a = clear-taken t (marking w) both 0 0 a end-a half at-a
+      clear-first = clear-taken t (marking w) both 0 0 a end-a half at-a
           (two-cases (λ o. Outside 0 half (o .number) ⊎ List·Memᴰ o (taken t (marking w) 0 0 a end-a half at-a)) (definite 0 0 d)
           (definite SECOND half e) (inr (definite-taken t (marking w) d 0 0 end-a half at-a)) (let z = number-definite SECOND half e in
           inl (inr (omega arith))));
-      clear-b = clear-taken t (marking w) both SECOND half b end-b n at-b
+      clear-second = clear-taken t (marking w) both SECOND half b end-b n at-b
           (two-cases (λ o. Outside half n (o .number) ⊎ List·Memᴰ o (taken t (marking w) SECOND half b end-b n at-b)) (definite 0 0 d)
           (definite SECOND half e) (let z = number-definite 0 0 d in let m = nodes-some d (well-can d wd) in
           inl (inl (omega arith))) (inr (definite-taken t (marking w) e SECOND half end-b n at-b)));
@@ -181,10 +191,8 @@ stage-again n t p k w s w′ len same m = record {
     loaded = words-same w w′ (s .ready .holds .long) len (λ j a b. same j b) ∙ s .ready .loaded;
     holds = holds-frame n (s .es) k w (s .ready .holds) w′ len same;
     inside = s .ready .inside;
-    clear-a = subst (λ (z : Marking). Clear (s .es) t z 0 0 (p .inputs .a) (p .inputs .end-a) (p .inputs .half) (p .inputs .at-a)) (sym m)
-        (s .ready .clear-a);
-    clear-b = subst (λ (z : Marking). Clear (s .es) t z SECOND (p .inputs .half) (p .inputs .b) (p .inputs .end-b) n (p .inputs .at-b))
-        (sym m) (s .ready .clear-b);
+    clear-first = subst (λ (z : Marking). ClearOf (s .es) z (p .inputs .first)) (sym m) (s .ready .clear-first);
+    clear-second = subst (λ (z : Marking). ClearOf (s .es) z (p .inputs .second)) (sym m) (s .ready .clear-second);
   };
   undoable = undoable-frame n k w (s .undoable) w′ len same;
   same = subst (λ (z : Marking). Same (graphs (s .es)) (flat (strip (keep z (p .j))))) (sym m) (s .same);

@@ -11,6 +11,7 @@ use Rattle.engine.specs.Marks.{Marking, kept-of}
 use Rattle.loading.specs.Entry.{Entry}
 use Rattle.loading.specs.Loaded.{extent}
 use Rattle.loading.specs.At.{At, AtAll, AtAny}
+use Rattle.loading.specs.Lying.{Lying, LyingAny, Here, Rest}
 use Rattle.entering.specs.Taken.{Free}
 
 -- the number y is not from n up to m
@@ -46,3 +47,20 @@ abbrev mutual
 -- one disjunction
 abbrev pub ClearAny : (es : List Entry) (t : List ℕ) (k : Marking) (p n : ℕ) (a : Options) (q m : ℕ) → AtAny t p n a q m → Type 0
 ClearAny es t k p n a q m at = ByCount (kept-of k a) (ClearLone es t k p n a q m at) (Free n m es)
+
+-- by what stands loaded
+module _ {n : ℕ} {t : List ℕ} {p left : ℕ} (es : List Entry) (m : Marking) where
+  abbrev pub ClearHere : (l : Lying n t p left) (d : Placed) → Here l d → Type 0
+  ClearHere l d s = Clear es t m p (l .from) d (l .end) (l .to) s
+
+  abbrev pub ClearRest : (l : Lying n t p left) (at from : ℕ) (ds : Places) → Rest l at from ds → Type 0
+  ClearRest l at from ds s = ClearAll es t m at from ds (l .end) (l .to) s
+
+  abbrev pub ClearOf : Lying n t p left → Type 0
+  ClearOf l = ClearHere l (l .d) (l .at)
+
+  abbrev pub ClearLoneOf : {count : ℕ} → LyingAny n t p count left → Type 0
+  ClearLoneOf l = ClearLone es t m p (l .from) (l .a) (l .end) (l .to) (l .at)
+
+  abbrev pub ClearAnyOf : {count : ℕ} → LyingAny n t p count left → Type 0
+  ClearAnyOf l = ClearAny es t m p (l .from) (l .a) (l .end) (l .to) (l .at)

@@ -30,10 +30,10 @@ pub record Pair (n : ℕ) (t : List ℕ) : Type 0 where
   pub first-few : length (words d) ≤ input-limit
   pub second-few : length (words e) ≤ input-limit
   pub inputs : Inputs n t
-  pub first-is : inputs .a ≡ numbered 0 d
-  pub second-is : inputs .b ≡ numbered (nodes-in d) e
+  pub first-is : inputs .first .d ≡ numbered 0 d
+  pub second-is : inputs .second .d ≡ numbered (nodes-in d) e
   pub j : Placed
-  pub joined : joined-placed (inputs .a) (inputs .b) ≡ some j
+  pub joined : joined-placed (inputs .first .d) (inputs .second .d) ≡ some j
 
 -- the graphs es are pushed and can be taken back, and they say what is certain in what the marks leave of the joined description
 pub record Stage (n : ℕ) (t : List ℕ) (p : Pair n t) (k : ℕ) (w : List ℕ) : Type 0 where

@@ -10,6 +10,7 @@ use Rattle.engine.specs.Marks.{Marking, kept-of}
 use Rattle.loading.specs.Entry.{Entry}
 use Rattle.loading.specs.Loaded.{extent}
 use Rattle.loading.specs.At.{At, AtAll, AtAny}
+use Rattle.loading.specs.Lying.{Lying, LyingAny, Here, Rest, RestAny}
 use Rattle.loading.proofs.Entries.{entry}
 
 -- "One with exactly one left is folded: its graph is joined to the definite graph": a description's own graph, and those of
@@ -50,3 +51,39 @@ Inside U es = (o : Entry) → List·Memᴰ o es → List·Memᴰ o U
 -- none of es has a number from n up to m
 abbrev pub Free : ℕ → ℕ → List Entry → Type 0
 Free n m es = (o : Entry) → List·Memᴰ o es → (o .number < n) ⊎ (m ≤ o .number)
+
+-- ---- by what stands loaded
+module _ {n : ℕ} {t : List ℕ} {p left : ℕ} where
+  abbrev pub taken-here : Marking → (l : Lying n t p left) (d : Placed) → Here l d → List Entry
+  taken-here m l d s = taken t m p (l .from) d (l .end) (l .to) s
+
+  abbrev pub taken-rest : Marking → (l : Lying n t p left) (at from : ℕ) (ds : Places) → Rest l at from ds → List Entry
+  taken-rest m l at from ds s = taken-all t m at from ds (l .end) (l .to) s
+
+  abbrev pub taken-of : Marking → Lying n t p left → List Entry
+  taken-of m l = taken-here m l (l .d) (l .at)
+
+  abbrev pub AmongHere : List Entry → (l : Lying n t p left) (d : Placed) → Here l d → Type 0
+  AmongHere U l d s = Among U t p (l .from) d (l .end) (l .to) s
+
+  abbrev pub AmongRest : List Entry → (l : Lying n t p left) (at from : ℕ) (ds : Places) → Rest l at from ds → Type 0
+  AmongRest U l at from ds s = AmongAll U t at from ds (l .end) (l .to) s
+
+  abbrev pub AmongOf : List Entry → Lying n t p left → Type 0
+  AmongOf U l = AmongHere U l (l .d) (l .at)
+
+  abbrev pub FreeOf : Lying n t p left → List Entry → Type 0
+  FreeOf l es = Free (l .from) (l .to) es
+
+  module _ {count : ℕ} where
+    abbrev pub taken-any-of : Marking → LyingAny n t p count left → List Entry
+    taken-any-of m l = taken-any t m p (l .from) (l .a) (l .end) (l .to) (l .at)
+
+    abbrev pub AmongRestAny : List Entry → (l : LyingAny n t p count left) (at from : ℕ) (a : Options) → RestAny l at from a → Type 0
+    AmongRestAny U l at from a s = AmongAny U t at from a (l .end) (l .to) s
+
+    abbrev pub AmongAnyOf : List Entry → LyingAny n t p count left → Type 0
+    AmongAnyOf U l = AmongRestAny U l p (l .from) (l .a) (l .at)
+
+    abbrev pub FreeAnyOf : LyingAny n t p count left → List Entry → Type 0
+    FreeAnyOf l es = Free (l .from) (l .to) es

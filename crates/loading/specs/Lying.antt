@@ -45,10 +45,14 @@ pub record LyingAny (n : ℕ) (t : List ℕ) (p count left : ℕ) : Type 0 where
   pub many : options a ≡ count
   pub nests : NestsAny a left
 
--- another thing in the place of one
-module _ {n : ℕ} {t : List ℕ} {p left : ℕ} where
-  abbrev pub Here : Lying n t p left → Placed → Type 0
-  Here l d = At t p (l .from) d (l .end) (l .to)
+-- another description in the place of l, and disjunctions from a later place and number on up to its end
+module _ {n : ℕ} {t : List ℕ} {p left : ℕ} (l : Lying n t p left) where
+  abbrev pub Here : Placed → Type 0
+  Here d = At t p (l .from) d (l .end) (l .to)
 
-  abbrev pub HereAny : {count : ℕ} → LyingAny n t p count left → Options → Type 0
-  HereAny l a = AtAny t p (l .from) a (l .end) (l .to)
+  abbrev pub Rest : (at from : ℕ) → Places → Type 0
+  Rest at from ds = AtAll t at from ds (l .end) (l .to)
+
+-- alternatives from a later place and number on up to the end of l
+abbrev pub RestAny : {n : ℕ} {t : List ℕ} {p count left : ℕ} → LyingAny n t p count left → (at from : ℕ) → Options → Type 0
+RestAny {n} {t} {p} {count} {left} l at from a = AtAny t at from a (l .end) (l .to)

@@ -99,7 +99,7 @@ enter-tail-at-requires : (t : ℕ) → enter-lts.Need-tail-at-requires (claims t
 enter-tail-at-requires t c κs = let r =
     reach-own _ _ _ _ _ _ _ (c .before .before .before .before .before .before .push .ensures) (c .before .before .own .given .1) in (
       starts _ _ _ _ _ (c .before .before .before .before .before .before .before .before .before .pre .1) _ _ r .0,
-      omega (arith, r .len, c .before .before .before .before .before .before .before .before .before .pre .1 .holds .long),
+      omega (arith, r .len, c .before .before .before .before .before .before .before .before .before .pre .1 .s .holds .long),
     )
 
 enter-disjunctions-at-requires : (t : ℕ) →
@@ -113,7 +113,7 @@ enter-disjunctions-at-requires t c κs = let r =
       omega (
         arith,
         r .len,
-        c .before .before .before .before .before .before .before .before .before .before .before .pre .1 .holds .long,
+        c .before .before .before .before .before .before .before .before .before .before .before .pre .1 .s .holds .long,
       ),
     )
 
@@ -155,14 +155,14 @@ enter-sub-enter t c = let p = c .before .before .before .before .before .before 
     let h = walk-deep _ _ _ _ _ p _ _ (v .0) _ _ (v .1) (omega arith) in omega arith
 
 enter-enter-requires : (t : ℕ) → enter-lts.Need-enter-requires (claims t) (enter-at t) enter.Post enter-Inv-loop enter-μ-loop
-enter-enter-requires t c κs = let p =
+enter-enter-requires t c κs = let asked =
     c .before .before .before .before .before .before .before .before .before .before .before .before .before .before .before .before
-    .before .before .before .before .before .pre .1 in
+    .before .before .before .before .before .pre in
+    let p = asked .1 in
     let v = c .before .before .before .before .before .before .before .before .loop .inv _ p
     (reached t (c .before .before .before .before .before .before .before .before .before))
     (begun t (c .before .before .before .before .before .before .before .before .before) p) in (
-      let h = walk-deep _ _ _ _ _ p _ _ (v .0) _ _ (v .1) (omega arith) in
-          omega arith,
+      omega (arith, asked .0, walk-deep _ _ _ _ _ p _ _ (v .0) _ _ (v .1) (omega arith)),
       walk-inner _ _ _ _ _ p _ _ (v .0) _ _ (v .1) (omega arith) _
           (c .before .before .before .before .before .alternatives-at .ensures) _ _ _ (c .before .before .before .count-kept .ensures)
           (omega arith),
@@ -233,7 +233,7 @@ enter-returns-2 t c = let q = c .before .before .before .before .before .before 
                       (c .before .before .before .before .before .before .before .before .before .before .before .before .before .before .alternatives-at
                       .ensures) _ _ _ (c .before .before .before .before .before .before .before .before .before .before .before .before .count-kept .ensures)
                       (omega arith) _ _ u (c .before .before .before .before .enum-told2 .given .1),
-                  b .holds _ _ _ (e .holds) s,
+                  b .holds _ _ _ (e .s .holds) s,
                 ),
           );
     }
