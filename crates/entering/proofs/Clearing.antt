@@ -197,3 +197,7 @@ module _ {n : ℕ} {t : List ℕ} {p left : ℕ} (k : Marking) (E : List Entry) 
 
   pub clear-any-of : {count : ℕ} (l : LyingAny n t p count left) → Holding (l .from) (l .to) (taken-any-of k l) E → ClearAnyOf E k l
   clear-any-of l = clear-any t k E p (l .from) (l .a) (l .end) (l .to) (l .within) (l .at)
+
+pub clear-alike-of : {n : ℕ} {t : List ℕ} {g left : ℕ} (k k′ : Marking) (E E′ : List Entry) (l : Lying n t g left) →
+    Alike k k′ (l .from + 1) (l .to) → Nothing t k k′ E E′ (l .from) (l .to) → ClearOf E k l → ClearOf E′ k′ l
+clear-alike-of {n} {t} {g} {left} k k′ E E′ l = clear-alike t k k′ E E′ g (l .from) (l .d) (l .end) (l .to) (l .at)

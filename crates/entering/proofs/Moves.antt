@@ -1,12 +1,17 @@
 -- What stays where the area moved.
 -- Assumes nothing.
 use Prim.Native.Nat.{ℕ, _≤_}
-use mathlib.Core.Path.{_≡_, _∙_}
+use mathlib.Core.Path.{_≡_, refl, _∙_}
 use mathlib.Core.List.{List}
 use lib.ListN.{length}
 use Rattle.area.specs.Region.{words}
 use Rattle.area.proofs.Region.{words-same}
+use Rattle.marks.specs.Marked.{marking}
+use Rattle.classes.specs.Holds.{Holds}
 use Rattle.classes.proofs.Laws.{since-trans}
+use Rattle.loading.specs.Entry.{Entry}
+use Rattle.entering.specs.Footing.{Footing}
+use Rattle.entering.specs.Inputs.{Inputs, Ready}
 use Rattle.entering.specs.Moved.{Moved}
 
 pub moved-trans : (a : ℕ) (u : List ℕ) (b : ℕ) (v : List ℕ) (c : ℕ) (w : List ℕ) → Moved a u b v → Moved b v c w → Moved a u c w
@@ -19,3 +24,32 @@ moved-trans a u b v c w p q = record {
 
 pub moved-words : (k : ℕ) (w : List ℕ) (k' : ℕ) (w' : List ℕ) → 16384 ≤ length w → Moved k w k' w' → words w' ≡ words w
 moved-words k w k' w' room m = words-same w w' room (m .len) (λ j a b. m .since .same j a b)
+
+-- the same graphs are pushed over the same words
+abbrev pub footing-as : {n k k' : ℕ} {w : List ℕ} (s : Footing n k w) (v : List ℕ) → words v ≡ words w → Holds n (s .es) k' v →
+    Footing n k' v
+footing-as s v e h = record {
+  t = s .t;
+  loaded = e ∙ s .loaded;
+  m = marking v;
+  marks = refl;
+  U = s .U;
+  ground = s .ground;
+  es = s .es;
+  holds = h;
+  inside = s .inside;
+}
+
+-- where both inputs stand loaded and what is certain in them is pushed
+abbrev pub stands-on : {n k : ℕ} {t w : List ℕ} {es : List Entry} (i : Inputs n t) → Ready n t i k w es → Footing n k w
+stands-on {n} {k} {t} {w} {es} i r = record {
+  t = t;
+  loaded = r .loaded;
+  m = marking w;
+  marks = refl;
+  U = i .U;
+  ground = i .ground;
+  es = es;
+  holds = r .holds;
+  inside = r .inside;
+}

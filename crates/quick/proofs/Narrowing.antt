@@ -14,15 +14,16 @@ use Rattle.engine.specs.Marks.{Marking}
 use Rattle.engine.specs.Quickly as quickly
 use Rattle.engine.specs.Quickly.{fails, stands, narrow-at, inside-at, any-at}
 use Rattle.loading.specs.Entry.{Entry, graphs}
-use Rattle.loading.specs.Loaded.{extent, number-step}
+use Rattle.loading.specs.Loaded.{extent}
 use Rattle.loading.specs.Numbered.{places}
-use Rattle.loading.specs.At.{At, AtAll}
+use Rattle.loading.specs.At.{AtAll}
+use Rattle.loading.specs.Lying.{Here, Rest}
 use Rattle.loading.proofs.Walking.{at-bounds, all-bounds, any-bounds}
 use Rattle.marks.specs.Positions.{tail-at, disjunctions-at, alternatives-at}
 use Rattle.marks.specs.Marked.{marking}
-use Rattle.marks.specs.Readable.{Alternatives}
+use Rattle.marks.specs.Readable.{Readable, Alternatives}
 use Rattle.marks.specs.Tallied.{Tallied}
-use Rattle.marks.proofs.Reading.{tail-is, disjunctions-is, alternatives-is, read-at}
+use Rattle.marks.proofs.Reading.{readable, reads, tail-of, disjunctions-of, alternatives-is}
 use Rattle.marks.proofs.Marks.{marking-frame}
 use Rattle.loading.specs.Nesting.{Nests, NestsAll}
 use Rattle.forest.specs.State.{Runs}
@@ -32,8 +33,8 @@ use Rattle.sieving.specs.Sieved.{Sieved}
 use Rattle.sieving.proofs.Keeping.{roots-run, sieved-since}
 use Rattle.quick.specs.declared.step.Step.{Step}
 use Rattle.quick.specs.declared.step.Step.the-variants.{Stands, Fails}
-use Rattle.entering.specs.Taken.{Among, AmongAll}
-use Rattle.entering.specs.Clear.{Outside, Clear, ClearAll}
+use Rattle.entering.specs.Taken.{AmongHere, AmongRest}
+use Rattle.entering.specs.Clear.{Outside, ClearHere, ClearRest, ClearOf}
 use Rattle.quick.specs.Stepped.{total, Fewer, Off, Stood, Narrowing, NarrowStands, NarrowFails, Narrows, Choosing, ChooseStands}
 use Rattle.quick.specs.Stepped.{Chooses}
 use Rattle.entering.specs.Moved.{Moved}
@@ -52,64 +53,60 @@ module _ (n k : ℕ) (w : List ℕ) (g left : ℕ) where
   pub record Going (c : Narrowing n k w g left) (more at log : ℕ) (w₁ : List ℕ) : Type 0 where
     pub ds : Places
     pub l : ℕ
-    pub stand : AtAll (c .t) at l ds (c .end) (c .to)
+    pub stand : Rest (c .lies) at l ds
     pub many : places ds ≡ more
     pub nests : NestsAll ds left
-    pub among : AmongAll (c .U) (c .t) at l ds (c .end) (c .to) stand
-    pub above : c .from + 1 ≤ l
+    pub among : AmongRest (c .s .U) (c .lies) at l ds stand
+    pub above : c .lies .from + 1 ≤ l
     pub es₁ : List Entry
-    pub stood : Stood n (c .U) (c .es) (c .from + 1) (c .to) log w₁ es₁
-    pub ahead : ClearAll es₁ (c .t) (marking w₁) at l ds (c .end) (c .to) stand
-    pub behind : (E : List Entry) (K : Marking) → Alike (marking w₁) K (c .from + 1) l →
-        ((o : Entry) → List·Memᴰ o E → List·Memᴰ o es₁ ⊎ Outside (c .from + 1) l (o .number)) →
-        ClearAll E (c .t) K at l ds (c .end) (c .to) stand → Clear E (c .t) K g (c .from) (c .d) (c .end) (c .to) (c .at)
-    pub off : Off (c .from + 1) (c .to) (marking w) (marking w₁)
-    pub is : inside-at (graphs (c .es)) (marking w) (c .d) ≡ narrow-at (graphs es₁) (marking w₁) ds
+    pub stood : Stood n (c .s .U) (c .s .es) (c .lies .from + 1) (c .lies .to) log w₁ es₁
+    pub ahead : ClearRest es₁ (marking w₁) (c .lies) at l ds stand
+    pub behind : (E : List Entry) (K : Marking) → Alike (marking w₁) K (c .lies .from + 1) l →
+        ((o : Entry) → List·Memᴰ o E → List·Memᴰ o es₁ ⊎ Outside (c .lies .from + 1) l (o .number)) →
+        ClearRest E K (c .lies) at l ds stand → ClearOf E K (c .lies)
+    pub off : Off (c .lies .from + 1) (c .lies .to) (marking w) (marking w₁)
+    pub is : inside-at (graphs (c .s .es)) (marking w) (c .lies .d) ≡ narrow-at (graphs es₁) (marking w₁) ds
 
   module _ (c : Narrowing n k w g left) where
-    low : c .to < number-step
-    low = omega (arith, c .low, c .ground .few)
-
-    here : At (words w) g (c .from) (c .d) (c .end) (c .to)
-    here = subst (λ (t : List ℕ). At t g (c .from) (c .d) (c .end) (c .to)) (sym (c .loaded)) (c .at)
+    abbrev read : Readable w g left
+    read = readable w (c .s .holds .long) (c .s .loaded) (c .s .ground .few) (c .lies)
 
     pub narrow-starts : (g < 2048) × (tail-at w g < 2048)
-    narrow-starts = let s = read-at w (c .holds .long) (c .d) g (c .from) (c .end) (c .to) here low in (s .here, s .inside)
+    narrow-starts = let s = reads read in (s .here, s .inside)
 
     -- there are numbers, and so the roots have a class
     some : 0 < n
-    some = let b = at-bounds (c .t) (c .d) g (c .from) (c .end) (c .to) (c .at) .2 in omega (arith, c .low)
+    some = let b = at-bounds (c .s .t) (c .lies .d) g (c .lies .from) (c .lies .end) (c .lies .to) (c .lies .at) .2 in omega (arith, c .lies .low)
 
     pub narrow-runs : getD w 0 0 ≤ 2048 → Runs w (getD w 0 0)
-    narrow-runs = roots-run n (c .es) k w (c .holds) some
+    narrow-runs = roots-run n (c .s .es) k w (c .s .holds) some
 
     pub moved-start : Moved k w k w
-    moved-start = record { len = refl; rest = λ j h. refl; since = since-refl n (c .es) k w (c .holds) }
+    moved-start = record { len = refl; rest = λ j h. refl; since = since-refl n (c .s .es) k w (c .s .holds) }
 
     pub narrow-begin : (e more : ℕ) → e ≡ tail-at w g → more ≡ disjunctions-at w e → Going c more (e + 1) k w
     unfolding Rattle.modes_by_marks.specs.Quickly.inside-at
-    narrow-begin e more f h = go (c .d) (c .at) here (c .among) (c .nests) (c .clear) refl (λ E K x. x)
+    narrow-begin e more f h = go (c .lies .d) (c .lies .at) (read .lies .at) (c .among) (c .lies .nests) (c .clear) refl (λ E K x. x)
       where
-        go : (d : Placed) (at : At (c .t) g (c .from) d (c .end) (c .to)) → At (words w) g (c .from) d (c .end) (c .to) →
-            Among (c .U) (c .t) g (c .from) d (c .end) (c .to) at → Nests d left →
-            Clear (c .es) (c .t) (marking w) g (c .from) d (c .end) (c .to) at →
-            inside-at (graphs (c .es)) (marking w) (c .d) ≡ inside-at (graphs (c .es)) (marking w) d →
-            ((E : List Entry) (K : Marking) → Clear E (c .t) K g (c .from) d (c .end) (c .to) at →
-            Clear E (c .t) K g (c .from) (c .d) (c .end) (c .to) (c .at)) → Going c more (e + 1) k w
+        go : (d : Placed) (at : Here (c .lies) d) → Here (read .lies) d →
+            AmongHere (c .s .U) (c .lies) d at → Nests d left →
+            ClearHere (c .s .es) (marking w) (c .lies) d at →
+            inside-at (graphs (c .s .es)) (marking w) (c .lies .d) ≡ inside-at (graphs (c .s .es)) (marking w) d →
+            ((E : List Entry) (K : Marking) → ClearHere E K (c .lies) d at →
+            ClearOf E K (c .lies)) → Going c more (e + 1) k w
         go (place G ds) at loaded u nests clear same whole =
-            let tail : e ≡ g + extent G = f ∙ tail-is w (c .holds .long) G ds g (c .from) (c .end) (c .to) loaded low in
+            let tail : e ≡ g + extent G = f ∙ tail-of read G ds loaded in
             let some = at .0 in
             subst (λ (p : ℕ). Going c more (p + 1) k w) (sym tail) (record {
               ds = ds;
-              l = c .from + length G;
+              l = c .lies .from + length G;
               stand = at .6;
-              many = sym (h ∙ ap (disjunctions-at w) tail
-                  ∙ disjunctions-is w (c .holds .long) G ds g (c .from) (c .end) (c .to) loaded low);
+              many = sym (h ∙ ap (disjunctions-at w) tail ∙ disjunctions-of read G ds loaded);
               nests = nests;
               among = u .1;
               above = omega arith;
-              es₁ = c .es;
-              stood = record { holds = c .holds; inside = c .inside; old = λ o i. i; fresh = λ o i. inl i };
+              es₁ = c .s .es;
+              stood = record { holds = c .s .holds; inside = c .s .inside; old = λ o i. i; fresh = λ o i. inl i };
               ahead = clear;
               behind = λ E K a b x. whole E K x;
               off = λ y h. refl;
@@ -129,76 +126,82 @@ module _ (n k : ℕ) (w : List ℕ) (g left : ℕ) where
     }
       where
         go : (ds : Places) → places ds ≡ more →
-            inside-at (graphs (c .es)) (marking w) (c .d) ≡ narrow-at (graphs (s .es₁)) (marking w₁) ds →
-            inside-at (graphs (c .es)) (marking w) (c .d) ≡ stands (graphs (s .es₁)) (marking w₁)
+            inside-at (graphs (c .s .es)) (marking w) (c .lies .d) ≡ narrow-at (graphs (s .es₁)) (marking w₁) ds →
+            inside-at (graphs (c .s .es)) (marking w) (c .lies .d) ≡ stands (graphs (s .es₁)) (marking w₁)
         go stop e f = f
         go (a also ds) e f = absurd (omega arith)
 
     module _ (h : 0 < more) where
-      loaded₁ : words w₁ ≡ c .t
-      loaded₁ = moved-words k w log w₁ (c .holds .long) m ∙ c .loaded
+      loaded₁ : words w₁ ≡ c .s .t
+      loaded₁ = moved-words k w log w₁ (c .s .holds .long) m ∙ c .s .loaded
 
       -- the next disjunction
       record Next : Type 0 where
         a : Options
         ds : Places
-        o : AtAll (c .t) at (s .l) (a also ds) (c .end) (c .to)
+        o : Rest (c .lies) at (s .l) (a also ds)
         nested : NestsAll (a also ds) left
-        amongst : AmongAll (c .U) (c .t) at (s .l) (a also ds) (c .end) (c .to) o
+        amongst : AmongRest (c .s .U) (c .lies) at (s .l) (a also ds) o
         later : places ds + 1 ≡ more
-        clear : ClearAll (s .es₁) (c .t) (marking w₁) at (s .l) (a also ds) (c .end) (c .to) o
-        whole : inside-at (graphs (c .es)) (marking w) (c .d) ≡ narrow-at (graphs (s .es₁)) (marking w₁) (a also ds)
-        before : (E : List Entry) (K : Marking) → Alike (marking w₁) K (c .from + 1) (s .l) →
-            ((o : Entry) → List·Memᴰ o E → List·Memᴰ o (s .es₁) ⊎ Outside (c .from + 1) (s .l) (o .number)) →
-            ClearAll E (c .t) K at (s .l) (a also ds) (c .end) (c .to) o → Clear E (c .t) K g (c .from) (c .d) (c .end) (c .to) (c .at)
+        clear : ClearRest (s .es₁) (marking w₁) (c .lies) at (s .l) (a also ds) o
+        whole : inside-at (graphs (c .s .es)) (marking w) (c .lies .d) ≡ narrow-at (graphs (s .es₁)) (marking w₁) (a also ds)
+        before : (E : List Entry) (K : Marking) → Alike (marking w₁) K (c .lies .from + 1) (s .l) →
+            ((o : Entry) → List·Memᴰ o E → List·Memᴰ o (s .es₁) ⊎ Outside (c .lies .from + 1) (s .l) (o .number)) →
+            ClearRest E K (c .lies) at (s .l) (a also ds) o → ClearOf E K (c .lies)
 
       next : Next
       next = go (s .ds) (s .stand) (s .many) (s .nests) (s .among) (s .ahead) (s .is) (s .behind)
         where
-          go : (ds : Places) (o : AtAll (c .t) at (s .l) ds (c .end) (c .to)) → places ds ≡ more → NestsAll ds left →
-              AmongAll (c .U) (c .t) at (s .l) ds (c .end) (c .to) o →
-              ClearAll (s .es₁) (c .t) (marking w₁) at (s .l) ds (c .end) (c .to) o →
-              inside-at (graphs (c .es)) (marking w) (c .d) ≡ narrow-at (graphs (s .es₁)) (marking w₁) ds →
-              ((E : List Entry) (K : Marking) → Alike (marking w₁) K (c .from + 1) (s .l) →
-              ((o : Entry) → List·Memᴰ o E → List·Memᴰ o (s .es₁) ⊎ Outside (c .from + 1) (s .l) (o .number)) →
-              ClearAll E (c .t) K at (s .l) ds (c .end) (c .to) o → Clear E (c .t) K g (c .from) (c .d) (c .end) (c .to) (c .at)) → Next
+          go : (ds : Places) (o : Rest (c .lies) at (s .l) ds) → places ds ≡ more → NestsAll ds left →
+              AmongRest (c .s .U) (c .lies) at (s .l) ds o →
+              ClearRest (s .es₁) (marking w₁) (c .lies) at (s .l) ds o →
+              inside-at (graphs (c .s .es)) (marking w) (c .lies .d) ≡ narrow-at (graphs (s .es₁)) (marking w₁) ds →
+              ((E : List Entry) (K : Marking) → Alike (marking w₁) K (c .lies .from + 1) (s .l) →
+              ((o : Entry) → List·Memᴰ o E → List·Memᴰ o (s .es₁) ⊎ Outside (c .lies .from + 1) (s .l) (o .number)) →
+              ClearRest E K (c .lies) at (s .l) ds o → ClearOf E K (c .lies)) → Next
           go stop o e f u x q b = absurd (omega arith)
           go (a also ds) o e f u x q b =
               record { a = a; ds = ds; o = o; nested = f; amongst = u; later = omega arith; clear = x; whole = q; before = b }
 
       pub narrow-here : at < 2048
-      narrow-here = let there = next .o .2 in omega (arith, words-many w (c .holds .long), ap length (c .loaded))
+      narrow-here = let there = next .o .2 in omega (arith, words-many w (c .s .holds .long), ap length (c .s .loaded))
 
       pub narrow-deep : 0 < left
       narrow-deep = next .nested .0
 
-      first : (at + 1 ≤ next .o .0) × (next .o .0 ≤ length (c .t)) × (s .l ≤ next .o .1)
-      first = let there = next .o .2 in any-bounds (c .t) (next .a) (at + 1) (s .l) (next .o .0) (next .o .1) (omega arith) (next .o .4)
+      first : (at + 1 ≤ next .o .0) × (next .o .0 ≤ length (c .s .t)) × (s .l ≤ next .o .1)
+      first = let there = next .o .2 in any-bounds (c .s .t) (next .a) (at + 1) (s .l) (next .o .0) (next .o .1) (omega arith) (next .o .4)
 
-      last : next .o .1 ≤ c .to
-      last = all-bounds (c .t) (next .ds) (next .o .0) (next .o .1) (c .end) (c .to) (first .1) (next .o .5) .2
+      last : next .o .1 ≤ c .lies .to
+      last = all-bounds (c .s .t) (next .ds) (next .o .0) (next .o .1) (c .lies .end) (c .lies .to) (first .1) (next .o .5) .2
 
       module _ (count : ℕ) (e : count ≡ alternatives-at w₁ at) where
         abbrev asks : Choosing n log w₁ (at + 1) count (left - 1)
         asks = record {
-          t = c .t;
-          loaded = loaded₁;
-          U = c .U;
-          ground = c .ground;
-          a = next .a;
-          from = s .l;
-          end = next .o .0;
-          to = next .o .1;
-          at = next .o .4;
-          within = (let there = next .o .2 in omega arith);
-          low = omega (arith, last, c .low);
-          many = sym (e ∙ alternatives-is w₁ (next .a) (next .ds) at (s .l) (c .end) (c .to)
-              (subst (λ (t : List ℕ). AtAll t at (s .l) (next .a also next .ds) (c .end) (c .to)) (sym loaded₁) (next .o)));
-          nests = next .nested .1;
+          s = record {
+            t = c .s .t;
+            loaded = loaded₁;
+            m = marking w₁;
+            marks = refl;
+            U = c .s .U;
+            ground = c .s .ground;
+            es = s .es₁;
+            holds = s .stood .holds;
+            inside = s .stood .inside;
+          };
+          lies = record {
+            a = next .a;
+            from = s .l;
+            end = next .o .0;
+            to = next .o .1;
+            at = next .o .4;
+            within = (let there = next .o .2 in omega arith);
+            low = omega (arith, last, c .lies .low);
+            many = sym (e ∙ alternatives-is w₁ (next .a) (next .ds) at (s .l) (c .lies .end) (c .lies .to)
+              (subst (λ (t : List ℕ). AtAll t at (s .l) (next .a also next .ds) (c .lies .end) (c .lies .to)) (sym loaded₁) (next .o)));
+            nests = next .nested .1;
+          };
           among = next .amongst .0;
-          es = s .es₁;
-          holds = s .stood .holds;
-          inside = s .stood .inside;
           clear = next .clear .0;
         }
 
@@ -218,7 +221,7 @@ module _ (n k : ℕ) (w : List ℕ) (g left : ℕ) where
             runs-after = roots-run n (told .es') j w₂ (told .stood .holds) (some c)
 
             pub sieved-after : (t : List ℕ) → Sieved w₁ t → j ≡ log → Sieved w₂ t
-            sieved-after t u e = sieved-since log w₁ w₂ t (omega (arith, m .len, c .holds .long))
+            sieved-after t u e = sieved-since log w₁ w₂ t (omega (arith, m .len, c .s .holds .long))
                 (subst (λ (i : ℕ). Since log w₁ i w₂) e (v .standing j i y .0 .since)) u
 
             pub narrow-on : (kept first' after : ℕ) → ((a : Alternatives w₁ (at + 1) count) → Tallied w₁ a kept first' after) →
@@ -246,14 +249,14 @@ module _ (n k : ℕ) (w : List ℕ) (g left : ℕ) where
                     fresh = λ o i. ⊎-elim (λ b. s .stood .fresh o b) (λ b. let u = b .0 in let x = b .1 in
                         inr (omega arith, omega arith)) (told .stood .fresh o i);
                   };
-                  ahead = all-alike (c .t) (marking w₁) (marking w₂) (s .es₁) (told .es') (next .o .0) (next .o .1) (next .ds) (c .end)
-                      (c .to) (first .1) (next .o .5) (λ y a b. told .off y (inr a))
+                  ahead = all-alike (c .s .t) (marking w₁) (marking w₂) (s .es₁) (told .es') (next .o .0) (next .o .1) (next .ds) (c .lies .end)
+                      (c .lies .to) (first .1) (next .o .5) (λ y a b. told .off y (inr a))
                       (λ o i. ⊎-elim (λ b. inl b) (λ b. let u = b .1 in inr (inl u)) (told .stood .fresh o i)) (next .clear .1);
                   behind = λ E K alike new x. next .before E K
                       (λ y a b. alike y a (omega arith) ∙ told .off y (inl b))
                       (λ o i. ⊎-elim (λ b. ⊎-elim (λ d. inl d) (λ d. inr (inr (d .0))) (told .stood .fresh o b))
                       (λ b. inr (⊎-elim (λ d. inl d) (λ d. inr (omega arith)) b)) (new o i)) (
-                        any-alike (c .t) (marking w₂) K (told .es') E (at + 1) (s .l) (next .a) (next .o .0) (next .o .1) (omega arith)
+                        any-alike (c .s .t) (marking w₂) K (told .es') E (at + 1) (s .l) (next .a) (next .o .0) (next .o .1) (omega arith)
                             (next .o .4) (λ y a b. alike y (omega arith) b)
                             (λ o i. ⊎-elim (λ b. inl b) (λ b. inr (⊎-elim (λ d. inl (omega arith)) (λ d. inr d) b)) (new o i)) (told .clear'),
                         x,
@@ -266,7 +269,7 @@ module _ (n k : ℕ) (w : List ℕ) (g left : ℕ) where
           -- it fails, and all is taken back
           module _ (y : r ≡ Fails) (w₃ : List ℕ) (b : Backs k log w₂ w₃) where
             marks₃ : marking w₃ ≡ marking w₂
-            marks₃ = marking-frame w₂ w₃ (omega (arith, v .failing y .0 .len, m .len, c .holds .long)) (b .len)
+            marks₃ = marking-frame w₂ w₃ (omega (arith, v .failing y .0 .len, m .len, c .s .holds .long)) (b .len)
                 (λ i h l. b .rest i (omega arith))
 
             pub narrow-fails : NarrowFails n k w g left w₃ c
@@ -276,7 +279,7 @@ module _ (n k : ℕ) (w : List ℕ) (g left : ℕ) where
                 let above = s .above in
                 let far = last in
                 record {
-                  holds' = b .holds n (c .es) w (c .holds) (since-trans k w log w₁ log w₂ (m .since) (f .0 .since));
+                  holds' = b .holds n (c .s .es) w (c .s .holds) (since-trans k w log w₁ log w₂ (m .since) (f .0 .since));
                   off = λ y h. ap (λ (k : Marking). k y) marks₃ ∙ told .off y (⊎-elim (λ b. inl (omega arith)) (λ b. inr (omega arith)) h)
                       ∙ s .off y h;
                   is = next .whole ∙ narrow-more (graphs (s .es₁)) (marking w₁) (next .a) (next .ds) (fails (marking w₂)) (told .is)

@@ -14,7 +14,6 @@ use Rattle.engine.specs.Beside.{_next_}
 use Rattle.engine.specs.Quickly as quickly
 use Rattle.engine.specs.Quickly.{fails, stands, any-at, narrow-at, inside-at}
 use Rattle.loading.specs.Entry.{graphs}
-use Rattle.loading.proofs.Walking.{at-bounds}
 use Rattle.marks.specs.Marked.{marking}
 use Rattle.counting.specs.Counted.{beside}
 use Rattle.classes.specs.Holds.{Since, Backs, Remembers}
@@ -24,9 +23,9 @@ use Rattle.quick.specs.declared.step.Step.the-variants.{Stands, Fails}
 use Rattle.quick.specs.Stepped.{Fewer, Narrowing, NarrowStands, Narrows}
 use Rattle.entering.specs.Moved.{Moved}
 use Rattle.quick.specs.Passed.{Passing, PassStands, Passes}
-use Rattle.entering.proofs.Clearing.{clear-alike}
+use Rattle.entering.proofs.Clearing.{clear-alike-of}
 use Rattle.quick.proofs.Sifting.{fewer-trans}
-use Rattle.entering.proofs.Moves.{moved-trans, moved-words}
+use Rattle.entering.proofs.Moves.{moved-trans, moved-words, stands-on}
 
 -- ---- engine's `narrow-at`, one list of disjunctions after another
 after : quickly.Step → (List Graph → Marking → quickly.Step) → quickly.Step
@@ -52,26 +51,10 @@ narrow-both S m (place g ds) (place h es) = narrow-next S m ds es
 module _ (n k : ℕ) (w : List ℕ) where
   abbrev pub first : Passing n k w → Narrowing n k w 0 depth-limit
   first c = record {
-    t = c .t;
-    loaded = c .ready .loaded;
-    U = c .inputs .U;
-    ground = c .inputs .ground;
-    d = c .inputs .a;
-    from = 0;
-    end =
-        c .inputs .end-a;
-    to = c .inputs .half;
-    at = c .inputs .at-a;
-    low =
-        (let b = at-bounds (c .t) (c .inputs .b) SECOND (c .inputs .half) (c .inputs .end-b) n (c .inputs .at-b) .2 in omega arith);
-    nests =
-        c .inputs .nests-a;
-    among = c .inputs .among-a;
-    es = c .es;
-    holds = c .ready .holds;
-    inside = c .ready .inside;
-    clear =
-        c .ready .clear-a;
+    s = stands-on (c .inputs) (c .ready);
+    lies = c .inputs .first;
+    among = c .inputs .among-first;
+    clear = c .ready .clear-first;
   }
 
   module _ (r : Step) (w₁ : List ℕ) (v : Narrows n k w 0 depth-limit r w₁) where
@@ -85,8 +68,8 @@ module _ (n k : ℕ) (w : List ℕ) where
           told .holds',
           (
             marking w₁,
-            narrow-both (graphs (c .es)) (marking w) (c .inputs .a) (c .inputs .b)
-                ∙ ap (λ (s : quickly.Step). after s (λ T n. inside-at T n (c .inputs .b))) (told .is),
+            narrow-both (graphs (c .es)) (marking w) (c .inputs .first .d) (c .inputs .second .d)
+                ∙ ap (λ (s : quickly.Step). after s (λ T n. inside-at T n (c .inputs .second .d))) (told .is),
           ),
         ),
       );
@@ -98,32 +81,31 @@ module _ (n k : ℕ) (w : List ℕ) where
 
       abbrev pub second : Passing n k w → Narrowing n j w₁ SECOND depth-limit
       second c = record {
-        t = c .t;
-        loaded = moved-words k w j w₁ (c .ready .holds .long) (v .standing j i y .0) ∙ c .ready .loaded;
-        U = c .inputs .U;
-        ground = c .inputs .ground;
-        d = c .inputs .b;
-        from = c .inputs .half;
-        end = c .inputs .end-b;
-        to = n;
-        at = c .inputs .at-b;
-        low = omega arith;
-        nests = c .inputs .nests-b;
-        among = c .inputs .among-b;
-        es = told c .es';
-        holds = told c .stood .holds;
-        inside = told c .stood .inside;
-        clear = clear-alike (c .t) (marking w) (marking w₁) (c .es) (told c .es') SECOND (c .inputs .half) (c .inputs .b)
-            (c .inputs .end-b) n (c .inputs .at-b) (λ y a b. told c .off y (inr (omega arith)))
-            (λ o i. ⊎-elim (λ a. inl a) (λ a. inr (inl (a .1))) (told c .stood .fresh o i)) (c .ready .clear-b);
+        s = record {
+          t = c .t;
+          loaded = moved-words k w j w₁ (c .ready .holds .long) (v .standing j i y .0) ∙ c .ready .loaded;
+          m = marking w₁;
+          marks = refl;
+          U = c .inputs .U;
+          ground = c .inputs .ground;
+          es = told c .es';
+          holds = told c .stood .holds;
+          inside = told c .stood .inside;
+        };
+        lies = c .inputs .second;
+        among = c .inputs .among-second;
+        clear = clear-alike-of (marking w) (marking w₁) (c .es) (told c .es') (c .inputs .second)
+            (λ y a b. told c .off y (inr (omega (arith, c .inputs .apart))))
+            (λ o i. ⊎-elim (λ a. inl a) (λ a. let b = a .1 in inr (inl (omega (arith, c .inputs .apart)))) (told c .stood .fresh o i))
+            (c .ready .clear-second);
       }
 
       module _ (r₂ : Step) (w₂ : List ℕ) (u : Narrows n j w₁ SECOND depth-limit r₂ w₂) where
-        through : (c : Passing n k w) (s : quickly.Step) → inside-at (graphs (told c .es')) (marking w₁) (c .inputs .b) ≡ s →
-            narrow-at (graphs (c .es)) (marking w) (beside (c .inputs .a) (c .inputs .b)) ≡ s
+        through : (c : Passing n k w) (s : quickly.Step) → inside-at (graphs (told c .es')) (marking w₁) (c .inputs .second .d) ≡ s →
+            narrow-at (graphs (c .es)) (marking w) (beside (c .inputs .first .d) (c .inputs .second .d)) ≡ s
         unfolding after
-        through c s e = narrow-both (graphs (c .es)) (marking w) (c .inputs .a) (c .inputs .b)
-            ∙ ap (λ (s : quickly.Step). after s (λ T n. inside-at T n (c .inputs .b))) (told c .is) ∙ e
+        through c s e = narrow-both (graphs (c .es)) (marking w) (c .inputs .first .d) (c .inputs .second .d)
+            ∙ ap (λ (s : quickly.Step). after s (λ T n. inside-at T n (c .inputs .second .d))) (told c .is) ∙ e
 
         module _ (z : r₂ ≡ Fails) where
           since₂ : Since k w j w₂
@@ -176,10 +158,11 @@ module _ (n k : ℕ) (w : List ℕ) where
                         (moved-trans k w j w₁ l w₂ (v .standing j i y .0) (u .standing l d z .0)) ∙ c .ready .loaded;
                     holds = s .stood .holds;
                     inside = s .stood .inside;
-                    clear-a = clear-alike (c .t) (marking w₁) (marking w₂) (told c .es') (s .es') 0 0 (c .inputs .a) (c .inputs .end-a)
-                        (c .inputs .half) (c .inputs .at-a) (λ y a b. s .off y (inl (omega arith)))
-                        (λ o i. ⊎-elim (λ a. inl a) (λ a. let b = a .0 in inr (inr (omega arith))) (s .stood .fresh o i)) (told c .clear');
-                    clear-b = s .clear';
+                    clear-first = clear-alike-of (marking w₁) (marking w₂) (told c .es') (s .es') (c .inputs .first)
+                        (λ y a b. s .off y (inl (omega (arith, c .inputs .apart))))
+                        (λ o i. ⊎-elim (λ a. inl a) (λ a. let b = a .0 in
+                        inr (inr (omega (arith, c .inputs .apart)))) (s .stood .fresh o i)) (told c .clear');
+                    clear-second = s .clear';
                   };
                   is = through c (stands (graphs (s .es')) (marking w₂)) (s .is);
                 }

@@ -46,7 +46,7 @@ module _ (n k : ℕ) (w : List ℕ) (g left : ℕ) (o : Pushed) (w₁ : List ℕ
     -- its graph is in, and is taken back
     module _ (none : disjunctions-at w (tail-at w g) ≡ 0) where
       none₁ : 0 ≡ disjunctions-at w₁ (tail-at w₁ g)
-      none₁ = sym (none-same w₁ w g (words-same w w₁ (c .holds .long) (u .len) (λ j a b. u .rest j a)) ∙ none)
+      none₁ = sym (none-same w₁ w g (words-same w w₁ (c .s .holds .long) (u .len) (λ j a b. u .rest j a)) ∙ none)
 
       enters : Enters n k w g left (In e) w₁
       enters = enters-all n k w g left e w₁ reached
@@ -70,24 +70,24 @@ module _ (n k : ℕ) (w : List ℕ) (g left : ℕ) (c : Entering n k w g left) w
   module _ (none : disjunctions-at w (tail-at w g) ≡ 0) where
     -- it agrees
     module _ (s : Guesses n k w g Agrees) where
-      bare-stays : try-at (graphs (c .es)) (marking w) (c .d) ≡ stands (graphs (c .es) ++ bare-one n k w g left c none .0 ∷ []) (marking w)
+      bare-stays : try-at (graphs (c .s .es)) (marking w) (c .lies .d) ≡ stands (graphs (c .s .es) ++ bare-one n k w g left c none .0 ∷ []) (marking w)
       unfolding Rattle.modes_by_marks.specs.Quickly.try-at
-      bare-stays = ap (try-at (graphs (c .es)) (marking w)) (bare-one n k w g left c none .1 .0)
+      bare-stays = ap (try-at (graphs (c .s .es)) (marking w)) (bare-one n k w g left c none .1 .0)
           ∙ ap (λ (b : Bool). elim b [
             | false ↦ fails (marking w)
-            | true ↦ stands (graphs (c .es) ++ bare-one n k w g left c none .0 ∷ []) (marking w)
+            | true ↦ stands (graphs (c .s .es) ++ bare-one n k w g left c none .0 ∷ []) (marking w)
           ]) (bare-good n k w g left c none s)
 
 pub told-stands : (n k : ℕ) (w : List ℕ) (g left : ℕ) → Entering n k w g left → disjunctions-at w (tail-at w g) ≡ 0 →
     Guesses n k w g Agrees → Tries n k w g left (Stands k 0) w
 told-stands n k w g left c none s = record {
-  moved = record { len = refl; rest = λ j h. refl; since = since-refl n (c .es) k w (c .holds) };
+  moved = record { len = refl; rest = λ j h. refl; since = since-refl n (c .s .es) k w (c .s .holds) };
   standing = λ j i y.
       let x : 0 ≡ i = cc in (
         subst (λ (i : ℕ). Fewer i (marking w) (marking w)) x (fewer-none (marking w)),
         λ d. (
-          graphs (d .es) ++ bare-one n k w g left d none .0 ∷ [],
-          record { holds' = d .holds; off = λ y h. refl; is = bare-stays n k w g left d none s },
+          graphs (d .s .es) ++ bare-one n k w g left d none .0 ∷ [],
+          record { holds' = d .s .holds; off = λ y h. refl; is = bare-stays n k w g left d none s },
         ),
       );
   failing = λ y. let x : _≡_ {A = ℕ} 0 1 = cc in absurd (omega arith);

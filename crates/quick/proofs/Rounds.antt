@@ -39,13 +39,13 @@ use Rattle.entering.proofs.Settling.{agree-joins}
 -- ---- on the joined description
 module _ (n : ℕ) (t : List ℕ) (p : Pair n t) where
   abbrev pub top : Graph
-  top = joined-is (p .inputs .a) (p .inputs .b) (p .j) (p .joined) .k
+  top = joined-is (p .inputs .first .d) (p .inputs .second .d) (p .j) (p .joined) .k
 
   abbrev pub both : Places
-  both = beside (p .inputs .a) (p .inputs .b)
+  both = beside (p .inputs .first .d) (p .inputs .second .d)
 
   pub is : p .j ≡ place top both
-  is = sym (joined-is (p .inputs .a) (p .inputs .b) (p .j) (p .joined) .is)
+  is = sym (joined-is (p .inputs .first .d) (p .inputs .second .d) (p .j) (p .joined) .is)
 
   pub can : Can (strip (place top both))
   can = subst (λ (z : Placed). Can (strip z)) is (whole-comes n t p .0)

@@ -19,6 +19,7 @@ use Rattle.loading.specs.Entry.{graphs}
 use Rattle.loading.specs.Loaded.{number-step}
 use Rattle.loading.specs.Numbered.{options}
 use Rattle.loading.specs.At.{AtAny}
+use Rattle.loading.specs.Lying.{RestAny}
 use Rattle.loading.proofs.Walking.{at-bounds, any-bounds}
 use Rattle.marks.specs.Positions.{number-at, tail-at, after-at}
 use Rattle.marks.specs.Marked.{marking, Dropped}
@@ -28,14 +29,14 @@ use Rattle.classes.specs.Holds.{Holds}
 use Rattle.classes.proofs.Laws.{since-refl, holds-frame, since-frame}
 use Rattle.quick.specs.declared.step.Step.{Step}
 use Rattle.quick.specs.declared.step.Step.the-variants.{Stands, Fails}
-use Rattle.entering.specs.Taken.{AmongAny}
+use Rattle.entering.specs.Taken.{AmongRestAny}
 use Rattle.entering.specs.Entered.{Entering}
 use Rattle.entering.specs.Settled.{Alternating}
 use Rattle.quick.specs.Stepped.{kept-below, total, Fewer, Off, Tries, Sifted}
 use Rattle.entering.specs.Moved.{Moved}
 use Rattle.entering.proofs.Certain.{free-narrow}
 use Rattle.entering.proofs.Mirror.{sift-dropped, sift-kept}
-use Rattle.entering.proofs.Moves.{moved-trans, moved-words}
+use Rattle.entering.proofs.Moves.{moved-trans, moved-words, footing-as}
 
 -- ---- how many are kept
 below-same : (k : Marking) (x c : ℕ) → c ≤ x → kept-below (drop x k) c ≡ kept-below k c
@@ -115,84 +116,84 @@ module _ (n k : ℕ) (w : List ℕ) (p count left : ℕ) where
   pub record Sifting (c : Alternating n k w p count left) (rest at : ℕ) (w₁ : List ℕ) : Type 0 where
     pub b : Options
     pub l : ℕ
-    pub stand : AtAny (c .t) at l b (c .end) (c .to)
-    pub within : at ≤ length (c .t)
+    pub stand : RestAny (c .lies) at l b
+    pub within : at ≤ length (c .s .t)
     pub many : options b ≡ rest
     pub nests : NestsAny b left
-    pub among : AmongAny (c .U) (c .t) at l b (c .end) (c .to) stand
-    pub above : c .from ≤ l
-    pub holds : Holds n (c .es) k w₁
-    pub off : Off (c .from) (c .to) (marking w) (marking w₁)
-    pub is : sift-at (graphs (c .es)) (marking w) (c .a) ≡ sift-at (graphs (c .es)) (marking w₁) b
+    pub among : AmongRestAny (c .s .U) (c .lies) at l b stand
+    pub above : c .lies .from ≤ l
+    pub holds : Holds n (c .s .es) k w₁
+    pub off : Off (c .lies .from) (c .lies .to) (marking w) (marking w₁)
+    pub is : sift-at (graphs (c .s .es)) (marking w) (c .lies .a) ≡ sift-at (graphs (c .s .es)) (marking w₁) b
 
   pub sift-start : (c : Alternating n k w p count left) → Sifting c count p w
   sift-start c = record {
-    b = c .a;
-    l = c .from;
-    stand = c .at;
-    within = c .within;
-    many = c .many;
-    nests = c .nests;
+    b = c .lies .a;
+    l = c .lies .from;
+    stand = c .lies .at;
+    within = c .lies .within;
+    many = c .lies .many;
+    nests = c .lies .nests;
     among = c .among;
     above = omega arith;
-    holds = c .holds;
+    holds = c .s .holds;
     off = λ y h. refl;
     is = refl;
   }
 
   pub moved-none : Alternating n k w p count left → Moved k w k w
-  moved-none c = record { len = refl; rest = λ j h. refl; since = since-refl n (c .es) k w (c .holds) }
+  moved-none c = record { len = refl; rest = λ j h. refl; since = since-refl n (c .s .es) k w (c .s .holds) }
 
   pub sift-done : (c : Alternating n k w p count left) (rest at : ℕ) (w₁ : List ℕ) → Sifting c rest at w₁ → rest ≤ 0 →
       Sifted n k w p count left w₁ c
   unfolding Rattle.modes_by_marks.specs.Quickly.sift-at
   sift-done c rest at w₁ s h = record { holds' = s .holds; off = s .off; is = go (s .b) (s .many) (s .is) }
     where
-      go : (b : Options) → options b ≡ rest → sift-at (graphs (c .es)) (marking w) (c .a) ≡ sift-at (graphs (c .es)) (marking w₁) b →
-          sift-at (graphs (c .es)) (marking w) (c .a) ≡ marking w₁
+      go : (b : Options) → options b ≡ rest → sift-at (graphs (c .s .es)) (marking w) (c .lies .a) ≡ sift-at (graphs (c .s .es)) (marking w₁) b →
+          sift-at (graphs (c .s .es)) (marking w) (c .lies .a) ≡ marking w₁
       go no-more e f = f
       go (option x d b) e f = absurd (omega arith)
 
   module _ (c : Alternating n k w p count left) (rest at : ℕ) (w₁ : List ℕ) (m : Moved k w k w₁) (s : Sifting c rest at w₁)
       (h : 0 < rest) where
-    loaded₁ : words w₁ ≡ c .t
-    loaded₁ = moved-words k w k w₁ (c .holds .long) m ∙ c .loaded
+    loaded₁ : words w₁ ≡ c .s .t
+    loaded₁ = moved-words k w k w₁ (c .s .holds .long) m ∙ c .s .loaded
 
     -- the next alternative
     record Next : Type 0 where
       x : ℕ
       d : Placed
       a : Options
-      o : AtAny (c .t) at (s .l) (option x d a) (c .end) (c .to)
+      o : RestAny (c .lies) at (s .l) (option x d a)
       nested : NestsAny (option x d a) left
-      amongst : AmongAny (c .U) (c .t) at (s .l) (option x d a) (c .end) (c .to) o
+      amongst : AmongRestAny (c .s .U) (c .lies) at (s .l) (option x d a) o
       later : options a + 1 ≡ rest
-      whole : sift-at (graphs (c .es)) (marking w) (c .a) ≡ sift-at (graphs (c .es)) (marking w₁) (option x d a)
+      whole : sift-at (graphs (c .s .es)) (marking w) (c .lies .a) ≡ sift-at (graphs (c .s .es)) (marking w₁) (option x d a)
 
     next : Next
     next = go (s .b) (s .stand) (s .many) (s .nests) (s .among) (s .is)
       where
-        go : (b : Options) (o : AtAny (c .t) at (s .l) b (c .end) (c .to)) → options b ≡ rest → NestsAny b left →
-            AmongAny (c .U) (c .t) at (s .l) b (c .end) (c .to) o →
-            sift-at (graphs (c .es)) (marking w) (c .a) ≡ sift-at (graphs (c .es)) (marking w₁) b → Next
+        go : (b : Options) (o : RestAny (c .lies) at (s .l) b) → options b ≡ rest → NestsAny b left →
+            AmongRestAny (c .s .U) (c .lies) at (s .l) b o →
+            sift-at (graphs (c .s .es)) (marking w) (c .lies .a) ≡ sift-at (graphs (c .s .es)) (marking w₁) b → Next
         go no-more o e f u q = absurd (omega arith)
         go (option x d a) o e f u q = record { x = x; d = d; a = a; o = o; nested = f; amongst = u; later = omega arith; whole = q }
 
-    low : c .to < number-step
-    low = omega (arith, c .low, c .ground .few)
+    low : c .lies .to < number-step
+    low = omega (arith, c .lies .low, c .s .ground .few)
 
-    read : (w₂ : List ℕ) → 16384 ≤ length w₂ → words w₂ ≡ c .t → Read w₂ at (next .x) (next .o .0)
-    read w₂ room e = read-option w₂ room (next .x) (next .d) (next .a) at (s .l) (c .end) (c .to)
-        (subst (λ (t : List ℕ). AtAny t at (s .l) (option (next .x) (next .d) (next .a)) (c .end) (c .to)) (sym e) (next .o)) low .0
+    read : (w₂ : List ℕ) → 16384 ≤ length w₂ → words w₂ ≡ c .s .t → Read w₂ at (next .x) (next .o .0)
+    read w₂ room e = read-option w₂ room (next .x) (next .d) (next .a) at (s .l) (c .lies .end) (c .lies .to)
+        (subst (λ (t : List ℕ). AtAny t at (s .l) (option (next .x) (next .d) (next .a)) (c .lies .end) (c .lies .to)) (sym e) (next .o)) low .0
 
-    first : (at < next .o .0) × (next .o .0 ≤ length (c .t)) × (s .l < next .o .1)
-    first = at-bounds (c .t) (next .d) at (s .l) (next .o .0) (next .o .1) (next .o .3)
+    first : (at < next .o .0) × (next .o .0 ≤ length (c .s .t)) × (s .l < next .o .1)
+    first = at-bounds (c .s .t) (next .d) at (s .l) (next .o .0) (next .o .1) (next .o .3)
 
-    last : next .o .1 ≤ c .to
-    last = any-bounds (c .t) (next .a) (next .o .0) (next .o .1) (c .end) (c .to) (first .1) (next .o .4) .2
+    last : next .o .1 ≤ c .lies .to
+    last = any-bounds (c .s .t) (next .a) (next .o .0) (next .o .1) (c .lies .end) (c .lies .to) (first .1) (next .o .4) .2
 
     room₁ : 16384 ≤ length w₁
-    room₁ = omega (arith, m .len, c .holds .long)
+    room₁ = omega (arith, m .len, c .s .holds .long)
 
     pub sift-here : (at < 2048) × (number-at w₁ at < 1024) × (tail-at w₁ at < 2048)
     sift-here =
@@ -203,22 +204,18 @@ module _ (n k : ℕ) (w : List ℕ) (p count left : ℕ) where
 
     abbrev asks : Entering n k w₁ at left
     asks = record {
-      t = c .t;
-      loaded = loaded₁;
-      U = c .U;
-      ground = c .ground;
-      d = next .d;
-      from = s .l;
-      end = next .o .0;
-      to = next .o .1;
-      at = next .o .3;
-      low = omega (arith, last, c .low);
-      nests = next .nested .0;
+      s = footing-as (c .s) w₁ (moved-words k w k w₁ (c .s .holds .long) m) (s .holds);
+      lies = record {
+        d = next .d;
+        from = s .l;
+        end = next .o .0;
+        to = next .o .1;
+        at = next .o .3;
+        low = omega (arith, last, c .lies .low);
+        nests = next .nested .0;
+      };
       among = next .amongst .0;
-      es = c .es;
-      holds = s .holds;
-      inside = c .inside;
-      free = free-narrow (c .from) (c .to) (s .l) (next .o .1) (c .es) (s .above) last (c .free);
+      free = free-narrow (c .lies .from) (c .lies .to) (s .l) (next .o .1) (c .s .es) (s .above) last (c .free);
     }
 
     pub sift-asks : Entering n k w₁ at left
@@ -270,16 +267,16 @@ module _ (n k : ℕ) (w : List ℕ) (p count left : ℕ) where
                 (fewer-trans drops 1 (marking w) (marking w₁) (marking w'') p one))
 
         pub turn-inside : tail-at w₂ at < 2048
-        turn-inside = read w₂ (omega (arith, turn-moved .len, c .holds .long)) (moved-words k w k w₂ (c .holds .long) turn-moved
-            ∙ c .loaded) .inside
+        turn-inside = read w₂ (omega (arith, turn-moved .len, c .s .holds .long)) (moved-words k w k w₂ (c .s .holds .long) turn-moved
+            ∙ c .s .loaded) .inside
 
         -- past the alternative
-        past : (v : List ℕ) (at' : ℕ) → Moved k w k v → at' ≡ after-at v at → Holds n (c .es) k v →
+        past : (v : List ℕ) (at' : ℕ) → Moved k w k v → at' ≡ after-at v at → Holds n (c .s .es) k v →
             Off (s .l) (next .o .1) (marking w₁) (marking v) →
-            sift-at (graphs (c .es)) (marking w₁) (option (next .x) (next .d) (next .a)) ≡ sift-at (graphs (c .es)) (marking v) (next .a) →
+            sift-at (graphs (c .s .es)) (marking w₁) (option (next .x) (next .d) (next .a)) ≡ sift-at (graphs (c .s .es)) (marking v) (next .a) →
             Sifting c (rest - 1) at' v
         past v at' mv e held off is =
-            let r = read v (omega (arith, mv .len, c .holds .long)) (moved-words k w k v (c .holds .long) mv ∙ c .loaded) in
+            let r = read v (omega (arith, mv .len, c .s .holds .long)) (moved-words k w k v (c .s .holds .long) mv ∙ c .s .loaded) in
             let count = next .later in
             let low = s .above in
             let near = first .2 in
@@ -308,33 +305,33 @@ module _ (n k : ℕ) (w : List ℕ) (p count left : ℕ) where
             wide v off y h = off y (⊎-elim (λ b. inl (omega arith)) (λ b. inr b) h)
 
             go : Turn n k w₁ at x left drops drops' w₂ → Sifting c (rest - 1) at' w₂
-            go (skipped e f q) = past w₂ at' turn-moved z (subst (Holds n (c .es) k) (sym f) (s .holds))
+            go (skipped e f q) = past w₂ at' turn-moved z (subst (Holds n (c .s .es) k) (sym f) (s .holds))
                 (λ y h. ap (λ (v : List ℕ). marking v y) f)
-                (sift-dropped (graphs (c .es)) (marking w₁) (next .x) (next .d) (next .a) (kept-x false e)
-                ∙ ap (λ (v : List ℕ). sift-at (graphs (c .es)) (marking v) (next .a)) (sym f))
+                (sift-dropped (graphs (c .s .es)) (marking w₁) (next .x) (next .d) (next .a) (kept-x false e)
+                ∙ ap (λ (v : List ℕ). sift-at (graphs (c .s .es)) (marking v) (next .a)) (sym f))
             go (stood r j i w' e u y f q) =
                 let told = u .standing j i y .1 asks .1 in
-                past w₂ at' turn-moved z (subst (Holds n (c .es) k) (sym f) (told .holds'))
+                past w₂ at' turn-moved z (subst (Holds n (c .s .es) k) (sym f) (told .holds'))
                 (subst (λ (v : List ℕ). Off (s .l) (next .o .1) (marking w₁) (marking v)) (sym f) (wide w' (told .off)))
-                (sift-kept (graphs (c .es)) (marking w₁) (next .x) (next .d) (next .a) (kept-x true e)
-                ∙ ap (λ (o : quickly.Step). sift-at (graphs (c .es)) (tried (next .x) o) (next .a)) (told .is)
-                ∙ ap (λ (v : List ℕ). sift-at (graphs (c .es)) (marking v) (next .a)) (sym f))
+                (sift-kept (graphs (c .s .es)) (marking w₁) (next .x) (next .d) (next .a) (kept-x true e)
+                ∙ ap (λ (o : quickly.Step). sift-at (graphs (c .s .es)) (tried (next .x) o) (next .a)) (told .is)
+                ∙ ap (λ (v : List ℕ). sift-at (graphs (c .s .es)) (marking v) (next .a)) (sym f))
             go (failed r w' w'' e u y d f q) =
                 let told = u .failing y .1 asks in
                 let room : 16384 ≤ length w' = omega (arith, u .moved .len, room₁) in
                 let lx = low-x in
-                let held = holds-frame n (c .es) k w' (told .holds') w'' (d .len) (λ j h. d .rest j (λ e. omega arith)) in
+                let held = holds-frame n (c .s .es) k w' (told .holds') w'' (d .len) (λ j h. d .rest j (λ e. omega arith)) in
                 let near = first .2 in
                 let at-x = inner-number in
-                past w₂ at' turn-moved z (subst (Holds n (c .es) k) (sym f) held)
+                past w₂ at' turn-moved z (subst (Holds n (c .s .es) k) (sym f) held)
                 (subst (λ (v : List ℕ). Off (s .l) (next .o .1) (marking w₁) (marking v)) (sym f)
                 (λ y h. ap (λ (k : Marking). k y) (d .marks)
                 ∙ drop-other x (marking w') y (λ q. ⊎-elim (λ b. omega arith) (λ b. omega arith) h) ∙ wide w' (told .off) y h))
-                (sift-kept (graphs (c .es)) (marking w₁) (next .x) (next .d) (next .a) (kept-x true e)
-                ∙ ap (λ (o : quickly.Step). sift-at (graphs (c .es)) (tried (next .x) o) (next .a)) (told .is)
-                ∙ ap (λ (j : ℕ). sift-at (graphs (c .es)) (drop j (marking w')) (next .a)) (sym own)
-                ∙ ap (λ (k : Marking). sift-at (graphs (c .es)) k (next .a)) (sym (d .marks))
-                ∙ ap (λ (v : List ℕ). sift-at (graphs (c .es)) (marking v) (next .a)) (sym f))
+                (sift-kept (graphs (c .s .es)) (marking w₁) (next .x) (next .d) (next .a) (kept-x true e)
+                ∙ ap (λ (o : quickly.Step). sift-at (graphs (c .s .es)) (tried (next .x) o) (next .a)) (told .is)
+                ∙ ap (λ (j : ℕ). sift-at (graphs (c .s .es)) (drop j (marking w')) (next .a)) (sym own)
+                ∙ ap (λ (k : Marking). sift-at (graphs (c .s .es)) k (next .a)) (sym (d .marks))
+                ∙ ap (λ (v : List ℕ). sift-at (graphs (c .s .es)) (marking v) (next .a)) (sym f))
 
 -- drops are few
 pub fewer-small : (i : ℕ) (k k' : Marking) → Fewer i k k' → i ≤ 1024

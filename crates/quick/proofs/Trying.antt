@@ -2,7 +2,7 @@
 -- Assumes nothing.
 use Prim.Native.Nat.{ℕ, _+_}
 use native.Mathlib.Omega.{arith}
-use mathlib.Core.Path.{_≡_, sym, ap, subst, _∙_}
+use mathlib.Core.Path.{_≡_, refl, sym, ap, subst, _∙_}
 use mathlib.Core.Bool.{Bool, true, false}
 use mathlib.Core.List.{List, _∷_, _++_}
 use Rattle.theory.specs.Net.{Graph, Clash, Agree}
@@ -23,7 +23,7 @@ use Rattle.classes.proofs.Laws.{holds-agree, since-trans}
 use Rattle.quick.specs.declared.step.Step.{Step}
 use Rattle.quick.specs.declared.step.Step.the-variants.{Stands, Fails}
 use Rattle.entering.specs.Entered.{Entering, entered, Enters}
-use Rattle.entering.specs.Clear.{Clear}
+use Rattle.entering.specs.Clear.{ClearOf}
 use Rattle.quick.specs.Stepped.{total, Fewer, Off, Narrowing, Narrows, Tries}
 use Rattle.entering.specs.Moved.{Moved}
 use Rattle.entering.proofs.Settling.{agrees-true, clash-false}
@@ -38,10 +38,10 @@ try-by S m (place g ds) b e = ap (λ (b : Bool). elim b [ false ↦ fails m | tr
 module _ (n k : ℕ) (w : List ℕ) (g left : ℕ) where
   module _ (o : Pushed) (w₁ : List ℕ) (u : Enters n k w g left o w₁) (c₀ : Entering n k w g left) where
     marks₁ : marking w₁ ≡ marking w
-    marks₁ = marking-frame w w₁ (c₀ .holds .long) (u .len) (λ j a b. u .rest j (omega arith))
+    marks₁ = marking-frame w w₁ (c₀ .s .holds .long) (u .len) (λ j a b. u .rest j (omega arith))
 
     loaded₁ : words w₁ ≡ words w
-    loaded₁ = words-same w w₁ (c₀ .holds .long) (u .len) (λ j a b. u .rest j a)
+    loaded₁ = words-same w w₁ (c₀ .s .holds .long) (u .len) (λ j a b. u .rest j a)
 
     pub tries-clash : o ≡ Clashed → Tries n k w g left Fails w₁
     tries-clash z = record {
@@ -54,7 +54,7 @@ module _ (n k : ℕ) (w : List ℕ) (g left : ℕ) where
             record {
               holds' = told .1;
               off = λ y h. ap (λ (m : Marking). m y) marks₁;
-              is = try-by (graphs (c .es)) (marking w) (c .d) false
+              is = try-by (graphs (c .s .es)) (marking w) (c .lies .d) false
                   (clash-false _ (fine n k w g left c) (subst Clash (entered-graphs n k w g left c) (told .0))) ∙ ap fails (sym marks₁);
             },
       );
@@ -63,22 +63,20 @@ module _ (n k : ℕ) (w : List ℕ) (g left : ℕ) where
     module _ (e : ℕ) (z : o ≡ In e) where
       abbrev goes : Entering n k w g left → Narrowing n e w₁ g left
       goes c = record {
-        t = c .t;
-        loaded = loaded₁ ∙ c .loaded;
-        U = c .U;
-        ground = c .ground;
-        d = c .d;
-        from = c .from;
-        end = c .end;
-        to = c .to;
-        at = c .at;
-        low = c .low;
-        nests = c .nests;
+        s = record {
+          t = c .s .t;
+          loaded = loaded₁ ∙ c .s .loaded;
+          m = marking w₁;
+          marks = refl;
+          U = c .s .U;
+          ground = c .s .ground;
+          es = entered c;
+          holds = u .pushed e z .1 c;
+          inside = entered-inside n k w g left c;
+        };
+        lies = c .lies;
         among = c .among;
-        es = entered c;
-        holds = u .pushed e z .1 c;
-        inside = entered-inside n k w g left c;
-        clear = subst (λ (m : Marking). Clear (entered c) (c .t) m g (c .from) (c .d) (c .end) (c .to) (c .at)) (sym marks₁)
+        clear = subst (λ (m : Marking). ClearOf (entered c) m (c .lies)) (sym marks₁)
             (entered-clear n k w g left c);
       }
 
@@ -86,13 +84,13 @@ module _ (n k : ℕ) (w : List ℕ) (g left : ℕ) where
       asks-narrow = goes c₀
 
       -- it is narrowed where it stands
-      going : (c : Entering n k w g left) → try-at (graphs (c .es)) (marking w) (c .d) ≡ inside-at (graphs (entered c)) (marking w₁) (c .d)
+      going : (c : Entering n k w g left) → try-at (graphs (c .s .es)) (marking w) (c .lies .d) ≡ inside-at (graphs (entered c)) (marking w₁) (c .lies .d)
       going c =
           let good = agrees-true _ (fine n k w g left c)
           (subst Agree (entered-graphs n k w g left c) (holds-agree n (entered c) e w₁ (u .pushed e z .1 c))) in
-          try-by (graphs (c .es)) (marking w) (c .d) true good
-          ∙ ap (λ (S : List Graph). inside-at S (marking w) (c .d)) (sym (entered-graphs n k w g left c))
-          ∙ ap (λ (m : Marking). inside-at (graphs (entered c)) m (c .d)) (sym marks₁)
+          try-by (graphs (c .s .es)) (marking w) (c .lies .d) true good
+          ∙ ap (λ (S : List Graph). inside-at S (marking w) (c .lies .d)) (sym (entered-graphs n k w g left c))
+          ∙ ap (λ (m : Marking). inside-at (graphs (entered c)) m (c .lies .d)) (sym marks₁)
 
       module _ (r : Step) (w₂ : List ℕ) (v : Narrows n e w₁ g left r w₂) where
         -- back from j entries to those of the start
@@ -113,7 +111,7 @@ module _ (n k : ℕ) (w : List ℕ) (g left : ℕ) where
             }
 
             marks₃ : marking w₃ ≡ marking w₂
-            marks₃ = marking-frame w₂ w₃ (omega (arith, m .len, u .len, c₀ .holds .long)) (b .len) (λ i h l. b .rest i (omega arith))
+            marks₃ = marking-frame w₂ w₃ (omega (arith, m .len, u .len, c₀ .s .holds .long)) (b .len) (λ i h l. b .rest i (omega arith))
 
             off₃ : (from to : ℕ) → Off from to (marking w₁) (marking w₂) → Off from to (marking w) (marking w₃)
             off₃ from to f y h = ap (λ (x : Marking). x y) marks₃ ∙ f y h ∙ ap (λ (x : Marking). x y) marks₁
@@ -128,8 +126,8 @@ module _ (n k : ℕ) (w : List ℕ) (g left : ℕ) where
                 (let p : total (marking w₁) ≡ total (marking w) = ap total marks₁ in
                     let q : total (marking w₃) ≡ total (marking w₂) = ap total (marks₃ e (f .0) w₃ b) in let s = f .1 in omega arith),
                 λ c. let told = f .2 (goes c) in record {
-                  holds' = b .holds n (c .es) w (c .holds) (since₂ e (f .0));
-                  off = off₃ e (f .0) w₃ b (c .from + 1) (c .to) (told .off);
+                  holds' = b .holds n (c .s .es) w (c .s .holds) (since₂ e (f .0));
+                  off = off₃ e (f .0) w₃ b (c .lies .from + 1) (c .lies .to) (told .off);
                   is = going c ∙ told .is ∙ ap fails (sym (marks₃ e (f .0) w₃ b));
                 },
               );
@@ -150,8 +148,8 @@ module _ (n k : ℕ) (w : List ℕ) (g left : ℕ) where
                 λ c. let told = f .2 (goes c) in (
                   graphs (told .es'),
                   record {
-                    holds' = b .holds n (c .es) w (c .holds) (since₂ j (f .0));
-                    off = off₃ j (f .0) w₃ b (c .from + 1) (c .to) (told .off);
+                    holds' = b .holds n (c .s .es) w (c .s .holds) (since₂ j (f .0));
+                    off = off₃ j (f .0) w₃ b (c .lies .from + 1) (c .lies .to) (told .off);
                     is = going c ∙ told .is ∙ ap (λ (m : Marking). stands (graphs (told .es')) m) (sym (marks₃ j (f .0) w₃ b));
                   },
                 ),

@@ -5,27 +5,22 @@ use mathlib.Core.Path.{_≡_}
 use mathlib.Core.Logic.{_⊎_}
 use mathlib.Core.Bool.{true, false}
 use mathlib.Core.List.{List, List·Memᴰ}
-use lib.ListN.{length}
 use Rattle.theory.specs.Net.{Graph}
-use Rattle.area.specs.Region.{words}
-use Rattle.engine.specs.Placed.{Placed, Options}
 use Rattle.engine.specs.Marks.{Marking}
 use Rattle.engine.specs.Quickly as quickly
 use Rattle.engine.specs.Quickly.{fails, stands, try-at, any-at, inside-at, sift-at}
 use Rattle.loading.specs.Entry.{Entry, graphs}
-use Rattle.loading.specs.Numbered.{options}
-use Rattle.loading.specs.At.{At, AtAny}
+use Rattle.loading.specs.Lying.{Lying, LyingAny}
 use Rattle.marks.specs.Positions.{tail-at, disjunctions-at}
 use Rattle.marks.specs.Marked.{marking}
-use Rattle.loading.specs.Nesting.{Nests, NestsAny}
 use Rattle.classes.specs.Holds.{Holds}
 use Rattle.quick.specs.declared.step.Step.{Step}
 use Rattle.quick.specs.declared.step.Step.the-variants.{Stands, Fails}
-use Rattle.entering.specs.Taken.{Among, AmongAny, Inside}
-use Rattle.entering.specs.Ground.{Ground}
+use Rattle.entering.specs.Taken.{AmongOf, AmongAnyOf, Inside}
+use Rattle.entering.specs.Footing.{Footing}
 use Rattle.entering.specs.Entered.{Entering}
 use Rattle.entering.specs.Settled.{Alternating}
-use Rattle.entering.specs.Clear.{Outside, Clear, ClearAny}
+use Rattle.entering.specs.Clear.{Outside, ClearOf, ClearAnyOf}
 use Rattle.entering.specs.Moved.{Moved}
 
 -- ---- marks
@@ -56,36 +51,24 @@ pub record Stood (n : ℕ) (U es : List Entry) (from to k' : ℕ) (w' : List ℕ
   pub fresh : (o : Entry) → List·Memᴰ o es' → List·Memᴰ o es ⊎ ((from ≤ o .number) × (o .number < to))
 
 -- ---- the disjunctions of a description
--- the graphs es are pushed, among them what is certain in the description that stands loaded at g
+-- what is certain in the description that stands loaded at g is pushed
 pub record Narrowing (n k : ℕ) (w : List ℕ) (g left : ℕ) : Type 0 where
-  pub t : List ℕ
-  pub loaded : words w ≡ t
-  pub U : List Entry
-  pub ground : Ground n t U
-  pub d : Placed
-  pub from : ℕ
-  pub end : ℕ
-  pub to : ℕ
-  pub at : At t g from d end to
-  pub low : to ≤ n
-  pub nests : Nests d left
-  pub among : Among U t g from d end to at
-  pub es : List Entry
-  pub holds : Holds n es k w
-  pub inside : Inside U es
-  pub clear : Clear es t (marking w) g from d end to at
+  pub s : Footing n k w
+  pub lies : Lying n (s .t) g left
+  pub among : AmongOf (s .U) lies
+  pub clear : ClearOf (s .es) (marking w) lies
 
 pub record NarrowStands (n k : ℕ) (w : List ℕ) (g left k' : ℕ) (w' : List ℕ) (c : Narrowing n k w g left) : Type 0 where
   pub es' : List Entry
-  pub stood : Stood n (c .U) (c .es) (c .from + 1) (c .to) k' w' es'
-  pub clear' : Clear es' (c .t) (marking w') g (c .from) (c .d) (c .end) (c .to) (c .at)
-  pub off : Off (c .from + 1) (c .to) (marking w) (marking w')
-  pub is : inside-at (graphs (c .es)) (marking w) (c .d) ≡ stands (graphs es') (marking w')
+  pub stood : Stood n (c .s .U) (c .s .es) (c .lies .from + 1) (c .lies .to) k' w' es'
+  pub clear' : ClearOf es' (marking w') (c .lies)
+  pub off : Off (c .lies .from + 1) (c .lies .to) (marking w) (marking w')
+  pub is : inside-at (graphs (c .s .es)) (marking w) (c .lies .d) ≡ stands (graphs es') (marking w')
 
 pub record NarrowFails (n k : ℕ) (w : List ℕ) (g left : ℕ) (w' : List ℕ) (c : Narrowing n k w g left) : Type 0 where
-  pub holds' : Holds n (c .es) k w'
-  pub off : Off (c .from + 1) (c .to) (marking w) (marking w')
-  pub is : inside-at (graphs (c .es)) (marking w) (c .d) ≡ fails (marking w')
+  pub holds' : Holds n (c .s .es) k w'
+  pub off : Off (c .lies .from + 1) (c .lies .to) (marking w) (marking w')
+  pub is : inside-at (graphs (c .s .es)) (marking w) (c .lies .d) ≡ fails (marking w')
 
 -- engine's `inside-at`, which is `narrow-at` on the disjunctions
 pub record Narrows (n k : ℕ) (w : List ℕ) (g left : ℕ) (r : Step) (w' : List ℕ) : Type 0 where
@@ -96,36 +79,22 @@ pub record Narrows (n k : ℕ) (w : List ℕ) (g left : ℕ) (r : Step) (w' : Li
 
 -- ---- one disjunction
 pub record Choosing (n k : ℕ) (w : List ℕ) (p count left : ℕ) : Type 0 where
-  pub t : List ℕ
-  pub loaded : words w ≡ t
-  pub U : List Entry
-  pub ground : Ground n t U
-  pub a : Options
-  pub from : ℕ
-  pub end : ℕ
-  pub to : ℕ
-  pub at : AtAny t p from a end to
-  pub within : p ≤ length t
-  pub low : to ≤ n
-  pub many : options a ≡ count
-  pub nests : NestsAny a left
-  pub among : AmongAny U t p from a end to at
-  pub es : List Entry
-  pub holds : Holds n es k w
-  pub inside : Inside U es
-  pub clear : ClearAny es t (marking w) p from a end to at
+  pub s : Footing n k w
+  pub lies : LyingAny n (s .t) p count left
+  pub among : AmongAnyOf (s .U) lies
+  pub clear : ClearAnyOf (s .es) (marking w) lies
 
 pub record ChooseStands (n k : ℕ) (w : List ℕ) (p count left k' : ℕ) (w' : List ℕ) (c : Choosing n k w p count left) : Type 0 where
   pub es' : List Entry
-  pub stood : Stood n (c .U) (c .es) (c .from) (c .to) k' w' es'
-  pub clear' : ClearAny es' (c .t) (marking w') p (c .from) (c .a) (c .end) (c .to) (c .at)
-  pub off : Off (c .from) (c .to) (marking w) (marking w')
-  pub is : any-at (graphs (c .es)) (marking w) (c .a) ≡ stands (graphs es') (marking w')
+  pub stood : Stood n (c .s .U) (c .s .es) (c .lies .from) (c .lies .to) k' w' es'
+  pub clear' : ClearAnyOf es' (marking w') (c .lies)
+  pub off : Off (c .lies .from) (c .lies .to) (marking w) (marking w')
+  pub is : any-at (graphs (c .s .es)) (marking w) (c .lies .a) ≡ stands (graphs es') (marking w')
 
 pub record ChooseFails (n k : ℕ) (w : List ℕ) (p count left : ℕ) (w' : List ℕ) (c : Choosing n k w p count left) : Type 0 where
-  pub holds' : Holds n (c .es) k w'
-  pub off : Off (c .from) (c .to) (marking w) (marking w')
-  pub is : any-at (graphs (c .es)) (marking w) (c .a) ≡ fails (marking w')
+  pub holds' : Holds n (c .s .es) k w'
+  pub off : Off (c .lies .from) (c .lies .to) (marking w) (marking w')
+  pub is : any-at (graphs (c .s .es)) (marking w) (c .lies .a) ≡ fails (marking w')
 
 -- engine's `any-at`
 pub record Chooses (n k : ℕ) (w : List ℕ) (p count left : ℕ) (r : Step) (w' : List ℕ) : Type 0 where
@@ -136,9 +105,9 @@ pub record Chooses (n k : ℕ) (w : List ℕ) (p count left : ℕ) (r : Step) (w
 
 -- ---- an alternative that is tried
 pub record Tried (n k : ℕ) (w : List ℕ) (g left : ℕ) (w' : List ℕ) (c : Entering n k w g left) (s : quickly.Step) : Type 0 where
-  pub holds' : Holds n (c .es) k w'
-  pub off : Off (c .from + 1) (c .to) (marking w) (marking w')
-  pub is : try-at (graphs (c .es)) (marking w) (c .d) ≡ s
+  pub holds' : Holds n (c .s .es) k w'
+  pub off : Off (c .lies .from + 1) (c .lies .to) (marking w) (marking w')
+  pub is : try-at (graphs (c .s .es)) (marking w) (c .lies .d) ≡ s
 
 -- engine's `try-at`; nothing that was pushed for it stays
 pub record Tries (n k : ℕ) (w : List ℕ) (g left : ℕ) (r : Step) (w' : List ℕ) : Type 0 where
@@ -154,9 +123,9 @@ pub record TriesBare (n k : ℕ) (w : List ℕ) (g : ℕ) (r : Step) (w' : List 
 
 -- ---- the alternatives of one disjunction are tried: engine's `sift-at`
 pub record Sifted (n k : ℕ) (w : List ℕ) (p count left : ℕ) (w' : List ℕ) (c : Alternating n k w p count left) : Type 0 where
-  pub holds' : Holds n (c .es) k w'
-  pub off : Off (c .from) (c .to) (marking w) (marking w')
-  pub is : sift-at (graphs (c .es)) (marking w) (c .a) ≡ marking w'
+  pub holds' : Holds n (c .s .es) k w'
+  pub off : Off (c .lies .from) (c .lies .to) (marking w) (marking w')
+  pub is : sift-at (graphs (c .s .es)) (marking w) (c .lies .a) ≡ marking w'
 
 pub record Sifts (n k : ℕ) (w : List ℕ) (p count left r : ℕ) (w' : List ℕ) : Type 0 where
   pub moved : Moved k w k w'

@@ -123,12 +123,12 @@ narrow-claims t = (
 
 narrow-tail-at-requires : (t : ℕ) →
     narrow-lts.Need-tail-at-requires (narrow-claims t) (narrow-at t) narrow.Post narrow-Inv-loop narrow-μ-loop
-narrow-tail-at-requires t c κs = let p = c .before .before .pre .1 in (narrow-starts _ _ _ _ _ p .0, p .holds .long)
+narrow-tail-at-requires t c κs = let p = c .before .before .pre .1 in (narrow-starts _ _ _ _ _ p .0, p .s .holds .long)
 
 narrow-disjunctions-at-requires : (t : ℕ) →
     narrow-lts.Need-disjunctions-at-requires (narrow-claims t) (narrow-at t) narrow.Post narrow-Inv-loop narrow-μ-loop
 narrow-disjunctions-at-requires t c κs = let p = c .before .before .before .before .pre .1 in
-    (let e = c .before .tail-at .ensures in let h = narrow-starts _ _ _ _ _ p .1 in omega arith, p .holds .long)
+    (let e = c .before .tail-at .ensures in let h = narrow-starts _ _ _ _ _ p .1 in omega arith, p .s .holds .long)
 
 narrow-same-length : (t : ℕ) → narrow-lts.Need-same-length (narrow-claims t) (narrow-at t) narrow.Post narrow-Inv-loop narrow-μ-loop
 narrow-same-length t c = search needs
@@ -145,7 +145,7 @@ narrow-slice-aggregate-gather t c = search needs
 
 narrow-gather-requires : (t : ℕ) → narrow-lts.Need-gather-requires (narrow-claims t) (narrow-at t) narrow.Post narrow-Inv-loop narrow-μ-loop
 narrow-gather-requires t c κs = let p = c .before .before .before .before .before .before .before .before .pre .1 in
-    ((p .holds .long, omega arith), (narrow-runs _ _ _ _ _ p, blank 256))
+    ((p .s .holds .long, omega arith), (narrow-runs _ _ _ _ _ p, blank 256))
 
 narrow-add-at : (t : ℕ) → narrow-lts.Need-add-at (narrow-claims t) (narrow-at t) narrow.Post narrow-Inv-loop narrow-μ-loop
 narrow-add-at t c = let p = c .before .before .before .before .before .before .before .before .before .before .pre .1 in
@@ -167,7 +167,7 @@ narrow-alternatives-at-requires : (t : ℕ) →
 narrow-alternatives-at-requires t c κs = let p =
     c .before .before .before .before .before .before .before .before .before .before .before .before .before .pre .1 in
     let v = c .before .before .loop .inv in let q = c .before .loop-test in
-    (narrow-here _ _ _ _ _ p _ _ _ _ (v .0) (v .2 p) (omega arith), omega (arith, v .0 .len, p .holds .long))
+    (narrow-here _ _ _ _ _ p _ _ _ _ (v .0) (v .2 p) (omega arith), omega (arith, v .0 .len, p .s .holds .long))
 
 narrow-add-count-kept : (t : ℕ) → narrow-lts.Need-add-count-kept (narrow-claims t) (narrow-at t) narrow.Post narrow-Inv-loop narrow-μ-loop
 narrow-add-count-kept t c = let p =
@@ -277,7 +277,7 @@ narrow-renew-requires t c κs = let p =
     .inv in let q = c .before .before .before .before .before .before .before .before .before .before .before .before .before .before
     .loop-test in let one = c .before .before .before .before .before .before .before .narrow-one .ensures in
     let stands = c .before .before .before .one .given .1 in (
-      (omega (arith, one .standing _ _ stands .0 .len, v .0 .len, p .holds .long), v .3),
+      (omega (arith, one .standing _ _ stands .0 .len, v .0 .len, p .s .holds .long), v .3),
       (
         runs-after _ _ _ _ _ p _ _ _ _ (v .0) (v .2 p) (omega arith) _
             (c .before .before .before .before .before .before .before .before .before .before .before .before .alternatives-at .ensures) _ _ one _
@@ -447,14 +447,14 @@ sift-loop-holds t c = let p = c .before .before .pre .1 .0 in (moved-none _ _ _ 
 sift-number-at-requires : (t : ℕ) → sift-lts.Need-number-at-requires (sift-claims t) (sift-at t) sift.Post sift-Inv-loop sift-μ-loop
 sift-number-at-requires t c κs = let p = c .before .before .before .before .before .pre .1 .0 in let v = c .before .before .loop .inv in
     let q = c .before .loop-test in
-    (sift-here _ _ _ _ _ _ p _ _ _ (v .0) (v .2 p) (omega arith) .0, omega (arith, v .0 .len, p .holds .long))
+    (sift-here _ _ _ _ _ _ p _ _ _ (v .0) (v .2 p) (omega arith) .0, omega (arith, v .0 .len, p .s .holds .long))
 
 sift-kept-requires : (t : ℕ) → sift-lts.Need-kept-requires (sift-claims t) (sift-at t) sift.Post sift-Inv-loop sift-μ-loop
 sift-kept-requires t c κs = let p = c .before .before .before .before .before .before .before .pre .1 .0 in
     let v = c .before .before .before .before .loop .inv in let q = c .before .before .before .loop-test in (
       let e = c .before .number-at .ensures in let h = sift-here _ _ _ _ _ _ p _ _ _ (v .0) (v .2 p) (omega arith) .1 in
           omega arith,
-      omega (arith, v .0 .len, p .holds .long),
+      omega (arith, v .0 .len, p .s .holds .long),
     )
 
 sift-try-one-requires : (t : ℕ) → sift-lts.Need-try-one-requires (sift-claims t) (sift-at t) sift.Post sift-Inv-loop sift-μ-loop
@@ -464,7 +464,7 @@ sift-try-one-requires t c κs = let p = c .before .before .before .before .befor
       omega (arith, c .before .before .before .before .before .before .before .before .before .before .pre .0),
       (
         sift-asks _ _ _ _ _ _ p _ _ _ (v .0) (v .2 p) (omega arith),
-        sieved-since _ _ _ _ (p .holds .long) (v .0 .since)
+        sieved-since _ _ _ _ (p .s .holds .long) (v .0 .since)
             (c .before .before .before .before .before .before .before .before .before .before .pre .1 .1),
       ),
     )
@@ -492,7 +492,7 @@ sift-drop-requires t c κs = let p =
       let e = c .before .before .before .before .before .before .before .before .before .before .number-at .ensures in
           let h = sift-here _ _ _ _ _ _ p _ _ _ (v .0) (v .2 p) (omega arith) .1 in
           omega arith,
-      omega (arith, c .before .before .before .before .before .try-one .ensures .moved .len, v .0 .len, p .holds .long),
+      omega (arith, c .before .before .before .before .before .try-one .ensures .moved .len, v .0 .len, p .s .holds .long),
     )
 
 sift-add-drops-2 : (t : ℕ) → sift-lts.Need-add-drops-2 (sift-claims t) (sift-at t) sift.Post sift-Inv-loop sift-μ-loop
@@ -523,7 +523,7 @@ sift-after-at-requires t c κs = let p = c .before .before .before .before .befo
           arith,
           turn-moved _ _ _ _ _ _ p _ _ _ (v .0) (v .2 p) (omega arith) _ (c .before .before .before .before .number-at .ensures) _ _
               _ (turned t (c .before)) .len,
-          p .holds .long,
+          p .s .holds .long,
         ),
       ),
       turn-inside _ _ _ _ _ _ p _ _ _ (v .0) (v .2 p) (omega arith) _ (c .before .before .before .before .number-at .ensures) _ _ _
@@ -572,11 +572,11 @@ try-one-claims t = (
 )
 
 try-one-tail-at-requires : (t : ℕ) → try-one-lts.Need-tail-at-requires (try-one-claims t) (try-one-at t) try-one.Post
-try-one-tail-at-requires t c κs = let p = c .before .before .before .pre .1 .0 in (tried-starts _ _ _ _ _ p .0, p .holds .long)
+try-one-tail-at-requires t c κs = let p = c .before .before .before .pre .1 .0 in (tried-starts _ _ _ _ _ p .0, p .s .holds .long)
 
 try-one-disjunctions-at-requires : (t : ℕ) → try-one-lts.Need-disjunctions-at-requires (try-one-claims t) (try-one-at t) try-one.Post
 try-one-disjunctions-at-requires t c κs = let p = c .before .before .before .before .before .pre .1 .0 in
-    (let e = c .before .tail-at .ensures in let h = tried-starts _ _ _ _ _ p .1 in omega arith, p .holds .long)
+    (let e = c .before .tail-at .ensures in let h = tried-starts _ _ _ _ _ p .1 in omega arith, p .s .holds .long)
 
 try-one-try-bare-requires : (t : ℕ) → try-one-lts.Need-try-bare-requires (try-one-claims t) (try-one-at t) try-one.Post
 try-one-try-bare-requires t c κs = (
