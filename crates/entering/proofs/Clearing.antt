@@ -12,10 +12,10 @@ use Rattle.engine.specs.Marks.{Marking, kept-of}
 use Rattle.loading.specs.Entry.{Entry}
 use Rattle.loading.specs.Loaded.{extent}
 use Rattle.loading.specs.At.{At, AtAll, AtAny}
-use Rattle.loading.specs.Lying.{Lying, LyingAny}
+use Rattle.loading.specs.Lying.{Lying, LyingAll, LyingAny}
 use Rattle.loading.proofs.Walking.{at-bounds, all-bounds, any-bounds}
 use Rattle.entering.specs.Taken.{taken, taken-all, taken-any, taken-of, taken-any-of, Free}
-use Rattle.entering.specs.Clear.{Outside, ByCount, ByMark, Clear, ClearAll, ClearLone, ClearAny, ClearOf, ClearAnyOf}
+use Rattle.entering.specs.Clear.{Outside, ByCount, ByMark, Clear, ClearAll, ClearLone, ClearAny, ClearOf, ClearAllOf, ClearAnyOf}
 use Rattle.entering.proofs.Mirror.{Alike, kept-alike}
 use Rattle.entering.proofs.Certain.{taken-all-between, taken-any-between, taken-none}
 
@@ -201,3 +201,7 @@ module _ {n : ℕ} {t : List ℕ} {p left : ℕ} (k : Marking) (E : List Entry) 
 pub clear-alike-of : {n : ℕ} {t : List ℕ} {g left : ℕ} (k k′ : Marking) (E E′ : List Entry) (l : Lying n t g left) →
     Alike k k′ (l .from + 1) (l .to) → Nothing t k k′ E E′ (l .from) (l .to) → ClearOf E k l → ClearOf E′ k′ l
 clear-alike-of {n} {t} {g} {left} k k′ E E′ l = clear-alike t k k′ E E′ g (l .from) (l .d) (l .end) (l .to) (l .at)
+
+pub all-alike-of : {n : ℕ} {t : List ℕ} {p more left : ℕ} (k k′ : Marking) (E E′ : List Entry) (l : LyingAll n t p more left) →
+    Alike k k′ (l .from) (l .to) → Nothing t k k′ E E′ (l .from) (l .to) → ClearAllOf E k l → ClearAllOf E′ k′ l
+all-alike-of {n} {t} {p} {more} {left} k k′ E E′ l = all-alike t k k′ E E′ p (l .from) (l .ds) (l .end) (l .to) (l .within) (l .at)

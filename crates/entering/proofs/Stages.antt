@@ -131,6 +131,7 @@ module _ (w : List ℕ) (d e : Desc) (n : ℕ) (long : SIZE ≤ length w) (wd : 
       low = omega arith;
       nests = well-nests e half depth-limit we;
     };
+    before = omega (arith, fd);
     apart = omega arith;
     among-first = numbered-among t (universe d e) d 0 0 0 end-a half refl at-a (λ x i. Memᴰ·append-left (entries SECOND half e) i);
     among-second = numbered-among t (universe d e) e SECOND half half end-b n refl at-b (λ x i. Memᴰ·append-right (entries 0 0 d) i);

@@ -11,7 +11,7 @@ use Rattle.engine.specs.Marks.{Marking, kept-of}
 use Rattle.loading.specs.Entry.{Entry}
 use Rattle.loading.specs.Loaded.{extent}
 use Rattle.loading.specs.At.{At, AtAll, AtAny}
-use Rattle.loading.specs.Lying.{Lying, LyingAny, Here, Rest}
+use Rattle.loading.specs.Lying.{Lying, LyingAll, LyingAny, Here, Rest}
 use Rattle.entering.specs.Taken.{Free}
 
 -- the number y is not from n up to m
@@ -58,6 +58,9 @@ module _ {n : ℕ} {t : List ℕ} {p left : ℕ} (es : List Entry) (m : Marking)
 
   abbrev pub ClearOf : Lying n t p left → Type 0
   ClearOf l = ClearHere l (l .d) (l .at)
+
+  abbrev pub ClearAllOf : {count : ℕ} → LyingAll n t p count left → Type 0
+  ClearAllOf l = ClearAll es t m p (l .from) (l .ds) (l .end) (l .to) (l .at)
 
   abbrev pub ClearLoneOf : {count : ℕ} → LyingAny n t p count left → Type 0
   ClearLoneOf l = ClearLone es t m p (l .from) (l .a) (l .end) (l .to) (l .at)

@@ -20,6 +20,7 @@ pub record Inputs (n : ℕ) (t : List ℕ) : Type 0 where
   pub ground : Ground n t U
   pub first : Lying n t 0 depth-limit
   pub second : Lying n t SECOND depth-limit
+  pub before : first .end ≤ SECOND
   pub apart : first .to ≤ second .from
   pub among-first : AmongOf U first
   pub among-second : AmongOf U second

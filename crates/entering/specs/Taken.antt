@@ -10,7 +10,7 @@ use Rattle.engine.specs.Marks.{Marking, kept-of}
 use Rattle.loading.specs.Entry.{Entry}
 use Rattle.loading.specs.Loaded.{extent}
 use Rattle.loading.specs.At.{At, AtAll, AtAny}
-use Rattle.loading.specs.Lying.{Lying, LyingAny, Here, Rest, RestAny}
+use Rattle.loading.specs.Lying.{Lying, LyingAll, LyingAny, Here, Rest, RestAny}
 use Rattle.loading.proofs.Entries.{entry}
 
 -- "One with exactly one left is folded: its graph is joined to the definite graph": a description's own graph, and those of
@@ -76,6 +76,9 @@ module _ {n : ℕ} {t : List ℕ} {p left : ℕ} where
   FreeOf l es = Free (l .from) (l .to) es
 
   module _ {count : ℕ} where
+    abbrev pub AmongAllOf : List Entry → LyingAll n t p count left → Type 0
+    AmongAllOf U l = AmongAll U t p (l .from) (l .ds) (l .end) (l .to) (l .at)
+
     abbrev pub taken-any-of : Marking → LyingAny n t p count left → List Entry
     taken-any-of m l = taken-any t m p (l .from) (l .a) (l .end) (l .to) (l .at)
 

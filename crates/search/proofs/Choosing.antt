@@ -18,20 +18,21 @@ use Rattle.loading.specs.Entry.{graphs}
 use Rattle.loading.specs.Loaded.{number-step}
 use Rattle.loading.specs.Numbered.{options}
 use Rattle.loading.specs.At.{AtAny}
+use Rattle.loading.specs.Lying.{RestAny}
 use Rattle.loading.proofs.Walking.{at-bounds, any-bounds}
 use Rattle.marks.specs.Positions.{number-at, tail-at, after-at}
 use Rattle.marks.specs.Marked.{marking}
 use Rattle.marks.proofs.Reading.{Read, read-option}
 use Rattle.loading.specs.Nesting.{NestsAny}
 use Rattle.classes.proofs.Laws.{since-refl}
-use Rattle.entering.specs.Taken.{AmongAny}
+use Rattle.entering.specs.Taken.{AmongRestAny}
 use Rattle.entering.specs.Moved.{Moved}
 use Rattle.entering.proofs.Certain.{free-narrow}
 use Rattle.entering.proofs.Moves.{moved-trans, moved-words}
 use Rattle.search.specs.declared.agenda.Agenda.{Agenda}
-use Rattle.search.specs.Frames.{Frames, plan}
+use Rattle.search.specs.Frames.{FramesOn, plan-on}
 use Rattle.search.specs.Searched.{Finds, Taking, taken-with, Takes, Branching, chosen}
-use Rattle.search.proofs.Planning.{frames-bound, frames-wide}
+use Rattle.search.proofs.Planning.{frames-wide}
 use Rattle.search.proofs.Finding.{finds-none, finds-same, finds-small, finds-append}
 
 -- what a turn does at the alternative x
@@ -42,18 +43,18 @@ pub data Turn (n k : ℕ) (w₁ : List ℕ) (at x : ℕ) (a : Agenda) (sum sum' 
 
 module _ (n k : ℕ) (w : List ℕ) (p count : ℕ) (a : Agenda) where
   abbrev left-of : Branching n k w p count a → List Places
-  left-of c = plan n (c .s .t) (c .s .U) (c .s .es) (c .s .m) (c .l) (c .end) (c .to) (c .frames)
+  left-of c = plan-on (c .s) (c .l) (c .lies .end) (c .lies .to) (c .frames)
 
   -- `left` alternatives are to be taken, from `at` on
   pub record Going (c : Branching n k w p count a) (left at sum : ℕ) (w₁ : List ℕ) : Type 0 where
     pub b : Options
     pub l : ℕ
-    pub stand : AtAny (c .s .t) at l b (c .end) (c .to)
+    pub stand : RestAny (c .lies) at l b
     pub within : at ≤ length (c .s .t)
     pub many : options b ≡ left
     pub nests : NestsAny b (c .left)
-    pub among : AmongAny (c .s .U) (c .s .t) at l b (c .end) (c .to) stand
-    pub above : c .from ≤ l
+    pub among : AmongRestAny (c .s .U) (c .lies) at l b stand
+    pub above : c .lies .from ≤ l
     pub on : p ≤ at
     pub f : Found
     pub is : chosen c ≡ f ++ each-at (c .s .m) (graphs (c .s .es)) b (left-of c)
@@ -64,12 +65,12 @@ module _ (n k : ℕ) (w : List ℕ) (p count : ℕ) (a : Agenda) where
 
   pub choose-start : (c : Branching n k w p count a) → Going c count p 0 w
   choose-start c = record {
-    b = c .o;
-    l = c .from;
-    stand = c .at;
-    within = c .within;
-    many = c .many;
-    nests = c .nests;
+    b = c .lies .a;
+    l = c .lies .from;
+    stand = c .lies .at;
+    within = c .lies .within;
+    many = c .lies .many;
+    nests = c .lies .nests;
     among = c .among;
     above = omega arith;
     on = omega arith;
@@ -96,33 +97,33 @@ module _ (n k : ℕ) (w : List ℕ) (p count : ℕ) (a : Agenda) where
       x : ℕ
       d : Placed
       b : Options
-      o : AtAny (c .s .t) at (s .l) (option x d b) (c .end) (c .to)
+      o : RestAny (c .lies) at (s .l) (option x d b)
       nested : NestsAny (option x d b) (c .left)
-      amongst : AmongAny (c .s .U) (c .s .t) at (s .l) (option x d b) (c .end) (c .to) o
+      amongst : AmongRestAny (c .s .U) (c .lies) at (s .l) (option x d b) o
       later : options b + 1 ≡ left
       whole : chosen c ≡ s .f ++ each-at (c .s .m) (graphs (c .s .es)) (option x d b) (left-of c)
 
     next : Next
     next = go (s .b) (s .stand) (s .many) (s .nests) (s .among) (s .is)
       where
-        go : (b : Options) (o : AtAny (c .s .t) at (s .l) b (c .end) (c .to)) → options b ≡ left → NestsAny b (c .left) →
-            AmongAny (c .s .U) (c .s .t) at (s .l) b (c .end) (c .to) o →
+        go : (b : Options) (o : RestAny (c .lies) at (s .l) b) → options b ≡ left → NestsAny b (c .left) →
+            AmongRestAny (c .s .U) (c .lies) at (s .l) b o →
             chosen c ≡ s .f ++ each-at (c .s .m) (graphs (c .s .es)) b (left-of c) → Next
         go no-more o e f u q = absurd (omega arith)
         go (option x d b) o e f u q = record { x = x; d = d; b = b; o = o; nested = f; amongst = u; later = omega arith; whole = q }
 
-    low : c .to < number-step
-    low = omega (arith, frames-bound n (c .s .t) (c .s .U) (c .s .m) (c .s .es) (c .l) (c .end) (c .to) (c .frames) .1, c .s .ground .few)
+    low : c .lies .to < number-step
+    low = omega (arith, c .lies .low, c .s .ground .few)
 
     first : (at < next .o .0) × (next .o .0 ≤ length (c .s .t)) × (s .l < next .o .1)
     first = at-bounds (c .s .t) (next .d) at (s .l) (next .o .0) (next .o .1) (next .o .3)
 
-    last : (next .o .0 ≤ c .end) × (c .end ≤ length (c .s .t)) × (next .o .1 ≤ c .to)
-    last = any-bounds (c .s .t) (next .b) (next .o .0) (next .o .1) (c .end) (c .to) (first .1) (next .o .4)
+    last : (next .o .0 ≤ c .lies .end) × (c .lies .end ≤ length (c .s .t)) × (next .o .1 ≤ c .lies .to)
+    last = any-bounds (c .s .t) (next .b) (next .o .0) (next .o .1) (c .lies .end) (c .lies .to) (first .1) (next .o .4)
 
     read : (v : List ℕ) → 16384 ≤ length v → words v ≡ c .s .t → Read v at (next .x) (next .o .0)
-    read v room e = read-option v room (next .x) (next .d) (next .b) at (s .l) (c .end) (c .to)
-        (subst (λ (t : List ℕ). AtAny t at (s .l) (option (next .x) (next .d) (next .b)) (c .end) (c .to)) (sym e) (next .o)) low .0
+    read v room e = read-option v room (next .x) (next .d) (next .b) at (s .l) (c .lies .end) (c .lies .to)
+        (subst (λ (t : List ℕ). AtAny t at (s .l) (option (next .x) (next .d) (next .b)) (c .lies .end) (c .lies .to)) (sym e) (next .o)) low .0
 
     room₁ : 16384 ≤ length w₁
     room₁ = omega (arith, mv .len, c .s .holds .long)
@@ -144,9 +145,9 @@ module _ (n k : ℕ) (w : List ℕ) (p count : ℕ) (a : Agenda) where
       mark-is : (b : Bool) → marking w₁ x ≡ b → c .s .m (next .x) ≡ b
       mark-is b e = ap (λ (m : Marking). m (next .x)) (sym (s .finds .marks ∙ c .s .marks)) ∙ ap (marking w₁) (sym own) ∙ e
 
-      abbrev after-it : (G : Frames n (c .s .t) (c .s .U) (c .s .es) (c .s .m) (c .l) (next .o .0) (next .o .1))
-          × (plan n (c .s .t) (c .s .U) (c .s .es) (c .s .m) (c .l) (next .o .0) (next .o .1) G ≡ left-of c)
-      after-it = frames-wide n (c .s .t) (c .s .U) (c .s .m) (c .s .es) (c .l) (c .end) (c .to) (next .o .0) (next .o .1) (last .0)
+      abbrev after-it : (G : FramesOn (c .s) (c .l) (next .o .0) (next .o .1))
+          × (plan-on (c .s) (c .l) (next .o .0) (next .o .1) G ≡ left-of c)
+      after-it = frames-wide n (c .s .t) (c .s .U) (c .s .m) (c .s .es) (c .l) (c .lies .end) (c .lies .to) (next .o .0) (next .o .1) (last .0)
           (last .2) (c .frames)
 
       abbrev asks : marking w₁ x ≡ true → Taking n k w₁ at a
@@ -163,17 +164,20 @@ module _ (n k : ℕ) (w : List ℕ) (p count : ℕ) (a : Agenda) where
           holds = s .finds .holds;
           inside = c .s .inside;
         };
-        d = next .d;
-        from = s .l;
-        end = next .o .0;
-        to = next .o .1;
-        at = next .o .3;
-        among = next .amongst .0;
-        free = free-narrow (c .from) (c .to) (s .l) (next .o .1) (c .s .es) (s .above) (last .2) (c .free);
-        kept = ap (c .s .m) (sym (next .o .2)) ∙ mark-is true e;
         left = c .left;
         shallow = c .shallow;
-        nests = next .nested .0;
+        lies = record {
+          d = next .d;
+          from = s .l;
+          end = next .o .0;
+          to = next .o .1;
+          at = next .o .3;
+          low = omega (arith, last .2, c .lies .low);
+          nests = next .nested .0;
+        };
+        among = next .amongst .0;
+        free = free-narrow (c .lies .from) (c .lies .to) (s .l) (next .o .1) (c .s .es) (s .above) (last .2) (c .free);
+        kept = ap (c .s .m) (sym (next .o .2)) ∙ mark-is true e;
         l = c .l;
         lists = c .lists;
         deep = c .deep;
@@ -187,7 +191,7 @@ module _ (n k : ℕ) (w : List ℕ) (p count : ℕ) (a : Agenda) where
           taken-with (asks e) ≡ taking (next .x) (dive-at (c .s .m) (graphs (c .s .es)) (next .d) (left-of c))
       taken-is e = ap (λ (y : ℕ). taking y
           (dive-at (c .s .m) (graphs (c .s .es)) (next .d)
-          (plan n (c .s .t) (c .s .U) (c .s .es) (c .s .m) (c .l) (next .o .0) (next .o .1) (after-it .0)))) (sym (next .o .2))
+          (plan-on (c .s) (c .l) (next .o .0) (next .o .1) (after-it .0)))) (sym (next .o .2))
           ∙ ap (λ (fs : List Places). taking (next .x) (dive-at (c .s .m) (graphs (c .s .es)) (next .d) fs)) (after-it .1)
 
       module _ (sum' : ℕ) (w₂ : List ℕ) (turn : Turn n k w₁ at x a sum sum' w₂) where

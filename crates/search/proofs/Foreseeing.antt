@@ -22,7 +22,7 @@ use Rattle.trying.specs.Guessed.{Guesses}
 use Rattle.trying.specs.declared.told.Guess.{Guess}
 use Rattle.trying.specs.declared.told.Guess.the-variants.{Agrees, Clashes, Unsure}
 use Rattle.search.specs.declared.agenda.Agenda.{Agenda}
-use Rattle.search.specs.Frames.{Slot, Frames, plan}
+use Rattle.search.specs.Frames.{Slot, FramesOn, plan-on}
 use Rattle.search.specs.Searched.{Noting, Notes, Taking, taken-with, Takes}
 use Rattle.search.specs.Foreseen.{Foreseeing, Foresees}
 use Rattle.search.proofs.Slots.{lists-none}
@@ -65,12 +65,12 @@ module _ (n k : ℕ) (w : List ℕ) (g : ℕ) where
           let S = graphs (c .s .es) in
           let m = c .s .m in
           let K = bare-one n k w g depth-limit d none .0 in
-          ap (taking (c .from)) (
-          ap (λ (p : Placed). dive-at m S p (plan n (c .s .t) (c .s .U) (c .s .es) m (c .l) (c .end) (c .to) (c .frames)))
+          ap (taking (c .lies .from)) (
+          ap (λ (p : Placed). dive-at m S p (plan-on (c .s) (c .l) (c .lies .end) (c .lies .to) (c .frames)))
           (bare-one n k w g depth-limit d none .1 .0)
-          ∙ dive-at-push m S K stop (plan n (c .s .t) (c .s .U) (c .s .es) m (c .l) (c .end) (c .to) (c .frames))
+          ∙ dive-at-push m S K stop (plan-on (c .s) (c .l) (c .lies .end) (c .lies .to) (c .frames))
           (bare-good n k w g depth-limit d none s)
-          ∙ resume-at-stop m (plan n (c .s .t) (c .s .U) (c .s .es) m (c .l) (c .end) (c .to) (c .frames)) (S ++ K ∷ [])
+          ∙ resume-at-stop m (plan-on (c .s) (c .l) (c .lies .end) (c .lies .to) (c .frames)) (S ++ K ∷ [])
           ∙ ap (λ (fs : List Places). resume-at m fs (S ++ K ∷ []))
           (bare-plan a c (c .l) (c .frames) (sym (c .lists .is) ∙ lists-none a (e ∙ z) .is))
           ∙ resume-at-leaf m (S ++ K ∷ [])
@@ -78,8 +78,8 @@ module _ (n k : ℕ) (w : List ℕ) (g : ℕ) where
     }
       where
         bare-plan : (a : Agenda) (c : Taking n k w g a) (l : List Slot)
-            (F : Frames n (c .s .t) (c .s .U) (c .s .es) (c .s .m) l (c .end) (c .to)) → l ≡ [] →
-            plan n (c .s .t) (c .s .U) (c .s .es) (c .s .m) l (c .end) (c .to) F ≡ []
+            (F : FramesOn (c .s) l (c .lies .end) (c .lies .to)) → l ≡ [] →
+            plan-on (c .s) l (c .lies .end) (c .lies .to) F ≡ []
         bare-plan a c [] F e = refl
         bare-plan a c (x ∷ l) F e = let z : _≡_ {A = ℕ} 0 1 = cc in absurd (omega arith)
 
@@ -102,7 +102,7 @@ module _ (n k : ℕ) (w : List ℕ) (g : ℕ) where
     pub takes-one : (r : Guess) → Foresees n k w g (a .frames) r → r ≡ Agrees → (w₁ : List ℕ) → Notes w g 1 w₁ → Takes n k w g a 1 w₁
     takes-one r f y w₁ v = record {
       moved = moved-noted k w k w w₁ g 1 (c₀ .s .holds .long) stays v;
-      found = λ c. finds-same n k w (c .s .es) ((c .from ∷ []) ∷ []) (taken-with c) 1 w₁ (f .agrees y a refl c)
-          (finds-taking n k w (c .s .es) (c .from) ([] ∷ []) g 1 w w₁ (c .s .holds .long) (finds-leaf n k w (c .s .es) (c .s .holds)) v
-          (read n k w g a c w (c .s .holds .long) (c .s .loaded) .number) (ap (λ (m : Marking). m (c .from)) (c .s .marks) ∙ c .kept));
+      found = λ c. finds-same n k w (c .s .es) ((c .lies .from ∷ []) ∷ []) (taken-with c) 1 w₁ (f .agrees y a refl c)
+          (finds-taking n k w (c .s .es) (c .lies .from) ([] ∷ []) g 1 w w₁ (c .s .holds .long) (finds-leaf n k w (c .s .es) (c .s .holds)) v
+          (read n k w g a c w (c .s .holds .long) (c .s .loaded) .number) (ap (λ (m : Marking). m (c .lies .from)) (c .s .marks) ∙ c .kept));
     }

@@ -17,27 +17,28 @@ use Rattle.engine.specs.Agenda.{resume, resume-at, each-at}
 use Rattle.modes_by_marks.proofs.Marks.{kept-alts}
 use Rattle.engine.proofs.Agenda.{resume-at-leaf, resume-at-more, choose-at-none, choose-at}
 use Rattle.loading.specs.Entry.{graphs}
-use Rattle.loading.specs.Loaded.{number-step}
 use Rattle.loading.specs.Numbered.{places, options}
-use Rattle.loading.specs.At.{At, AtAll, AtAny}
+use Rattle.loading.specs.At.{AtAll, AtAny}
+use Rattle.loading.specs.Lying.{LyingAll, LyingAny}
 use Rattle.loading.proofs.Walking.{all-bounds, any-bounds}
+use Rattle.loading.proofs.Lying.{lying-more, any-many}
 use Rattle.marks.specs.Positions.{tail-at, disjunctions-at, alternatives-at}
 use Rattle.marks.specs.Readable.{Alternatives}
 use Rattle.marks.specs.Tallied.{from-kept, Tallied}
-use Rattle.marks.proofs.Reading.{Read, read-at, alternatives-is}
+use Rattle.marks.proofs.Reading.{Read, readable, reads, alternatives, alternatives-is}
 use Rattle.marks.proofs.First.{first-kept}
 use Rattle.loading.specs.Nesting.{NestsAll}
 use Rattle.classes.proofs.Laws.{since-refl}
-use Rattle.entering.specs.Taken.{AmongAll, Free}
-use Rattle.entering.specs.Clear.{ByCount, Clear, ClearAll, ClearLone}
+use Rattle.entering.specs.Taken.{AmongAll, AmongAnyOf, FreeAnyOf}
+use Rattle.entering.specs.Clear.{ByCount, ClearAll, ClearLoneOf, ClearAnyOf}
 use Rattle.entering.specs.Moved.{Moved}
-use Rattle.entering.proofs.Certain.{Lone, lone-at}
+use Rattle.entering.proofs.Certain.{LoneOf, lone-alone}
 use Rattle.entering.proofs.Moves.{moved-words}
 use Rattle.search.specs.declared.agenda.Agenda.{Agenda}
-use Rattle.search.specs.Frames.{Slot, slots, Lists, onto, Frames, plan}
+use Rattle.search.specs.Frames.{Slot, slots, Lists, onto, Frame, FramesOn, plan-on}
 use Rattle.search.specs.Searched.{Noting, Notes, Resuming, resumed, Resumes, Branching, chosen, Branches}
 use Rattle.search.proofs.Slots.{lists-none, lists-size, lists-first}
-use Rattle.search.proofs.Planning.{reach, frames-bound, frames-reach, frames-wide, frames-onto, Opened, opened, open-here, open-room}
+use Rattle.search.proofs.Planning.{reach, frames-reach, frames-wide, frames-onto, Before, Opened, opened, open-asks}
 use Rattle.search.proofs.Finding.{finds-none, finds-leaf, finds-same, finds-taking, moved-noted}
 
 -- ---- engine's choice at one disjunction, by the number that is kept
@@ -91,66 +92,88 @@ module _ (n k : ℕ) (w : List ℕ) (a : Agenda) where
         (finds-leaf n k w (c .s .es) (c .s .holds));
   }
     where
-      leaf : (c : Resuming n k w a) (l : List Slot) (F : Frames n (c .s .t) (c .s .U) (c .s .es) (c .s .m) l 0 0) → l ≡ [] →
-          resume-at (c .s .m) (plan n (c .s .t) (c .s .U) (c .s .es) (c .s .m) l 0 0 F) (graphs (c .s .es)) ≡ [] ∷ []
+      leaf : (c : Resuming n k w a) (l : List Slot) (F : FramesOn (c .s) l 0 0) → l ≡ [] →
+          resume-at (c .s .m) (plan-on (c .s) l 0 0 F) (graphs (c .s .es)) ≡ [] ∷ []
       leaf c [] F e = resume-at-leaf (c .s .m) (graphs (c .s .es))
       leaf c (x ∷ l) F e = let z : _≡_ {A = ℕ} 0 1 = cc in absurd (omega arith)
 
   module _ (some : a .frames ≡ 0 → ⊥) where
-    -- the next disjunction
+    -- the next disjunction, those after it in its frame, and the frames behind
     record Next (c : Resuming n k w a) : Type 0 where
       l : List Slot
       lists : Lists a ((a .at0, a .more0) ∷ l)
-      o : Options
-      ds : Places
-      from : ℕ
-      end : ℕ
-      to : ℕ
-      stand : AtAll (c .s .t) (a .at0) from (o also ds) end to
-      many : places ds + 1 ≡ a .more0
-      nests : NestsAll (o also ds) (5 - length l)
-      among : AmongAll (c .s .U) (c .s .t) (a .at0) from (o also ds) end to stand
-      clear : ClearAll (c .s .es) (c .s .t) (c .s .m) (a .at0) from (o also ds) end to stand
-      rest : Frames n (c .s .t) (c .s .U) (c .s .es) (c .s .m) l end to
-      is : resumed c ≡ choose-at (c .s .m) (graphs (c .s .es)) o (ds ∷ plan n (c .s .t) (c .s .U) (c .s .es) (c .s .m) l end to rest)
+      some-left : 0 < a .more0
+      here : a .at0 < length (c .s .t)
+      of : ℕ
+      any : LyingAny n (c .s .t) (a .at0 + 1) of (5 - length l - 1)
+      of-is : alternatives-at w (a .at0) ≡ of
+      among : AmongAnyOf (c .s .U) any
+      clear : ClearAnyOf (c .s .es) (c .s .m) any
+      later : Frame n (c .s .t) (c .s .U) (c .s .es) (c .s .m) (any .end) (a .more0 - 1) (5 - length l)
+      meets : any .to ≡ later .lies .from
+      rest : FramesOn (c .s) l (later .lies .end) (later .lies .to)
+      is : resumed c
+          ≡ choose-at (c .s .m) (graphs (c .s .es)) (any .a) (later .lies .ds ∷ plan-on (c .s) l (later .lies .end) (later .lies .to) rest)
 
     next : (c : Resuming n k w a) → Next c
     next c =
         let f = lists-first a (c .l) (c .lists) some in
-        let G = subst (λ (z : List Slot). (G : Frames n (c .s .t) (c .s .U) (c .s .es) (c .s .m) z 0 0)
-        × (plan n (c .s .t) (c .s .U) (c .s .es) (c .s .m) z 0 0 G ≡ plan n (c .s .t) (c .s .U) (c .s .es) (c .s .m) (c .l) 0 0
-        (c .frames))) (f .1) (c .frames, refl) in
-        let x = G .0 .0 in
-        let more = G .0 .1 in
-        go (f .0) (record { few = c .lists .few; is = c .lists .is ∙ f .1 }) (x .from) (x .end) (x .to) (G .0 .4) more (x .ds) (x .stand)
-        (x .many) (x .nests) (x .among) (x .clear) (ap (λ (fs : List Places). resume-at (c .s .m) fs (graphs (c .s .es))) (sym (G .1)))
+        let G = subst (λ (z : List Slot). (G : FramesOn (c .s) z 0 0)
+        × (plan-on (c .s) z 0 0 G ≡ plan-on (c .s) (c .l) 0 0 (c .frames))) (f .1) (c .frames, refl) in
+        go (f .0) (record { few = c .lists .few; is = c .lists .is ∙ f .1 }) (G .0 .1) (G .0 .0 .lies) (G .0 .4)
+        (G .0 .0 .lies .ds) (G .0 .0 .lies .at) (G .0 .0 .lies .many) (G .0 .0 .lies .nests) (G .0 .0 .among) (G .0 .0 .clear)
+        (ap (λ (fs : List Places). resume-at (c .s .m) fs (graphs (c .s .es))) (sym (G .1)))
       where
-        go : (l : List Slot) → Lists a ((a .at0, a .more0) ∷ l) →
-            (from end to : ℕ) (rest : Frames n (c .s .t) (c .s .U) (c .s .es) (c .s .m) l end to) → 0 < a .more0 →
-            (ds : Places) (stand : AtAll (c .s .t) (a .at0) from ds end to) → places ds ≡ a .more0 → NestsAll ds (5 - length l) →
-            AmongAll (c .s .U) (c .s .t) (a .at0) from ds end to stand →
-            ClearAll (c .s .es) (c .s .t) (c .s .m) (a .at0) from ds end to stand →
-            resumed c ≡ resume-at (c .s .m) (ds ∷ plan n (c .s .t) (c .s .U) (c .s .es) (c .s .m) l end to rest) (graphs (c .s .es)) →
-            Next c
-        go l lists from end to rest more stop stand many nests among clear is = absurd (omega arith)
-        go l lists from end to rest more (o also ds) stand many nests among clear is =
+        go : (l : List Slot) → Lists a ((a .at0, a .more0) ∷ l) → 0 < a .more0 →
+            (x : LyingAll n (c .s .t) (a .at0) (a .more0) (5 - length l)) (rest : FramesOn (c .s) l (x .end) (x .to))
+            (ds : Places) (stand : AtAll (c .s .t) (a .at0) (x .from) ds (x .end) (x .to)) → places ds ≡ a .more0 →
+            NestsAll ds (5 - length l) → AmongAll (c .s .U) (c .s .t) (a .at0) (x .from) ds (x .end) (x .to) stand →
+            ClearAll (c .s .es) (c .s .t) (c .s .m) (a .at0) (x .from) ds (x .end) (x .to) stand →
+            resumed c ≡ resume-at (c .s .m) (ds ∷ plan-on (c .s) l (x .end) (x .to) rest) (graphs (c .s .es)) → Next c
+        go l lists more x rest stop stand many nests among clear is = absurd (omega arith)
+        go l lists more x rest (o also ds) stand many nests among clear is =
+            let there = stand .2 in
+            let first = any-bounds (c .s .t) o (a .at0 + 1) (x .from) (stand .0) (stand .1) (omega arith) (stand .4) in
+            let last = all-bounds (c .s .t) ds (stand .0) (stand .1) (x .end) (x .to) (first .1) (stand .5) .2 in
             record {
               l = l;
               lists = lists;
-              o = o;
-              ds = ds;
-              from = from;
-              end = end;
-              to = to;
-              stand = stand;
-              many = omega arith;
-              nests =
-                  nests;
-              among = among;
-              clear = clear;
+              some-left = more;
+              here = there;
+              of = options o;
+              any = record {
+                a = o;
+                from = x .from;
+                end = stand .0;
+                to = stand .1;
+                at = stand .4;
+                within = omega arith;
+                low = omega (arith, last, x .low);
+                many = refl;
+                nests = nests .1;
+              };
+              of-is = alternatives-is w o ds (a .at0) (x .from) (x .end) (x .to)
+                  (subst (λ (t : List ℕ). AtAll t (a .at0) (x .from) (o also ds) (x .end) (x .to)) (sym (c .s .loaded)) stand);
+              among = among .0;
+              clear = clear .0;
+              later = record {
+                lies = record {
+                  ds = ds;
+                  from = stand .1;
+                  end = x .end;
+                  to = x .to;
+                  at = stand .5;
+                  within = first .1;
+                  low = x .low;
+                  many = omega arith;
+                  nests = nests .2;
+                };
+                among = among .1;
+                clear = clear .1;
+              };
+              meets = refl;
               rest = rest;
-              is = is
-                  ∙ resume-at-more (c .s .m) o ds (plan n (c .s .t) (c .s .U) (c .s .es) (c .s .m) l end to rest) (graphs (c .s .es));
+              is = is ∙ resume-at-more (c .s .m) o ds (plan-on (c .s) l (x .end) (x .to) rest) (graphs (c .s .es));
             }
 
     module _ (c : Resuming n k w a) where
@@ -158,67 +181,31 @@ module _ (n k : ℕ) (w : List ℕ) (a : Agenda) where
       many-words = ap length (sym (c .s .loaded)) ∙ words-many w (c .s .holds .long)
 
       pub resume-here : (a .at0 < 2048) × (16384 ≤ length w)
-      resume-here = (omega (arith, next c .stand .2, many-words), c .s .holds .long)
+      resume-here = (omega (arith, next c .here, many-words), c .s .holds .long)
 
       pub resume-reach : reach (slots a) ≡ a .at0
       resume-reach = ap reach (next c .lists .is)
 
       pub resume-some : (0 < a .frames) × (0 < a .more0)
-      resume-some = (
-        let h = lists-size a ((a .at0, a .more0) ∷ next c .l) (next c .lists) in omega arith,
-        let m = next c .many in
-            omega arith,
-      )
+      resume-some =
+          (let h = lists-size a ((a .at0, a .more0) ∷ next c .l) (next c .lists) in omega arith, next c .some-left)
 
       four : length (next c .l) ≤ 4
       four = omega (arith, lists-size a ((a .at0, a .more0) ∷ next c .l) (next c .lists), next c .lists .few)
 
-      -- its alternatives end at q, where the number is `last`
-      abbrev q : ℕ
-      q = next c .stand .0
-
-      abbrev last : ℕ
-      last = next c .stand .1
-
-      within : a .at0 + 1 ≤ length (c .s .t)
-      within = omega (arith, next c .stand .2)
-
-      first-bounds : (a .at0 + 1 ≤ q) × (q ≤ length (c .s .t)) × (next c .from ≤ last)
-      first-bounds = any-bounds (c .s .t) (next c .o) (a .at0 + 1) (next c .from) q last within (next c .stand .4)
-
-      last-low : last ≤ n
-      last-low =
-          let b = all-bounds (c .s .t) (next c .ds) q last (next c .end) (next c .to) (first-bounds .1) (next c .stand .5) .2 in
-          omega (arith, b, frames-bound n (c .s .t) (c .s .U) (c .s .m) (c .s .es) (next c .l) (next c .end) (next c .to) (next c .rest) .1)
-
-      small : last < number-step
-      small = omega (arith, last-low, c .s .ground .few)
-
     module _ (count : ℕ) (e : count ≡ alternatives-at w (a .at0)) where
-      many-are : (c : Resuming n k w a) → options (next c .o) ≡ count
-      many-are c = sym (e ∙ alternatives-is w (next c .o) (next c .ds) (a .at0) (next c .from) (next c .end) (next c .to)
-          (subst (λ (t : List ℕ). AtAll t (a .at0) (next c .from) (next c .o also next c .ds) (next c .end) (next c .to))
-          (sym (c .s .loaded)) (next c .stand)))
+      abbrev lies : (c : Resuming n k w a) → LyingAny n (c .s .t) (a .at0 + 1) count (5 - length (next c .l) - 1)
+      lies c = any-many (sym (e ∙ next c .of-is)) (next c .any)
 
       abbrev counted : (c : Resuming n k w a) → Alternatives w (a .at0 + 1) count
-      counted c = record {
-        room = c .s .holds .long;
-        a = next c .o;
-        n = next c .from;
-        q = q c;
-        m = last c;
-        at =
-            subst (λ (t : List ℕ). AtAny t (a .at0 + 1) (next c .from) (next c .o) (q c) (last c)) (sym (c .s .loaded)) (next c .stand .4);
-        low = small c;
-        many = many-are c;
-      }
+      counted c = alternatives w (c .s .holds .long) (c .s .loaded) (c .s .ground .few) (lies c)
 
       pub resume-counts : Resuming n k w a → Alternatives w (a .at0 + 1) count
       resume-counts c = counted c
 
       module _ (kept first after : ℕ) (tally : (s : Alternatives w (a .at0 + 1) count) → Tallied w s kept first after) where
-        kept-is : (c : Resuming n k w a) → kept-of (c .s .m) (next c .o) ≡ kept
-        kept-is c = ap (λ (m : Marking). kept-of m (next c .o)) (sym (c .s .marks)) ∙ sym (tally (counted c) .kept-are)
+        kept-is : (c : Resuming n k w a) → kept-of (c .s .m) (lies c .a) ≡ kept
+        kept-is c = ap (λ (m : Marking). kept-of m (lies c .a)) (sym (c .s .marks)) ∙ sym (tally (counted c) .kept-are)
 
         module _ (later : Agenda) (la : (s : Slot) (l : List Slot) → Lists a (s ∷ l) → Lists later l) where
           pub resume-room : Resuming n k w a → (a .more0 - 1 ≡ 0) ⊎ (later .frames < 5)
@@ -226,101 +213,81 @@ module _ (n k : ℕ) (w : List ℕ) (a : Agenda) where
 
           module _ (rest : Agenda) (lb : (l : List Slot) → Lists later l → Lists rest (onto after (a .more0 - 1) l)) where
             abbrev slots₂ : (c : Resuming n k w a) → List Slot
-            slots₂ c = onto (q c) (a .more0 - 1) (next c .l)
+            slots₂ c = onto (lies c .end) (a .more0 - 1) (next c .l)
 
             lists₂ : (c : Resuming n k w a) → Lists rest (slots₂ c)
             lists₂ c = subst (λ (p : ℕ). Lists rest (onto p (a .more0 - 1) (next c .l))) (tally (counted c) .after-is)
                 (lb (next c .l) (la (a .at0, a .more0) (next c .l) (next c .lists)))
 
+            -- what is found of the rest of its frame, and then of those behind
+            abbrev behind : (c : Resuming n k w a) → List Places
+            behind c = next c .later .lies .ds
+                ∷ plan-on (c .s) (next c .l) (next c .later .lies .end) (next c .later .lies .to) (next c .rest)
+
             abbrev frames₂ : (c : Resuming n k w a) →
-                (G : Frames n (c .s .t) (c .s .U) (c .s .es) (c .s .m) (slots₂ c) (q c) (last c))
-                × ((S : List Graph) → resume-at (c .s .m) (plan n (c .s .t) (c .s .U) (c .s .es) (c .s .m) (slots₂ c) (q c) (last c) G) S
-                ≡ resume-at (c .s .m) (next c .ds
-                ∷ plan n (c .s .t) (c .s .U) (c .s .es) (c .s .m) (next c .l) (next c .end) (next c .to) (next c .rest)) S)
-            frames₂ c = frames-onto n (c .s .t) (c .s .U) (c .s .m) (c .s .es) (q c) (a .more0 - 1) (5 - length (next c .l))
-                (record {
-                  ds = next c .ds;
-                  from = last c;
-                  end = next c .end;
-                  to = next c .to;
-                  stand = next c .stand .5;
-                  within =
-                      first-bounds c .1;
-                  many = (let m = next c .many in omega arith);
-                  nests = next c .nests .2;
-                  among = next c .among .1;
-                  clear = next c .clear .1;
-                })
-                (next c .l) (next c .rest) (q c) (last c) (omega arith) (omega arith) (omega arith)
+                (G : FramesOn (c .s) (slots₂ c) (lies c .end) (lies c .to))
+                × ((S : List Graph) → resume-at (c .s .m) (plan-on (c .s) (slots₂ c) (lies c .end) (lies c .to) G) S
+                ≡ resume-at (c .s .m) (behind c) S)
+            frames₂ c = frames-onto n (c .s .t) (c .s .U) (c .s .m) (c .s .es) (lies c .end) (a .more0 - 1) (5 - length (next c .l))
+                (next c .later) (next c .l) (next c .rest) (lies c .end) (lies c .to) (omega arith) (omega (arith, next c .meets)) (omega arith)
 
             abbrev left-of : (c : Resuming n k w a) → List Places
-            left-of c = plan n (c .s .t) (c .s .U) (c .s .es) (c .s .m) (slots₂ c) (q c) (last c) (frames₂ c .0)
+            left-of c = plan-on (c .s) (slots₂ c) (lies c .end) (lies c .to) (frames₂ c .0)
 
             deep : (c : Resuming n k w a) → length (slots₂ c) + (5 - length (next c .l) - 1) ≤ 5
-            deep c = omega (arith, onto-length (q c) (a .more0 - 1) (next c .l), four c)
+            deep c = omega (arith, onto-length (lies c .end) (a .more0 - 1) (next c .l), four c)
 
-            choice-is : (c : Resuming n k w a) → resumed c ≡ choose-at (c .s .m) (graphs (c .s .es)) (next c .o) (left-of c)
-            choice-is c = next c .is ∙ ap (λ (f : List Graph → Found). dive-any (graphs (c .s .es)) (keep-any (c .s .m) (next c .o)) f)
-                (sym (same-found (resume-at (c .s .m) (left-of c))
-                (resume-at (c .s .m) (next c .ds
-                ∷ plan n (c .s .t) (c .s .U) (c .s .es) (c .s .m) (next c .l) (next c .end) (next c .to) (next c .rest))) (frames₂ c .1)))
+            choice-is : (c : Resuming n k w a) → resumed c ≡ choose-at (c .s .m) (graphs (c .s .es)) (lies c .a) (left-of c)
+            choice-is c = next c .is ∙ ap (λ (f : List Graph → Found). dive-any (graphs (c .s .es)) (keep-any (c .s .m) (lies c .a)) f)
+                (sym (same-found (resume-at (c .s .m) (left-of c)) (resume-at (c .s .m) (behind c)) (frames₂ c .1)))
 
             -- none is kept
             pub resumes-none : Resuming n k w a → kept ≡ 0 → Resumes n k w a 0 w
             resumes-none c₀ z = record {
               moved = stays c₀;
               found = λ c. finds-same n k w (c .s .es) [] (resumed c) 0 w (choice-is c
-                  ∙ choose-none (c .s .m) (graphs (c .s .es)) (next c .o) (left-of c) (kept-is c ∙ z))
+                  ∙ choose-none (c .s .m) (graphs (c .s .es)) (lies c .a) (left-of c) (kept-is c ∙ z))
                   (finds-none n k w (c .s .es) (c .s .holds));
             }
 
             -- one stands alone: it is pushed already
             module _ (one : kept ≡ 1) where
-              lone : (c : Resuming n k w a) →
-                  Lone (c .s .U) (c .s .t) (c .s .m) (5 - length (next c .l) - 1) (a .at0 + 1) (next c .from) (next c .o) (q c) (last c)
-                  (next c .stand .4) first
-              lone c = lone-at (c .s .U) (c .s .t) (words w) (c .s .m) (5 - length (next c .l) - 1) (next c .o) (a .at0 + 1) (next c .from)
-                  (q c) (last c) (within c) (next c .stand .4) (next c .among .0) (next c .nests .1) (kept-is c
-                  ∙ one) first (tally (counted c) .first-is .0)
-                  (subst (λ (m : Marking). AtAny (words w) first (tally (counted c) .first-is .0) (from-kept m (next c .o)) (q c) (last c))
-                  (c .s .marks) (tally (counted c) .first-is .1))
+              lone : (c : Resuming n k w a) → LoneOf (c .s .m) (lies c) (c .s .U) first
+              lone c =
+                  let stands = tally (counted c) .first-is in
+                  lone-alone (c .s .U) (words w) (c .s .m) (lies c) (next c .among) (kept-is c ∙ one) first (
+                    stands .0,
+                    subst (λ (m : Marking). AtAny (words w) first (stands .0) (from-kept m (lies c .a)) (lies c .end) (lies c .to))
+                        (c .s .marks) (stands .1),
+                  )
 
-              clear₁ : (c : Resuming n k w a) →
-                  Clear (c .s .es) (c .s .t) (c .s .m) first (lone c .from) (lone c .d) (lone c .end) (lone c .to) (lone c .here)
-              clear₁ c = lone c .opens (c .s .es)
-                  (subst (λ (j : ℕ). ByCount j (ClearLone (c .s .es) (c .s .t) (c .s .m) (a .at0 + 1) (next c .from) (next c .o) (q c)
-                  (last c) (next c .stand .4)) (Free (next c .from) (last c) (c .s .es))) (kept-is c ∙ one) (next c .clear .0))
+              -- it stands before what is left
+              abbrev before₁ : (c : Resuming n k w a) →
+                  Before (c .s) first (5 - length (next c .l) - 1) (slots₂ c) (lies c .end) (lies c .to) (frames₂ c .0)
+              before₁ c = record {
+                lies = lying-more (lies c .low) (lone c .lies);
+                among = lone c .among;
+                clear = lone c .opens (c .s .es)
+                    (subst (λ (j : ℕ). ByCount j (ClearLoneOf (c .s .es) (c .s .m) (lies c)) (FreeAnyOf (lies c) (c .s .es)))
+                    (kept-is c ∙ one) (next c .clear));
+                here = lone c .far;
+                low = lone c .lies .low;
+                deep = deep c;
+              }
 
-              low₁ : (c : Resuming n k w a) → lone c .to < number-step
-              low₁ c = omega (arith, lone c .high, small c)
-
-              opened₁ : (c : Resuming n k w a) →
-                  Opened n (c .s .t) (c .s .U) (c .s .m) (c .s .es) first (lone c .from) (lone c .end) (lone c .to) (lone c .d)
-                  (lone c .here) (5 - length (next c .l) - 1) (lone c .nests) (lone c .among) (clear₁ c) (slots₂ c) (q c) (last c)
-                  (frames₂ c .0) (lone c .far) (lone c .high) (deep c) w (c .s .holds .long) (c .s .loaded) (low₁ c)
-              opened₁ c = opened n (c .s .t) (c .s .U) (c .s .m) (c .s .es) first (lone c .from) (lone c .end) (lone c .to) (lone c .d)
-                  (lone c .here) (5 - length (next c .l) - 1) (lone c .nests) (lone c .among) (clear₁ c) (slots₂ c) (q c) (last c)
-                  (frames₂ c .0) (lone c .far) (lone c .high) (deep c) w (c .s .holds .long) (c .s .loaded) (low₁ c)
+              opened₁ : (c : Resuming n k w a) → Opened (c .s) (before₁ c)
+              opened₁ c = opened (c .s) (before₁ c)
 
               pub one-opens : Resuming n k w a →
                   ((first < 2048) × (16384 ≤ length w))
                   × ((tail-at w first < 2048) × ((disjunctions-at w (tail-at w first) ≡ 0) ⊎ (rest .frames < 5)))
-              one-opens c =
-                  let h = open-here n (c .s .t) (c .s .U) (c .s .m) (c .s .es) first (lone c .from) (lone c .end) (lone c .to) (lone c .d)
-                  (lone c .here) (5 - length (next c .l) - 1) (lone c .nests) (lone c .among) (clear₁ c) (slots₂ c) (q c) (last c)
-                  (frames₂ c .0) (lone c .far) (lone c .high) (deep c) w (c .s .holds .long) (c .s .loaded) (low₁ c) in (
-                    (h .0, c .s .holds .long),
-                    (
-                      h .1,
-                      open-room n (c .s .t) (c .s .U) (c .s .m) (c .s .es) first (lone c .from) (lone c .end) (lone c .to) (lone c .d)
-                          (lone c .here) (5 - length (next c .l) - 1) (lone c .nests) (lone c .among) (clear₁ c) (slots₂ c) (q c) (last c)
-                          (frames₂ c .0) (lone c .far) (lone c .high) (deep c) w (c .s .holds .long) (c .s .loaded) (low₁ c) rest (lists₂ c),
-                    ),
-                  )
+              one-opens c = open-asks (c .s) (before₁ c) rest (lists₂ c)
 
-              read : (c : Resuming n k w a) (v : List ℕ) → 16384 ≤ length v → words v ≡ c .s .t → Read v first (lone c .from) (lone c .end)
-              read c v room f = read-at v room (lone c .d) first (lone c .from) (lone c .end) (lone c .to)
-                  (subst (λ (t : List ℕ). At t first (lone c .from) (lone c .d) (lone c .end) (lone c .to)) (sym f) (lone c .here)) (low₁ c)
+              abbrev own : Resuming n k w a → ℕ
+              own c = lone c .lies .from
+
+              read : (c : Resuming n k w a) (v : List ℕ) → 16384 ≤ length v → words v ≡ c .s .t → Read v first (own c) (lone c .lies .end)
+              read c v room f = reads (readable v room f (c .s .ground .few) (lying-more (lies c .low) (lone c .lies)))
 
               module _ (b : Agenda) (lists : (l : List Slot) → Lists rest l →
                   Lists b (onto (tail-at w first + 1) (disjunctions-at w (tail-at w first)) l)) where
@@ -328,10 +295,9 @@ module _ (n k : ℕ) (w : List ℕ) (a : Agenda) where
                 slots₁ c = onto (tail-at w first + 1) (disjunctions-at w (tail-at w first)) (slots₂ c)
 
                 abbrev wide₁ : (c : Resuming n k w a) →
-                    (G : Frames n (c .s .t) (c .s .U) (c .s .es) (c .s .m) (slots₁ c) 0 0)
-                    × (plan n (c .s .t) (c .s .U) (c .s .es) (c .s .m) (slots₁ c) 0 0 G
-                    ≡ plan n (c .s .t) (c .s .U) (c .s .es) (c .s .m) (slots₁ c) (first + 1) (lone c .from) (opened₁ c .frames))
-                wide₁ c = frames-wide n (c .s .t) (c .s .U) (c .s .m) (c .s .es) (slots₁ c) (first + 1) (lone c .from) 0 0 (omega arith)
+                    (G : FramesOn (c .s) (slots₁ c) 0 0)
+                    × (plan-on (c .s) (slots₁ c) 0 0 G ≡ plan-on (c .s) (slots₁ c) (first + 1) (own c) (opened₁ c .frames))
+                wide₁ c = frames-wide n (c .s .t) (c .s .U) (c .s .m) (c .s .es) (slots₁ c) (first + 1) (own c) 0 0 (omega arith)
                     (omega arith) (opened₁ c .frames)
 
                 abbrev resuming₁ : Resuming n k w a → Resuming n k w b
@@ -342,16 +308,16 @@ module _ (n k : ℕ) (w : List ℕ) (a : Agenda) where
 
                 pub one-falls : Resuming n k w a → a .at0 < reach (slots b)
                 one-falls c =
-                    let r = frames-reach n (c .s .t) (c .s .U) (c .s .m) (c .s .es) (many-words c) (slots₁ c) (first + 1) (lone c .from)
+                    let r = frames-reach n (c .s .t) (c .s .U) (c .s .m) (c .s .es) (many-words c) (slots₁ c) (first + 1) (own c)
                     (opened₁ c .frames) in
                     let f : reach (slots b) ≡ reach (slots₁ c) = ap reach (lists (slots₂ c) (lists₂ c) .is) in
                     omega (arith, lone c .near)
 
-                found-is : (c : Resuming n k w a) → resumed c ≡ taking (lone c .from) (resumed (resuming₁ c))
+                found-is : (c : Resuming n k w a) → resumed c ≡ taking (own c) (resumed (resuming₁ c))
                 found-is c =
                     choice-is c
-                    ∙ choose-alone (c .s .m) (graphs (c .s .es)) (next c .o) (left-of c) (lone c .from) (lone c .d) (lone c .alone)
-                    ∙ ap (taking (lone c .from)) (sym (opened₁ c .is (graphs (c .s .es)))
+                    ∙ choose-alone (c .s .m) (graphs (c .s .es)) (lies c .a) (left-of c) (own c) (lone c .lies .d) (lone c .alone)
+                    ∙ ap (taking (own c)) (sym (opened₁ c .is (graphs (c .s .es)))
                     ∙ ap (λ (fs : List Places). resume-at (c .s .m) fs (graphs (c .s .es))) (sym (wide₁ c .1)))
 
                 module _ (r : ℕ) (w₁ : List ℕ) (v : Resumes n k w b r w₁) (c₀ : Resuming n k w a) where
@@ -368,20 +334,18 @@ module _ (n k : ℕ) (w : List ℕ) (a : Agenda) where
                   pub resumes-one : (w₂ : List ℕ) → Notes w₁ first r w₂ → Resumes n k w a r w₂
                   resumes-one w₂ y = record {
                     moved = moved-noted k w k w₁ w₂ first r room₁ (v .moved) y;
-                    found = λ c. finds-same n k w (c .s .es) (taking (lone c .from) (resumed (resuming₁ c))) (resumed c) r w₂ (found-is c)
-                        (finds-taking n k w (c .s .es) (lone c .from) (resumed (resuming₁ c)) first r w₁ w₂ room₁ (v .found (resuming₁ c)) y
-                        (read c w₁ room₁ (words₁ ∙ c .s .loaded) .number) (ap (λ (m : Marking). m (lone c .from)) (c .s .marks)
-                        ∙ lone c .kept));
+                    found = λ c. finds-same n k w (c .s .es) (taking (own c) (resumed (resuming₁ c))) (resumed c) r w₂ (found-is c)
+                        (finds-taking n k w (c .s .es) (own c) (resumed (resuming₁ c)) first r w₁ w₂ room₁ (v .found (resuming₁ c)) y
+                        (read c w₁ room₁ (words₁ ∙ c .s .loaded) .number) (ap (λ (m : Marking). m (own c)) (c .s .marks) ∙ lone c .kept));
                   }
 
             -- several are kept
             module _ (more : 1 < kept) where
-              free : (c : Resuming n k w a) → Free (next c .from) (last c) (c .s .es)
-              free c = go (kept-of (c .s .m) (next c .o)) (kept-is c) (next c .clear .0)
+              free : (c : Resuming n k w a) → FreeAnyOf (lies c) (c .s .es)
+              free c = go (kept-of (c .s .m) (lies c .a)) (kept-is c) (next c .clear)
                 where
-                  go : (j : ℕ) → j ≡ kept → ByCount j
-                      (ClearLone (c .s .es) (c .s .t) (c .s .m) (a .at0 + 1) (next c .from) (next c .o) (q c) (last c) (next c .stand .4))
-                      (Free (next c .from) (last c) (c .s .es)) → Free (next c .from) (last c) (c .s .es)
+                  go : (j : ℕ) → j ≡ kept → ByCount j (ClearLoneOf (c .s .es) (c .s .m) (lies c)) (FreeAnyOf (lies c) (c .s .es)) →
+                      FreeAnyOf (lies c) (c .s .es)
                   go zero e x = absurd (omega arith)
                   go (suc zero) e x = absurd (omega arith)
                   go (suc (suc i)) e x = x
@@ -389,18 +353,11 @@ module _ (n k : ℕ) (w : List ℕ) (a : Agenda) where
               abbrev choosing₁ : Resuming n k w a → Branching n k w (a .at0 + 1) count rest
               choosing₁ c = record {
                 s = c .s;
-                o = next c .o;
-                from = next c .from;
-                end = q c;
-                to = last c;
-                at = next c .stand .4;
-                within = within c;
-                many = many-are c;
-                among = next c .among .0;
-                free = free c;
                 left = 5 - length (next c .l) - 1;
                 shallow = omega arith;
-                nests = next c .nests .1;
+                lies = lies c;
+                among = next c .among;
+                free = free c;
                 l = slots₂ c;
                 lists = lists₂ c;
                 deep = deep c;
@@ -414,6 +371,6 @@ module _ (n k : ℕ) (w : List ℕ) (a : Agenda) where
               resumes-several r w' v = record {
                 moved = v .moved;
                 found = λ c. finds-same n k w (c .s .es) (chosen (choosing₁ c)) (resumed c) r w' (choice-is c
-                    ∙ choose-several (c .s .m) (graphs (c .s .es)) (next c .o) (left-of c) (omega (arith, kept-is c)))
+                    ∙ choose-several (c .s .m) (graphs (c .s .es)) (lies c .a) (left-of c) (omega (arith, kept-is c)))
                     (v .found (choosing₁ c));
               }

@@ -20,28 +20,27 @@ use Rattle.engine.specs.Search.{taking}
 use Rattle.engine.specs.Agenda.{resume-at, dive-at}
 use Rattle.engine.proofs.Agenda.{dive-at-clash, dive-at-push}
 use Rattle.loading.specs.Entry.{Entry, graphs}
-use Rattle.loading.specs.Loaded.{number-step}
-use Rattle.loading.specs.At.{At}
 use Rattle.marks.specs.Positions.{tail-at, disjunctions-at}
 use Rattle.marks.specs.Marked.{marking, lights}
 use Rattle.marks.proofs.Marks.{marking-frame, lights-frame}
-use Rattle.marks.proofs.Reading.{Read, read-at}
+use Rattle.marks.proofs.Reading.{Read, readable, reads}
 use Rattle.classes.specs.Holds.{Since, Remembers, Backs}
 use Rattle.classes.specs.declared.push.Pushed.{Pushed}
 use Rattle.classes.specs.declared.push.Pushed.the-variants.{In, Clashed}
 use Rattle.classes.proofs.Laws.{holds-agree, since-trans}
 use Rattle.entering.specs.Entered.{Entering, entered, Enters}
-use Rattle.entering.specs.Clear.{Clear}
+use Rattle.entering.specs.Footing.{Footing}
+use Rattle.entering.specs.Clear.{ClearOf}
 use Rattle.entering.specs.Moved.{Moved}
-use Rattle.entering.proofs.Certain.{taken-between}
+use Rattle.entering.proofs.Certain.{between-of}
 use Rattle.entering.proofs.Settling.{agrees-true, clash-false}
 use Rattle.entering.proofs.Within.{entered-graphs, entered-inside, entered-clear, fine}
 use Rattle.entering.proofs.Moves.{moved-words}
 use Rattle.search.specs.declared.agenda.Agenda.{Agenda}
-use Rattle.search.specs.Frames.{Slot, slots, Lists, onto, Frames, plan}
-use Rattle.search.specs.Searched.{Noting, Notes, Footing, Finds, Resuming, resumed, Resumes, Taking, taken-with, Takes}
-use Rattle.search.proofs.Planning.{nests-more, reach, frames-bound, frames-reach, frames-wide, frames-pushed, Opened, opened}
-use Rattle.search.proofs.Planning.{open-here, open-room}
+use Rattle.search.specs.Frames.{Slot, slots, Lists, onto, FramesOn, plan-on}
+use Rattle.search.specs.Searched.{Noting, Notes, Finds, Resuming, resumed, Resumes, Taking, taken-with, Takes}
+use Rattle.search.proofs.Planning.{lying-deeper, reach, frames-reach, frames-wide, frames-pushed, Before, Opened, opened}
+use Rattle.search.proofs.Planning.{open-asks}
 use Rattle.search.proofs.Finding.{finds-none, finds-same, finds-under, finds-taking, moved-noted}
 
 dive-pushed : (m : Marking) (S : List Graph) (d : Placed) (fs : List Places) → agree (S ++ flat (strip (keep m d))) ≡ true →
@@ -55,56 +54,32 @@ dive-clashed m S (place K ds) fs e = dive-at-clash m S K ds fs e
 module _ (n k : ℕ) (w : List ℕ) (g : ℕ) (a : Agenda) where
   module _ (c : Taking n k w g a) where
     abbrev left-of : List Places
-    left-of = plan n (c .s .t) (c .s .U) (c .s .es) (c .s .m) (c .l) (c .end) (c .to) (c .frames)
-
-    pub take-low : c .to ≤ n
-    take-low = frames-bound n (c .s .t) (c .s .U) (c .s .m) (c .s .es) (c .l) (c .end) (c .to) (c .frames) .1
-
-    small : c .to < number-step
-    small = omega (arith, take-low, c .s .ground .few)
+    left-of = plan-on (c .s) (c .l) (c .lies .end) (c .lies .to) (c .frames)
 
     abbrev pub asks-enter : Entering n k w g depth-limit
-    asks-enter = record {
-      t = c .s .t;
-      loaded = c .s .loaded;
-      U = c .s .U;
-      ground = c .s .ground;
-      d = c .d;
-      from = c .from;
-      end = c .end;
-      to = c .to;
-      at = c .at;
-      low = take-low;
-      nests = nests-more (c .d) (c .left) depth-limit (c .shallow) (c .nests);
-      among = c .among;
-      es = c .s .es;
-      holds = c .s .holds;
-      inside = c .s .inside;
-      free = c .free;
-    }
+    asks-enter = record { s = c .s; lies = lying-deeper (c .shallow) (c .lies); among = c .among; free = c .free }
 
     abbrev pushed-all : List Entry
     pushed-all = entered asks-enter
 
-    all-graphs : graphs pushed-all ≡ graphs (c .s .es) ++ flat (strip (keep (c .s .m) (c .d)))
+    all-graphs : graphs pushed-all ≡ graphs (c .s .es) ++ flat (strip (keep (c .s .m) (c .lies .d)))
     all-graphs = entered-graphs n k w g depth-limit asks-enter
-        ∙ ap (λ (m : Marking). graphs (c .s .es) ++ flat (strip (keep m (c .d)))) (c .s .marks)
+        ∙ ap (λ (m : Marking). graphs (c .s .es) ++ flat (strip (keep m (c .lies .d)))) (c .s .marks)
 
-    agree-is : (b : Bool) → agree (graphs (c .s .es) ++ flat (strip (keep (marking w) (c .d)))) ≡ b →
-        agree (graphs (c .s .es) ++ flat (strip (keep (c .s .m) (c .d)))) ≡ b
-    agree-is b e = ap (λ (m : Marking). agree (graphs (c .s .es) ++ flat (strip (keep m (c .d))))) (sym (c .s .marks)) ∙ e
+    agree-is : (b : Bool) → agree (graphs (c .s .es) ++ flat (strip (keep (marking w) (c .lies .d)))) ≡ b →
+        agree (graphs (c .s .es) ++ flat (strip (keep (c .s .m) (c .lies .d)))) ≡ b
+    agree-is b e = ap (λ (m : Marking). agree (graphs (c .s .es) ++ flat (strip (keep m (c .lies .d))))) (sym (c .s .marks)) ∙ e
 
     -- nothing is found with one that clashes
     pub clash-none : Clash (graphs pushed-all) → taken-with c ≡ []
     clash-none z =
-        let bad = agree-is false (clash-false (graphs (c .s .es) ++ flat (strip (keep (marking w) (c .d))))
+        let bad = agree-is false (clash-false (graphs (c .s .es) ++ flat (strip (keep (marking w) (c .lies .d))))
         (fine n k w g depth-limit asks-enter) (subst Clash (entered-graphs n k w g depth-limit asks-enter) z)) in
-        ap (taking (c .from)) (dive-clashed (c .s .m) (graphs (c .s .es)) (c .d) left-of bad)
+        ap (taking (c .lies .from)) (dive-clashed (c .s .m) (graphs (c .s .es)) (c .lies .d) left-of bad)
 
     -- what is read of it
-    pub read : (v : List ℕ) → 16384 ≤ length v → words v ≡ c .s .t → Read v g (c .from) (c .end)
-    read v room e = read-at v room (c .d) g (c .from) (c .end) (c .to)
-        (subst (λ (t : List ℕ). At t g (c .from) (c .d) (c .end) (c .to)) (sym e) (c .at)) small
+    pub read : (v : List ℕ) → 16384 ≤ length v → words v ≡ c .s .t → Read v g (c .lies .from) (c .lies .end)
+    read v room e = reads (readable v room e (c .s .ground .few) (c .lies))
 
   module _ (o : Pushed) (w₁ : List ℕ) (u : Enters n k w g depth-limit o w₁) (c₀ : Taking n k w g a) where
     marks₁ : marking w₁ ≡ marking w
@@ -145,38 +120,28 @@ module _ (n k : ℕ) (w : List ℕ) (g : ℕ) (a : Agenda) where
       }
 
       abbrev later : (c : Taking n k w g a) →
-          (G : Frames n (c .s .t) (c .s .U) (pushed-all c) (c .s .m) (c .l) (c .end) (c .to))
-          × (plan n (c .s .t) (c .s .U) (pushed-all c) (c .s .m) (c .l) (c .end) (c .to) G ≡ left-of c)
-      later c = frames-pushed n (c .s .t) (c .s .U) (c .s .m) (c .s .es) (pushed-all c) (c .l) (c .end) (c .to)
-          (λ o i. ⊎-elim (λ j. inl j) (λ j. inr (taken-between (c .s .t) (marking w) g (c .from) (c .d) (c .end) (c .to) (c .at) o j .1))
+          (G : FramesOn (standing₁ c) (c .l) (c .lies .end) (c .lies .to))
+          × (plan-on (standing₁ c) (c .l) (c .lies .end) (c .lies .to) G ≡ left-of c)
+      later c = frames-pushed n (c .s .t) (c .s .U) (c .s .m) (c .s .es) (pushed-all c) (c .l) (c .lies .end) (c .lies .to)
+          (λ o i. ⊎-elim (λ j. inl j) (λ j. inr (between-of (marking w) (c .lies) o j .1))
           (List·Memᴰ·append-cases (c .s .es) i)) (c .frames)
 
-      clear₁ : (c : Taking n k w g a) → Clear (pushed-all c) (c .s .t) (c .s .m) g (c .from) (c .d) (c .end) (c .to) (c .at)
-      clear₁ c = subst (λ (m : Marking). Clear (pushed-all c) (c .s .t) m g (c .from) (c .d) (c .end) (c .to) (c .at)) (c .s .marks)
-          (entered-clear n k w g depth-limit (asks-enter c))
-
-      opened₁ : (c : Taking n k w g a) →
-          Opened n (c .s .t) (c .s .U) (c .s .m) (pushed-all c) g (c .from) (c .end) (c .to) (c .d) (c .at) (c .left) (c .nests) (c .among)
-          (clear₁ c) (c .l) (c .end) (c .to) (later c .0) (omega arith) (omega arith) (c .deep) w₁ room₁ (words₁ ∙ c .s .loaded) (small c)
-      opened₁ c = opened n (c .s .t) (c .s .U) (c .s .m) (pushed-all c) g (c .from) (c .end) (c .to) (c .d) (c .at) (c .left) (c .nests)
-          (c .among) (clear₁ c) (c .l) (c .end) (c .to) (later c .0) (omega arith) (omega arith) (c .deep) w₁ room₁ (words₁
-          ∙ c .s .loaded) (small c)
+      abbrev before₁ : (c : Taking n k w g a) → Before (standing₁ c) g (c .left) (c .l) (c .lies .end) (c .lies .to) (later c .0)
+      before₁ c = record {
+        lies = c .lies;
+        among = c .among;
+        clear = subst (λ (m : Marking). ClearOf (pushed-all c) m (c .lies)) (c .s .marks) (entered-clear n k w g depth-limit (asks-enter c));
+        here = omega arith;
+        low = omega arith;
+        deep = c .deep;
+      }
 
       pub take-opens : ((g < 2048) × (16384 ≤ length w₁))
           × ((tail-at w₁ g < 2048) × ((disjunctions-at w₁ (tail-at w₁ g) ≡ 0) ⊎ (a .frames < 5)))
-      take-opens =
-          let c = c₀ in
-          let h = open-here n (c .s .t) (c .s .U) (c .s .m) (pushed-all c) g (c .from) (c .end) (c .to) (c .d) (c .at) (c .left) (c .nests)
-          (c .among) (clear₁ c) (c .l) (c .end) (c .to) (later c .0) (omega arith) (omega arith) (c .deep) w₁ room₁ (words₁
-          ∙ c .s .loaded) (small c) in (
-            (h .0, room₁),
-            (
-              h .1,
-              open-room n (c .s .t) (c .s .U) (c .s .m) (pushed-all c) g (c .from) (c .end) (c .to) (c .d) (c .at)
-                  (c .left) (c .nests) (c .among) (clear₁ c) (c .l) (c .end) (c .to) (later c .0) (omega arith) (omega arith) (c .deep) w₁ room₁
-                  (words₁ ∙ c .s .loaded) (small c) a (c .lists),
-            ),
-          )
+      take-opens = open-asks (standing₁ c₀) (before₁ c₀) a (c₀ .lists)
+
+      opened₁ : (c : Taking n k w g a) → Opened (standing₁ c) (before₁ c)
+      opened₁ c = opened (standing₁ c) (before₁ c)
 
       module _ (b : Agenda) (lists : (l : List Slot) → Lists a l →
           Lists b (onto (tail-at w₁ g + 1) (disjunctions-at w₁ (tail-at w₁ g)) l)) where
@@ -184,10 +149,9 @@ module _ (n k : ℕ) (w : List ℕ) (g : ℕ) (a : Agenda) where
         slots₁ c = onto (tail-at w₁ g + 1) (disjunctions-at w₁ (tail-at w₁ g)) (c .l)
 
         abbrev wide₁ : (c : Taking n k w g a) →
-            (G : Frames n (c .s .t) (c .s .U) (pushed-all c) (c .s .m) (slots₁ c) 0 0)
-            × (plan n (c .s .t) (c .s .U) (pushed-all c) (c .s .m) (slots₁ c) 0 0 G
-            ≡ plan n (c .s .t) (c .s .U) (pushed-all c) (c .s .m) (slots₁ c) (g + 1) (c .from) (opened₁ c .frames))
-        wide₁ c = frames-wide n (c .s .t) (c .s .U) (c .s .m) (pushed-all c) (slots₁ c) (g + 1) (c .from) 0 0 (omega arith) (omega arith)
+            (G : FramesOn (standing₁ c) (slots₁ c) 0 0)
+            × (plan-on (standing₁ c) (slots₁ c) 0 0 G ≡ plan-on (standing₁ c) (slots₁ c) (g + 1) (c .lies .from) (opened₁ c .frames))
+        wide₁ c = frames-wide n (c .s .t) (c .s .U) (c .s .m) (pushed-all c) (slots₁ c) (g + 1) (c .lies .from) 0 0 (omega arith) (omega arith)
             (opened₁ c .frames)
 
         abbrev resuming₁ : Taking n k w g a → Resuming n e w₁ b
@@ -200,23 +164,23 @@ module _ (n k : ℕ) (w : List ℕ) (g : ℕ) (a : Agenda) where
         take-falls =
             let c = c₀ in
             let many : length (c .s .t) ≡ 2048 = ap length (sym (c .s .loaded)) ∙ words-many w (c .s .holds .long) in
-            let r = frames-reach n (c .s .t) (c .s .U) (c .s .m) (pushed-all c) many (slots₁ c) (g + 1) (c .from) (opened₁ c .frames) in
+            let r = frames-reach n (c .s .t) (c .s .U) (c .s .m) (pushed-all c) many (slots₁ c) (g + 1) (c .lies .from) (opened₁ c .frames) in
             let e : reach (slots b) ≡ reach (slots₁ c) = ap reach (lists (c .l) (c .lists) .is) in
             omega arith
 
         -- what is found after it
-        resumed-is : (c : Taking n k w g a) → taken-with c ≡ taking (c .from) (resumed (resuming₁ c))
+        resumed-is : (c : Taking n k w g a) → taken-with c ≡ taking (c .lies .from) (resumed (resuming₁ c))
         resumed-is c =
             let S = graphs (pushed-all c) in
             let m = c .s .m in
-            let good = agree-is c true (agrees-true (graphs (c .s .es) ++ flat (strip (keep (marking w) (c .d))))
+            let good = agree-is c true (agrees-true (graphs (c .s .es) ++ flat (strip (keep (marking w) (c .lies .d))))
             (fine n k w g depth-limit (asks-enter c))
             (subst Agree (entered-graphs n k w g depth-limit (asks-enter c))
             (holds-agree n (pushed-all c) e w₁ (u .pushed e z .1 (asks-enter c))))) in
-            ap (taking (c .from)) (
-            dive-pushed m (graphs (c .s .es)) (c .d) (left-of c) good
-            ∙ ap (resume-at m (inner (c .d) ∷ left-of c)) (sym (all-graphs c))
-            ∙ ap (λ (fs : List Places). resume-at m (inner (c .d) ∷ fs) S) (sym (later c .1))
+            ap (taking (c .lies .from)) (
+            dive-pushed m (graphs (c .s .es)) (c .lies .d) (left-of c) good
+            ∙ ap (resume-at m (inner (c .lies .d) ∷ left-of c)) (sym (all-graphs c))
+            ∙ ap (λ (fs : List Places). resume-at m (inner (c .lies .d) ∷ fs) S) (sym (later c .1))
             ∙ sym (opened₁ c .is S)
             ∙ ap (λ (fs : List Places). resume-at m fs S) (sym (wide₁ c .1))
             )
@@ -258,7 +222,7 @@ module _ (n k : ℕ) (w : List ℕ) (g : ℕ) (a : Agenda) where
             pub takes-found : (w₄ : List ℕ) → Notes w₃ g r w₄ → Takes n k w g a r w₄
             takes-found w₄ y = record {
               moved = moved-noted k w k w₃ w₄ g r room₃ moved₃ y;
-              found = λ c. finds-same n k w (c .s .es) (taking (c .from) (resumed (resuming₁ c))) (taken-with c) r w₄ (resumed-is c)
-                  (finds-taking n k w (c .s .es) (c .from) (resumed (resuming₁ c)) g r w₃ w₄ room₃ (found₃ c) y
-                  (read c w₃ room₃ (words₃ ∙ c .s .loaded) .number) (ap (λ (m : Marking). m (c .from)) (c .s .marks) ∙ c .kept));
+              found = λ c. finds-same n k w (c .s .es) (taking (c .lies .from) (resumed (resuming₁ c))) (taken-with c) r w₄ (resumed-is c)
+                  (finds-taking n k w (c .s .es) (c .lies .from) (resumed (resuming₁ c)) g r w₃ w₄ room₃ (found₃ c) y
+                  (read c w₃ room₃ (words₃ ∙ c .s .loaded) .number) (ap (λ (m : Marking). m (c .lies .from)) (c .s .marks) ∙ c .kept));
             }

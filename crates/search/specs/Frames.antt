@@ -7,11 +7,10 @@ use lib.ListN.{length, take}
 use Rattle.engine.specs.Placed.{Places}
 use Rattle.engine.specs.Marks.{Marking}
 use Rattle.loading.specs.Entry.{Entry}
-use Rattle.loading.specs.Numbered.{places}
-use Rattle.loading.specs.At.{AtAll}
-use Rattle.loading.specs.Nesting.{NestsAll}
-use Rattle.entering.specs.Taken.{AmongAll}
-use Rattle.entering.specs.Clear.{ClearAll}
+use Rattle.loading.specs.Lying.{LyingAll}
+use Rattle.entering.specs.Taken.{AmongAllOf}
+use Rattle.entering.specs.Clear.{ClearAllOf}
+use Rattle.entering.specs.Footing.{Footing}
 use Rattle.search.specs.declared.agenda.Agenda.{Agenda}
 
 -- a frame: where its next disjunction stands, and how many are left in it
@@ -32,26 +31,27 @@ onto at zero l = l
 onto at (suc more) l = (at, suc more) ∷ l
 
 -- `more` disjunctions stand loaded from `at` on; of what is certain in them all is among the graphs es, of the rest nothing
-pub record Frame (t : List ℕ) (U es : List Entry) (m : Marking) (at more left : ℕ) : Type 0 where
-  pub ds : Places
-  pub from : ℕ
-  pub end : ℕ
-  pub to : ℕ
-  pub stand : AtAll t at from ds end to
-  pub within : at ≤ length t
-  pub many : places ds ≡ more
-  pub nests : NestsAll ds left
-  pub among : AmongAll U t at from ds end to stand
-  pub clear : ClearAll es t m at from ds end to stand
+pub record Frame (n : ℕ) (t : List ℕ) (U es : List Entry) (m : Marking) (at more left : ℕ) : Type 0 where
+  pub lies : LyingAll n t at more left
+  pub among : AmongAllOf U lies
+  pub clear : ClearAllOf es m lies
 
 -- the frames stand one after the other, from the position `pos` and the number `lo` on; the more of them, the less deep the first nests
 abbrev pub Frames : (n : ℕ) (t : List ℕ) (U es : List Entry) (m : Marking) → List Slot → ℕ → ℕ → Type 0
 Frames n t U es m [] pos lo = (pos ≤ length t) × (lo ≤ n)
-Frames n t U es m (s ∷ l) pos lo = (f : Frame t U es m (s .0) (s .1) (5 - length l)) × (0 < s .1) × (pos ≤ s .0) × (lo ≤ f .from)
-    × Frames n t U es m l (f .end) (f .to)
+Frames n t U es m (s ∷ l) pos lo = (f : Frame n t U es m (s .0) (s .1) (5 - length l)) × (0 < s .1) × (pos ≤ s .0) × (lo ≤ f .lies .from)
+    × Frames n t U es m l (f .lies .end) (f .lies .to)
 
 -- their disjunctions: engine's agenda
 abbrev pub plan : (n : ℕ) (t : List ℕ) (U es : List Entry) (m : Marking) (l : List Slot) (pos lo : ℕ) → Frames n t U es m l pos lo →
     List Places
 plan n t U es m [] pos lo F = []
-plan n t U es m (s ∷ l) pos lo F = F .0 .ds ∷ plan n t U es m l (F .0 .end) (F .0 .to) (F .4)
+plan n t U es m (s ∷ l) pos lo F = F .0 .lies .ds ∷ plan n t U es m l (F .0 .lies .end) (F .0 .lies .to) (F .4)
+
+-- where a step stands
+module _ {n k : ℕ} {w : List ℕ} (s : Footing n k w) where
+  abbrev pub FramesOn : List Slot → ℕ → ℕ → Type 0
+  FramesOn l pos lo = Frames n (s .t) (s .U) (s .es) (s .m) l pos lo
+
+  abbrev pub plan-on : (l : List Slot) (pos lo : ℕ) → FramesOn l pos lo → List Places
+  plan-on l pos lo F = plan n (s .t) (s .U) (s .es) (s .m) l pos lo F

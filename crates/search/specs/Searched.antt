@@ -9,25 +9,21 @@ use lib.Dec.{eqb, ltb}
 use lib.ListN.{length, getD}
 use Rattle.theory.specs.Limits.{depth-limit, choice-stop}
 use Rattle.area.specs.Map.{MARKS, RESULT}
-use Rattle.area.specs.Region.{words}
-use Rattle.engine.specs.Placed.{Placed, Options}
-use Rattle.engine.specs.Marks.{Marking, keep}
+use Rattle.engine.specs.Marks.{keep}
 use Rattle.engine.specs.Search.{Found, taking, lit}
 use Rattle.engine.specs.Search as engine
 use Rattle.engine.specs.Agenda.{resume-at, dive-at, each-at}
 use Rattle.loading.specs.Entry.{Entry, graphs}
-use Rattle.loading.specs.Numbered.{options}
-use Rattle.loading.specs.At.{At, AtAny}
+use Rattle.loading.specs.Lying.{Lying, LyingAny}
 use Rattle.marks.specs.Marked.{marking, lights}
 use Rattle.marks.specs.Positions.{number-at}
-use Rattle.loading.specs.Nesting.{Nests, NestsAny}
 use Rattle.classes.specs.Holds.{Holds}
-use Rattle.entering.specs.Taken.{Among, AmongAny, Inside, Free}
-use Rattle.entering.specs.Ground.{Ground}
+use Rattle.entering.specs.Taken.{AmongOf, AmongAnyOf, FreeOf, FreeAnyOf}
+use Rattle.entering.specs.Footing.{Footing}
 use Rattle.entering.specs.Moved.{Moved}
 use Rattle.entering.specs.Stage.{Pair, Stage}
 use Rattle.search.specs.declared.agenda.Agenda.{Agenda}
-use Rattle.search.specs.Frames.{Slot, Lists, Frames, plan}
+use Rattle.search.specs.Frames.{Slot, Lists, FramesOn, plan-on}
 
 -- ---- an alternative is found
 pub record Noting (w : List ℕ) (g : ℕ) : Type 0 where
@@ -42,18 +38,6 @@ pub record Notes (w : List ℕ) (g found : ℕ) (w' : List ℕ) : Type 0 where
   pub marks : marking w (number-at w g) ≡ true → marking w' ≡ marking w
 
 -- ---- what is found
--- the graphs es are pushed, and the marks are m
-pub record Footing (n k : ℕ) (w : List ℕ) : Type 0 where
-  pub t : List ℕ
-  pub loaded : words w ≡ t
-  pub m : Marking
-  pub marks : marking w ≡ m
-  pub U : List Entry
-  pub ground : Ground n t U
-  pub es : List Entry
-  pub holds : Holds n es k w
-  pub inside : Inside U es
-
 -- the choices f were found: they are counted, stopping at 4,097, and what they take is marked; what was pushed is as it was
 pub record Finds (n k : ℕ) (w : List ℕ) (es : List Entry) (f : Found) (r : ℕ) (w' : List ℕ) : Type 0 where
   pub count : r ≡ min (length f) choice-stop
@@ -66,10 +50,10 @@ pub record Resuming (n k : ℕ) (w : List ℕ) (a : Agenda) : Type 0 where
   pub s : Footing n k w
   pub l : List Slot
   pub lists : Lists a l
-  pub frames : Frames n (s .t) (s .U) (s .es) (s .m) l 0 0
+  pub frames : FramesOn s l 0 0
 
 abbrev pub resumed : {n k : ℕ} {w : List ℕ} {a : Agenda} → Resuming n k w a → Found
-resumed {n} {k} {w} {a} c = resume-at (c .s .m) (plan n (c .s .t) (c .s .U) (c .s .es) (c .s .m) (c .l) 0 0 (c .frames)) (graphs (c .s .es))
+resumed {n} {k} {w} {a} c = resume-at (c .s .m) (plan-on (c .s) (c .l) 0 0 (c .frames)) (graphs (c .s .es))
 
 pub record Resumes (n k : ℕ) (w : List ℕ) (a : Agenda) (r : ℕ) (w' : List ℕ) : Type 0 where
   pub moved : Moved k w k w'
@@ -78,26 +62,21 @@ pub record Resumes (n k : ℕ) (w : List ℕ) (a : Agenda) (r : ℕ) (w' : List 
 -- ---- an alternative that stands loaded at g, and then what is left
 pub record Taking (n k : ℕ) (w : List ℕ) (g : ℕ) (a : Agenda) : Type 0 where
   pub s : Footing n k w
-  pub d : Placed
-  pub from : ℕ
-  pub end : ℕ
-  pub to : ℕ
-  pub at : At (s .t) g from d end to
-  pub among : Among (s .U) (s .t) g from d end to at
-  pub free : Free from to (s .es)
-  pub kept : s .m from ≡ true
   pub left : ℕ
   pub shallow : left ≤ depth-limit
-  pub nests : Nests d left
+  pub lies : Lying n (s .t) g left
+  pub among : AmongOf (s .U) lies
+  pub free : FreeOf lies (s .es)
+  pub kept : s .m (lies .from) ≡ true
   pub l : List Slot
   pub lists : Lists a l
   pub deep : length l + left ≤ 5
-  pub frames : Frames n (s .t) (s .U) (s .es) (s .m) l end to
+  pub frames : FramesOn s l (lies .end) (lies .to)
 
 abbrev pub taken-with : {n k : ℕ} {w : List ℕ} {g : ℕ} {a : Agenda} → Taking n k w g a → Found
 taken-with {n} {k} {w} {g} {a} c =
-    taking (c .from) (dive-at (c .s .m) (graphs (c .s .es)) (c .d)
-    (plan n (c .s .t) (c .s .U) (c .s .es) (c .s .m) (c .l) (c .end) (c .to) (c .frames)))
+    taking (c .lies .from) (dive-at (c .s .m) (graphs (c .s .es)) (c .lies .d)
+    (plan-on (c .s) (c .l) (c .lies .end) (c .lies .to) (c .frames)))
 
 pub record Takes (n k : ℕ) (w : List ℕ) (g : ℕ) (a : Agenda) (r : ℕ) (w' : List ℕ) : Type 0 where
   pub moved : Moved k w k w'
@@ -106,26 +85,19 @@ pub record Takes (n k : ℕ) (w : List ℕ) (g : ℕ) (a : Agenda) (r : ℕ) (w'
 -- ---- `count` alternatives that stand loaded from p on, and then what is left
 pub record Branching (n k : ℕ) (w : List ℕ) (p count : ℕ) (a : Agenda) : Type 0 where
   pub s : Footing n k w
-  pub o : Options
-  pub from : ℕ
-  pub end : ℕ
-  pub to : ℕ
-  pub at : AtAny (s .t) p from o end to
-  pub within : p ≤ length (s .t)
-  pub many : options o ≡ count
-  pub among : AmongAny (s .U) (s .t) p from o end to at
-  pub free : Free from to (s .es)
   pub left : ℕ
   pub shallow : left ≤ depth-limit
-  pub nests : NestsAny o left
+  pub lies : LyingAny n (s .t) p count left
+  pub among : AmongAnyOf (s .U) lies
+  pub free : FreeAnyOf lies (s .es)
   pub l : List Slot
   pub lists : Lists a l
   pub deep : length l + left ≤ 5
-  pub frames : Frames n (s .t) (s .U) (s .es) (s .m) l end to
+  pub frames : FramesOn s l (lies .end) (lies .to)
 
 abbrev pub chosen : {n k : ℕ} {w : List ℕ} {p count : ℕ} {a : Agenda} → Branching n k w p count a → Found
 chosen {n} {k} {w} {p} {count} {a} c =
-    each-at (c .s .m) (graphs (c .s .es)) (c .o) (plan n (c .s .t) (c .s .U) (c .s .es) (c .s .m) (c .l) (c .end) (c .to) (c .frames))
+    each-at (c .s .m) (graphs (c .s .es)) (c .lies .a) (plan-on (c .s) (c .l) (c .lies .end) (c .lies .to) (c .frames))
 
 pub record Branches (n k : ℕ) (w : List ℕ) (p count : ℕ) (a : Agenda) (r : ℕ) (w' : List ℕ) : Type 0 where
   pub moved : Moved k w k w'
