@@ -9,7 +9,6 @@ use Rattle.theory.specs.Limits.{depth-limit}
 use Rattle.theory.specs.Modes.{joined}
 use Rattle.theory.proofs.Mean.{Can}
 use Rattle.theory.proofs.Reading.{well-can}
-use Rattle.area.specs.Map.{SECOND}
 use Rattle.engine.specs.Placed.{strip}
 use Rattle.modes_by_marks.proofs.Names.{names, Apart, Distinct}
 use Rattle.engine.proofs.Proper.{well-proper, Comes, joined-comes}
@@ -18,7 +17,7 @@ use Rattle.engine.proofs.Beside.{joined-strip, joined-distinct}
 use Rattle.modes_by_marks.proofs.Beside.{strip-some, SomeDistinct}
 use Rattle.loading.specs.Loaded.{nodes-in}
 use Rattle.loading.proofs.Names.{numbered-strip, between-apart, between-wide}
-use Rattle.loading.proofs.Walking.{at-names}
+use Rattle.loading.proofs.Lying.{names-of}
 use Rattle.entering.specs.Stage.{Pair}
 use Rattle.entering.proofs.Mirror.{distinct-of}
 
@@ -52,9 +51,9 @@ module _ (n : ℕ) (t : List ℕ) (p : Pair n t) where
       let a = p .inputs .first in
       let b = p .inputs .second in
       between-apart (a .from + 1) (a .to) (b .to) (names (a .d)) (names (b .d))
-      (at-names t (a .d) 0 (a .from) (a .end) (a .to) (a .at))
+      (names-of a)
       (between-wide (b .from + 1) (a .to) (b .to) (b .to) (names (b .d)) (omega (arith, p .inputs .apart)) (omega arith)
-      (at-names t (b .d) SECOND (b .from) (b .end) (b .to) (b .at)))
+      (names-of b))
 
   -- mode 0, without the numbers
   pub joined-is : joined (strip (p .inputs .first .d)) (strip (p .inputs .second .d)) ≡ some (strip (p .j))

@@ -22,17 +22,17 @@ use Rattle.engine.specs.Counting.{count-at}
 use Rattle.engine.specs.Search.{Found, lit, full-left, full-readings-by}
 use Rattle.engine.specs.Search as engine
 use Rattle.engine.proofs.Sane.{Sane}
-use Rattle.loading.specs.At.{At}
+use Rattle.marks.specs.Readable.{Readable}
 use Rattle.marks.specs.Marked.{marking, LitKept}
+use Rattle.marks.proofs.Reading.{readable}
 use Rattle.marks.proofs.Marks.{marking-frame}
-use Rattle.counting.specs.Counted.{Countable, CountedBoth}
+use Rattle.counting.specs.Counted.{CountedBoth}
 use Rattle.counting.proofs.Both.{counted-joined}
 use Rattle.classes.specs.Holds.{Undoable}
 use Rattle.classes.proofs.Laws.{undoable-on, undoable-frame}
 use Rattle.classes.specs.declared.push.Pushed.{Pushed}
 use Rattle.classes.specs.declared.push.Pushed.the-variants.{In, Clashed}
 use Rattle.entering.proofs.Moves.{moved-words}
-use Rattle.entering.proofs.Pairs.{half-low}
 use Rattle.search.specs.Searched.{Finds, Searching, Searches}
 use Rattle.full.specs.declared.full.Fully.the-variants.{Over, Nothing, Left}
 use Rattle.full.specs.Restarted.{Restarting, Restarts}
@@ -67,36 +67,13 @@ over-false L x h = go (ltb L x) refl
 
 module _ (n k : ℕ) (w : List ℕ) where
   module _ (c : Fulling n k w) where
-    abbrev first : Countable w 0 depth-limit
-    first = record {
-      room = c .stage .ready .holds .long;
-      d = c .p .inputs .a;
-      n = 0;
-      q = c .p .inputs .end-a;
-      m = c .p .inputs .half;
-      at =
-          subst (λ (t : List ℕ). At t 0 0 (c .p .inputs .a) (c .p .inputs .end-a) (c .p .inputs .half)) (sym (c .stage .ready .loaded))
-          (c .p .inputs .at-a);
-      low = omega (arith, half-low n (c .t) (c .p .inputs), c .p .inputs .ground .few);
-      nests =
-          c .p .inputs .nests-a;
-    }
+    abbrev first : Readable w 0 depth-limit
+    first = readable w (c .stage .ready .holds .long) (c .stage .ready .loaded) (c .p .inputs .ground .few) (c .p .inputs .first)
 
-    abbrev second : Countable w SECOND depth-limit
-    second = record {
-      room = c .stage .ready .holds .long;
-      d = c .p .inputs .b;
-      n = c .p .inputs .half;
-      q = c .p .inputs .end-b;
-      m = n;
-      at =
-          subst (λ (t : List ℕ). At t SECOND (c .p .inputs .half) (c .p .inputs .b) (c .p .inputs .end-b) n) (sym (c .stage .ready .loaded))
-          (c .p .inputs .at-b);
-      low = c .p .inputs .ground .few;
-      nests = c .p .inputs .nests-b;
-    }
+    abbrev second : Readable w SECOND depth-limit
+    second = readable w (c .stage .ready .holds .long) (c .stage .ready .loaded) (c .p .inputs .ground .few) (c .p .inputs .second)
 
-    pub full-counts : Countable w 0 depth-limit × Countable w SECOND depth-limit
+    pub full-counts : Readable w 0 depth-limit × Readable w SECOND depth-limit
     full-counts = (first, second)
 
     abbrev searching : Searching n k w

@@ -2,7 +2,7 @@
 -- Assumes nothing.
 use Prim.Native.Nat.{ℕ, _≤_}
 use native.Mathlib.Omega.{arith}
-use mathlib.Core.Path.{_≡_, ap, subst, _∙_}
+use mathlib.Core.Path.{_≡_, refl, ap, subst, _∙_}
 use mathlib.Core.Logic.{inl}
 use mathlib.Core.List.{List, [], _++_, List·Memᴰ·not-nil}
 use lib.ListN.{length}
@@ -19,20 +19,19 @@ use Rattle.classes.specs.Holds.{Holds, Remembers, Backs, Undoable}
 use Rattle.classes.proofs.Laws.{undoable-start, undoable-on, undoable-asks, undoable-back}
 use Rattle.classes.specs.declared.push.Pushed.{Pushed}
 use Rattle.classes.specs.declared.push.Pushed.the-variants.{In, Clashed}
-use Rattle.entering.specs.Taken.{taken, Inside}
+use Rattle.entering.specs.Taken.{taken-of, Inside}
 use Rattle.entering.specs.Entered.{Entering, entered, Enters}
 use Rattle.entering.specs.Inputs.{Inputs}
-use Rattle.entering.proofs.Certain.{taken-between, taken-inside}
+use Rattle.entering.proofs.Certain.{between-of, inside-of}
 use Rattle.entering.proofs.Entering.{inside-append, clash-more}
-use Rattle.entering.proofs.Pairs.{half-low}
 use Rattle.full.specs.Restarted.{Restarting, certain-both, Restarts}
 
 -- what is certain in both is among the graphs that lie in the words
 pub certain-inside : (n : ℕ) (t : List ℕ) (i : Inputs n t) (m : Marking) → Inside (i .U) (certain-both i m)
-certain-inside n t i m = inside-append (i .U) (taken t m 0 0 (i .a) (i .end-a) (i .half) (i .at-a))
-    (taken t m SECOND (i .half) (i .b) (i .end-b) n (i .at-b))
-    (taken-inside t m (i .U) 0 0 (i .a) (i .end-a) (i .half) (i .at-a) (i .among-a))
-    (taken-inside t m (i .U) SECOND (i .half) (i .b) (i .end-b) n (i .at-b) (i .among-b))
+certain-inside n t i m = inside-append (i .U) (taken-of m (i .first))
+    (taken-of m (i .second))
+    (inside-of m (i .first) (i .U) (i .among-first))
+    (inside-of m (i .second) (i .U) (i .among-second))
 
 pub restart-back : (n k : ℕ) (w : List ℕ) → Restarting n k w → Remembers 0 k w
 restart-back n k w c = undoable-asks n k w (c .undoable)
@@ -40,10 +39,10 @@ restart-back n k w c = undoable-asks n k w (c .undoable)
 module _ (n k : ℕ) (w w₁ : List ℕ) (s : Backs 0 k w w₁) where
   module _ (c : Restarting n k w) where
     abbrev one : List Entry
-    one = taken (c .t) (marking w) 0 0 (c .inputs .a) (c .inputs .end-a) (c .inputs .half) (c .inputs .at-a)
+    one = taken-of (marking w) (c .inputs .first)
 
     abbrev two : List Entry
-    two = taken (c .t) (marking w) SECOND (c .inputs .half) (c .inputs .b) (c .inputs .end-b) n (c .inputs .at-b)
+    two = taken-of (marking w) (c .inputs .second)
 
     marks₁ : marking w₁ ≡ marking w
     marks₁ = marking-frame w w₁ (c .room) (s .len) (λ j a b. s .rest j (omega arith))
@@ -56,21 +55,19 @@ module _ (n k : ℕ) (w w₁ : List ℕ) (s : Backs 0 k w w₁) where
 
     abbrev first : Entering n 0 w₁ 0 depth-limit
     first = record {
-      t = c .t;
-      loaded = loaded₁;
-      U = c .inputs .U;
-      ground = c .inputs .ground;
-      d = c .inputs .a;
-      from = 0;
-      end = c .inputs .end-a;
-      to = c .inputs .half;
-      at = c .inputs .at-a;
-      low = omega (arith, half-low n (c .t) (c .inputs));
-      nests = c .inputs .nests-a;
-      among = c .inputs .among-a;
-      es = [];
-      holds = empty;
-      inside = λ o i. absurd (List·Memᴰ·not-nil i);
+      s = record {
+        t = c .t;
+        loaded = loaded₁;
+        m = marking w₁;
+        marks = refl;
+        U = c .inputs .U;
+        ground = c .inputs .ground;
+        es = [];
+        holds = empty;
+        inside = λ o i. absurd (List·Memᴰ·not-nil i);
+      };
+      lies = c .inputs .first;
+      among = c .inputs .among-first;
       free = λ o i. absurd (List·Memᴰ·not-nil i);
     }
 
@@ -78,7 +75,7 @@ module _ (n k : ℕ) (w w₁ : List ℕ) (s : Backs 0 k w w₁) where
     restart-first = first
 
     first-is : entered first ≡ one
-    first-is = ap (λ (m : Marking). taken (c .t) m 0 0 (c .inputs .a) (c .inputs .end-a) (c .inputs .half) (c .inputs .at-a)) marks₁
+    first-is = ap (λ (m : Marking). taken-of m (c .inputs .first)) marks₁
 
   module _ (o : Pushed) (w₂ : List ℕ) (u : Enters n 0 w₁ 0 depth-limit o w₂) where
     pub restarts-clash : o ≡ Clashed → Restarts n k w Clashed w₂
@@ -104,24 +101,20 @@ module _ (n k : ℕ) (w w₁ : List ℕ) (s : Backs 0 k w w₁) where
 
         abbrev second : Entering n j w₂ SECOND depth-limit
         second = record {
-          t = c .t;
-          loaded = loaded₂;
-          U = c .inputs .U;
-          ground = c .inputs .ground;
-          d = c .inputs .b;
-          from = c .inputs .half;
-          end = c .inputs .end-b;
-          to = n;
-          at = c .inputs .at-b;
-          low = omega arith;
-          nests = c .inputs .nests-b;
-          among = c .inputs .among-b;
-          es = one c;
-          holds = subst (λ (l : List Entry). Holds n l j w₂) (first-is c) (u .pushed j z .1 (first c));
-          inside = taken-inside (c .t) (marking w) (c .inputs .U) 0 0 (c .inputs .a) (c .inputs .end-a) (c .inputs .half) (c .inputs .at-a)
-              (c .inputs .among-a);
-          free = λ o i. inl (taken-between (c .t) (marking w) 0 0 (c .inputs .a) (c .inputs .end-a) (c .inputs .half)
-              (c .inputs .at-a) o i .1);
+          s = record {
+            t = c .t;
+            loaded = loaded₂;
+            m = marking w₂;
+            marks = refl;
+            U = c .inputs .U;
+            ground = c .inputs .ground;
+            es = one c;
+            holds = subst (λ (l : List Entry). Holds n l j w₂) (first-is c) (u .pushed j z .1 (first c));
+            inside = inside-of (marking w) (c .inputs .first) (c .inputs .U) (c .inputs .among-first);
+          };
+          lies = c .inputs .second;
+          among = c .inputs .among-second;
+          free = λ o i. let low = between-of (marking w) (c .inputs .first) o i .1 in inl (omega (arith, c .inputs .apart));
         }
 
         pub restart-second : Entering n j w₂ SECOND depth-limit
@@ -132,7 +125,7 @@ module _ (n k : ℕ) (w w₁ : List ℕ) (s : Backs 0 k w w₁) where
 
         second-is : entered second ≡ certain-both (c .inputs) (marking w)
         second-is = ap (λ (m : Marking). one c
-            ++ taken (c .t) m SECOND (c .inputs .half) (c .inputs .b) (c .inputs .end-b) n (c .inputs .at-b)) marks₂
+            ++ taken-of m (c .inputs .second)) marks₂
 
       pub restarts : (r : Pushed) (w₃ : List ℕ) → Enters n j w₂ SECOND depth-limit r w₃ → Restarts n k w r w₃
       restarts r w₃ v = record {

@@ -12,7 +12,6 @@ use Rattle.theory.specs.Descr.{Desc, desc, agree}
 use Rattle.theory.proofs.Mean.{Ctx, Can}
 use Rattle.theory.proofs.Live.{Agrees, not-none}
 use Rattle.theory.proofs.Laws.{glue-joins}
-use Rattle.area.specs.Map.{SECOND}
 use Rattle.area.specs.Region.{words}
 use Rattle.engine.specs.Placed.{Placed, place, Places, strip, strip-all, inner}
 use Rattle.engine.specs.Marks.{Marking, keep, keep-all}
@@ -28,18 +27,18 @@ use Rattle.modes_by_marks.proofs.Marks.{keep-same}
 use Rattle.engine.proofs.Joined.{keep-can, joined-is, joined-same}
 use Rattle.modes_by_marks.proofs.Joined.{certain-next, keep-next}
 use Rattle.loading.specs.Entry.{Entry, graphs}
-use Rattle.loading.proofs.Walking.{at-names}
+use Rattle.loading.proofs.Lying.{names-of}
 use Rattle.marks.specs.Marked.{marking}
 use Rattle.classes.specs.Holds.{Holds, Undoable}
 use Rattle.classes.proofs.Comings.{graphs-append}
-use Rattle.entering.specs.Taken.{taken}
-use Rattle.entering.specs.Clear.{Clear}
+use Rattle.entering.specs.Taken.{taken-of}
+use Rattle.entering.specs.Clear.{ClearOf}
 use Rattle.entering.specs.Stage.{Pair, Stage}
-use Rattle.entering.proofs.Certain.{taken-flat, taken-between}
-use Rattle.entering.proofs.Clearing.{clear-taken}
+use Rattle.entering.proofs.Certain.{flat-of, between-of}
+use Rattle.entering.proofs.Clearing.{clear-of}
 use Rattle.entering.proofs.Settling.{clash-false}
 use Rattle.full.specs.Restarted.{certain-both}
-use Rattle.entering.proofs.Pairs.{first-can, second-can, half-low}
+use Rattle.entering.proofs.Pairs.{first-can, second-can}
 use Rattle.full.proofs.Restarting.{certain-inside}
 
 -- ---- what is certain in both says what is certain in the joined description
@@ -75,30 +74,26 @@ keep-both (place g ds) (place h es) j e m m′ p q =
 
 module _ (n : ℕ) (t : List ℕ) (p : Pair n t) where
   pub pair-keeps : (m m′ : Marking) → ((y : ℕ) → y < n → m y ≡ m′ y) → keep m (p .j) ≡ keep m′ (p .j)
-  pair-keeps m m′ h = keep-both (p .inputs .a) (p .inputs .b) (p .j) (p .joined) m m′
-      (keep-same (p .inputs .a) m m′
-      (λ y i. h y (omega (
-        arith,
-        at-names t (p .inputs .a) 0 0 (p .inputs .end-a) (p .inputs .half) (p .inputs .at-a) y i .1,
-        half-low n t (p .inputs),
-      ))))
-      (keep-same (p .inputs .b) m m′
-      (λ y i. h y (at-names t (p .inputs .b) SECOND (p .inputs .half) (p .inputs .end-b) n (p .inputs .at-b) y i .1)))
+  pair-keeps m m′ h = keep-both (p .inputs .first .d) (p .inputs .second .d) (p .j) (p .joined) m m′
+      (keep-same (p .inputs .first .d) m m′
+      (λ y i. h y (omega (arith, names-of (p .inputs .first) y i .1, p .inputs .first .low))))
+      (keep-same (p .inputs .second .d) m m′
+      (λ y i. h y (omega (arith, names-of (p .inputs .second) y i .1, p .inputs .second .low))))
 
   module _ (m : Marking) where
     abbrev both : List Entry
     both = certain-both (p .inputs) m
 
-    both-graphs : graphs both ≡ flat (strip (keep m (p .inputs .a))) ++ flat (strip (keep m (p .inputs .b)))
+    both-graphs : graphs both ≡ flat (strip (keep m (p .inputs .first .d))) ++ flat (strip (keep m (p .inputs .second .d)))
     both-graphs =
-        graphs-append (taken t m 0 0 (p .inputs .a) (p .inputs .end-a) (p .inputs .half) (p .inputs .at-a))
-        (taken t m SECOND (p .inputs .half) (p .inputs .b) (p .inputs .end-b) n (p .inputs .at-b))
-        ∙ ap₂ {C = List Graph} _++_ (taken-flat t m 0 0 (p .inputs .a) (p .inputs .end-a) (p .inputs .half) (p .inputs .at-a))
-        (taken-flat t m SECOND (p .inputs .half) (p .inputs .b) (p .inputs .end-b) n (p .inputs .at-b))
+        graphs-append (taken-of m (p .inputs .first))
+        (taken-of m (p .inputs .second))
+        ∙ ap₂ {C = List Graph} _++_ (flat-of m (p .inputs .first))
+        (flat-of m (p .inputs .second))
 
     same : Same (graphs both) (flat (strip (keep m (p .j))))
     same = subst (λ (l : List Graph). Same l (flat (strip (keep m (p .j))))) (sym both-graphs)
-        (both-same (p .inputs .a) (p .inputs .b) (p .j) (p .joined) (first-can n t p) (second-can n t p) m)
+        (both-same (p .inputs .first .d) (p .inputs .second .d) (p .j) (p .joined) (first-can n t p) (second-can n t p) m)
 
     pub both-agrees : Can (strip (keep m (p .j))) → Sane (strip (keep m (p .j))) → Clash (graphs both) → ⊥
     both-agrees c s z = no-clash (graphs both) (clash-false (graphs both) (same .fine₁) z)
@@ -112,16 +107,15 @@ module _ (n : ℕ) (t : List ℕ) (p : Pair n t) where
         loaded = loaded;
         holds = holds;
         inside = certain-inside n t (p .inputs) m;
-        clear-a = subst (λ (x : Marking). Clear both t x 0 0 (p .inputs .a) (p .inputs .end-a) (p .inputs .half) (p .inputs .at-a))
-            (sym marks) (clear-taken t m both 0 0 (p .inputs .a) (p .inputs .end-a) (p .inputs .half) (p .inputs .at-a)
-            (λ o i. ⊎-elim (λ j. inr j) (λ j. inl
-            (inr (taken-between t m SECOND (p .inputs .half) (p .inputs .b) (p .inputs .end-b) n (p .inputs .at-b) o j .0)))
-            (List·Memᴰ·append-cases (taken t m 0 0 (p .inputs .a) (p .inputs .end-a) (p .inputs .half) (p .inputs .at-a)) i)));
-        clear-b = subst (λ (x : Marking). Clear both t x SECOND (p .inputs .half) (p .inputs .b) (p .inputs .end-b) n (p .inputs .at-b))
-            (sym marks) (clear-taken t m both SECOND (p .inputs .half) (p .inputs .b) (p .inputs .end-b) n (p .inputs .at-b)
-            (λ o i. ⊎-elim (λ j. inl (inl (taken-between t m 0 0 (p .inputs .a) (p .inputs .end-a) (p .inputs .half)
-            (p .inputs .at-a) o j .1))) (λ j. inr j)
-            (List·Memᴰ·append-cases (taken t m 0 0 (p .inputs .a) (p .inputs .end-a) (p .inputs .half) (p .inputs .at-a)) i)));
+        clear-first = subst (λ (x : Marking). ClearOf both x (p .inputs .first))
+            (sym marks) (clear-of m both (p .inputs .first)
+            (λ o i. ⊎-elim (λ j. inr j) (λ j. let high = between-of m (p .inputs .second) o j .0 in
+            inl (inr (omega (arith, p .inputs .apart))))
+            (List·Memᴰ·append-cases (taken-of m (p .inputs .first)) i)));
+        clear-second = subst (λ (x : Marking). ClearOf both x (p .inputs .second))
+            (sym marks) (clear-of m both (p .inputs .second)
+            (λ o i. ⊎-elim (λ j. let low = between-of m (p .inputs .first) o j .1 in inl (inl (omega (arith, p .inputs .apart)))) (λ j. inr j)
+            (List·Memᴰ·append-cases (taken-of m (p .inputs .first)) i)));
       };
       undoable = undoable;
       same = subst (λ (x : Marking). Same (graphs both) (flat (strip (keep x (p .j))))) (sym marks) same;

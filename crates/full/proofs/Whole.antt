@@ -26,19 +26,19 @@ use Rattle.entering.proofs.Pairs.{second-distinct, both-apart}
 
 module _ (n k : ℕ) (w : List ℕ) (r : Fully) (w' : List ℕ) (u : Fulls n k w r w') (c : Fulling n k w) where
   -- of the strips, of the two inputs
-  inputs-are : (P : Desc → Desc → Type 0) → P (strip (c .p .inputs .a)) (strip (c .p .inputs .b)) → P (c .p .d) (c .p .e)
+  inputs-are : (P : Desc → Desc → Type 0) → P (strip (c .p .inputs .first .d)) (strip (c .p .inputs .second .d)) → P (c .p .d) (c .p .e)
   inputs-are P x = subst (λ (b : Desc). P (c .p .d) b) (strip-second n (c .t) (c .p))
-      (subst (λ (a : Desc). P a (strip (c .p .inputs .b))) (strip-first n (c .t) (c .p)) x)
+      (subst (λ (a : Desc). P a (strip (c .p .inputs .second .d))) (strip-first n (c .t) (c .p)) x)
 
   full-shown : full (c .p .d) (c .p .e) ≡ shown-some (full-left (marking w) (c .p .j))
   full-shown = inputs-are (λ a b. full a b ≡ shown-some (full-left (marking w) (c .p .j)))
-      (engine.full-shown (c .p .inputs .a) (c .p .inputs .b) (first-can n (c .t) (c .p)) (second-can n (c .t) (c .p))
+      (engine.full-shown (c .p .inputs .first .d) (c .p .inputs .second .d) (first-can n (c .t) (c .p)) (second-can n (c .t) (c .p))
       (first-proper n (c .t) (c .p)) (second-proper n (c .t) (c .p)) (first-distinct n (c .t) (c .p)) (second-distinct n (c .t) (c .p))
       (both-apart n (c .t) (c .p)) (c .p .j) (c .p .joined) (marking w) (c .left))
 
   consistent-is : full-readings-by (marking w) (c .p .j) ≡ consistent (c .p .d) (c .p .e)
   consistent-is = inputs-are (λ a b. full-readings-by (marking w) (c .p .j) ≡ consistent a b)
-      (engine.full-consistent (c .p .inputs .a) (c .p .inputs .b) (first-can n (c .t) (c .p)) (second-can n (c .t) (c .p))
+      (engine.full-consistent (c .p .inputs .first .d) (c .p .inputs .second .d) (first-can n (c .t) (c .p)) (second-can n (c .t) (c .p))
       (first-proper n (c .t) (c .p)) (second-proper n (c .t) (c .p)) (first-distinct n (c .t) (c .p)) (second-distinct n (c .t) (c .p))
       (both-apart n (c .t) (c .p)) (c .p .j) (c .p .joined) (marking w) (c .left))
 
@@ -56,7 +56,7 @@ module _ (n k : ℕ) (w : List ℕ) (r : Fully) (w' : List ℕ) (u : Fulls n k w
   module _ (q : Desc) (is : quick (c .p .d) (c .p .e) ≡ some q) where
     limit-is : ltb choice-limit (count-at choice-stop (marking w) (c .p .j)) ≡ ltb choice-limit (number q)
     limit-is =
-        engine.over-limit-at (c .p .inputs .a) (c .p .inputs .b) (first-can n (c .t) (c .p)) (second-can n (c .t) (c .p))
+        engine.over-limit-at (c .p .inputs .first .d) (c .p .inputs .second .d) (first-can n (c .t) (c .p)) (second-can n (c .t) (c .p))
         (first-proper n (c .t) (c .p)) (second-proper n (c .t) (c .p)) (first-distinct n (c .t) (c .p))
         (second-distinct n (c .t) (c .p)) (both-apart n (c .t) (c .p)) (c .p .j) (c .p .joined) (marking w) (c .left) q
         (ap₂ {C = Option Desc} quick (strip-first n (c .t) (c .p)) (strip-second n (c .t) (c .p)) ∙ is)

@@ -5,7 +5,7 @@ use mathlib.Core.Path.{_≡_}
 use mathlib.Core.List.{List, _++_}
 use lib.ListN.{length, getD}
 use Rattle.theory.specs.Net.{Clash}
-use Rattle.area.specs.Map.{WORDS, SECOND, SIZE}
+use Rattle.area.specs.Map.{WORDS, SIZE}
 use Rattle.area.specs.Region.{words}
 use Rattle.loading.specs.Entry.{Entry, graphs}
 use Rattle.marks.specs.Marked.{marking}
@@ -13,7 +13,7 @@ use Rattle.engine.specs.Marks.{Marking}
 use Rattle.classes.specs.Holds.{Holds, Undoable}
 use Rattle.classes.specs.declared.push.Pushed.{Pushed}
 use Rattle.classes.specs.declared.push.Pushed.the-variants.{In, Clashed}
-use Rattle.entering.specs.Taken.{taken}
+use Rattle.entering.specs.Taken.{taken-of}
 use Rattle.entering.specs.Inputs.{Inputs}
 
 -- both inputs stand loaded, and what is pushed can be taken back
@@ -26,7 +26,7 @@ pub record Restarting (n k : ℕ) (w : List ℕ) : Type 0 where
 
 -- all that is certain in both, where the marks are m
 abbrev pub certain-both : {n : ℕ} {t : List ℕ} → Inputs n t → Marking → List Entry
-certain-both {n} {t} i m = taken t m 0 0 (i .a) (i .end-a) (i .half) (i .at-a) ++ taken t m SECOND (i .half) (i .b) (i .end-b) n (i .at-b)
+certain-both {n} {t} i m = taken-of m (i .first) ++ taken-of m (i .second)
 
 -- all of it is pushed and can be taken back, or it clashes
 pub record Restarts (n k : ℕ) (w : List ℕ) (r : Pushed) (w' : List ℕ) : Type 0 where
