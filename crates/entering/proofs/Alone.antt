@@ -24,17 +24,18 @@ module _ (n k : ℕ) (w : List ℕ) (p count left : ℕ) (c : Alternating n k w 
 
     pub inner : Entering n k w first left
     inner = record {
+      es = c .es;
       s = c .s;
       lies = lying-more (c .lies .low) (lone .lies);
       among = lone .among;
-      free = free-narrow (c .lies .from) (c .lies .to) (lone .lies .from) (lone .lies .to) (c .s .es) (lone .low) (lone .lies .low)
+      free = free-narrow (c .lies .from) (c .lies .to) (lone .lies .from) (lone .lies .to) (c .es) (lone .low) (lone .lies .low)
           (c .free);
     }
 
     pub inner-entered : entered inner ≡ settled c
     unfolding inner
-    inner-entered = ap (λ (l : List Entry). c .s .es ++ l) (sym (lone .same))
+    inner-entered = ap (λ (l : List Entry). c .es ++ l) (sym (lone .same))
 
-    pub inner-es : inner .s .es ≡ c .s .es
+    pub inner-es : inner .es ≡ c .es
     unfolding inner
     inner-es = refl

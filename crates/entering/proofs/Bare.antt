@@ -37,7 +37,7 @@ module _ (n k : ℕ) (w : List ℕ) (g left : ℕ) (c : Entering n k w g left) w
     len = refl;
     rest = λ j h. refl;
     inside = λ j y. let x : _≡_ {A = ℕ} 0 1 = cc in absurd (omega arith);
-    clashed = λ y. ((since-refl n (c .s .es) k w (c .s .holds), refl), λ es e i h d. (s .clashes refl es e i h d, h));
+    clashed = λ y. ((since-refl n (c .es) k w (c .s .holds), refl), λ es e i h d. (s .clashes refl es e i h d, h));
   }) refl
 
   module _ (none : disjunctions-at w (tail-at w g) ≡ 0) where
@@ -45,14 +45,14 @@ module _ (n k : ℕ) (w : List ℕ) (g left : ℕ) (c : Entering n k w g left) w
     read = readable w (c .s .holds .long) (c .s .loaded) (c .s .ground .few) (c .lies)
 
     -- the description is its graph
-    pub bare-one : (K : Graph) × ((c .lies .d ≡ place K stop) × (Guesses n k w g Agrees → Agree (graphs (c .s .es) ++ K ∷ [])))
+    pub bare-one : (K : Graph) × ((c .lies .d ≡ place K stop) × (Guesses n k w g Agrees → Agree (graphs (c .es) ++ K ∷ [])))
     bare-one = go (c .lies .d) (c .lies .at) (read .lies .at) (c .among) refl
       where
         go : (d : Placed) (at : Here (c .lies) d) → Here (read .lies) d →
             AmongHere (c .s .U) (c .lies) d at → c .lies .d ≡ d →
-            (K : Graph) × ((c .lies .d ≡ place K stop) × (Guesses n k w g Agrees → Agree (graphs (c .s .es) ++ K ∷ [])))
+            (K : Graph) × ((c .lies .d ≡ place K stop) × (Guesses n k w g Agrees → Agree (graphs (c .es) ++ K ∷ [])))
         go (place K stop) at here u e =
-            (K, (e, λ s. s .agrees refl (c .s .es) (entry g (c .lies .from) K) refl (c .s .holds) (own-comes n k w g left c K stop at u)))
+            (K, (e, λ s. s .agrees refl (c .es) (entry g (c .lies .from) K) refl (c .s .holds) (own-comes n k w g left c K stop at u)))
         go (place K (a also ds)) at here u e =
             let t = tail-of read K (a also ds) here in
             let m : disjunctions-at w (g + extent K) ≡ places (a also ds) = disjunctions-of read K (a also ds) here in
@@ -61,7 +61,7 @@ module _ (n k : ℕ) (w : List ℕ) (g left : ℕ) (c : Entering n k w g left) w
 
     -- it agrees
     module _ (s : Guesses n k w g Agrees) where
-      pub bare-good : agree (graphs (c .s .es) ++ bare-one .0 ∷ []) ≡ true
-      bare-good = agrees-true (graphs (c .s .es) ++ bare-one .0 ∷ [])
-          (subst (λ (d : Placed). Fine (graphs (c .s .es) ++ flat (strip (keep (marking w) d)))) (bare-one .1 .0) (fine n k w g left c))
+      pub bare-good : agree (graphs (c .es) ++ bare-one .0 ∷ []) ≡ true
+      bare-good = agrees-true (graphs (c .es) ++ bare-one .0 ∷ [])
+          (subst (λ (d : Placed). Fine (graphs (c .es) ++ flat (strip (keep (marking w) d)))) (bare-one .1 .0) (fine n k w g left c))
           (bare-one .1 .1 s)

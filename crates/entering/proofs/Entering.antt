@@ -73,10 +73,10 @@ module _ (n k : ℕ) (w : List ℕ) (g left : ℕ) (c : Entering n k w g left) w
 
   -- ---- the description's own graph
   pub own-comes : (K : Graph) (ds : Places) (at : Here (c .lies) (place K ds)) →
-      AmongHere (c .s .U) (c .lies) (place K ds) at → Comes n (c .s .es) (entry g (c .lies .from) K) w
+      AmongHere (c .s .U) (c .lies) (place K ds) at → Comes n (c .es) (entry g (c .lies .from) K) w
   own-comes K ds at u =
       let more = at-bounds (c .s .t) (place K ds) g (c .lies .from) (c .lies .end) (c .lies .to) at .2 in
-      c .s .ground .comes w (c .s .es) k (c .s .loaded) (c .s .holds) (c .s .inside) (entry g (c .lies .from) K) (u .0)
+      c .s .ground .comes w (c .es) k (c .s .loaded) (c .s .holds) (c .s .inside) (entry g (c .lies .from) K) (u .0)
       (λ o i q. ⊎-elim (λ b. omega arith) (λ b. omega arith) (c .free o i))
 
   pub asks-own : Pushing n k w g
@@ -84,10 +84,10 @@ module _ (n k : ℕ) (w : List ℕ) (g left : ℕ) (c : Entering n k w g left) w
     where
       go : (d : Placed) (at : Here (c .lies) d) → AmongHere (c .s .U) (c .lies) d at →
           Pushing n k w g
-      go (place K ds) at u = record { es = c .s .es; e = entry g (c .lies .from) K; is = refl; holds = c .s .holds; comes = own-comes K ds at u }
+      go (place K ds) at u = record { es = c .es; e = entry g (c .lies .from) K; is = refl; holds = c .s .holds; comes = own-comes K ds at u }
 
   inside-all : Inside (c .s .U) (entered c)
-  inside-all = inside-append (c .s .U) (c .s .es) (taken-of (marking w) (c .lies)) (c .s .inside)
+  inside-all = inside-append (c .s .U) (c .es) (taken-of (marking w) (c .lies)) (c .s .inside)
       (inside-of (marking w) (c .lies) (c .s .U) (c .among))
 
   -- ---- `more` disjunctions are left, from `at` on; before them some graphs were pushed
@@ -126,7 +126,7 @@ module _ (n k : ℕ) (w : List ℕ) (g left : ℕ) (c : Entering n k w g left) w
       where
         go : (d : Placed) (at : Here (c .lies) d) → Here (read₁ .lies) d →
             AmongHere (c .s .U) (c .lies) d at → Nests d left →
-            entered c ≡ c .s .es ++ taken-here (marking w) (c .lies) d at → Walking more (e + 1) log w₁
+            entered c ≡ c .es ++ taken-here (marking w) (c .lies) d at → Walking more (e + 1) log w₁
         go (place K ds) at here s nests same =
             let own = entry g (c .lies .from) K in
             let tail : e ≡ g + extent K = f ∙ tail-of read₁ K ds here in
@@ -139,16 +139,16 @@ module _ (n k : ℕ) (w : List ℕ) (g left : ℕ) (c : Entering n k w g left) w
               many = sym (h ∙ ap (disjunctions-at w₁) tail ∙ disjunctions-of read₁ K ds here);
               nests = nests;
               among = s .1;
-              es = c .s .es ++ own ∷ [];
-              holds = u .inside log z .1 (c .s .es) own refl (c .s .holds) (own-comes K ds at s);
-              inside = inside-append (c .s .U) (c .s .es) (own ∷ []) (c .s .inside)
+              es = c .es ++ own ∷ [];
+              holds = u .inside log z .1 (c .es) own refl (c .s .holds) (own-comes K ds at s);
+              inside = inside-append (c .s .U) (c .es) (own ∷ []) (c .s .inside)
                   (λ o i. ⊎-elim (λ q. subst (λ (x : Entry). List·Memᴰ x (c .s .U)) (sym q) (s .0)) (λ j. absurd (List·Memᴰ·not-nil j))
                   (List·Memᴰ·cases-cons i));
-              free = free-append (c .lies .from + length K) (c .lies .to) (c .s .es) (own ∷ [])
-                  (free-narrow (c .lies .from) (c .lies .to) (c .lies .from + length K) (c .lies .to) (c .s .es) (omega arith) (omega arith) (c .free))
+              free = free-append (c .lies .from + length K) (c .lies .to) (c .es) (own ∷ [])
+                  (free-narrow (c .lies .from) (c .lies .to) (c .lies .from + length K) (c .lies .to) (c .es) (omega arith) (omega arith) (c .free))
                   (λ o i. ⊎-elim (λ q. let v : o .number ≡ c .lies .from = ap (λ (x : Entry). x .number) q in
                   inl (omega arith)) (λ j. absurd (List·Memᴰ·not-nil j)) (List·Memᴰ·cases-cons i));
-              total = same ∙ sym (append-assoc (c .s .es) (own ∷ [])
+              total = same ∙ sym (append-assoc (c .es) (own ∷ [])
                   (taken-rest (marking w) (c .lies) (g + extent K + 1) (c .lies .from + length K) ds (at .6)));
             })
 
@@ -228,6 +228,7 @@ module _ (n k : ℕ) (w : List ℕ) (g left : ℕ) (c : Entering n k w g left) w
         these =
             let x = next h in
             record {
+              es = v .es;
               s = record {
                 t = c .s .t;
                 loaded = loaded₁;
@@ -235,7 +236,6 @@ module _ (n k : ℕ) (w : List ℕ) (g left : ℕ) (c : Entering n k w g left) w
                 marks = refl;
                 U = c .s .U;
                 ground = c .s .ground;
-                es = v .es;
                 holds = v .holds;
                 inside = v .inside;
               };
@@ -347,15 +347,15 @@ enters-own n k w g left o w₁ u z = record {
   where
     own-clash : (c : Entering n k w g left) (d : Placed) (at : Here (c .lies) d) →
         AmongHere (c .s .U) (c .lies) d at →
-        entered c ≡ c .s .es ++ taken-here (marking w) (c .lies) d at → Clash (graphs (entered c)) × Holds n (c .s .es) k w₁
+        entered c ≡ c .es ++ taken-here (marking w) (c .lies) d at → Clash (graphs (entered c)) × Holds n (c .es) k w₁
     own-clash c (place K ds) at s same =
         let own = entry g (c .lies .from) K in
-        let told = u .clashed z .1 (c .s .es) own refl (c .s .holds) (own-comes n k w g left c K ds at s) in
+        let told = u .clashed z .1 (c .es) own refl (c .s .holds) (own-comes n k w g left c K ds at s) in
         let rest = taken-rest (marking w) (c .lies) (g + extent K + 1) (c .lies .from + length K) ds (at .6) in
-        let all : entered c ≡ (c .s .es ++ own ∷ []) ++ rest = same ∙ sym (append-assoc (c .s .es) (own ∷ []) rest) in
-        let first = subst Clash (sym (graphs-append (c .s .es) (own ∷ []))) (told .0) in (
+        let all : entered c ≡ (c .es ++ own ∷ []) ++ rest = same ∙ sym (append-assoc (c .es) (own ∷ []) rest) in
+        let first = subst Clash (sym (graphs-append (c .es) (own ∷ []))) (told .0) in (
           subst (λ (l : List Entry). Clash (graphs l)) (sym all)
-              (clash-more n (c .s .t) (c .s .U) (c .s .es ++ own ∷ []) rest (c .s .ground) (subst (Inside (c .s .U)) all (inside-all n k w g left c)) first),
+              (clash-more n (c .s .t) (c .s .U) (c .es ++ own ∷ []) rest (c .s .ground) (subst (Inside (c .s .U)) all (inside-all n k w g left c)) first),
           told .1,
         )
 

@@ -26,8 +26,8 @@ pub moved-words : (k : ℕ) (w : List ℕ) (k' : ℕ) (w' : List ℕ) → 16384 
 moved-words k w k' w' room m = words-same w w' room (m .len) (λ j a b. m .since .same j a b)
 
 -- the same graphs are pushed over the same words
-abbrev pub footing-as : {n k k' : ℕ} {w : List ℕ} (s : Footing n k w) (v : List ℕ) → words v ≡ words w → Holds n (s .es) k' v →
-    Footing n k' v
+abbrev pub footing-as : {n k k' : ℕ} {w : List ℕ} {es : List Entry} → Footing n k w es → (v : List ℕ) → words v ≡ words w →
+    Holds n es k' v → Footing n k' v es
 footing-as s v e h = record {
   t = s .t;
   loaded = e ∙ s .loaded;
@@ -35,13 +35,12 @@ footing-as s v e h = record {
   marks = refl;
   U = s .U;
   ground = s .ground;
-  es = s .es;
   holds = h;
   inside = s .inside;
 }
 
 -- where both inputs stand loaded and what is certain in them is pushed
-abbrev pub stands-on : {n k : ℕ} {t w : List ℕ} {es : List Entry} (i : Inputs n t) → Ready n t i k w es → Footing n k w
+abbrev pub stands-on : {n k : ℕ} {t w : List ℕ} {es : List Entry} (i : Inputs n t) → Ready n t i k w es → Footing n k w es
 stands-on {n} {k} {t} {w} {es} i r = record {
   t = t;
   loaded = r .loaded;
@@ -49,7 +48,6 @@ stands-on {n} {k} {t} {w} {es} i r = record {
   marks = refl;
   U = i .U;
   ground = i .ground;
-  es = es;
   holds = r .holds;
   inside = r .inside;
 }

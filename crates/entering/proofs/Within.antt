@@ -34,23 +34,23 @@ module _ (n k : ℕ) (w : List ℕ) (g left : ℕ) where
         let s = reads (readable w (c .s .holds .long) (c .s .loaded) (c .s .ground .few) (c .lies)) in
         (s .here, s .inside)
 
-    pub entered-graphs : graphs (entered c) ≡ graphs (c .s .es) ++ flat (strip (keep (marking w) (c .lies .d)))
-    entered-graphs = graphs-append (c .s .es) list
-        ∙ ap (λ (l : List Graph). graphs (c .s .es) ++ l) (flat-of (marking w) (c .lies))
+    pub entered-graphs : graphs (entered c) ≡ graphs (c .es) ++ flat (strip (keep (marking w) (c .lies .d)))
+    entered-graphs = graphs-append (c .es) list
+        ∙ ap (λ (l : List Graph). graphs (c .es) ++ l) (flat-of (marking w) (c .lies))
 
     pub entered-inside : Inside (c .s .U) (entered c)
-    entered-inside = inside-append (c .s .U) (c .s .es) list (c .s .inside)
+    entered-inside = inside-append (c .s .U) (c .es) list (c .s .inside)
         (inside-of (marking w) (c .lies) (c .s .U) (c .among))
 
-    pub fine : Fine (graphs (c .s .es) ++ flat (strip (keep (marking w) (c .lies .d))))
+    pub fine : Fine (graphs (c .es) ++ flat (strip (keep (marking w) (c .lies .d))))
     fine =
         let some = some-of (marking w) (c .lies) in
         subst Fine entered-graphs (
-          (rw (graphs-append (c .s .es) list) (simp length-append (omega arith))),
+          (rw (graphs-append (c .es) list) (simp length-append (omega arith))),
           canonical-all n (c .s .t) (c .s .U) (entered c) (c .s .ground) entered-inside,
         )
 
     -- the stack is clear in it
     pub entered-clear : ClearOf (entered c) (marking w) (c .lies)
     entered-clear = clear-of (marking w) (entered c) (c .lies)
-        (λ o i. ⊎-elim (λ j. inl (c .free o j)) (λ j. inr j) (List·Memᴰ·append-cases (c .s .es) i))
+        (λ o i. ⊎-elim (λ j. inl (c .free o j)) (λ j. inr j) (List·Memᴰ·append-cases (c .es) i))

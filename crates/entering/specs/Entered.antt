@@ -17,18 +17,19 @@ use Rattle.entering.specs.Footing.{Footing}
 
 -- a description stands loaded at g of which no graph is pushed
 pub record Entering (n k : ℕ) (w : List ℕ) (g left : ℕ) : Type 0 where
-  pub s : Footing n k w
+  pub es : List Entry
+  pub s : Footing n k w es
   pub lies : Lying n (s .t) g left
   pub among : AmongOf (s .U) lies
-  pub free : FreeOf lies (s .es)
+  pub free : FreeOf lies es
 
 -- the graphs that are pushed after
 abbrev pub entered : {n k : ℕ} {w : List ℕ} {g left : ℕ} → Entering n k w g left → List Entry
-entered {n} {k} {w} {g} {left} c = c .s .es ++ taken-of (marking w) (c .lies)
+entered {n} {k} {w} {g} {left} c = c .es ++ taken-of (marking w) (c .lies)
 
 -- all are pushed; or they clash, and all is as it was
 pub record Enters (n k : ℕ) (w : List ℕ) (g left : ℕ) (r : Pushed) (w' : List ℕ) : Type 0 where
   pub len : length w' ≡ length w
   pub rest : (j : ℕ) → WORDS ≤ j → getD w' j 0 ≡ getD w j 0
   pub pushed : (k' : ℕ) → r ≡ In k' → Since k w k' w' × ((c : Entering n k w g left) → Holds n (entered c) k' w')
-  pub clashed : r ≡ Clashed → Since k w k w' × ((c : Entering n k w g left) → Clash (graphs (entered c)) × Holds n (c .s .es) k w')
+  pub clashed : r ≡ Clashed → Since k w k w' × ((c : Entering n k w g left) → Clash (graphs (entered c)) × Holds n (c .es) k w')

@@ -12,13 +12,12 @@ use Rattle.entering.specs.Taken.{Inside}
 use Rattle.entering.specs.Ground.{Ground}
 
 -- the words t are loaded, in which the graphs U lie, the marks are m, and the graphs es, all of U, are pushed
-pub record Footing (n k : ℕ) (w : List ℕ) : Type 0 where
+pub record Footing (n k : ℕ) (w : List ℕ) (es : List Entry) : Type 0 where
   pub t : List ℕ
   pub loaded : words w ≡ t
   pub m : Marking
   pub marks : marking w ≡ m
   pub U : List Entry
   pub ground : Ground n t U
-  pub es : List Entry
   pub holds : Holds n es k w
   pub inside : Inside U es

@@ -17,14 +17,15 @@ use Rattle.entering.specs.Footing.{Footing}
 
 -- `count` alternatives stand loaded from p on of which no graph is pushed
 pub record Alternating (n k : ℕ) (w : List ℕ) (p count left : ℕ) : Type 0 where
-  pub s : Footing n k w
+  pub es : List Entry
+  pub s : Footing n k w es
   pub lies : LyingAny n (s .t) p count left
   pub among : AmongAnyOf (s .U) lies
-  pub free : FreeAnyOf lies (s .es)
+  pub free : FreeAnyOf lies es
 
 -- the graphs that are pushed after
 abbrev pub settled : {n k : ℕ} {w : List ℕ} {p count left : ℕ} → Alternating n k w p count left → List Entry
-settled {n} {k} {w} {p} {count} {left} c = c .s .es ++ taken-any-of (marking w) (c .lies)
+settled {n} {k} {w} {p} {count} {left} c = c .es ++ taken-any-of (marking w) (c .lies)
 
 -- "A disjunction with none left fails the description. One with exactly one left is folded": engine's `settle-at`
 pub record Settles (n k : ℕ) (w : List ℕ) (p count left : ℕ) (r : Pushed) (w' : List ℕ) : Type 0 where
@@ -32,6 +33,6 @@ pub record Settles (n k : ℕ) (w : List ℕ) (p count left : ℕ) (r : Pushed) 
   pub rest : (j : ℕ) → WORDS ≤ j → getD w' j 0 ≡ getD w j 0
   pub pushed : (k' : ℕ) → r ≡ In k' → Since k w k' w'
       × ((c : Alternating n k w p count left) →
-      Holds n (settled c) k' w' × (settle-at (graphs (c .s .es)) (marking w) (c .lies .a) ≡ stands (graphs (settled c)) (marking w)))
+      Holds n (settled c) k' w' × (settle-at (graphs (c .es)) (marking w) (c .lies .a) ≡ stands (graphs (settled c)) (marking w)))
   pub clashed : r ≡ Clashed → Since k w k w'
-      × ((c : Alternating n k w p count left) → Holds n (c .s .es) k w' × (settle-at (graphs (c .s .es)) (marking w) (c .lies .a) ≡ fails (marking w)))
+      × ((c : Alternating n k w p count left) → Holds n (c .es) k w' × (settle-at (graphs (c .es)) (marking w) (c .lies .a) ≡ fails (marking w)))

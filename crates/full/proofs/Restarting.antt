@@ -55,6 +55,7 @@ module _ (n k : ℕ) (w w₁ : List ℕ) (s : Backs 0 k w w₁) where
 
     abbrev first : Entering n 0 w₁ 0 depth-limit
     first = record {
+      es = [];
       s = record {
         t = c .t;
         loaded = loaded₁;
@@ -62,7 +63,6 @@ module _ (n k : ℕ) (w w₁ : List ℕ) (s : Backs 0 k w w₁) where
         marks = refl;
         U = c .inputs .U;
         ground = c .inputs .ground;
-        es = [];
         holds = empty;
         inside = λ o i. absurd (List·Memᴰ·not-nil i);
       };
@@ -101,6 +101,7 @@ module _ (n k : ℕ) (w w₁ : List ℕ) (s : Backs 0 k w w₁) where
 
         abbrev second : Entering n j w₂ SECOND depth-limit
         second = record {
+          es = one c;
           s = record {
             t = c .t;
             loaded = loaded₂;
@@ -108,7 +109,6 @@ module _ (n k : ℕ) (w w₁ : List ℕ) (s : Backs 0 k w w₁) where
             marks = refl;
             U = c .inputs .U;
             ground = c .inputs .ground;
-            es = one c;
             holds = subst (λ (l : List Entry). Holds n l j w₂) (first-is c) (u .pushed j z .1 (first c));
             inside = inside-of (marking w) (c .inputs .first) (c .inputs .U) (c .inputs .among-first);
           };

@@ -44,9 +44,9 @@ module _ (n k : ℕ) (w : List ℕ) (p count left : ℕ) where
     chooses-none c₀ z = record {
       standing = λ j i y. let x : _≡_ {A = ℕ} 0 1 = cc in absurd (omega arith);
       failing = λ y. (
-        record { len = refl; rest = λ j h. refl; since = since-refl n (c₀ .s .es) k w (c₀ .s .holds) },
+        record { len = refl; rest = λ j h. refl; since = since-refl n (c₀ .es) k w (c₀ .s .holds) },
         omega arith,
-        λ c. record { holds' = c .s .holds; off = λ y h. refl; is = any-none (graphs (c .s .es)) (marking w) (c .lies .a) (kept-is c ∙ z) },
+        λ c. record { holds' = c .s .holds; off = λ y h. refl; is = any-none (graphs (c .es)) (marking w) (c .lies .a) (kept-is c ∙ z) },
       );
     }
 
@@ -57,11 +57,12 @@ module _ (n k : ℕ) (w : List ℕ) (p count left : ℕ) where
 
       abbrev goes : Choosing n k w p count left → Narrowing n k w first left
       goes c = record {
+        es = c .es;
         s = c .s;
         lies = lying-more (c .lies .low) (lone c .lies);
         among = lone c .among;
-        clear = lone c .opens (c .s .es) (subst
-            (λ (j : ℕ). ByCount j (ClearLoneOf (c .s .es) (marking w) (c .lies)) (FreeAnyOf (c .lies) (c .s .es))) (kept-is c ∙ one)
+        clear = lone c .opens (c .es) (subst
+            (λ (j : ℕ). ByCount j (ClearLoneOf (c .es) (marking w) (c .lies)) (FreeAnyOf (c .lies) (c .es))) (kept-is c ∙ one)
             (c .clear));
       }
 
@@ -92,7 +93,7 @@ module _ (n k : ℕ) (w : List ℕ) (p count left : ℕ) where
                 clear' = subst (λ (j : ℕ). ByCount j (ClearLoneOf (told .es') (marking w') (c .lies))
                     (FreeAnyOf (c .lies) (told .es'))) (sym (back .0)) (back .1);
                 off = λ y h. told .off y (⊎-elim (λ u. inl (omega arith)) (λ u. inr (omega arith)) h);
-                is = lone c .any (graphs (c .s .es)) ∙ told .is;
+                is = lone c .any (graphs (c .es)) ∙ told .is;
               },
         );
         failing = λ y. let f = v .failing y in (
@@ -105,26 +106,26 @@ module _ (n k : ℕ) (w : List ℕ) (p count left : ℕ) where
               record {
                 holds' = told .holds';
                 off = λ y h. told .off y (⊎-elim (λ u. inl (omega arith)) (λ u. inr (omega arith)) h);
-                is = lone c .any (graphs (c .s .es)) ∙ told .is;
+                is = lone c .any (graphs (c .es)) ∙ told .is;
               },
         );
       }
 
     -- ---- several
     module _ (more : 1 < kept) where
-      free : (c : Choosing n k w p count left) → FreeAnyOf (c .lies) (c .s .es)
+      free : (c : Choosing n k w p count left) → FreeAnyOf (c .lies) (c .es)
       free c = go (kept-of (marking w) (c .lies .a)) (kept-is c) (c .clear)
         where
-          go : (j : ℕ) → j ≡ kept → ByCount j (ClearLoneOf (c .s .es) (marking w) (c .lies))
-              (FreeAnyOf (c .lies) (c .s .es)) → FreeAnyOf (c .lies) (c .s .es)
+          go : (j : ℕ) → j ≡ kept → ByCount j (ClearLoneOf (c .es) (marking w) (c .lies))
+              (FreeAnyOf (c .lies) (c .es)) → FreeAnyOf (c .lies) (c .es)
           go zero e x = absurd (omega arith)
           go (suc zero) e x = absurd (omega arith)
           go (suc (suc l)) e x = x
 
       -- where the graphs are still those of c
-      abbrev these : (c : Choosing n k w p count left) (v : List ℕ) → words v ≡ words w → Holds n (c .s .es) k v →
+      abbrev these : (c : Choosing n k w p count left) (v : List ℕ) → words v ≡ words w → Holds n (c .es) k v →
           Alternating n k v p count left
-      these c v e h = record { s = footing-as (c .s) v e h; lies = c .lies; among = c .among; free = free c }
+      these c v e h = record { es = c .es; s = footing-as (c .s) v e h; lies = c .lies; among = c .among; free = free c }
 
       pub asks-sift : Choosing n k w p count left → Alternating n k w p count left
       asks-sift c = these c w refl (c .s .holds)
@@ -140,16 +141,16 @@ module _ (n k : ℕ) (w : List ℕ) (p count left : ℕ) where
         asks-settle = after-sift c₀
 
         sifts : (c : Choosing n k w p count left) →
-            any-at (graphs (c .s .es)) (marking w) (c .lies .a) ≡ settle-at (graphs (c .s .es)) (marking w₁) (c .lies .a)
+            any-at (graphs (c .es)) (marking w) (c .lies .a) ≡ settle-at (graphs (c .es)) (marking w₁) (c .lies .a)
         sifts c = go (kept-of (marking w) (c .lies .a)) refl (kept-is c)
           where
             go : (j : ℕ) → kept-of (marking w) (c .lies .a) ≡ j → kept-of (marking w) (c .lies .a) ≡ kept →
-                any-at (graphs (c .s .es)) (marking w) (c .lies .a) ≡ settle-at (graphs (c .s .es)) (marking w₁) (c .lies .a)
+                any-at (graphs (c .es)) (marking w) (c .lies .a) ≡ settle-at (graphs (c .es)) (marking w₁) (c .lies .a)
             go zero e f = absurd (omega arith)
             go (suc zero) e f = absurd (omega arith)
-            go (suc (suc l)) e f = any-several (graphs (c .s .es)) (marking w) (c .lies .a)
+            go (suc (suc l)) e f = any-several (graphs (c .es)) (marking w) (c .lies .a)
                 (any-distinct-of (c .lies)) l e
-                ∙ ap (λ (m : Marking). settle-at (graphs (c .s .es)) m (c .lies .a)) (s .sifted (these c w refl (c .s .holds)) .is)
+                ∙ ap (λ (m : Marking). settle-at (graphs (c .es)) m (c .lies .a)) (s .sifted (these c w refl (c .s .holds)) .is)
 
         -- nothing was dropped, and several stay
         pub chooses-still : drops ≡ 0 → Chooses n k w p count left (Stands k 0) w₁
@@ -173,19 +174,19 @@ module _ (n k : ℕ) (w : List ℕ) (p count left : ℕ) where
             stood c =
                 let told = s .sifted (these c w refl (c .s .holds)) in
                 record {
-                  es' = c .s .es;
+                  es' = c .es;
                   stood = record { holds = told .holds'; inside = c .s .inside; old = λ o i. i; fresh = λ o i. inl i };
-                  clear' = subst (λ (m : Marking). ClearAnyOf (c .s .es) m (c .lies)) (sym marks₁)
+                  clear' = subst (λ (m : Marking). ClearAnyOf (c .es) m (c .lies)) (sym marks₁)
                       (c .clear);
                   off = told .off;
                   is = sifts c ∙ go (kept-of (marking w₁) (c .lies .a)) refl (ap (λ (m : Marking). kept-of m (c .lies .a)) marks₁ ∙ kept-is c);
                 }
               where
                 go : (j : ℕ) → kept-of (marking w₁) (c .lies .a) ≡ j → kept-of (marking w₁) (c .lies .a) ≡ kept →
-                    settle-at (graphs (c .s .es)) (marking w₁) (c .lies .a) ≡ stands (graphs (c .s .es)) (marking w₁)
+                    settle-at (graphs (c .es)) (marking w₁) (c .lies .a) ≡ stands (graphs (c .es)) (marking w₁)
                 go zero e f = absurd (omega arith)
                 go (suc zero) e f = absurd (omega arith)
-                go (suc (suc l)) e f = settle-several (graphs (c .s .es)) (marking w₁) (c .lies .a) l e
+                go (suc (suc l)) e f = settle-several (graphs (c .es)) (marking w₁) (c .lies .a) l e
 
         module _ (r : Pushed) (w₂ : List ℕ) (u : Settles n k w₁ p count left r w₂) where
           marks₂ : marking w₂ ≡ marking w₁
@@ -237,10 +238,10 @@ module _ (n k : ℕ) (w : List ℕ) (p count left : ℕ) where
                       old = λ o i. Memᴰ·append-left list i;
                       fresh = λ o i. ⊎-elim (λ a. inl a)
                           (λ b. inr (any-between-of (marking w₁) (c .lies) o b))
-                          (List·Memᴰ·append-cases (c .s .es) i);
+                          (List·Memᴰ·append-cases (c .es) i);
                     };
                     clear' = subst (λ (m : Marking). ClearAnyOf (settled (after-sift c)) m (c .lies))
-                        (sym marks₂) (clear-any-of (marking w₁) (settled (after-sift c)) (c .lies) (λ o i. ⊎-elim (λ a. inl (free c o a)) (λ b. inr b) (List·Memᴰ·append-cases (c .s .es) i)));
+                        (sym marks₂) (clear-any-of (marking w₁) (settled (after-sift c)) (c .lies) (λ o i. ⊎-elim (λ a. inl (free c o a)) (λ b. inr b) (List·Memᴰ·append-cases (c .es) i)));
                     off = off₂ c;
                     is = sifts c ∙ told .1 ∙ ap (λ (m : Marking). stands (graphs (settled (after-sift c))) m) (sym marks₂);
                   }

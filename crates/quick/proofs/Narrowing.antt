@@ -59,13 +59,13 @@ module _ (n k : ℕ) (w : List ℕ) (g left : ℕ) where
     pub among : AmongRest (c .s .U) (c .lies) at l ds stand
     pub above : c .lies .from + 1 ≤ l
     pub es₁ : List Entry
-    pub stood : Stood n (c .s .U) (c .s .es) (c .lies .from + 1) (c .lies .to) log w₁ es₁
+    pub stood : Stood n (c .s .U) (c .es) (c .lies .from + 1) (c .lies .to) log w₁ es₁
     pub ahead : ClearRest es₁ (marking w₁) (c .lies) at l ds stand
     pub behind : (E : List Entry) (K : Marking) → Alike (marking w₁) K (c .lies .from + 1) l →
         ((o : Entry) → List·Memᴰ o E → List·Memᴰ o es₁ ⊎ Outside (c .lies .from + 1) l (o .number)) →
         ClearRest E K (c .lies) at l ds stand → ClearOf E K (c .lies)
     pub off : Off (c .lies .from + 1) (c .lies .to) (marking w) (marking w₁)
-    pub is : inside-at (graphs (c .s .es)) (marking w) (c .lies .d) ≡ narrow-at (graphs es₁) (marking w₁) ds
+    pub is : inside-at (graphs (c .es)) (marking w) (c .lies .d) ≡ narrow-at (graphs es₁) (marking w₁) ds
 
   module _ (c : Narrowing n k w g left) where
     abbrev read : Readable w g left
@@ -79,10 +79,10 @@ module _ (n k : ℕ) (w : List ℕ) (g left : ℕ) where
     some = let b = at-bounds (c .s .t) (c .lies .d) g (c .lies .from) (c .lies .end) (c .lies .to) (c .lies .at) .2 in omega (arith, c .lies .low)
 
     pub narrow-runs : getD w 0 0 ≤ 2048 → Runs w (getD w 0 0)
-    narrow-runs = roots-run n (c .s .es) k w (c .s .holds) some
+    narrow-runs = roots-run n (c .es) k w (c .s .holds) some
 
     pub moved-start : Moved k w k w
-    moved-start = record { len = refl; rest = λ j h. refl; since = since-refl n (c .s .es) k w (c .s .holds) }
+    moved-start = record { len = refl; rest = λ j h. refl; since = since-refl n (c .es) k w (c .s .holds) }
 
     pub narrow-begin : (e more : ℕ) → e ≡ tail-at w g → more ≡ disjunctions-at w e → Going c more (e + 1) k w
     unfolding Rattle.modes_by_marks.specs.Quickly.inside-at
@@ -90,8 +90,8 @@ module _ (n k : ℕ) (w : List ℕ) (g left : ℕ) where
       where
         go : (d : Placed) (at : Here (c .lies) d) → Here (read .lies) d →
             AmongHere (c .s .U) (c .lies) d at → Nests d left →
-            ClearHere (c .s .es) (marking w) (c .lies) d at →
-            inside-at (graphs (c .s .es)) (marking w) (c .lies .d) ≡ inside-at (graphs (c .s .es)) (marking w) d →
+            ClearHere (c .es) (marking w) (c .lies) d at →
+            inside-at (graphs (c .es)) (marking w) (c .lies .d) ≡ inside-at (graphs (c .es)) (marking w) d →
             ((E : List Entry) (K : Marking) → ClearHere E K (c .lies) d at →
             ClearOf E K (c .lies)) → Going c more (e + 1) k w
         go (place G ds) at loaded u nests clear same whole =
@@ -105,7 +105,7 @@ module _ (n k : ℕ) (w : List ℕ) (g left : ℕ) where
               nests = nests;
               among = u .1;
               above = omega arith;
-              es₁ = c .s .es;
+              es₁ = c .es;
               stood = record { holds = c .s .holds; inside = c .s .inside; old = λ o i. i; fresh = λ o i. inl i };
               ahead = clear;
               behind = λ E K a b x. whole E K x;
@@ -126,8 +126,8 @@ module _ (n k : ℕ) (w : List ℕ) (g left : ℕ) where
     }
       where
         go : (ds : Places) → places ds ≡ more →
-            inside-at (graphs (c .s .es)) (marking w) (c .lies .d) ≡ narrow-at (graphs (s .es₁)) (marking w₁) ds →
-            inside-at (graphs (c .s .es)) (marking w) (c .lies .d) ≡ stands (graphs (s .es₁)) (marking w₁)
+            inside-at (graphs (c .es)) (marking w) (c .lies .d) ≡ narrow-at (graphs (s .es₁)) (marking w₁) ds →
+            inside-at (graphs (c .es)) (marking w) (c .lies .d) ≡ stands (graphs (s .es₁)) (marking w₁)
         go stop e f = f
         go (a also ds) e f = absurd (omega arith)
 
@@ -144,7 +144,7 @@ module _ (n k : ℕ) (w : List ℕ) (g left : ℕ) where
         amongst : AmongRest (c .s .U) (c .lies) at (s .l) (a also ds) o
         later : places ds + 1 ≡ more
         clear : ClearRest (s .es₁) (marking w₁) (c .lies) at (s .l) (a also ds) o
-        whole : inside-at (graphs (c .s .es)) (marking w) (c .lies .d) ≡ narrow-at (graphs (s .es₁)) (marking w₁) (a also ds)
+        whole : inside-at (graphs (c .es)) (marking w) (c .lies .d) ≡ narrow-at (graphs (s .es₁)) (marking w₁) (a also ds)
         before : (E : List Entry) (K : Marking) → Alike (marking w₁) K (c .lies .from + 1) (s .l) →
             ((o : Entry) → List·Memᴰ o E → List·Memᴰ o (s .es₁) ⊎ Outside (c .lies .from + 1) (s .l) (o .number)) →
             ClearRest E K (c .lies) at (s .l) (a also ds) o → ClearOf E K (c .lies)
@@ -155,7 +155,7 @@ module _ (n k : ℕ) (w : List ℕ) (g left : ℕ) where
           go : (ds : Places) (o : Rest (c .lies) at (s .l) ds) → places ds ≡ more → NestsAll ds left →
               AmongRest (c .s .U) (c .lies) at (s .l) ds o →
               ClearRest (s .es₁) (marking w₁) (c .lies) at (s .l) ds o →
-              inside-at (graphs (c .s .es)) (marking w) (c .lies .d) ≡ narrow-at (graphs (s .es₁)) (marking w₁) ds →
+              inside-at (graphs (c .es)) (marking w) (c .lies .d) ≡ narrow-at (graphs (s .es₁)) (marking w₁) ds →
               ((E : List Entry) (K : Marking) → Alike (marking w₁) K (c .lies .from + 1) (s .l) →
               ((o : Entry) → List·Memᴰ o E → List·Memᴰ o (s .es₁) ⊎ Outside (c .lies .from + 1) (s .l) (o .number)) →
               ClearRest E K (c .lies) at (s .l) ds o → ClearOf E K (c .lies)) → Next
@@ -178,6 +178,7 @@ module _ (n k : ℕ) (w : List ℕ) (g left : ℕ) where
       module _ (count : ℕ) (e : count ≡ alternatives-at w₁ at) where
         abbrev asks : Choosing n log w₁ (at + 1) count (left - 1)
         asks = record {
+          es = s .es₁;
           s = record {
             t = c .s .t;
             loaded = loaded₁;
@@ -185,7 +186,6 @@ module _ (n k : ℕ) (w : List ℕ) (g left : ℕ) where
             marks = refl;
             U = c .s .U;
             ground = c .s .ground;
-            es = s .es₁;
             holds = s .stood .holds;
             inside = s .stood .inside;
           };
@@ -279,7 +279,7 @@ module _ (n k : ℕ) (w : List ℕ) (g left : ℕ) where
                 let above = s .above in
                 let far = last in
                 record {
-                  holds' = b .holds n (c .s .es) w (c .s .holds) (since-trans k w log w₁ log w₂ (m .since) (f .0 .since));
+                  holds' = b .holds n (c .es) w (c .s .holds) (since-trans k w log w₁ log w₂ (m .since) (f .0 .since));
                   off = λ y h. ap (λ (k : Marking). k y) marks₃ ∙ told .off y (⊎-elim (λ b. inl (omega arith)) (λ b. inr (omega arith)) h)
                       ∙ s .off y h;
                   is = next .whole ∙ narrow-more (graphs (s .es₁)) (marking w₁) (next .a) (next .ds) (fails (marking w₂)) (told .is)

@@ -51,6 +51,7 @@ narrow-both S m (place g ds) (place h es) = narrow-next S m ds es
 module _ (n k : ℕ) (w : List ℕ) where
   abbrev pub first : Passing n k w → Narrowing n k w 0 depth-limit
   first c = record {
+    es = c .es;
     s = stands-on (c .inputs) (c .ready);
     lies = c .inputs .first;
     among = c .inputs .among-first;
@@ -81,6 +82,7 @@ module _ (n k : ℕ) (w : List ℕ) where
 
       abbrev pub second : Passing n k w → Narrowing n j w₁ SECOND depth-limit
       second c = record {
+        es = told c .es';
         s = record {
           t = c .t;
           loaded = moved-words k w j w₁ (c .ready .holds .long) (v .standing j i y .0) ∙ c .ready .loaded;
@@ -88,7 +90,6 @@ module _ (n k : ℕ) (w : List ℕ) where
           marks = refl;
           U = c .inputs .U;
           ground = c .inputs .ground;
-          es = told c .es';
           holds = told c .stood .holds;
           inside = told c .stood .inside;
         };

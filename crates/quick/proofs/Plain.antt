@@ -70,23 +70,23 @@ module _ (n k : ℕ) (w : List ℕ) (g left : ℕ) (c : Entering n k w g left) w
   module _ (none : disjunctions-at w (tail-at w g) ≡ 0) where
     -- it agrees
     module _ (s : Guesses n k w g Agrees) where
-      bare-stays : try-at (graphs (c .s .es)) (marking w) (c .lies .d) ≡ stands (graphs (c .s .es) ++ bare-one n k w g left c none .0 ∷ []) (marking w)
+      bare-stays : try-at (graphs (c .es)) (marking w) (c .lies .d) ≡ stands (graphs (c .es) ++ bare-one n k w g left c none .0 ∷ []) (marking w)
       unfolding Rattle.modes_by_marks.specs.Quickly.try-at
-      bare-stays = ap (try-at (graphs (c .s .es)) (marking w)) (bare-one n k w g left c none .1 .0)
+      bare-stays = ap (try-at (graphs (c .es)) (marking w)) (bare-one n k w g left c none .1 .0)
           ∙ ap (λ (b : Bool). elim b [
             | false ↦ fails (marking w)
-            | true ↦ stands (graphs (c .s .es) ++ bare-one n k w g left c none .0 ∷ []) (marking w)
+            | true ↦ stands (graphs (c .es) ++ bare-one n k w g left c none .0 ∷ []) (marking w)
           ]) (bare-good n k w g left c none s)
 
 pub told-stands : (n k : ℕ) (w : List ℕ) (g left : ℕ) → Entering n k w g left → disjunctions-at w (tail-at w g) ≡ 0 →
     Guesses n k w g Agrees → Tries n k w g left (Stands k 0) w
 told-stands n k w g left c none s = record {
-  moved = record { len = refl; rest = λ j h. refl; since = since-refl n (c .s .es) k w (c .s .holds) };
+  moved = record { len = refl; rest = λ j h. refl; since = since-refl n (c .es) k w (c .s .holds) };
   standing = λ j i y.
       let x : 0 ≡ i = cc in (
         subst (λ (i : ℕ). Fewer i (marking w) (marking w)) x (fewer-none (marking w)),
         λ d. (
-          graphs (d .s .es) ++ bare-one n k w g left d none .0 ∷ [],
+          graphs (d .es) ++ bare-one n k w g left d none .0 ∷ [],
           record { holds' = d .s .holds; off = λ y h. refl; is = bare-stays n k w g left d none s },
         ),
       );

@@ -122,9 +122,9 @@ module _ (n k : ℕ) (w : List ℕ) (p count left : ℕ) where
     pub nests : NestsAny b left
     pub among : AmongRestAny (c .s .U) (c .lies) at l b stand
     pub above : c .lies .from ≤ l
-    pub holds : Holds n (c .s .es) k w₁
+    pub holds : Holds n (c .es) k w₁
     pub off : Off (c .lies .from) (c .lies .to) (marking w) (marking w₁)
-    pub is : sift-at (graphs (c .s .es)) (marking w) (c .lies .a) ≡ sift-at (graphs (c .s .es)) (marking w₁) b
+    pub is : sift-at (graphs (c .es)) (marking w) (c .lies .a) ≡ sift-at (graphs (c .es)) (marking w₁) b
 
   pub sift-start : (c : Alternating n k w p count left) → Sifting c count p w
   sift-start c = record {
@@ -142,15 +142,15 @@ module _ (n k : ℕ) (w : List ℕ) (p count left : ℕ) where
   }
 
   pub moved-none : Alternating n k w p count left → Moved k w k w
-  moved-none c = record { len = refl; rest = λ j h. refl; since = since-refl n (c .s .es) k w (c .s .holds) }
+  moved-none c = record { len = refl; rest = λ j h. refl; since = since-refl n (c .es) k w (c .s .holds) }
 
   pub sift-done : (c : Alternating n k w p count left) (rest at : ℕ) (w₁ : List ℕ) → Sifting c rest at w₁ → rest ≤ 0 →
       Sifted n k w p count left w₁ c
   unfolding Rattle.modes_by_marks.specs.Quickly.sift-at
   sift-done c rest at w₁ s h = record { holds' = s .holds; off = s .off; is = go (s .b) (s .many) (s .is) }
     where
-      go : (b : Options) → options b ≡ rest → sift-at (graphs (c .s .es)) (marking w) (c .lies .a) ≡ sift-at (graphs (c .s .es)) (marking w₁) b →
-          sift-at (graphs (c .s .es)) (marking w) (c .lies .a) ≡ marking w₁
+      go : (b : Options) → options b ≡ rest → sift-at (graphs (c .es)) (marking w) (c .lies .a) ≡ sift-at (graphs (c .es)) (marking w₁) b →
+          sift-at (graphs (c .es)) (marking w) (c .lies .a) ≡ marking w₁
       go no-more e f = f
       go (option x d b) e f = absurd (omega arith)
 
@@ -168,14 +168,14 @@ module _ (n k : ℕ) (w : List ℕ) (p count left : ℕ) where
       nested : NestsAny (option x d a) left
       amongst : AmongRestAny (c .s .U) (c .lies) at (s .l) (option x d a) o
       later : options a + 1 ≡ rest
-      whole : sift-at (graphs (c .s .es)) (marking w) (c .lies .a) ≡ sift-at (graphs (c .s .es)) (marking w₁) (option x d a)
+      whole : sift-at (graphs (c .es)) (marking w) (c .lies .a) ≡ sift-at (graphs (c .es)) (marking w₁) (option x d a)
 
     next : Next
     next = go (s .b) (s .stand) (s .many) (s .nests) (s .among) (s .is)
       where
         go : (b : Options) (o : RestAny (c .lies) at (s .l) b) → options b ≡ rest → NestsAny b left →
             AmongRestAny (c .s .U) (c .lies) at (s .l) b o →
-            sift-at (graphs (c .s .es)) (marking w) (c .lies .a) ≡ sift-at (graphs (c .s .es)) (marking w₁) b → Next
+            sift-at (graphs (c .es)) (marking w) (c .lies .a) ≡ sift-at (graphs (c .es)) (marking w₁) b → Next
         go no-more o e f u q = absurd (omega arith)
         go (option x d a) o e f u q = record { x = x; d = d; a = a; o = o; nested = f; amongst = u; later = omega arith; whole = q }
 
@@ -204,6 +204,7 @@ module _ (n k : ℕ) (w : List ℕ) (p count left : ℕ) where
 
     abbrev asks : Entering n k w₁ at left
     asks = record {
+      es = c .es;
       s = footing-as (c .s) w₁ (moved-words k w k w₁ (c .s .holds .long) m) (s .holds);
       lies = record {
         d = next .d;
@@ -215,7 +216,7 @@ module _ (n k : ℕ) (w : List ℕ) (p count left : ℕ) where
         nests = next .nested .0;
       };
       among = next .amongst .0;
-      free = free-narrow (c .lies .from) (c .lies .to) (s .l) (next .o .1) (c .s .es) (s .above) last (c .free);
+      free = free-narrow (c .lies .from) (c .lies .to) (s .l) (next .o .1) (c .es) (s .above) last (c .free);
     }
 
     pub sift-asks : Entering n k w₁ at left
@@ -271,9 +272,9 @@ module _ (n k : ℕ) (w : List ℕ) (p count left : ℕ) where
             ∙ c .s .loaded) .inside
 
         -- past the alternative
-        past : (v : List ℕ) (at' : ℕ) → Moved k w k v → at' ≡ after-at v at → Holds n (c .s .es) k v →
+        past : (v : List ℕ) (at' : ℕ) → Moved k w k v → at' ≡ after-at v at → Holds n (c .es) k v →
             Off (s .l) (next .o .1) (marking w₁) (marking v) →
-            sift-at (graphs (c .s .es)) (marking w₁) (option (next .x) (next .d) (next .a)) ≡ sift-at (graphs (c .s .es)) (marking v) (next .a) →
+            sift-at (graphs (c .es)) (marking w₁) (option (next .x) (next .d) (next .a)) ≡ sift-at (graphs (c .es)) (marking v) (next .a) →
             Sifting c (rest - 1) at' v
         past v at' mv e held off is =
             let r = read v (omega (arith, mv .len, c .s .holds .long)) (moved-words k w k v (c .s .holds .long) mv ∙ c .s .loaded) in
@@ -305,33 +306,33 @@ module _ (n k : ℕ) (w : List ℕ) (p count left : ℕ) where
             wide v off y h = off y (⊎-elim (λ b. inl (omega arith)) (λ b. inr b) h)
 
             go : Turn n k w₁ at x left drops drops' w₂ → Sifting c (rest - 1) at' w₂
-            go (skipped e f q) = past w₂ at' turn-moved z (subst (Holds n (c .s .es) k) (sym f) (s .holds))
+            go (skipped e f q) = past w₂ at' turn-moved z (subst (Holds n (c .es) k) (sym f) (s .holds))
                 (λ y h. ap (λ (v : List ℕ). marking v y) f)
-                (sift-dropped (graphs (c .s .es)) (marking w₁) (next .x) (next .d) (next .a) (kept-x false e)
-                ∙ ap (λ (v : List ℕ). sift-at (graphs (c .s .es)) (marking v) (next .a)) (sym f))
+                (sift-dropped (graphs (c .es)) (marking w₁) (next .x) (next .d) (next .a) (kept-x false e)
+                ∙ ap (λ (v : List ℕ). sift-at (graphs (c .es)) (marking v) (next .a)) (sym f))
             go (stood r j i w' e u y f q) =
                 let told = u .standing j i y .1 asks .1 in
-                past w₂ at' turn-moved z (subst (Holds n (c .s .es) k) (sym f) (told .holds'))
+                past w₂ at' turn-moved z (subst (Holds n (c .es) k) (sym f) (told .holds'))
                 (subst (λ (v : List ℕ). Off (s .l) (next .o .1) (marking w₁) (marking v)) (sym f) (wide w' (told .off)))
-                (sift-kept (graphs (c .s .es)) (marking w₁) (next .x) (next .d) (next .a) (kept-x true e)
-                ∙ ap (λ (o : quickly.Step). sift-at (graphs (c .s .es)) (tried (next .x) o) (next .a)) (told .is)
-                ∙ ap (λ (v : List ℕ). sift-at (graphs (c .s .es)) (marking v) (next .a)) (sym f))
+                (sift-kept (graphs (c .es)) (marking w₁) (next .x) (next .d) (next .a) (kept-x true e)
+                ∙ ap (λ (o : quickly.Step). sift-at (graphs (c .es)) (tried (next .x) o) (next .a)) (told .is)
+                ∙ ap (λ (v : List ℕ). sift-at (graphs (c .es)) (marking v) (next .a)) (sym f))
             go (failed r w' w'' e u y d f q) =
                 let told = u .failing y .1 asks in
                 let room : 16384 ≤ length w' = omega (arith, u .moved .len, room₁) in
                 let lx = low-x in
-                let held = holds-frame n (c .s .es) k w' (told .holds') w'' (d .len) (λ j h. d .rest j (λ e. omega arith)) in
+                let held = holds-frame n (c .es) k w' (told .holds') w'' (d .len) (λ j h. d .rest j (λ e. omega arith)) in
                 let near = first .2 in
                 let at-x = inner-number in
-                past w₂ at' turn-moved z (subst (Holds n (c .s .es) k) (sym f) held)
+                past w₂ at' turn-moved z (subst (Holds n (c .es) k) (sym f) held)
                 (subst (λ (v : List ℕ). Off (s .l) (next .o .1) (marking w₁) (marking v)) (sym f)
                 (λ y h. ap (λ (k : Marking). k y) (d .marks)
                 ∙ drop-other x (marking w') y (λ q. ⊎-elim (λ b. omega arith) (λ b. omega arith) h) ∙ wide w' (told .off) y h))
-                (sift-kept (graphs (c .s .es)) (marking w₁) (next .x) (next .d) (next .a) (kept-x true e)
-                ∙ ap (λ (o : quickly.Step). sift-at (graphs (c .s .es)) (tried (next .x) o) (next .a)) (told .is)
-                ∙ ap (λ (j : ℕ). sift-at (graphs (c .s .es)) (drop j (marking w')) (next .a)) (sym own)
-                ∙ ap (λ (k : Marking). sift-at (graphs (c .s .es)) k (next .a)) (sym (d .marks))
-                ∙ ap (λ (v : List ℕ). sift-at (graphs (c .s .es)) (marking v) (next .a)) (sym f))
+                (sift-kept (graphs (c .es)) (marking w₁) (next .x) (next .d) (next .a) (kept-x true e)
+                ∙ ap (λ (o : quickly.Step). sift-at (graphs (c .es)) (tried (next .x) o) (next .a)) (told .is)
+                ∙ ap (λ (j : ℕ). sift-at (graphs (c .es)) (drop j (marking w')) (next .a)) (sym own)
+                ∙ ap (λ (k : Marking). sift-at (graphs (c .es)) k (next .a)) (sym (d .marks))
+                ∙ ap (λ (v : List ℕ). sift-at (graphs (c .es)) (marking v) (next .a)) (sym f))
 
 -- drops are few
 pub fewer-small : (i : ℕ) (k k' : Marking) → Fewer i k k' → i ≤ 1024

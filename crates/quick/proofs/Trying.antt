@@ -54,7 +54,7 @@ module _ (n k : ℕ) (w : List ℕ) (g left : ℕ) where
             record {
               holds' = told .1;
               off = λ y h. ap (λ (m : Marking). m y) marks₁;
-              is = try-by (graphs (c .s .es)) (marking w) (c .lies .d) false
+              is = try-by (graphs (c .es)) (marking w) (c .lies .d) false
                   (clash-false _ (fine n k w g left c) (subst Clash (entered-graphs n k w g left c) (told .0))) ∙ ap fails (sym marks₁);
             },
       );
@@ -63,6 +63,7 @@ module _ (n k : ℕ) (w : List ℕ) (g left : ℕ) where
     module _ (e : ℕ) (z : o ≡ In e) where
       abbrev goes : Entering n k w g left → Narrowing n e w₁ g left
       goes c = record {
+        es = entered c;
         s = record {
           t = c .s .t;
           loaded = loaded₁ ∙ c .s .loaded;
@@ -70,7 +71,6 @@ module _ (n k : ℕ) (w : List ℕ) (g left : ℕ) where
           marks = refl;
           U = c .s .U;
           ground = c .s .ground;
-          es = entered c;
           holds = u .pushed e z .1 c;
           inside = entered-inside n k w g left c;
         };
@@ -84,11 +84,11 @@ module _ (n k : ℕ) (w : List ℕ) (g left : ℕ) where
       asks-narrow = goes c₀
 
       -- it is narrowed where it stands
-      going : (c : Entering n k w g left) → try-at (graphs (c .s .es)) (marking w) (c .lies .d) ≡ inside-at (graphs (entered c)) (marking w₁) (c .lies .d)
+      going : (c : Entering n k w g left) → try-at (graphs (c .es)) (marking w) (c .lies .d) ≡ inside-at (graphs (entered c)) (marking w₁) (c .lies .d)
       going c =
           let good = agrees-true _ (fine n k w g left c)
           (subst Agree (entered-graphs n k w g left c) (holds-agree n (entered c) e w₁ (u .pushed e z .1 c))) in
-          try-by (graphs (c .s .es)) (marking w) (c .lies .d) true good
+          try-by (graphs (c .es)) (marking w) (c .lies .d) true good
           ∙ ap (λ (S : List Graph). inside-at S (marking w) (c .lies .d)) (sym (entered-graphs n k w g left c))
           ∙ ap (λ (m : Marking). inside-at (graphs (entered c)) m (c .lies .d)) (sym marks₁)
 
@@ -126,7 +126,7 @@ module _ (n k : ℕ) (w : List ℕ) (g left : ℕ) where
                 (let p : total (marking w₁) ≡ total (marking w) = ap total marks₁ in
                     let q : total (marking w₃) ≡ total (marking w₂) = ap total (marks₃ e (f .0) w₃ b) in let s = f .1 in omega arith),
                 λ c. let told = f .2 (goes c) in record {
-                  holds' = b .holds n (c .s .es) w (c .s .holds) (since₂ e (f .0));
+                  holds' = b .holds n (c .es) w (c .s .holds) (since₂ e (f .0));
                   off = off₃ e (f .0) w₃ b (c .lies .from + 1) (c .lies .to) (told .off);
                   is = going c ∙ told .is ∙ ap fails (sym (marks₃ e (f .0) w₃ b));
                 },
@@ -148,7 +148,7 @@ module _ (n k : ℕ) (w : List ℕ) (g left : ℕ) where
                 λ c. let told = f .2 (goes c) in (
                   graphs (told .es'),
                   record {
-                    holds' = b .holds n (c .s .es) w (c .s .holds) (since₂ j (f .0));
+                    holds' = b .holds n (c .es) w (c .s .holds) (since₂ j (f .0));
                     off = off₃ j (f .0) w₃ b (c .lies .from + 1) (c .lies .to) (told .off);
                     is = going c ∙ told .is ∙ ap (λ (m : Marking). stands (graphs (told .es')) m) (sym (marks₃ j (f .0) w₃ b));
                   },

@@ -53,22 +53,23 @@ pub record Stood (n : ℕ) (U es : List Entry) (from to k' : ℕ) (w' : List ℕ
 -- ---- the disjunctions of a description
 -- what is certain in the description that stands loaded at g is pushed
 pub record Narrowing (n k : ℕ) (w : List ℕ) (g left : ℕ) : Type 0 where
-  pub s : Footing n k w
+  pub es : List Entry
+  pub s : Footing n k w es
   pub lies : Lying n (s .t) g left
   pub among : AmongOf (s .U) lies
-  pub clear : ClearOf (s .es) (marking w) lies
+  pub clear : ClearOf es (marking w) lies
 
 pub record NarrowStands (n k : ℕ) (w : List ℕ) (g left k' : ℕ) (w' : List ℕ) (c : Narrowing n k w g left) : Type 0 where
   pub es' : List Entry
-  pub stood : Stood n (c .s .U) (c .s .es) (c .lies .from + 1) (c .lies .to) k' w' es'
+  pub stood : Stood n (c .s .U) (c .es) (c .lies .from + 1) (c .lies .to) k' w' es'
   pub clear' : ClearOf es' (marking w') (c .lies)
   pub off : Off (c .lies .from + 1) (c .lies .to) (marking w) (marking w')
-  pub is : inside-at (graphs (c .s .es)) (marking w) (c .lies .d) ≡ stands (graphs es') (marking w')
+  pub is : inside-at (graphs (c .es)) (marking w) (c .lies .d) ≡ stands (graphs es') (marking w')
 
 pub record NarrowFails (n k : ℕ) (w : List ℕ) (g left : ℕ) (w' : List ℕ) (c : Narrowing n k w g left) : Type 0 where
-  pub holds' : Holds n (c .s .es) k w'
+  pub holds' : Holds n (c .es) k w'
   pub off : Off (c .lies .from + 1) (c .lies .to) (marking w) (marking w')
-  pub is : inside-at (graphs (c .s .es)) (marking w) (c .lies .d) ≡ fails (marking w')
+  pub is : inside-at (graphs (c .es)) (marking w) (c .lies .d) ≡ fails (marking w')
 
 -- engine's `inside-at`, which is `narrow-at` on the disjunctions
 pub record Narrows (n k : ℕ) (w : List ℕ) (g left : ℕ) (r : Step) (w' : List ℕ) : Type 0 where
@@ -79,22 +80,23 @@ pub record Narrows (n k : ℕ) (w : List ℕ) (g left : ℕ) (r : Step) (w' : Li
 
 -- ---- one disjunction
 pub record Choosing (n k : ℕ) (w : List ℕ) (p count left : ℕ) : Type 0 where
-  pub s : Footing n k w
+  pub es : List Entry
+  pub s : Footing n k w es
   pub lies : LyingAny n (s .t) p count left
   pub among : AmongAnyOf (s .U) lies
-  pub clear : ClearAnyOf (s .es) (marking w) lies
+  pub clear : ClearAnyOf es (marking w) lies
 
 pub record ChooseStands (n k : ℕ) (w : List ℕ) (p count left k' : ℕ) (w' : List ℕ) (c : Choosing n k w p count left) : Type 0 where
   pub es' : List Entry
-  pub stood : Stood n (c .s .U) (c .s .es) (c .lies .from) (c .lies .to) k' w' es'
+  pub stood : Stood n (c .s .U) (c .es) (c .lies .from) (c .lies .to) k' w' es'
   pub clear' : ClearAnyOf es' (marking w') (c .lies)
   pub off : Off (c .lies .from) (c .lies .to) (marking w) (marking w')
-  pub is : any-at (graphs (c .s .es)) (marking w) (c .lies .a) ≡ stands (graphs es') (marking w')
+  pub is : any-at (graphs (c .es)) (marking w) (c .lies .a) ≡ stands (graphs es') (marking w')
 
 pub record ChooseFails (n k : ℕ) (w : List ℕ) (p count left : ℕ) (w' : List ℕ) (c : Choosing n k w p count left) : Type 0 where
-  pub holds' : Holds n (c .s .es) k w'
+  pub holds' : Holds n (c .es) k w'
   pub off : Off (c .lies .from) (c .lies .to) (marking w) (marking w')
-  pub is : any-at (graphs (c .s .es)) (marking w) (c .lies .a) ≡ fails (marking w')
+  pub is : any-at (graphs (c .es)) (marking w) (c .lies .a) ≡ fails (marking w')
 
 -- engine's `any-at`
 pub record Chooses (n k : ℕ) (w : List ℕ) (p count left : ℕ) (r : Step) (w' : List ℕ) : Type 0 where
@@ -105,9 +107,9 @@ pub record Chooses (n k : ℕ) (w : List ℕ) (p count left : ℕ) (r : Step) (w
 
 -- ---- an alternative that is tried
 pub record Tried (n k : ℕ) (w : List ℕ) (g left : ℕ) (w' : List ℕ) (c : Entering n k w g left) (s : quickly.Step) : Type 0 where
-  pub holds' : Holds n (c .s .es) k w'
+  pub holds' : Holds n (c .es) k w'
   pub off : Off (c .lies .from + 1) (c .lies .to) (marking w) (marking w')
-  pub is : try-at (graphs (c .s .es)) (marking w) (c .lies .d) ≡ s
+  pub is : try-at (graphs (c .es)) (marking w) (c .lies .d) ≡ s
 
 -- engine's `try-at`; nothing that was pushed for it stays
 pub record Tries (n k : ℕ) (w : List ℕ) (g left : ℕ) (r : Step) (w' : List ℕ) : Type 0 where
@@ -123,9 +125,9 @@ pub record TriesBare (n k : ℕ) (w : List ℕ) (g : ℕ) (r : Step) (w' : List 
 
 -- ---- the alternatives of one disjunction are tried: engine's `sift-at`
 pub record Sifted (n k : ℕ) (w : List ℕ) (p count left : ℕ) (w' : List ℕ) (c : Alternating n k w p count left) : Type 0 where
-  pub holds' : Holds n (c .s .es) k w'
+  pub holds' : Holds n (c .es) k w'
   pub off : Off (c .lies .from) (c .lies .to) (marking w) (marking w')
-  pub is : sift-at (graphs (c .s .es)) (marking w) (c .lies .a) ≡ marking w'
+  pub is : sift-at (graphs (c .es)) (marking w) (c .lies .a) ≡ marking w'
 
 pub record Sifts (n k : ℕ) (w : List ℕ) (p count left r : ℕ) (w' : List ℕ) : Type 0 where
   pub moved : Moved k w k w'

@@ -58,7 +58,7 @@ both-found (place g ds) (place h es) j e m c T s w =
 
 module _ (n k : ℕ) (w : List ℕ) where
   module _ (c : Searching n k w) where
-    abbrev standing : Footing n k w
+    abbrev standing : Footing n k w (c .stage .es)
     standing = stands-on (c .p .inputs) (c .stage .ready)
 
     none : FramesOn standing [] (c .p .inputs .second .end) n
@@ -120,7 +120,7 @@ module _ (n k : ℕ) (w : List ℕ) where
         (omega arith) (first .frames)
 
     abbrev resuming : (a : Agenda) → Lists a both → Resuming n k w a
-    resuming a l = record { s = standing; l = both; lists = l; frames = all .0 }
+    resuming a l = record { es = c .stage .es; s = standing; l = both; lists = l; frames = all .0 }
 
     pub search-asks : (a : Agenda) → Lists a both → Resuming n k w a
     search-asks a l = resuming a l

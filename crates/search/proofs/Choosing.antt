@@ -57,11 +57,11 @@ module _ (n k : ℕ) (w : List ℕ) (p count : ℕ) (a : Agenda) where
     pub above : c .lies .from ≤ l
     pub on : p ≤ at
     pub f : Found
-    pub is : chosen c ≡ f ++ each-at (c .s .m) (graphs (c .s .es)) b (left-of c)
-    pub finds : Finds n k w (c .s .es) f sum w₁
+    pub is : chosen c ≡ f ++ each-at (c .s .m) (graphs (c .es)) b (left-of c)
+    pub finds : Finds n k w (c .es) f sum w₁
 
   pub choose-moved : Branching n k w p count a → Moved k w k w
-  choose-moved c = record { len = refl; rest = λ j h. refl; since = since-refl n (c .s .es) k w (c .s .holds) }
+  choose-moved c = record { len = refl; rest = λ j h. refl; since = since-refl n (c .es) k w (c .s .holds) }
 
   pub choose-start : (c : Branching n k w p count a) → Going c count p 0 w
   choose-start c = record {
@@ -76,19 +76,19 @@ module _ (n k : ℕ) (w : List ℕ) (p count : ℕ) (a : Agenda) where
     on = omega arith;
     f = [];
     is = refl;
-    finds = finds-none n k w (c .s .es) (c .s .holds);
+    finds = finds-none n k w (c .es) (c .s .holds);
   }
 
   pub choose-done : (c : Branching n k w p count a) (left at sum : ℕ) (w₁ : List ℕ) → Going c left at sum w₁ → left ≤ 0 →
-      Finds n k w (c .s .es) (chosen c) sum w₁
-  choose-done c left at sum w₁ s h = finds-same n k w (c .s .es) (s .f) (chosen c) sum w₁ (go (s .b) (s .many) (s .is)) (s .finds)
+      Finds n k w (c .es) (chosen c) sum w₁
+  choose-done c left at sum w₁ s h = finds-same n k w (c .es) (s .f) (chosen c) sum w₁ (go (s .b) (s .many) (s .is)) (s .finds)
     where
-      go : (b : Options) → options b ≡ left → chosen c ≡ s .f ++ each-at (c .s .m) (graphs (c .s .es)) b (left-of c) → chosen c ≡ s .f
-      go no-more e q = q ∙ ap (λ (z : Found). s .f ++ z) (each-at-none (c .s .m) (graphs (c .s .es)) (left-of c)) ∙ append-nil (s .f)
+      go : (b : Options) → options b ≡ left → chosen c ≡ s .f ++ each-at (c .s .m) (graphs (c .es)) b (left-of c) → chosen c ≡ s .f
+      go no-more e q = q ∙ ap (λ (z : Found). s .f ++ z) (each-at-none (c .s .m) (graphs (c .es)) (left-of c)) ∙ append-nil (s .f)
       go (option x d b) e q = absurd (omega arith)
 
   pub choose-small : (c : Branching n k w p count a) (left at sum : ℕ) (w₁ : List ℕ) → Going c left at sum w₁ → sum ≤ choice-stop
-  choose-small c left at sum w₁ s = finds-small n k w (c .s .es) (s .f) sum w₁ (s .finds)
+  choose-small c left at sum w₁ s = finds-small n k w (c .es) (s .f) sum w₁ (s .finds)
 
   module _ (c : Branching n k w p count a) (left at sum : ℕ) (w₁ : List ℕ) (mv : Moved k w k w₁) (s : Going c left at sum w₁)
       (h : 0 < left) where
@@ -101,14 +101,14 @@ module _ (n k : ℕ) (w : List ℕ) (p count : ℕ) (a : Agenda) where
       nested : NestsAny (option x d b) (c .left)
       amongst : AmongRestAny (c .s .U) (c .lies) at (s .l) (option x d b) o
       later : options b + 1 ≡ left
-      whole : chosen c ≡ s .f ++ each-at (c .s .m) (graphs (c .s .es)) (option x d b) (left-of c)
+      whole : chosen c ≡ s .f ++ each-at (c .s .m) (graphs (c .es)) (option x d b) (left-of c)
 
     next : Next
     next = go (s .b) (s .stand) (s .many) (s .nests) (s .among) (s .is)
       where
         go : (b : Options) (o : RestAny (c .lies) at (s .l) b) → options b ≡ left → NestsAny b (c .left) →
             AmongRestAny (c .s .U) (c .lies) at (s .l) b o →
-            chosen c ≡ s .f ++ each-at (c .s .m) (graphs (c .s .es)) b (left-of c) → Next
+            chosen c ≡ s .f ++ each-at (c .s .m) (graphs (c .es)) b (left-of c) → Next
         go no-more o e f u q = absurd (omega arith)
         go (option x d b) o e f u q = record { x = x; d = d; b = b; o = o; nested = f; amongst = u; later = omega arith; whole = q }
 
@@ -147,11 +147,12 @@ module _ (n k : ℕ) (w : List ℕ) (p count : ℕ) (a : Agenda) where
 
       abbrev after-it : (G : FramesOn (c .s) (c .l) (next .o .0) (next .o .1))
           × (plan-on (c .s) (c .l) (next .o .0) (next .o .1) G ≡ left-of c)
-      after-it = frames-wide n (c .s .t) (c .s .U) (c .s .m) (c .s .es) (c .l) (c .lies .end) (c .lies .to) (next .o .0) (next .o .1) (last .0)
+      after-it = frames-wide n (c .s .t) (c .s .U) (c .s .m) (c .es) (c .l) (c .lies .end) (c .lies .to) (next .o .0) (next .o .1) (last .0)
           (last .2) (c .frames)
 
       abbrev asks : marking w₁ x ≡ true → Taking n k w₁ at a
       asks e = record {
+        es = c .es;
         s = record {
           t = c .s .t;
           loaded = loaded₁;
@@ -160,7 +161,6 @@ module _ (n k : ℕ) (w : List ℕ) (p count : ℕ) (a : Agenda) where
               ∙ c .s .marks;
           U = c .s .U;
           ground = c .s .ground;
-          es = c .s .es;
           holds = s .finds .holds;
           inside = c .s .inside;
         };
@@ -176,7 +176,7 @@ module _ (n k : ℕ) (w : List ℕ) (p count : ℕ) (a : Agenda) where
           nests = next .nested .0;
         };
         among = next .amongst .0;
-        free = free-narrow (c .lies .from) (c .lies .to) (s .l) (next .o .1) (c .s .es) (s .above) (last .2) (c .free);
+        free = free-narrow (c .lies .from) (c .lies .to) (s .l) (next .o .1) (c .es) (s .above) (last .2) (c .free);
         kept = ap (c .s .m) (sym (next .o .2)) ∙ mark-is true e;
         l = c .l;
         lists = c .lists;
@@ -188,11 +188,11 @@ module _ (n k : ℕ) (w : List ℕ) (p count : ℕ) (a : Agenda) where
       choose-asks e = asks e
 
       taken-is : (e : marking w₁ x ≡ true) →
-          taken-with (asks e) ≡ taking (next .x) (dive-at (c .s .m) (graphs (c .s .es)) (next .d) (left-of c))
+          taken-with (asks e) ≡ taking (next .x) (dive-at (c .s .m) (graphs (c .es)) (next .d) (left-of c))
       taken-is e = ap (λ (y : ℕ). taking y
-          (dive-at (c .s .m) (graphs (c .s .es)) (next .d)
+          (dive-at (c .s .m) (graphs (c .es)) (next .d)
           (plan-on (c .s) (c .l) (next .o .0) (next .o .1) (after-it .0)))) (sym (next .o .2))
-          ∙ ap (λ (fs : List Places). taking (next .x) (dive-at (c .s .m) (graphs (c .s .es)) (next .d) fs)) (after-it .1)
+          ∙ ap (λ (fs : List Places). taking (next .x) (dive-at (c .s .m) (graphs (c .es)) (next .d) fs)) (after-it .1)
 
       module _ (sum' : ℕ) (w₂ : List ℕ) (turn : Turn n k w₁ at x a sum sum' w₂) where
         pub turn-moved : Moved k w k w₂
@@ -235,18 +235,18 @@ module _ (n k : ℕ) (w : List ℕ) (p count : ℕ) (a : Agenda) where
             more (took r w' e u f q) = s .f ++ taken-with (asks e)
 
             whole : (y : Turn n k w₁ at x a sum sum' w₂) →
-                s .f ++ each-at (c .s .m) (graphs (c .s .es)) (option (next .x) (next .d) (next .b)) (left-of c) ≡ more y
-                ++ each-at (c .s .m) (graphs (c .s .es)) (next .b) (left-of c)
+                s .f ++ each-at (c .s .m) (graphs (c .es)) (option (next .x) (next .d) (next .b)) (left-of c) ≡ more y
+                ++ each-at (c .s .m) (graphs (c .es)) (next .b) (left-of c)
             whole (skipped e f q) = ap (λ (y : Found). s .f ++ y)
-                (each-at-dropped (c .s .m) (graphs (c .s .es)) (next .x) (next .b) (left-of c) (next .d) (mark-is false e))
+                (each-at-dropped (c .s .m) (graphs (c .es)) (next .x) (next .b) (left-of c) (next .d) (mark-is false e))
             whole (took r w' e u f q) =
-                ap (λ (y : Found). s .f ++ y) (each-at-kept (c .s .m) (graphs (c .s .es)) (next .x) (next .b) (left-of c) (next .d)
-                (mark-is true e) ∙ ap (λ (y : Found). y ++ each-at (c .s .m) (graphs (c .s .es)) (next .b) (left-of c))
+                ap (λ (y : Found). s .f ++ y) (each-at-kept (c .s .m) (graphs (c .es)) (next .x) (next .b) (left-of c) (next .d)
+                (mark-is true e) ∙ ap (λ (y : Found). y ++ each-at (c .s .m) (graphs (c .es)) (next .b) (left-of c))
                 (sym (taken-is e)))
-                ∙ sym (append-assoc (s .f) (taken-with (asks e)) (each-at (c .s .m) (graphs (c .s .es)) (next .b) (left-of c)))
+                ∙ sym (append-assoc (s .f) (taken-with (asks e)) (each-at (c .s .m) (graphs (c .es)) (next .b) (left-of c)))
 
-            finds : (y : Turn n k w₁ at x a sum sum' w₂) → Finds n k w (c .s .es) (more y) sum' w₂
-            finds (skipped e f q) = subst (λ (v : List ℕ). Finds n k w (c .s .es) (s .f) sum' v) (sym f)
-                (subst (λ (i : ℕ). Finds n k w (c .s .es) (s .f) i w₁) (sym q) (s .finds))
-            finds (took r w' e u f q) = subst (λ (v : List ℕ). Finds n k w (c .s .es) (s .f ++ taken-with (asks e)) sum' v) (sym f)
-                (finds-append n k w (c .s .es) (s .f) (taken-with (asks e)) sum r sum' w₁ w' (s .finds) (u .found (asks e)) q)
+            finds : (y : Turn n k w₁ at x a sum sum' w₂) → Finds n k w (c .es) (more y) sum' w₂
+            finds (skipped e f q) = subst (λ (v : List ℕ). Finds n k w (c .es) (s .f) sum' v) (sym f)
+                (subst (λ (i : ℕ). Finds n k w (c .es) (s .f) i w₁) (sym q) (s .finds))
+            finds (took r w' e u f q) = subst (λ (v : List ℕ). Finds n k w (c .es) (s .f ++ taken-with (asks e)) sum' v) (sym f)
+                (finds-append n k w (c .es) (s .f) (taken-with (asks e)) sum r sum' w₁ w' (s .finds) (u .found (asks e)) q)

@@ -62,7 +62,7 @@ module _ (n k : ℕ) (w : List ℕ) (g : ℕ) where
       clashes = λ y. let i : _≡_ {A = ℕ} 0 1 = cc in absurd (omega arith);
       agrees = λ y a e c.
           let d = asks-enter n k w g a c in
-          let S = graphs (c .s .es) in
+          let S = graphs (c .es) in
           let m = c .s .m in
           let K = bare-one n k w g depth-limit d none .0 in
           ap (taking (c .lies .from)) (
@@ -86,13 +86,13 @@ module _ (n k : ℕ) (w : List ℕ) (g : ℕ) where
   -- ---- what `take` answers then
   module _ (a : Agenda) (c₀ : Taking n k w g a) where
     stays : Moved k w k w
-    stays = record { len = refl; rest = λ j h. refl; since = since-refl n (c₀ .s .es) k w (c₀ .s .holds) }
+    stays = record { len = refl; rest = λ j h. refl; since = since-refl n (c₀ .es) k w (c₀ .s .holds) }
 
     pub takes-none : (r : Guess) → Foresees n k w g (a .frames) r → r ≡ Clashes → Takes n k w g a 0 w
     takes-none r f y = record {
       moved = stays;
       found =
-          λ c. finds-same n k w (c .s .es) [] (taken-with c) 0 w (f .clashes y a c) (finds-none n k w (c .s .es) (c .s .holds));
+          λ c. finds-same n k w (c .es) [] (taken-with c) 0 w (f .clashes y a c) (finds-none n k w (c .es) (c .s .holds));
     }
 
     pub alone-notes : Noting w g
@@ -102,7 +102,7 @@ module _ (n k : ℕ) (w : List ℕ) (g : ℕ) where
     pub takes-one : (r : Guess) → Foresees n k w g (a .frames) r → r ≡ Agrees → (w₁ : List ℕ) → Notes w g 1 w₁ → Takes n k w g a 1 w₁
     takes-one r f y w₁ v = record {
       moved = moved-noted k w k w w₁ g 1 (c₀ .s .holds .long) stays v;
-      found = λ c. finds-same n k w (c .s .es) ((c .lies .from ∷ []) ∷ []) (taken-with c) 1 w₁ (f .agrees y a refl c)
-          (finds-taking n k w (c .s .es) (c .lies .from) ([] ∷ []) g 1 w w₁ (c .s .holds .long) (finds-leaf n k w (c .s .es) (c .s .holds)) v
+      found = λ c. finds-same n k w (c .es) ((c .lies .from ∷ []) ∷ []) (taken-with c) 1 w₁ (f .agrees y a refl c)
+          (finds-taking n k w (c .es) (c .lies .from) ([] ∷ []) g 1 w w₁ (c .s .holds .long) (finds-leaf n k w (c .es) (c .s .holds)) v
           (read n k w g a c w (c .s .holds .long) (c .s .loaded) .number) (ap (λ (m : Marking). m (c .lies .from)) (c .s .marks) ∙ c .kept));
     }

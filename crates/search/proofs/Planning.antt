@@ -148,12 +148,12 @@ module _ (n : ℕ) (t : List ℕ) (U : List Entry) (m : Marking) where
       )
 
 -- ---- the disjunctions of a description that stands loaded at g, before frames that stand after it
-module _ {n k : ℕ} {w : List ℕ} (s : Footing n k w) where
+module _ {n k : ℕ} {w : List ℕ} {es : List Entry} (s : Footing n k w es) where
   -- it stands before them, all that is certain in it is pushed, and it does not nest too deep for them
   pub record Before (g left : ℕ) (l : List Slot) (pos lo : ℕ) (F : FramesOn s l pos lo) : Type 0 where
     pub lies : Lying n (s .t) g left
     pub among : AmongOf (s .U) lies
-    pub clear : ClearOf (s .es) (s .m) lies
+    pub clear : ClearOf es (s .m) lies
     pub here : lies .end ≤ pos
     pub low : lies .to ≤ lo
     pub deep : length l + left ≤ 5
@@ -187,11 +187,11 @@ module _ {n k : ℕ} {w : List ℕ} (s : Footing n k w) where
     opened = go (b .lies .d) (b .lies .at) (read .lies .at) (b .lies .nests) (b .among) (b .clear) refl
       where
         go : (e : Placed) (o : Here (b .lies) e) → Here (read .lies) e → Nests e left → AmongHere (s .U) (b .lies) e o →
-            ClearHere (s .es) (s .m) (b .lies) e o → inner (b .lies .d) ≡ inner e → Opened
+            ClearHere es (s .m) (b .lies) e o → inner (b .lies .d) ≡ inner e → Opened
         go (place K ds) o ow nests u c same =
             let some = o .0 in
             let there = o .4 in
-            let f : Frame n (s .t) (s .U) (s .es) (s .m) (g + extent K + 1) (places ds) left =
+            let f : Frame n (s .t) (s .U) es (s .m) (g + extent K + 1) (places ds) left =
             record {
               lies = record {
                 ds = ds;
@@ -207,8 +207,8 @@ module _ {n k : ℕ} {w : List ℕ} (s : Footing n k w) where
               among = u .1;
               clear = c;
             } in
-            let W = frames-wide n (s .t) (s .U) (s .m) (s .es) l pos lo (b .lies .end) (b .lies .to) (b .here) (b .low) F in
-            let G = frames-onto n (s .t) (s .U) (s .m) (s .es) (g + extent K + 1) (places ds) left f l (W .0) (g + 1) (b .lies .from)
+            let W = frames-wide n (s .t) (s .U) (s .m) es l pos lo (b .lies .end) (b .lies .to) (b .here) (b .low) F in
+            let G = frames-onto n (s .t) (s .U) (s .m) es (g + extent K + 1) (places ds) left f l (W .0) (g + 1) (b .lies .from)
             (omega arith) (omega arith) (omega (arith, b .deep)) in
             let e : g + extent K + 1 ≡ tail-at w g + 1 = ap (λ (p : ℕ). p + 1) (sym (tail-of read K ds ow)) in
             let many : places ds ≡ disjunctions-at w (tail-at w g) =

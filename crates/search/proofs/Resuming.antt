@@ -82,19 +82,19 @@ onto-length at (suc more) l = omega arith
 
 module _ (n k : ℕ) (w : List ℕ) (a : Agenda) where
   stays : Resuming n k w a → Moved k w k w
-  stays c = record { len = refl; rest = λ j h. refl; since = since-refl n (c .s .es) k w (c .s .holds) }
+  stays c = record { len = refl; rest = λ j h. refl; since = since-refl n (c .es) k w (c .s .holds) }
 
   -- nothing is left
   pub resumes-leaf : Resuming n k w a → a .frames ≡ 0 → Resumes n k w a 1 w
   resumes-leaf c₀ z = record {
     moved = stays c₀;
-    found = λ c. finds-same n k w (c .s .es) ([] ∷ []) (resumed c) 1 w (leaf c (c .l) (c .frames) (sym (c .lists .is) ∙ lists-none a z .is))
-        (finds-leaf n k w (c .s .es) (c .s .holds));
+    found = λ c. finds-same n k w (c .es) ([] ∷ []) (resumed c) 1 w (leaf c (c .l) (c .frames) (sym (c .lists .is) ∙ lists-none a z .is))
+        (finds-leaf n k w (c .es) (c .s .holds));
   }
     where
       leaf : (c : Resuming n k w a) (l : List Slot) (F : FramesOn (c .s) l 0 0) → l ≡ [] →
-          resume-at (c .s .m) (plan-on (c .s) l 0 0 F) (graphs (c .s .es)) ≡ [] ∷ []
-      leaf c [] F e = resume-at-leaf (c .s .m) (graphs (c .s .es))
+          resume-at (c .s .m) (plan-on (c .s) l 0 0 F) (graphs (c .es)) ≡ [] ∷ []
+      leaf c [] F e = resume-at-leaf (c .s .m) (graphs (c .es))
       leaf c (x ∷ l) F e = let z : _≡_ {A = ℕ} 0 1 = cc in absurd (omega arith)
 
   module _ (some : a .frames ≡ 0 → ⊥) where
@@ -108,12 +108,12 @@ module _ (n k : ℕ) (w : List ℕ) (a : Agenda) where
       any : LyingAny n (c .s .t) (a .at0 + 1) of (5 - length l - 1)
       of-is : alternatives-at w (a .at0) ≡ of
       among : AmongAnyOf (c .s .U) any
-      clear : ClearAnyOf (c .s .es) (c .s .m) any
-      later : Frame n (c .s .t) (c .s .U) (c .s .es) (c .s .m) (any .end) (a .more0 - 1) (5 - length l)
+      clear : ClearAnyOf (c .es) (c .s .m) any
+      later : Frame n (c .s .t) (c .s .U) (c .es) (c .s .m) (any .end) (a .more0 - 1) (5 - length l)
       meets : any .to ≡ later .lies .from
       rest : FramesOn (c .s) l (later .lies .end) (later .lies .to)
       is : resumed c
-          ≡ choose-at (c .s .m) (graphs (c .s .es)) (any .a) (later .lies .ds ∷ plan-on (c .s) l (later .lies .end) (later .lies .to) rest)
+          ≡ choose-at (c .s .m) (graphs (c .es)) (any .a) (later .lies .ds ∷ plan-on (c .s) l (later .lies .end) (later .lies .to) rest)
 
     next : (c : Resuming n k w a) → Next c
     next c =
@@ -122,14 +122,14 @@ module _ (n k : ℕ) (w : List ℕ) (a : Agenda) where
         × (plan-on (c .s) z 0 0 G ≡ plan-on (c .s) (c .l) 0 0 (c .frames))) (f .1) (c .frames, refl) in
         go (f .0) (record { few = c .lists .few; is = c .lists .is ∙ f .1 }) (G .0 .1) (G .0 .0 .lies) (G .0 .4)
         (G .0 .0 .lies .ds) (G .0 .0 .lies .at) (G .0 .0 .lies .many) (G .0 .0 .lies .nests) (G .0 .0 .among) (G .0 .0 .clear)
-        (ap (λ (fs : List Places). resume-at (c .s .m) fs (graphs (c .s .es))) (sym (G .1)))
+        (ap (λ (fs : List Places). resume-at (c .s .m) fs (graphs (c .es))) (sym (G .1)))
       where
         go : (l : List Slot) → Lists a ((a .at0, a .more0) ∷ l) → 0 < a .more0 →
             (x : LyingAll n (c .s .t) (a .at0) (a .more0) (5 - length l)) (rest : FramesOn (c .s) l (x .end) (x .to))
             (ds : Places) (stand : AtAll (c .s .t) (a .at0) (x .from) ds (x .end) (x .to)) → places ds ≡ a .more0 →
             NestsAll ds (5 - length l) → AmongAll (c .s .U) (c .s .t) (a .at0) (x .from) ds (x .end) (x .to) stand →
-            ClearAll (c .s .es) (c .s .t) (c .s .m) (a .at0) (x .from) ds (x .end) (x .to) stand →
-            resumed c ≡ resume-at (c .s .m) (ds ∷ plan-on (c .s) l (x .end) (x .to) rest) (graphs (c .s .es)) → Next c
+            ClearAll (c .es) (c .s .t) (c .s .m) (a .at0) (x .from) ds (x .end) (x .to) stand →
+            resumed c ≡ resume-at (c .s .m) (ds ∷ plan-on (c .s) l (x .end) (x .to) rest) (graphs (c .es)) → Next c
         go l lists more x rest stop stand many nests among clear is = absurd (omega arith)
         go l lists more x rest (o also ds) stand many nests among clear is =
             let there = stand .2 in
@@ -173,7 +173,7 @@ module _ (n k : ℕ) (w : List ℕ) (a : Agenda) where
               };
               meets = refl;
               rest = rest;
-              is = is ∙ resume-at-more (c .s .m) o ds (plan-on (c .s) l (x .end) (x .to) rest) (graphs (c .s .es));
+              is = is ∙ resume-at-more (c .s .m) o ds (plan-on (c .s) l (x .end) (x .to) rest) (graphs (c .es));
             }
 
     module _ (c : Resuming n k w a) where
@@ -228,7 +228,7 @@ module _ (n k : ℕ) (w : List ℕ) (a : Agenda) where
                 (G : FramesOn (c .s) (slots₂ c) (lies c .end) (lies c .to))
                 × ((S : List Graph) → resume-at (c .s .m) (plan-on (c .s) (slots₂ c) (lies c .end) (lies c .to) G) S
                 ≡ resume-at (c .s .m) (behind c) S)
-            frames₂ c = frames-onto n (c .s .t) (c .s .U) (c .s .m) (c .s .es) (lies c .end) (a .more0 - 1) (5 - length (next c .l))
+            frames₂ c = frames-onto n (c .s .t) (c .s .U) (c .s .m) (c .es) (lies c .end) (a .more0 - 1) (5 - length (next c .l))
                 (next c .later) (next c .l) (next c .rest) (lies c .end) (lies c .to) (omega arith) (omega (arith, next c .meets)) (omega arith)
 
             abbrev left-of : (c : Resuming n k w a) → List Places
@@ -237,17 +237,17 @@ module _ (n k : ℕ) (w : List ℕ) (a : Agenda) where
             deep : (c : Resuming n k w a) → length (slots₂ c) + (5 - length (next c .l) - 1) ≤ 5
             deep c = omega (arith, onto-length (lies c .end) (a .more0 - 1) (next c .l), four c)
 
-            choice-is : (c : Resuming n k w a) → resumed c ≡ choose-at (c .s .m) (graphs (c .s .es)) (lies c .a) (left-of c)
-            choice-is c = next c .is ∙ ap (λ (f : List Graph → Found). dive-any (graphs (c .s .es)) (keep-any (c .s .m) (lies c .a)) f)
+            choice-is : (c : Resuming n k w a) → resumed c ≡ choose-at (c .s .m) (graphs (c .es)) (lies c .a) (left-of c)
+            choice-is c = next c .is ∙ ap (λ (f : List Graph → Found). dive-any (graphs (c .es)) (keep-any (c .s .m) (lies c .a)) f)
                 (sym (same-found (resume-at (c .s .m) (left-of c)) (resume-at (c .s .m) (behind c)) (frames₂ c .1)))
 
             -- none is kept
             pub resumes-none : Resuming n k w a → kept ≡ 0 → Resumes n k w a 0 w
             resumes-none c₀ z = record {
               moved = stays c₀;
-              found = λ c. finds-same n k w (c .s .es) [] (resumed c) 0 w (choice-is c
-                  ∙ choose-none (c .s .m) (graphs (c .s .es)) (lies c .a) (left-of c) (kept-is c ∙ z))
-                  (finds-none n k w (c .s .es) (c .s .holds));
+              found = λ c. finds-same n k w (c .es) [] (resumed c) 0 w (choice-is c
+                  ∙ choose-none (c .s .m) (graphs (c .es)) (lies c .a) (left-of c) (kept-is c ∙ z))
+                  (finds-none n k w (c .es) (c .s .holds));
             }
 
             -- one stands alone: it is pushed already
@@ -267,8 +267,8 @@ module _ (n k : ℕ) (w : List ℕ) (a : Agenda) where
               before₁ c = record {
                 lies = lying-more (lies c .low) (lone c .lies);
                 among = lone c .among;
-                clear = lone c .opens (c .s .es)
-                    (subst (λ (j : ℕ). ByCount j (ClearLoneOf (c .s .es) (c .s .m) (lies c)) (FreeAnyOf (lies c) (c .s .es)))
+                clear = lone c .opens (c .es)
+                    (subst (λ (j : ℕ). ByCount j (ClearLoneOf (c .es) (c .s .m) (lies c)) (FreeAnyOf (lies c) (c .es)))
                     (kept-is c ∙ one) (next c .clear));
                 here = lone c .far;
                 low = lone c .lies .low;
@@ -297,18 +297,18 @@ module _ (n k : ℕ) (w : List ℕ) (a : Agenda) where
                 abbrev wide₁ : (c : Resuming n k w a) →
                     (G : FramesOn (c .s) (slots₁ c) 0 0)
                     × (plan-on (c .s) (slots₁ c) 0 0 G ≡ plan-on (c .s) (slots₁ c) (first + 1) (own c) (opened₁ c .frames))
-                wide₁ c = frames-wide n (c .s .t) (c .s .U) (c .s .m) (c .s .es) (slots₁ c) (first + 1) (own c) 0 0 (omega arith)
+                wide₁ c = frames-wide n (c .s .t) (c .s .U) (c .s .m) (c .es) (slots₁ c) (first + 1) (own c) 0 0 (omega arith)
                     (omega arith) (opened₁ c .frames)
 
                 abbrev resuming₁ : Resuming n k w a → Resuming n k w b
-                resuming₁ c = record { s = c .s; l = slots₁ c; lists = lists (slots₂ c) (lists₂ c); frames = wide₁ c .0 }
+                resuming₁ c = record { es = c .es; s = c .s; l = slots₁ c; lists = lists (slots₂ c) (lists₂ c); frames = wide₁ c .0 }
 
                 pub one-asks : Resuming n k w a → Resuming n k w b
                 one-asks c = resuming₁ c
 
                 pub one-falls : Resuming n k w a → a .at0 < reach (slots b)
                 one-falls c =
-                    let r = frames-reach n (c .s .t) (c .s .U) (c .s .m) (c .s .es) (many-words c) (slots₁ c) (first + 1) (own c)
+                    let r = frames-reach n (c .s .t) (c .s .U) (c .s .m) (c .es) (many-words c) (slots₁ c) (first + 1) (own c)
                     (opened₁ c .frames) in
                     let f : reach (slots b) ≡ reach (slots₁ c) = ap reach (lists (slots₂ c) (lists₂ c) .is) in
                     omega (arith, lone c .near)
@@ -316,9 +316,9 @@ module _ (n k : ℕ) (w : List ℕ) (a : Agenda) where
                 found-is : (c : Resuming n k w a) → resumed c ≡ taking (own c) (resumed (resuming₁ c))
                 found-is c =
                     choice-is c
-                    ∙ choose-alone (c .s .m) (graphs (c .s .es)) (lies c .a) (left-of c) (own c) (lone c .lies .d) (lone c .alone)
-                    ∙ ap (taking (own c)) (sym (opened₁ c .is (graphs (c .s .es)))
-                    ∙ ap (λ (fs : List Places). resume-at (c .s .m) fs (graphs (c .s .es))) (sym (wide₁ c .1)))
+                    ∙ choose-alone (c .s .m) (graphs (c .es)) (lies c .a) (left-of c) (own c) (lone c .lies .d) (lone c .alone)
+                    ∙ ap (taking (own c)) (sym (opened₁ c .is (graphs (c .es)))
+                    ∙ ap (λ (fs : List Places). resume-at (c .s .m) fs (graphs (c .es))) (sym (wide₁ c .1)))
 
                 module _ (r : ℕ) (w₁ : List ℕ) (v : Resumes n k w b r w₁) (c₀ : Resuming n k w a) where
                   room₁ : 16384 ≤ length w₁
@@ -334,24 +334,25 @@ module _ (n k : ℕ) (w : List ℕ) (a : Agenda) where
                   pub resumes-one : (w₂ : List ℕ) → Notes w₁ first r w₂ → Resumes n k w a r w₂
                   resumes-one w₂ y = record {
                     moved = moved-noted k w k w₁ w₂ first r room₁ (v .moved) y;
-                    found = λ c. finds-same n k w (c .s .es) (taking (own c) (resumed (resuming₁ c))) (resumed c) r w₂ (found-is c)
-                        (finds-taking n k w (c .s .es) (own c) (resumed (resuming₁ c)) first r w₁ w₂ room₁ (v .found (resuming₁ c)) y
+                    found = λ c. finds-same n k w (c .es) (taking (own c) (resumed (resuming₁ c))) (resumed c) r w₂ (found-is c)
+                        (finds-taking n k w (c .es) (own c) (resumed (resuming₁ c)) first r w₁ w₂ room₁ (v .found (resuming₁ c)) y
                         (read c w₁ room₁ (words₁ ∙ c .s .loaded) .number) (ap (λ (m : Marking). m (own c)) (c .s .marks) ∙ lone c .kept));
                   }
 
             -- several are kept
             module _ (more : 1 < kept) where
-              free : (c : Resuming n k w a) → FreeAnyOf (lies c) (c .s .es)
+              free : (c : Resuming n k w a) → FreeAnyOf (lies c) (c .es)
               free c = go (kept-of (c .s .m) (lies c .a)) (kept-is c) (next c .clear)
                 where
-                  go : (j : ℕ) → j ≡ kept → ByCount j (ClearLoneOf (c .s .es) (c .s .m) (lies c)) (FreeAnyOf (lies c) (c .s .es)) →
-                      FreeAnyOf (lies c) (c .s .es)
+                  go : (j : ℕ) → j ≡ kept → ByCount j (ClearLoneOf (c .es) (c .s .m) (lies c)) (FreeAnyOf (lies c) (c .es)) →
+                      FreeAnyOf (lies c) (c .es)
                   go zero e x = absurd (omega arith)
                   go (suc zero) e x = absurd (omega arith)
                   go (suc (suc i)) e x = x
 
               abbrev choosing₁ : Resuming n k w a → Branching n k w (a .at0 + 1) count rest
               choosing₁ c = record {
+                es = c .es;
                 s = c .s;
                 left = 5 - length (next c .l) - 1;
                 shallow = omega arith;
@@ -370,7 +371,7 @@ module _ (n k : ℕ) (w : List ℕ) (a : Agenda) where
               pub resumes-several : (r : ℕ) (w' : List ℕ) → Branches n k w (a .at0 + 1) count rest r w' → Resumes n k w a r w'
               resumes-several r w' v = record {
                 moved = v .moved;
-                found = λ c. finds-same n k w (c .s .es) (chosen (choosing₁ c)) (resumed c) r w' (choice-is c
-                    ∙ choose-several (c .s .m) (graphs (c .s .es)) (lies c .a) (left-of c) (omega (arith, kept-is c)))
+                found = λ c. finds-same n k w (c .es) (chosen (choosing₁ c)) (resumed c) r w' (choice-is c
+                    ∙ choose-several (c .s .m) (graphs (c .es)) (lies c .a) (left-of c) (omega (arith, kept-is c)))
                     (v .found (choosing₁ c));
               }

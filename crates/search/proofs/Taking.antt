@@ -57,25 +57,25 @@ module _ (n k : ℕ) (w : List ℕ) (g : ℕ) (a : Agenda) where
     left-of = plan-on (c .s) (c .l) (c .lies .end) (c .lies .to) (c .frames)
 
     abbrev pub asks-enter : Entering n k w g depth-limit
-    asks-enter = record { s = c .s; lies = lying-deeper (c .shallow) (c .lies); among = c .among; free = c .free }
+    asks-enter = record { es = c .es; s = c .s; lies = lying-deeper (c .shallow) (c .lies); among = c .among; free = c .free }
 
     abbrev pushed-all : List Entry
     pushed-all = entered asks-enter
 
-    all-graphs : graphs pushed-all ≡ graphs (c .s .es) ++ flat (strip (keep (c .s .m) (c .lies .d)))
+    all-graphs : graphs pushed-all ≡ graphs (c .es) ++ flat (strip (keep (c .s .m) (c .lies .d)))
     all-graphs = entered-graphs n k w g depth-limit asks-enter
-        ∙ ap (λ (m : Marking). graphs (c .s .es) ++ flat (strip (keep m (c .lies .d)))) (c .s .marks)
+        ∙ ap (λ (m : Marking). graphs (c .es) ++ flat (strip (keep m (c .lies .d)))) (c .s .marks)
 
-    agree-is : (b : Bool) → agree (graphs (c .s .es) ++ flat (strip (keep (marking w) (c .lies .d)))) ≡ b →
-        agree (graphs (c .s .es) ++ flat (strip (keep (c .s .m) (c .lies .d)))) ≡ b
-    agree-is b e = ap (λ (m : Marking). agree (graphs (c .s .es) ++ flat (strip (keep m (c .lies .d))))) (sym (c .s .marks)) ∙ e
+    agree-is : (b : Bool) → agree (graphs (c .es) ++ flat (strip (keep (marking w) (c .lies .d)))) ≡ b →
+        agree (graphs (c .es) ++ flat (strip (keep (c .s .m) (c .lies .d)))) ≡ b
+    agree-is b e = ap (λ (m : Marking). agree (graphs (c .es) ++ flat (strip (keep m (c .lies .d))))) (sym (c .s .marks)) ∙ e
 
     -- nothing is found with one that clashes
     pub clash-none : Clash (graphs pushed-all) → taken-with c ≡ []
     clash-none z =
-        let bad = agree-is false (clash-false (graphs (c .s .es) ++ flat (strip (keep (marking w) (c .lies .d))))
+        let bad = agree-is false (clash-false (graphs (c .es) ++ flat (strip (keep (marking w) (c .lies .d))))
         (fine n k w g depth-limit asks-enter) (subst Clash (entered-graphs n k w g depth-limit asks-enter) z)) in
-        ap (taking (c .lies .from)) (dive-clashed (c .s .m) (graphs (c .s .es)) (c .lies .d) left-of bad)
+        ap (taking (c .lies .from)) (dive-clashed (c .s .m) (graphs (c .es)) (c .lies .d) left-of bad)
 
     -- what is read of it
     pub read : (v : List ℕ) → 16384 ≤ length v → words v ≡ c .s .t → Read v g (c .lies .from) (c .lies .end)
@@ -100,13 +100,13 @@ module _ (n k : ℕ) (w : List ℕ) (g : ℕ) (a : Agenda) where
       moved = record { len = u .len; rest = λ j h. u .rest j (omega arith); since = u .clashed z .0 };
       found = λ c.
           let told = u .clashed z .1 (asks-enter c) in
-          finds-same n k w (c .s .es) [] (taken-with c) 0 w₁ (clash-none c (told .0))
-          (finds-under n k k w w₁ w₁ w₁ (c .s .es) (c .s .es) [] 0 lights₁ marks₁ (finds-none n k w₁ (c .s .es) (told .1)) refl refl
+          finds-same n k w (c .es) [] (taken-with c) 0 w₁ (clash-none c (told .0))
+          (finds-under n k k w w₁ w₁ w₁ (c .es) (c .es) [] 0 lights₁ marks₁ (finds-none n k w₁ (c .es) (told .1)) refl refl
           (told .1));
     }
 
     module _ (e : ℕ) (z : o ≡ In e) where
-      abbrev standing₁ : (c : Taking n k w g a) → Footing n e w₁
+      abbrev standing₁ : (c : Taking n k w g a) → Footing n e w₁ (pushed-all c)
       standing₁ c = record {
         t = c .s .t;
         loaded = words₁ ∙ c .s .loaded;
@@ -114,7 +114,6 @@ module _ (n k : ℕ) (w : List ℕ) (g : ℕ) (a : Agenda) where
         marks = marks₁ ∙ c .s .marks;
         U = c .s .U;
         ground = c .s .ground;
-        es = pushed-all c;
         holds = u .pushed e z .1 (asks-enter c);
         inside = entered-inside n k w g depth-limit (asks-enter c);
       }
@@ -122,9 +121,9 @@ module _ (n k : ℕ) (w : List ℕ) (g : ℕ) (a : Agenda) where
       abbrev later : (c : Taking n k w g a) →
           (G : FramesOn (standing₁ c) (c .l) (c .lies .end) (c .lies .to))
           × (plan-on (standing₁ c) (c .l) (c .lies .end) (c .lies .to) G ≡ left-of c)
-      later c = frames-pushed n (c .s .t) (c .s .U) (c .s .m) (c .s .es) (pushed-all c) (c .l) (c .lies .end) (c .lies .to)
+      later c = frames-pushed n (c .s .t) (c .s .U) (c .s .m) (c .es) (pushed-all c) (c .l) (c .lies .end) (c .lies .to)
           (λ o i. ⊎-elim (λ j. inl j) (λ j. inr (between-of (marking w) (c .lies) o j .1))
-          (List·Memᴰ·append-cases (c .s .es) i)) (c .frames)
+          (List·Memᴰ·append-cases (c .es) i)) (c .frames)
 
       abbrev before₁ : (c : Taking n k w g a) → Before (standing₁ c) g (c .left) (c .l) (c .lies .end) (c .lies .to) (later c .0)
       before₁ c = record {
@@ -155,7 +154,7 @@ module _ (n k : ℕ) (w : List ℕ) (g : ℕ) (a : Agenda) where
             (opened₁ c .frames)
 
         abbrev resuming₁ : Taking n k w g a → Resuming n e w₁ b
-        resuming₁ c = record { s = standing₁ c; l = slots₁ c; lists = lists (c .l) (c .lists); frames = wide₁ c .0 }
+        resuming₁ c = record { es = pushed-all c; s = standing₁ c; l = slots₁ c; lists = lists (c .l) (c .lists); frames = wide₁ c .0 }
 
         pub take-asks : Resuming n e w₁ b
         take-asks = resuming₁ c₀
@@ -173,12 +172,12 @@ module _ (n k : ℕ) (w : List ℕ) (g : ℕ) (a : Agenda) where
         resumed-is c =
             let S = graphs (pushed-all c) in
             let m = c .s .m in
-            let good = agree-is c true (agrees-true (graphs (c .s .es) ++ flat (strip (keep (marking w) (c .lies .d))))
+            let good = agree-is c true (agrees-true (graphs (c .es) ++ flat (strip (keep (marking w) (c .lies .d))))
             (fine n k w g depth-limit (asks-enter c))
             (subst Agree (entered-graphs n k w g depth-limit (asks-enter c))
             (holds-agree n (pushed-all c) e w₁ (u .pushed e z .1 (asks-enter c))))) in
             ap (taking (c .lies .from)) (
-            dive-pushed m (graphs (c .s .es)) (c .lies .d) (left-of c) good
+            dive-pushed m (graphs (c .es)) (c .lies .d) (left-of c) good
             ∙ ap (resume-at m (inner (c .lies .d) ∷ left-of c)) (sym (all-graphs c))
             ∙ ap (λ (fs : List Places). resume-at m (inner (c .lies .d) ∷ fs) S) (sym (later c .1))
             ∙ sym (opened₁ c .is S)
@@ -214,15 +213,15 @@ module _ (n k : ℕ) (w : List ℕ) (g : ℕ) (a : Agenda) where
             take-notes = let x = read c₀ w₃ room₃ (words₃ ∙ c₀ .s .loaded) in
                 record { room = room₃; here = x .here; low = omega (arith, x .number, x .low) }
 
-            found₃ : (c : Taking n k w g a) → Finds n k w (c .s .es) (resumed (resuming₁ c)) r w₃
-            found₃ c = finds-under n k e w w₁ w₂ w₃ (c .s .es) (pushed-all c) (resumed (resuming₁ c)) r lights₁ marks₁
+            found₃ : (c : Taking n k w g a) → Finds n k w (c .es) (resumed (resuming₁ c)) r w₃
+            found₃ c = finds-under n k e w w₁ w₂ w₃ (c .es) (pushed-all c) (resumed (resuming₁ c)) r lights₁ marks₁
                 (v .found (resuming₁ c)) (lights-frame w₂ w₃ room₂ (q .len) (λ j x y. q .rest j (omega arith)))
-                (marking-frame w₂ w₃ room₂ (q .len) (λ j x y. q .rest j (omega arith))) (q .holds n (c .s .es) w (c .s .holds) since₂)
+                (marking-frame w₂ w₃ room₂ (q .len) (λ j x y. q .rest j (omega arith))) (q .holds n (c .es) w (c .s .holds) since₂)
 
             pub takes-found : (w₄ : List ℕ) → Notes w₃ g r w₄ → Takes n k w g a r w₄
             takes-found w₄ y = record {
               moved = moved-noted k w k w₃ w₄ g r room₃ moved₃ y;
-              found = λ c. finds-same n k w (c .s .es) (taking (c .lies .from) (resumed (resuming₁ c))) (taken-with c) r w₄ (resumed-is c)
-                  (finds-taking n k w (c .s .es) (c .lies .from) (resumed (resuming₁ c)) g r w₃ w₄ room₃ (found₃ c) y
+              found = λ c. finds-same n k w (c .es) (taking (c .lies .from) (resumed (resuming₁ c))) (taken-with c) r w₄ (resumed-is c)
+                  (finds-taking n k w (c .es) (c .lies .from) (resumed (resuming₁ c)) g r w₃ w₄ room₃ (found₃ c) y
                   (read c w₃ room₃ (words₃ ∙ c .s .loaded) .number) (ap (λ (m : Marking). m (c .lies .from)) (c .s .marks) ∙ c .kept));
             }

@@ -49,9 +49,9 @@ plan n t U es m [] pos lo F = []
 plan n t U es m (s ∷ l) pos lo F = F .0 .lies .ds ∷ plan n t U es m l (F .0 .lies .end) (F .0 .lies .to) (F .4)
 
 -- where a step stands
-module _ {n k : ℕ} {w : List ℕ} (s : Footing n k w) where
+module _ {n k : ℕ} {w : List ℕ} {es : List Entry} (s : Footing n k w es) where
   abbrev pub FramesOn : List Slot → ℕ → ℕ → Type 0
-  FramesOn l pos lo = Frames n (s .t) (s .U) (s .es) (s .m) l pos lo
+  FramesOn l pos lo = Frames n (s .t) (s .U) es (s .m) l pos lo
 
   abbrev pub plan-on : (l : List Slot) (pos lo : ℕ) → FramesOn l pos lo → List Places
-  plan-on l pos lo F = plan n (s .t) (s .U) (s .es) (s .m) l pos lo F
+  plan-on l pos lo F = plan n (s .t) (s .U) es (s .m) l pos lo F

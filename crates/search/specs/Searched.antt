@@ -47,26 +47,28 @@ pub record Finds (n k : ℕ) (w : List ℕ) (es : List Entry) (f : Found) (r : �
 
 -- ---- what is left
 pub record Resuming (n k : ℕ) (w : List ℕ) (a : Agenda) : Type 0 where
-  pub s : Footing n k w
+  pub es : List Entry
+  pub s : Footing n k w es
   pub l : List Slot
   pub lists : Lists a l
   pub frames : FramesOn s l 0 0
 
 abbrev pub resumed : {n k : ℕ} {w : List ℕ} {a : Agenda} → Resuming n k w a → Found
-resumed {n} {k} {w} {a} c = resume-at (c .s .m) (plan-on (c .s) (c .l) 0 0 (c .frames)) (graphs (c .s .es))
+resumed {n} {k} {w} {a} c = resume-at (c .s .m) (plan-on (c .s) (c .l) 0 0 (c .frames)) (graphs (c .es))
 
 pub record Resumes (n k : ℕ) (w : List ℕ) (a : Agenda) (r : ℕ) (w' : List ℕ) : Type 0 where
   pub moved : Moved k w k w'
-  pub found : (c : Resuming n k w a) → Finds n k w (c .s .es) (resumed c) r w'
+  pub found : (c : Resuming n k w a) → Finds n k w (c .es) (resumed c) r w'
 
 -- ---- an alternative that stands loaded at g, and then what is left
 pub record Taking (n k : ℕ) (w : List ℕ) (g : ℕ) (a : Agenda) : Type 0 where
-  pub s : Footing n k w
+  pub es : List Entry
+  pub s : Footing n k w es
   pub left : ℕ
   pub shallow : left ≤ depth-limit
   pub lies : Lying n (s .t) g left
   pub among : AmongOf (s .U) lies
-  pub free : FreeOf lies (s .es)
+  pub free : FreeOf lies es
   pub kept : s .m (lies .from) ≡ true
   pub l : List Slot
   pub lists : Lists a l
@@ -75,21 +77,22 @@ pub record Taking (n k : ℕ) (w : List ℕ) (g : ℕ) (a : Agenda) : Type 0 whe
 
 abbrev pub taken-with : {n k : ℕ} {w : List ℕ} {g : ℕ} {a : Agenda} → Taking n k w g a → Found
 taken-with {n} {k} {w} {g} {a} c =
-    taking (c .lies .from) (dive-at (c .s .m) (graphs (c .s .es)) (c .lies .d)
+    taking (c .lies .from) (dive-at (c .s .m) (graphs (c .es)) (c .lies .d)
     (plan-on (c .s) (c .l) (c .lies .end) (c .lies .to) (c .frames)))
 
 pub record Takes (n k : ℕ) (w : List ℕ) (g : ℕ) (a : Agenda) (r : ℕ) (w' : List ℕ) : Type 0 where
   pub moved : Moved k w k w'
-  pub found : (c : Taking n k w g a) → Finds n k w (c .s .es) (taken-with c) r w'
+  pub found : (c : Taking n k w g a) → Finds n k w (c .es) (taken-with c) r w'
 
 -- ---- `count` alternatives that stand loaded from p on, and then what is left
 pub record Branching (n k : ℕ) (w : List ℕ) (p count : ℕ) (a : Agenda) : Type 0 where
-  pub s : Footing n k w
+  pub es : List Entry
+  pub s : Footing n k w es
   pub left : ℕ
   pub shallow : left ≤ depth-limit
   pub lies : LyingAny n (s .t) p count left
   pub among : AmongAnyOf (s .U) lies
-  pub free : FreeAnyOf lies (s .es)
+  pub free : FreeAnyOf lies es
   pub l : List Slot
   pub lists : Lists a l
   pub deep : length l + left ≤ 5
@@ -97,11 +100,11 @@ pub record Branching (n k : ℕ) (w : List ℕ) (p count : ℕ) (a : Agenda) : T
 
 abbrev pub chosen : {n k : ℕ} {w : List ℕ} {p count : ℕ} {a : Agenda} → Branching n k w p count a → Found
 chosen {n} {k} {w} {p} {count} {a} c =
-    each-at (c .s .m) (graphs (c .s .es)) (c .lies .a) (plan-on (c .s) (c .l) (c .lies .end) (c .lies .to) (c .frames))
+    each-at (c .s .m) (graphs (c .es)) (c .lies .a) (plan-on (c .s) (c .l) (c .lies .end) (c .lies .to) (c .frames))
 
 pub record Branches (n k : ℕ) (w : List ℕ) (p count : ℕ) (a : Agenda) (r : ℕ) (w' : List ℕ) : Type 0 where
   pub moved : Moved k w k w'
-  pub found : (c : Branching n k w p count a) → Finds n k w (c .s .es) (chosen c) r w'
+  pub found : (c : Branching n k w p count a) → Finds n k w (c .es) (chosen c) r w'
 
 -- ---- both inputs
 pub record Searching (n k : ℕ) (w : List ℕ) : Type 0 where
