@@ -15,12 +15,12 @@ use Rattle.layout.proofs.Standing.{stands-append, stands-length, stands-within}
 use Rattle.engine.specs.Placed.{Placed, place, own}
 use Rattle.loading.specs.Loaded.{extent, number-step, moved-node, located}
 use Rattle.loading.specs.Loading.{Put}
-use Rattle.loading.specs.At.{At}
+use Rattle.loading.specs.Lying.{Lying, Here}
 use Rattle.loading.proofs.Sizes.{node-length}
 use Rattle.loading.proofs.Putting.{put-nil, put-append, put-one}
 use Rattle.loading.proofs.Walking.{at-header, at-counts}
 use Rattle.marks.specs.Positions.{number-at}
-use Rattle.marks.proofs.Reading.{read-at}
+use Rattle.marks.proofs.Reading.{reads}
 use Rattle.showing.specs.Copying.{a-node, its-nodes, Copying, Copies, Graphing}
 use Rattle.showing.proofs.Nodes.{put-words, put-end}
 
@@ -148,63 +148,67 @@ module _ (w : List ℕ) (number p count o : ℕ) (c : Copying (its-nodes count) 
 
 -- ---- a graph
 module _ (w : List ℕ) (g o : ℕ) (c : Graphing w g o) where
+  abbrev lies : Lying (c .read .n) (words w) g (c .left)
+  lies = c .read .lies
+
   -- what is read of its header
-  pub graph-here : (g + 1 < 2048) × (number-at w g ≡ c .from) × (getD (words w) g 0 % number-step ≡ length (own (c .d)))
-      × (c .from < number-step) × (length (own (c .d)) < number-step)
-  graph-here = go (c .d) (c .at)
+  pub graph-here : (g + 1 < 2048) × (number-at w g ≡ lies .from) × (getD (words w) g 0 % number-step ≡ length (own (lies .d)))
+      × (lies .from < number-step) × (length (own (lies .d)) < number-step)
+  graph-here = go (lies .d) (lies .at)
     where
-      go : (d : Placed) → At (words w) g (c .from) d (c .end) (c .to) →
-          (g + 1 < 2048) × (number-at w g ≡ c .from) × (getD (words w) g 0 % number-step ≡ length (own d)) × (c .from < number-step)
+      go : (d : Placed) → Here lies d →
+          (g + 1 < 2048) × (number-at w g ≡ lies .from) × (getD (words w) g 0 % number-step ≡ length (own d)) × (lies .from < number-step)
           × (length (own d) < number-step)
       go (place K ds) at =
-          let r = read-at w (c .long) (place K ds) g (c .from) (c .end) (c .to) at (c .low) in
-          let counts = at-counts (words w) K ds g (c .from) (c .end) (c .to) at in
+          let r = reads (c .read) in
+          let counts = at-counts (words w) K ds g (lies .from) (lies .end) (lies .to) at in
           let few = counts .2 in
           let near = counts .1 in
           let end = r .end in
-          let low = c .low in
-          (omega arith, r .number, at-header (words w) K ds g (c .from) (c .end) (c .to) at (c .low) .0, omega arith, omega arith)
+          let low = lies .low in
+          let all = c .read .few in
+          (omega arith, r .number, at-header (words w) K ds g (lies .from) (lies .end) (lies .to) at (omega arith) .0, omega arith, omega arith)
 
   pub graph-room : (o < 2048) × (RESULT + o < length w)
-  graph-room = let r = c .room in let l = c .long in (omega arith, omega arith)
+  graph-room = let r = c .room in let l = c .read .room in (omega arith, omega arith)
 
-  module _ (count : ℕ) (is : count ≡ length (own (c .d))) where
+  module _ (count : ℕ) (is : count ≡ length (own (lies .d))) where
     one : Put w (set w (RESULT + o) count) (RESULT + o) (count ∷ []) (RESULT + (o + 1))
     one =
         let far = graph-room .1 in
         let end : RESULT + o + 1 ≡ RESULT + (o + 1) = omega arith in
         subst (λ (j : ℕ). Put w (set w (RESULT + o) count) (RESULT + o) (count ∷ []) j) end (put-one w count (RESULT + o) far)
 
-    stand : Stands (words w) (g + 1) (located (c .from) (own (c .d))) (g + extent (own (c .d)))
-    stand = go (c .d) (c .at)
+    stand : Stands (words w) (g + 1) (located (lies .from) (own (lies .d))) (g + extent (own (lies .d)))
+    stand = go (lies .d) (lies .at)
       where
-        go : (d : Placed) → At (words w) g (c .from) d (c .end) (c .to) →
-            Stands (words w) (g + 1) (located (c .from) (own d)) (g + extent (own d))
+        go : (d : Placed) → Here lies d →
+            Stands (words w) (g + 1) (located (lies .from) (own d)) (g + extent (own d))
         go (place K ds) at = at .3
 
-    pub graph-asks : (number : ℕ) → number ≡ c .from → Copying (its-nodes count) (set w (RESULT + o) count) number (g + 1) (o + 1)
+    pub graph-asks : (number : ℕ) → number ≡ lies .from → Copying (its-nodes count) (set w (RESULT + o) count) number (g + 1) (o + 1)
     graph-asks number e =
-        let long = c .long in
+        let long = c .read .room in
         let room = c .room in
         let same = length-set w (RESULT + o) count in
         record {
           long = omega arith;
-          x = own (c .d);
+          x = own (lies .d);
           fine = sym is;
-          q = g + extent (own (c .d));
+          q = g + extent (own (lies .d));
           within = (let h = graph-here .0 in omega arith);
-          stands = subst (λ (n : ℕ). Stands (words (set w (RESULT + o) count)) (g + 1) (located n (own (c .d))) (g + extent (own (c .d))))
+          stands = subst (λ (n : ℕ). Stands (words (set w (RESULT + o) count)) (g + 1) (located n (own (lies .d))) (g + extent (own (lies .d))))
               (sym e)
-              (subst (λ (u : List ℕ). Stands u (g + 1) (located (c .from) (own (c .d))) (g + extent (own (c .d))))
-              (sym (put-words w (set w (RESULT + o) count) o (count ∷ []) (RESULT + (o + 1)) (c .long) one)) stand);
+              (subst (λ (u : List ℕ). Stands u (g + 1) (located (lies .from) (own (lies .d))) (g + extent (own (lies .d))))
+              (sym (put-words w (set w (RESULT + o) count) o (count ∷ []) (RESULT + (o + 1)) (c .read .room) one)) stand);
           room = omega arith;
         }
 
-    pub graph-copied : (number : ℕ) → number ≡ c .from → (r : ℕ) (w₁ : List ℕ) →
+    pub graph-copied : (number : ℕ) → number ≡ lies .from → (r : ℕ) (w₁ : List ℕ) →
         Copies (its-nodes count) (set w (RESULT + o) count) number (g + 1) (o + 1) r w₁ →
-        Put w w₁ (RESULT + o) (graph-words (own (c .d))) (RESULT + r)
+        Put w w₁ (RESULT + o) (graph-words (own (lies .d))) (RESULT + r)
     unfolding graph-asks
     graph-copied number e r w₁ u =
-        subst (λ (k : ℕ). Put w w₁ (RESULT + o) (k ∷ nodes-words (own (c .d))) (RESULT + r)) is
-        (put-append w (set w (RESULT + o) count) w₁ (count ∷ []) (nodes-words (own (c .d))) (RESULT + o) (RESULT + (o + 1)) (RESULT + r) one
+        subst (λ (k : ℕ). Put w w₁ (RESULT + o) (k ∷ nodes-words (own (lies .d))) (RESULT + r)) is
+        (put-append w (set w (RESULT + o) count) w₁ (count ∷ []) (nodes-words (own (lies .d))) (RESULT + o) (RESULT + (o + 1)) (RESULT + r) one
         (u (graph-asks number e)))

@@ -43,6 +43,7 @@ module _ (n : ℕ) (w : List ℕ) (g left o e : ℕ) (w₁ : List ℕ) (u : Lead
   asks-later = record {
     base = based n w (c .base) o (graph-words (lead (strip (keep (c .base .m) (c .lies .d))))) e w₁ (u c);
     lies = c .lies;
+    among = c .among;
     can = inner-can (c .lies .d) (c .base .m) (c .can);
     sane = inner-sane (c .lies .d) (c .base .m) (c .sane);
     room = near;

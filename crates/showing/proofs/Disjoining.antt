@@ -14,14 +14,16 @@ use Rattle.engine.specs.Placed.{Placed, place, Places, stop, _also_, Options, s
 use Rattle.engine.specs.Marks.{Marking, keep-all, keep-any}
 use Rattle.engine.specs.Shown.{shown-all}
 use Rattle.engine.proofs.Sane.{SaneAll, SaneAny}
-use Rattle.loading.specs.Loaded.{extent, number-step}
+use Rattle.loading.specs.Loaded.{extent}
 use Rattle.loading.specs.Numbered.{places, options}
-use Rattle.loading.specs.At.{At, AtAll, AtAny}
+use Rattle.loading.specs.At.{AtAll, AtAny}
+use Rattle.loading.specs.Lying.{Here, Rest}
 use Rattle.loading.proofs.Walking.{all-bounds, any-bounds}
 use Rattle.marks.specs.Positions.{tail-at, disjunctions-at, alternatives-at}
-use Rattle.marks.proofs.Reading.{read-at, tail-is, disjunctions-is, alternatives-is}
+use Rattle.marks.specs.Readable.{Readable}
+use Rattle.marks.proofs.Reading.{readable, reads, tail-of, disjunctions-of, alternatives-is}
 use Rattle.loading.specs.Nesting.{Nests, NestsAll, NestsAny}
-use Rattle.entering.specs.Taken.{Among, AmongAll, AmongAny}
+use Rattle.entering.specs.Taken.{AmongAny, AmongHere, AmongRest}
 use Rattle.showing.specs.Putting.{Written, Base, left-all, Disjoining, folded, Varying, Varies}
 use Rattle.showing.proofs.Written.{written-none, written-order, written-append, based}
 use Rattle.showing.proofs.Leaving.{then-words, then-count, shown-first, few-disjunctions, nothing-left}
@@ -43,11 +45,11 @@ module _ (n : ℕ) (w : List ℕ) (g left o : ℕ) (c : Disjoining n w g left o)
   pub record Going (more at out count : ℕ) (w₁ : List ℕ) : Type 0 where
     pub ds : Places
     pub from : ℕ
-    pub stand : AtAll t at from ds (c .lies .end) (c .lies .to)
+    pub stand : Rest (c .lies) at from ds
     pub within : at ≤ length t
     pub many : places ds ≡ more
     pub nests : NestsAll ds left
-    pub among : AmongAll (c .base .U) t at from ds (c .lies .end) (c .lies .to) stand
+    pub among : AmongRest (c .base .U) (c .lies) at from ds stand
     pub can : CanAll (strip-all (keep-all m ds))
     pub sane : SaneAll (strip-all (keep-all m ds))
     pub done : List ℕ
@@ -55,35 +57,31 @@ module _ (n : ℕ) (w : List ℕ) (g left o : ℕ) (c : Disjoining n w g left o)
     pub words-are : disjs-words whole ≡ done ++ disjs-words (rest-of ds)
     pub count-is : count + disjs (rest-of ds) ≡ disjs whole
 
-  low : c .lies .to < number-step
-  low = omega (arith, c .lies .low, c .base .ground .few)
-
   room : 16384 ≤ length w
   room = c .base .holds .long
 
-  here : At (words w) g (c .lies .from) (c .lies .d) (c .lies .end) (c .lies .to)
-  here = subst (λ (s : List ℕ). At s g (c .lies .from) (c .lies .d) (c .lies .end) (c .lies .to)) (sym (c .base .loaded)) (c .lies .at)
+  abbrev read : Readable w g left
+  read = readable w room (c .base .loaded) (c .base .ground .few) (c .lies)
 
   pub go-reads : (g < 2048) × (tail-at w g < 2048)
-  go-reads = let r = read-at w room (c .lies .d) g (c .lies .from) (c .lies .end) (c .lies .to) here low in (r .here, r .inside)
+  go-reads = let r = reads read in (r .here, r .inside)
 
   pub go-start : (e more : ℕ) → e ≡ tail-at w g → more ≡ disjunctions-at w e → Going more (e + 1) o 0 w
-  go-start e more f h = go (c .lies .d) (c .lies .at) here (c .lies .nests) (c .lies .among) (c .can) (c .sane) refl
+  go-start e more f h = go (c .lies .d) (c .lies .at) (read .lies .at) (c .lies .nests) (c .among) (c .can) (c .sane) refl
     where
-      go : (d : Placed) (at : At t g (c .lies .from) d (c .lies .end) (c .lies .to)) →
-          At (words w) g (c .lies .from) d (c .lies .end) (c .lies .to) → Nests d left →
-          Among (c .base .U) t g (c .lies .from) d (c .lies .end) (c .lies .to) at →
+      go : (d : Placed) (at : Here (c .lies) d) →
+          Here (read .lies) d → Nests d left →
+          AmongHere (c .base .U) (c .lies) d at →
           CanAll (left-all m d) → SaneAll (left-all m d) → left-all m (c .lies .d) ≡ left-all m d → Going more (e + 1) o 0 w
       go (place K ds) at stand nests u can sane same =
-          let tail : e ≡ g + extent K = f ∙ tail-is w room K ds g (c .lies .from) (c .lies .end) (c .lies .to) stand low in
+          let tail : e ≡ g + extent K = f ∙ tail-of read K ds stand in
           let far = at .4 in
           subst (λ (p : ℕ). Going more (p + 1) o 0 w) (sym tail) (record {
             ds = ds;
             from = c .lies .from + length K;
             stand = at .6;
             within = omega arith;
-            many = sym (h ∙ ap (disjunctions-at w) tail
-                ∙ disjunctions-is w room K ds g (c .lies .from) (c .lies .end) (c .lies .to) stand low);
+            many = sym (h ∙ ap (disjunctions-at w) tail ∙ disjunctions-of read K ds stand);
             nests = nests;
             among = u .1;
             can = can;
@@ -123,8 +121,8 @@ module _ (n : ℕ) (w : List ℕ) (g left o : ℕ) (c : Disjoining n w g left o)
       q : ℕ
       l : ℕ
       there : at < length t
-      any : AtAny t (at + 1) (v .from) a q l
-      all : AtAll t q l ds (c .lies .end) (c .lies .to)
+      any : AtAny (c .base .t) (at + 1) (v .from) a q l
+      all : Rest (c .lies) q l ds
       within : q ≤ length t
       high : l ≤ c .lies .to
       count-are : alternatives-at w₁ at ≡ options a
@@ -132,8 +130,8 @@ module _ (n : ℕ) (w : List ℕ) (g left o : ℕ) (c : Disjoining n w g left o)
       deep : 0 < left
       inner : NestsAny a (left - 1)
       nests-later : NestsAll ds left
-      among-any : AmongAny (c .base .U) t (at + 1) (v .from) a q l any
-      among-later : AmongAll (c .base .U) t q l ds (c .lies .end) (c .lies .to) all
+      among-any : AmongAny (c .base .U) (c .base .t) (at + 1) (v .from) a q l any
+      among-later : AmongRest (c .base .U) (c .lies) q l ds all
       can-any : CanAny (strip-any (keep-any m a))
       can-later : CanAll (strip-all (keep-all m ds))
       sane-any : SaneAny (strip-any (keep-any m a))
@@ -145,8 +143,8 @@ module _ (n : ℕ) (w : List ℕ) (g left o : ℕ) (c : Disjoining n w g left o)
       next : Next
       next = go (v .ds) (v .stand) (v .many) (v .nests) (v .among) (v .can) (v .sane) (v .words-are) (v .count-is)
         where
-          go : (ds : Places) (s : AtAll t at (v .from) ds (c .lies .end) (c .lies .to)) → places ds ≡ more → NestsAll ds left →
-              AmongAll (c .base .U) t at (v .from) ds (c .lies .end) (c .lies .to) s → CanAll (strip-all (keep-all m ds)) →
+          go : (ds : Places) (s : Rest (c .lies) at (v .from) ds) → places ds ≡ more → NestsAll ds left →
+              AmongRest (c .base .U) (c .lies) at (v .from) ds s → CanAll (strip-all (keep-all m ds)) →
               SaneAll (strip-all (keep-all m ds)) →
               disjs-words whole ≡ v .done ++ disjs-words (rest-of ds) → count + disjs (rest-of ds) ≡ disjs whole → Next
           go stop s many nests u can sane f k = absurd (omega arith)
@@ -208,8 +206,8 @@ module _ (n : ℕ) (w : List ℕ) (g left o : ℕ) (c : Disjoining n w g left o)
                 low = omega (arith, x .high, c .lies .low);
                 many = sym (f ∙ x .count-are);
                 nests = x .inner;
-                among = x .among-any;
               };
+              among = x .among-any;
               can = x .can-any;
               sane = x .sane-any;
               room = omega (arith, c .room, written-order n w o (v .done) out w₁ (v .written));

@@ -29,7 +29,7 @@ use Rattle.classes.specs.Holds.{Backs, Remembers}
 use Rattle.classes.specs.declared.push.Pushed.{Pushed}
 use Rattle.classes.specs.declared.push.Pushed.the-variants.{In, Clashed}
 use Rattle.entering.specs.Entered.{Entering, entered, Enters}
-use Rattle.entering.proofs.Certain.{taken-flat}
+use Rattle.entering.proofs.Certain.{flat-of}
 use Rattle.writing.specs.Writing.{Writing, Writes}
 use Rattle.showing.specs.Putting.{Written, Describing, lead, left-all}
 use Rattle.showing.proofs.Leaving.{description-words}
@@ -53,28 +53,11 @@ module _ (n : ℕ) (w : List ℕ) (g left o : ℕ) (c : Describing n w g left o)
 
   -- the description may be entered
   pub asks-enter : Entering n 0 w g left
-  asks-enter = record {
-    t = c .base .t;
-    loaded = c .base .loaded;
-    U = c .base .U;
-    ground = c .base .ground;
-    d = c .lies .d;
-    from = c .lies .from;
-    end = c .lies .end;
-    to = c .lies .to;
-    at = c .lies .at;
-    low = c .lies .low;
-    nests = c .lies .nests;
-    among = c .lies .among;
-    es = [];
-    holds = c .base .holds;
-    inside = λ e i. absurd (List·Memᴰ·not-nil i);
-    free = λ e i. absurd (List·Memᴰ·not-nil i);
-  }
+  asks-enter = record { es = []; s = c .base; lies = c .lies; among = c .among; free = λ e i. absurd (List·Memᴰ·not-nil i) }
 
   pushed-flat : graphs (entered asks-enter) ≡ flat whole
   unfolding asks-enter
-  pushed-flat = taken-flat (c .base .t) (marking w) g (c .lies .from) (c .lies .d) (c .lies .end) (c .lies .to) (c .lies .at)
+  pushed-flat = flat-of (marking w) (c .lies)
       ∙ ap (λ (m : Marking). flat (strip (keep m (c .lies .d)))) (c .base .marks)
 
   joined-lead : Joined (graphs (entered asks-enter)) (lead whole)

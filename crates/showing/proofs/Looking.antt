@@ -15,15 +15,16 @@ use Rattle.engine.specs.Certain.{sure, sure-any}
 use Rattle.modes_by_marks.proofs.Marks.{kept-alts}
 use Rattle.loading.specs.Loaded.{extent}
 use Rattle.loading.specs.Numbered.{places, options}
-use Rattle.loading.specs.At.{At, AtAll, AtAny}
+use Rattle.loading.specs.Nesting.{Nests, NestsAll}
+use Rattle.loading.specs.At.{AtAny}
+use Rattle.loading.specs.Lying.{Here, Rest}
 use Rattle.loading.proofs.Walking.{all-bounds, any-bounds}
 use Rattle.marks.specs.Positions.{tail-at, disjunctions-at, alternatives-at}
 use Rattle.marks.specs.Marked.{marking}
-use Rattle.marks.specs.Readable.{Alternatives}
+use Rattle.marks.specs.Readable.{Readable, Alternatives}
 use Rattle.marks.specs.Tallied.{Tallied}
-use Rattle.marks.proofs.Reading.{read-at, tail-is, disjunctions-is, alternatives-is}
+use Rattle.marks.proofs.Reading.{reads, tail-of, disjunctions-of, alternatives-is}
 use Rattle.showing.specs.Putting.{left-all}
-use Rattle.showing.specs.Alone.{Looking}
 
 -- none is certain where none or several are left
 several-sure : (a : Alts) → (alts a ≡ 1 → ⊥) → sure-any a ≡ []
@@ -31,7 +32,7 @@ several-sure fail h = refl
 several-sure (d or fail) h = absurd (h refl)
 several-sure (d or (e or b)) h = refl
 
-module _ (w : List ℕ) (g : ℕ) (c : Looking w g) where
+module _ (w : List ℕ) (g left : ℕ) (c : Readable w g left) where
   abbrev m : Marking
   m = marking w
 
@@ -42,35 +43,37 @@ module _ (w : List ℕ) (g : ℕ) (c : Looking w g) where
   pub record Going (more at : ℕ) : Type 0 where
     pub ds : Places
     pub from : ℕ
-    pub stand : AtAll (words w) at from ds (c .end) (c .to)
+    pub stand : Rest (c .lies) at from ds
     pub within : at ≤ length (words w)
     pub many : places ds ≡ more
-    pub is : sure (left-all m (c .d)) ≡ certain-of ds
+    pub nests : NestsAll ds left
+    pub is : sure (left-all m (c .lies .d)) ≡ certain-of ds
 
   pub look-reads : (g < 2048) × (tail-at w g < 2048)
-  look-reads = let r = read-at w (c .long) (c .d) g (c .from) (c .end) (c .to) (c .at) (c .low) in (r .here, r .inside)
+  look-reads = let r = reads c in (r .here, r .inside)
 
   pub look-start : (e more : ℕ) → e ≡ tail-at w g → more ≡ disjunctions-at w e → Going more (e + 1)
-  look-start e more f h = go (c .d) (c .at) refl
+  look-start e more f h = go (c .lies .d) (c .lies .at) (c .lies .nests) refl
     where
-      go : (d : Placed) → At (words w) g (c .from) d (c .end) (c .to) → sure (left-all m (c .d)) ≡ sure (left-all m d) → Going more (e + 1)
-      go (place K ds) at same =
-          let tail : e ≡ g + extent K = f ∙ tail-is w (c .long) K ds g (c .from) (c .end) (c .to) at (c .low) in
+      go : (d : Placed) → Here (c .lies) d → Nests d left → sure (left-all m (c .lies .d)) ≡ sure (left-all m d) → Going more (e + 1)
+      go (place K ds) at nests same =
+          let tail : e ≡ g + extent K = f ∙ tail-of c K ds at in
           let far = at .4 in
           subst (λ (p : ℕ). Going more (p + 1)) (sym tail) (record {
             ds = ds;
-            from = c .from + length K;
+            from = c .lies .from + length K;
             stand = at .6;
             within = omega arith;
-            many = sym (h ∙ ap (disjunctions-at w) tail ∙ disjunctions-is w (c .long) K ds g (c .from) (c .end) (c .to) at (c .low));
+            many = sym (h ∙ ap (disjunctions-at w) tail ∙ disjunctions-of c K ds at);
+            nests = nests;
             is = same;
           })
 
   module _ (more at : ℕ) (v : Going more at) where
-    pub look-done : more ≤ 0 → sure (left-all m (c .d)) ≡ []
+    pub look-done : more ≤ 0 → sure (left-all m (c .lies .d)) ≡ []
     look-done h = go (v .ds) (v .many) (v .is)
       where
-        go : (ds : Places) → places ds ≡ more → sure (left-all m (c .d)) ≡ certain-of ds → sure (left-all m (c .d)) ≡ []
+        go : (ds : Places) → places ds ≡ more → sure (left-all m (c .lies .d)) ≡ certain-of ds → sure (left-all m (c .lies .d)) ≡ []
         go stop e f = f
         go (a also ds) e f = absurd (omega arith)
 
@@ -83,20 +86,21 @@ module _ (w : List ℕ) (g : ℕ) (c : Looking w g) where
         l : ℕ
         there : at < length (words w)
         any : AtAny (words w) (at + 1) (v .from) a q l
-        all : AtAll (words w) q l ds (c .end) (c .to)
+        all : Rest (c .lies) q l ds
         within : q ≤ length (words w)
-        high : l ≤ c .to
+        high : l ≤ c .lies .to
         count-are : alternatives-at w at ≡ options a
         many-later : places ds + 1 ≡ more
-        whole : sure (left-all m (c .d)) ≡ sure-any (strip-any (keep-any m a)) ++ certain-of ds
+        nests : NestsAll (a also ds) left
+        whole : sure (left-all m (c .lies .d)) ≡ sure-any (strip-any (keep-any m a)) ++ certain-of ds
 
       next : Next
-      next = go (v .ds) (v .stand) (v .many) (v .is)
+      next = go (v .ds) (v .stand) (v .many) (v .nests) (v .is)
         where
-          go : (ds : Places) → AtAll (words w) at (v .from) ds (c .end) (c .to) → places ds ≡ more →
-              sure (left-all m (c .d)) ≡ certain-of ds → Next
-          go stop s e f = absurd (omega arith)
-          go (a also ds) s e f =
+          go : (ds : Places) → Rest (c .lies) at (v .from) ds → places ds ≡ more → NestsAll ds left →
+              sure (left-all m (c .lies .d)) ≡ certain-of ds → Next
+          go stop s e nests f = absurd (omega arith)
+          go (a also ds) s e nests f =
               let there = s .2 in
               let first = any-bounds (words w) a (at + 1) (v .from) (s .0) (s .1) (omega arith) (s .4) in
               record {
@@ -109,28 +113,35 @@ module _ (w : List ℕ) (g : ℕ) (c : Looking w g) where
                 all = s .5;
                 within = first .1;
                 high =
-                    all-bounds (words w) ds (s .0) (s .1) (c .end) (c .to) (first .1) (s .5) .2;
+                    all-bounds (words w) ds (s .0) (s .1) (c .lies .end) (c .lies .to) (first .1) (s .5) .2;
                 count-are =
-                    alternatives-is w a ds at (v .from) (c .end) (c .to) s;
+                    alternatives-is w a ds at (v .from) (c .lies .end) (c .lies .to) s;
                 many-later = omega arith;
+                nests = nests;
                 whole = f;
               }
 
       pub look-here : at < 2048
-      look-here = omega (arith, next .there, words-many w (c .long))
+      look-here = omega (arith, next .there, words-many w (c .room))
 
       module _ (of : ℕ) (f : of ≡ alternatives-at w at) where
         pub look-counts : Alternatives w (at + 1) of
         look-counts = record {
-          room = c .long;
-          a = next .a;
-          n = v .from;
-          q = next .q;
-          m = next .l;
-          at = next .any;
-          low =
-              omega (arith, next .high, c .low);
-          many = sym (f ∙ next .count-are);
+          room = c .room;
+          n = c .n;
+          few = c .few;
+          left = left - 1;
+          lies = record {
+            a = next .a;
+            from = v .from;
+            end = next .q;
+            to = next .l;
+            at = next .any;
+            within = (let here = next .there in omega arith);
+            low = omega (arith, next .high, c .lies .low);
+            many = sym (f ∙ next .count-are);
+            nests = next .nests .1;
+          };
         }
 
         pub look-on : (kept first after : ℕ) → ((s : Alternatives w (at + 1) of) → Tallied w s kept first after) → (kept ≡ 1 → ⊥) →
@@ -146,5 +157,6 @@ module _ (w : List ℕ) (g : ℕ) (c : Looking w g) where
               stand = next .all;
               within = next .within;
               many = omega arith;
+              nests = next .nests .2;
               is = next .whole ∙ ap (λ (x : List Graph). x ++ certain-of (next .ds)) none;
             })

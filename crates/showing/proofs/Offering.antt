@@ -19,12 +19,13 @@ use Rattle.engine.proofs.Sane.{SaneAny}
 use Rattle.loading.specs.Loaded.{number-step}
 use Rattle.loading.specs.Numbered.{options}
 use Rattle.loading.specs.At.{AtAny}
+use Rattle.loading.specs.Lying.{RestAny}
 use Rattle.loading.proofs.Walking.{at-bounds, any-bounds}
 use Rattle.marks.specs.Positions.{number-at, tail-at, after-at}
 use Rattle.marks.specs.Marked.{marking}
 use Rattle.marks.proofs.Reading.{Read, read-option}
 use Rattle.loading.specs.Nesting.{NestsAny}
-use Rattle.entering.specs.Taken.{AmongAny}
+use Rattle.entering.specs.Taken.{AmongRestAny}
 use Rattle.showing.specs.Putting.{Written, Base, Describing, Describes, Offering}
 use Rattle.showing.proofs.Written.{written-none, written-order, written-append, based}
 use Rattle.showing.proofs.Leaving.{any-words, no-words}
@@ -49,11 +50,11 @@ module _ (n : ℕ) (w : List ℕ) (p of left o : ℕ) (c : Offering n w p of lef
   pub record Going (rest at out : ℕ) (w₁ : List ℕ) : Type 0 where
     pub b : Options
     pub l : ℕ
-    pub stand : AtAny t at l b (c .lies .end) (c .lies .to)
+    pub stand : RestAny (c .lies) at l b
     pub within : at ≤ length t
     pub many : options b ≡ rest
     pub nests : NestsAny b left
-    pub among : AmongAny (c .base .U) t at l b (c .lies .end) (c .lies .to) stand
+    pub among : AmongRestAny (c .base .U) (c .lies) at l b stand
     pub can : CanAny (strip-any (keep-any m b))
     pub sane : SaneAny (strip-any (keep-any m b))
     pub done : List ℕ
@@ -68,7 +69,7 @@ module _ (n : ℕ) (w : List ℕ) (p of left o : ℕ) (c : Offering n w p of lef
     within = c .lies .within;
     many = c .lies .many;
     nests = c .lies .nests;
-    among = c .lies .among;
+    among = c .among;
     can = c .can;
     sane = c .sane;
     done = [];
@@ -102,9 +103,9 @@ module _ (n : ℕ) (w : List ℕ) (p of left o : ℕ) (c : Offering n w p of lef
       x : ℕ
       d : Placed
       a : Options
-      stand : AtAny t at (v .l) (option x d a) (c .lies .end) (c .lies .to)
+      stand : RestAny (c .lies) at (v .l) (option x d a)
       nests : NestsAny (option x d a) left
-      among : AmongAny (c .base .U) t at (v .l) (option x d a) (c .lies .end) (c .lies .to) stand
+      among : AmongRestAny (c .base .U) (c .lies) at (v .l) (option x d a) stand
       later : options a + 1 ≡ rest
       can : CanAny (strip-any (keep-any m (option x d a)))
       sane : SaneAny (strip-any (keep-any m (option x d a)))
@@ -114,8 +115,8 @@ module _ (n : ℕ) (w : List ℕ) (p of left o : ℕ) (c : Offering n w p of lef
       next : Next
       next = go (v .b) (v .stand) (v .many) (v .nests) (v .among) (v .can) (v .sane) (v .words-are)
         where
-          go : (b : Options) (s : AtAny t at (v .l) b (c .lies .end) (c .lies .to)) → options b ≡ rest → NestsAny b left →
-              AmongAny (c .base .U) t at (v .l) b (c .lies .end) (c .lies .to) s → CanAny (strip-any (keep-any m b)) →
+          go : (b : Options) (s : RestAny (c .lies) at (v .l) b) → options b ≡ rest → NestsAny b left →
+              AmongRestAny (c .base .U) (c .lies) at (v .l) b s → CanAny (strip-any (keep-any m b)) →
               SaneAny (strip-any (keep-any m b)) → rest-of (c .lies .a) ≡ v .done ++ rest-of b → Next
           go no-more s e f u k l q = absurd (omega arith)
           go (option x d a) s e f u k l q =
@@ -167,11 +168,10 @@ module _ (n : ℕ) (w : List ℕ) (p of left o : ℕ) (c : Offering n w p of lef
                   end = z .stand .0;
                   to = z .stand .1;
                   at = z .stand .3;
-                  low =
-                      omega (arith, last, c .lies .low);
+                  low = omega (arith, last, c .lies .low);
                   nests = z .nests .0;
-                  among = z .among .0;
                 };
+                among = z .among .0;
                 can = subst CanAny kept-are (z .can) .0;
                 sane = subst SaneAny kept-are (z .sane) .0;
                 room = omega (arith, c .room, written-order n w o (v .done) out w₁ (v .written));

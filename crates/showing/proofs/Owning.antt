@@ -11,17 +11,17 @@ use Rattle.theory.specs.Net.{Graph}
 use Rattle.theory.specs.Modes.{glue}
 use Rattle.theory.proofs.Mean.{Can}
 use Rattle.area.specs.Map.{RESULT}
-use Rattle.area.specs.Region.{words}
 use Rattle.layout.specs.Standing.{Stands, graph-words}
 use Rattle.engine.specs.Placed.{Placed, place, strip, own}
 use Rattle.engine.specs.Marks.{Marking, keep}
 use Rattle.engine.specs.Certain.{sure}
 use Rattle.engine.specs.Shown.{or-else}
 use Rattle.loading.specs.Loading.{Put}
-use Rattle.loading.specs.At.{At}
+use Rattle.marks.specs.Readable.{Readable}
+use Rattle.marks.proofs.Reading.{readable}
 use Rattle.classes.proofs.Laws.{holds-frame}
 use Rattle.showing.specs.Putting.{Written, Describing, lead, left-all}
-use Rattle.showing.specs.Alone.{Looking, Looks}
+use Rattle.showing.specs.Alone.{Looks}
 use Rattle.showing.specs.Copying.{Graphing, Graphs}
 use Rattle.showing.proofs.Leading.{lead-room}
 
@@ -29,35 +29,21 @@ lead-own : (d : Placed) (m : Marking) → Can (strip (keep m d)) → sure (left-
 lead-own (place g ds) m c e = ap (λ (l : List Graph). or-else g (glue g l)) e
 
 module _ (n : ℕ) (w : List ℕ) (g left o : ℕ) (c : Describing n w g left o) where
-  here : At (words w) g (c .lies .from) (c .lies .d) (c .lies .end) (c .lies .to)
-  here = subst (λ (t : List ℕ). At t g (c .lies .from) (c .lies .d) (c .lies .end) (c .lies .to)) (sym (c .base .loaded)) (c .lies .at)
+  abbrev read : Readable w g left
+  read = readable w (c .base .holds .long) (c .base .loaded) (c .base .ground .few) (c .lies)
 
-  pub asks-look : Looking w g
-  asks-look = record {
-    long = c .base .holds .long;
-    d = c .lies .d;
-    from = c .lies .from;
-    end = c .lies .end;
-    to = c .lies .to;
-    at = here;
-    low = omega (arith, c .lies .low, c .base .ground .few);
-  }
+  pub asks-look : (left : ℕ) × Readable w g left
+  asks-look = (left, read)
 
   module _ (r : Bool) (u : Looks w g r) (e : r ≡ false) where
     unjoined : lead (strip (keep (c .base .m) (c .lies .d))) ≡ own (c .lies .d)
-    unfolding asks-look
     unjoined = lead-own (c .lies .d) (c .base .m) (c .can) (ap (λ (m : Marking). sure (left-all m (c .lies .d))) (sym (c .base .marks))
-        ∙ u asks-look e)
+        ∙ u left read e)
 
     pub asks-copy : Graphing w g o
     asks-copy = record {
-      long = c .base .holds .long;
-      d = c .lies .d;
-      from = c .lies .from;
-      end = c .lies .end;
-      to = c .lies .to;
-      at = here;
-      low = omega (arith, c .lies .low, c .base .ground .few);
+      left = left;
+      read = read;
       room = omega (arith, lead-room n w g left o c, ap (λ (G : Graph). length (graph-words G)) unjoined);
     }
 

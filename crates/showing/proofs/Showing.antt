@@ -4,7 +4,7 @@ use Prim.Native.Nat.{ℕ, _+_, _≤_, _<_}
 use native.Mathlib.Omega.{arith}
 use mathlib.Core.Path.{_≡_, sym, ap, ap₂, subst, _∙_}
 use mathlib.Core.Option.{Option, none, some}
-use mathlib.Core.List.{List, [], _∷_, _++_}
+use mathlib.Core.List.{List, [], _∷_, _++_, List·Memᴰ·not-nil}
 use lib.ListN.{length, getD, set, length-append, length-set}
 use lib.Seq.{getD-set-same, getD-set-other}
 use Rattle.theory.specs.Limits.{depth-limit}
@@ -30,13 +30,13 @@ use Rattle.engine.proofs.Sane.{SaneAll}
 use Rattle.modes_by_marks.proofs.Beside.{strip-next}
 use Rattle.modes_by_marks.proofs.Joined.{keep-next}
 use Rattle.loading.specs.Entry.{graphs}
-use Rattle.loading.specs.Loaded.{number-step}
 use Rattle.loading.specs.Numbered.{places}
-use Rattle.loading.specs.At.{At}
+use Rattle.loading.specs.Lying.{Here}
 use Rattle.loading.proofs.Putting.{stands-frame}
 use Rattle.marks.specs.Positions.{tail-at, disjunctions-at}
 use Rattle.marks.specs.Marked.{marking}
-use Rattle.marks.proofs.Reading.{read-at, tail-is, disjunctions-is}
+use Rattle.marks.specs.Readable.{Readable}
+use Rattle.marks.proofs.Reading.{readable, reads, tail-of, disjunctions-of}
 use Rattle.classes.specs.Holds.{Remembers, Backs, Undoable}
 use Rattle.classes.proofs.Laws.{undoable-asks, undoable-back}
 use Rattle.writing.specs.Writing.{Writing, Writes}
@@ -47,7 +47,6 @@ use Rattle.showing.proofs.Leaving.{then-words, then-count, shown-next, 
 use Rattle.showing.proofs.Leaving.{sane-parts}
 use Rattle.showing.proofs.Leading.{lead-joins, weight-words}
 use Rattle.showing.proofs.Describing.{inner-can, inner-sane}
-use Rattle.entering.proofs.Pairs.{half-low}
 
 -- the disjunctions of the joined description are those of both
 both-later : (a b j : Placed) (m : Marking) → joined-placed a b ≡ some j → left-all m j ≡ left-all m a then left-all m b
@@ -61,24 +60,26 @@ both-later (place g ds) (place h es) j m = go (join (g ∷ h ∷ []))
         ap (left-all m) (sym f) ∙ ap strip-all (keep-next m ds es) ∙ strip-next (keep-all m ds) (keep-all m es)
 
 -- of a description without disjunctions none are left
-none-left : (w : List ℕ) → 16384 ≤ length w → (m : Marking) (d : Placed) (p n q l : ℕ) → At (words w) p n d q l → l < number-step →
-    disjunctions-at w (tail-at w p) ≡ 0 → shown-all (left-all m d) ≡ end
-none-left w long m (place g ds) p n q l at low h =
-    go ds (sym (disjunctions-is w long g ds p n q l at low) ∙ ap (disjunctions-at w) (sym (tail-is w long g ds p n q l at low)) ∙ h)
+none-left : {w : List ℕ} {p left : ℕ} (m : Marking) (r : Readable w p left) → disjunctions-at w (tail-at w p) ≡ 0 →
+    shown-all (left-all m (r .lies .d)) ≡ end
+none-left {w} {p} {left} m r h = whole (r .lies .d) (r .lies .at)
   where
     go : (ds : Places) → places ds ≡ 0 → shown-all (strip-all (keep-all m ds)) ≡ end
     go stop e = nothing-left
     go (a also ds) e = absurd (omega arith)
+
+    whole : (d : Placed) → Here (r .lies) d → shown-all (left-all m d) ≡ end
+    whole (place g ds) at = go ds (sym (disjunctions-of r g ds at) ∙ ap (disjunctions-at w) (sym (tail-of r g ds at)) ∙ h)
 
 module _ (n k : ℕ) (w : List ℕ) (c : Showing n k w) where
   abbrev m : Marking
   m = marking w
 
   abbrev a : Placed
-  a = c .p .inputs .a
+  a = c .p .inputs .first .d
 
   abbrev b : Placed
-  b = c .p .inputs .b
+  b = c .p .inputs .second .d
 
   abbrev j : Placed
   j = c .p .j
@@ -155,27 +156,19 @@ module _ (n k : ℕ) (w : List ℕ) (c : Showing n k w) where
     loaded₁ : words w₁ ≡ c .t
     loaded₁ = words-same w w₁ long (u .kept .len) (λ i h l. u .kept .mid i h (omega arith)) ∙ c .stage .ready .loaded
 
-    at-a : At (words w₁) 0 0 a (c .p .inputs .end-a) (c .p .inputs .half)
-    at-a = subst (λ (t : List ℕ). At t 0 0 a (c .p .inputs .end-a) (c .p .inputs .half)) (sym loaded₁) (c .p .inputs .at-a)
+    abbrev read-a : Readable w₁ 0 depth-limit
+    read-a = readable w₁ long₁ loaded₁ (c .p .inputs .ground .few) (c .p .inputs .first)
 
-    at-b : At (words w₁) SECOND (c .p .inputs .half) b (c .p .inputs .end-b) n
-    at-b = subst (λ (t : List ℕ). At t SECOND (c .p .inputs .half) b (c .p .inputs .end-b) n) (sym loaded₁) (c .p .inputs .at-b)
-
-    low-a : c .p .inputs .half < number-step
-    low-a = omega (arith, half-low n (c .t) (c .p .inputs), c .p .inputs .ground .few)
+    abbrev read-b : Readable w₁ SECOND depth-limit
+    read-b = readable w₁ long₁ loaded₁ (c .p .inputs .ground .few) (c .p .inputs .second)
 
     pub show-reads : (tail-at w₁ 0 < 2048) × (tail-at w₁ SECOND < 2048) × (SIZE ≤ length w₁)
-    show-reads = (
-      read-at w₁ long₁ a 0 0 (c .p .inputs .end-a) (c .p .inputs .half) at-a low-a .inside,
-      read-at w₁ long₁ b SECOND (c .p .inputs .half) (c .p .inputs .end-b) n at-b (c .p .inputs .ground .few) .inside,
-      long₁,
-    )
+    show-reads = (reads read-a .inside, reads read-b .inside, long₁)
 
     module _ (h : disjunctions-in w₁ ≡ 0) where
       plain-words : layout.words (outcome w (c .p)) ≡ graph-words G ++ 0 ∷ []
       plain-words = all-words ∙ ap₂ {C = List ℕ} (λ (x y : Disjs). graph-words G ++ (disjs x + disjs y) ∷ (disjs-words x ++ disjs-words y))
-          (none-left w₁ long₁ m a 0 0 (c .p .inputs .end-a) (c .p .inputs .half) at-a low-a (omega arith))
-          (none-left w₁ long₁ m b SECOND (c .p .inputs .half) (c .p .inputs .end-b) n at-b (c .p .inputs .ground .few) (omega arith))
+          (none-left m read-a (omega arith)) (none-left m read-b (omega arith))
 
       pub plain-told : (length (set w₁ (RESULT + e) 0) ≡ length w)
           × ((h : ℕ) → RESULT + 2048 ≤ h → getD (set w₁ (RESULT + e) 0) h 0 ≡ getD w h 0)
@@ -233,6 +226,7 @@ module _ (n k : ℕ) (w : List ℕ) (c : Showing n k w) where
           ground =
               c .p .inputs .ground;
           holds = top .holds;
+          inside = λ o i. absurd (List·Memᴰ·not-nil i);
         }
 
     cans : CanAll (left-all m a) × CanAll (left-all m b)
@@ -242,26 +236,14 @@ module _ (n k : ℕ) (w : List ℕ) (c : Showing n k w) where
     sanes = sane-parts (left-all m a) (left-all m b) (subst SaneAll both (inner-sane j m (c .sane)))
 
     pub show-first : Disjoining n w₂ 0 depth-limit (e + 1)
-    show-first =
-        let i = c .p .inputs in
-        let far = half-low n (c .t) i in
-        record {
-          base = base₂;
-          lies = record {
-            d = a;
-            from = 0;
-            end = i .end-a;
-            to = i .half;
-            at = i .at-a;
-            low = omega arith;
-            nests = i .nests-a;
-            among =
-                i .among-a;
-          };
-          can = cans .0;
-          sane = sanes .0;
-          room = omega (arith, near e w₁ u);
-        }
+    show-first = record {
+      base = base₂;
+      lies = c .p .inputs .first;
+      among = c .p .inputs .among-first;
+      can = cans .0;
+      sane = sanes .0;
+      room = omega (arith, near e w₁ u);
+    }
 
     module _ (r i : ℕ) (w₃ : List ℕ) (x : Disjoins n w₂ 0 depth-limit (e + 1) r i w₃) where
       told : Written n w₂ (e + 1) (disjs-words first) r w₃ × (i ≡ disjs first)
@@ -269,25 +251,14 @@ module _ (n k : ℕ) (w : List ℕ) (c : Showing n k w) where
       told = x show-first
 
       pub show-second : Disjoining n w₃ SECOND depth-limit r
-      show-second =
-          let s = c .p .inputs in
-          record {
-            base = based n w₂ base₂ (e + 1) (disjs-words first) r w₃ (told .0);
-            lies = record {
-              d = b;
-              from = s .half;
-              end = s .end-b;
-              to = n;
-              at = s .at-b;
-              low = omega arith;
-              nests = s .nests-b;
-              among =
-                  s .among-b;
-            };
-            can = cans .1;
-            sane = sanes .1;
-            room = omega (arith, near e w₁ u, written-order n w₂ (e + 1) (disjs-words first) r w₃ (told .0));
-          }
+      show-second = record {
+        base = based n w₂ base₂ (e + 1) (disjs-words first) r w₃ (told .0);
+        lies = c .p .inputs .second;
+        among = c .p .inputs .among-second;
+        can = cans .1;
+        sane = sanes .1;
+        room = omega (arith, near e w₁ u, written-order n w₂ (e + 1) (disjs-words first) r w₃ (told .0));
+      }
 
       module _ (q l : ℕ) (w₄ : List ℕ) (y : Disjoins n w₃ SECOND depth-limit r q l w₄) where
         told₂ : Written n w₃ r (disjs-words second) q w₄ × (l ≡ disjs second)

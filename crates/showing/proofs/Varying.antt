@@ -19,10 +19,12 @@ use Rattle.modes_by_marks.proofs.Marks.{kept-alts}
 use Rattle.engine.proofs.Sane.{SaneAny}
 use Rattle.loading.specs.Numbered.{options}
 use Rattle.loading.specs.At.{AtAny}
-use Rattle.loading.proofs.Walking.{any-bounds, any-counts}
+use Rattle.loading.proofs.Walking.{any-counts}
+use Rattle.loading.proofs.Lying.{lying-more, any-bounds-of}
 use Rattle.marks.specs.Readable.{Alternatives}
 use Rattle.marks.specs.Tallied.{from-kept, Tallied}
-use Rattle.entering.proofs.Certain.{Lone, lone-at}
+use Rattle.marks.proofs.Reading.{alternatives}
+use Rattle.entering.proofs.Certain.{LoneOf, lone-alone}
 use Rattle.showing.specs.Putting.{Written, left-all, Disjoining, Disjoins, folded, Varying, Offering, Offers}
 use Rattle.showing.proofs.Written.{written-append, written-word, based}
 use Rattle.showing.proofs.Leaving.{shown-alone, shown-several, shown-count}
@@ -47,16 +49,7 @@ module _ (n : ℕ) (w : List ℕ) (p of left o : ℕ) (c : Varying n w p of left
   rest = strip-any (keep-any m (c .lies .a))
 
   abbrev counted : Alternatives w p of
-  counted = record {
-    room = c .base .holds .long;
-    a = c .lies .a;
-    n = c .lies .from;
-    q = c .lies .end;
-    m = c .lies .to;
-    at = subst (λ (s : List ℕ). AtAny s p (c .lies .from) (c .lies .a) (c .lies .end) (c .lies .to)) (sym (c .base .loaded)) (c .lies .at);
-    low = omega (arith, c .lies .low, c .base .ground .few);
-    many = c .lies .many;
-  }
+  counted = alternatives w (c .base .holds .long) (c .base .loaded) (c .base .ground .few) (c .lies)
 
   pub vary-counts : Alternatives w p of
   vary-counts = counted
@@ -74,38 +67,32 @@ module _ (n : ℕ) (w : List ℕ) (p of left o : ℕ) (c : Varying n w p of left
       kept-is,
       kept-few m (c .lies .a),
       any-counts t (c .lies .a) p (c .lies .from) (c .lies .end) (c .lies .to) (c .lies .within) (c .lies .at),
-      any-bounds t (c .lies .a) p (c .lies .from) (c .lies .end) (c .lies .to) (c .lies .within) (c .lies .at) .1,
+      any-bounds-of (c .lies) .1,
       words-many w (c .base .holds .long),
       ap length (c .base .loaded),
     )
 
     -- ---- one stands alone
     module _ (one : kept ≡ 1) where
-      abbrev lone : Lone (c .base .U) t m left p (c .lies .from) (c .lies .a) (c .lies .end) (c .lies .to) (c .lies .at) first
-      lone = lone-at (c .base .U) t (words w) m left (c .lies .a) p (c .lies .from) (c .lies .end) (c .lies .to) (c .lies .within)
-          (c .lies .at) (c .lies .among) (c .lies .nests) (sym kept-is ∙ one) first (told .first-is .0)
-          (subst (λ (k : Marking). AtAny (words w) first (told .first-is .0) (from-kept k (c .lies .a)) (c .lies .end) (c .lies .to))
-          (c .base .marks) (told .first-is .1))
+      abbrev lone : LoneOf m (c .lies) (c .base .U) first
+      lone =
+          let stands = told .first-is in
+          lone-alone (c .base .U) (words w) m (c .lies) (c .among) (sym kept-is ∙ one) first (
+            stands .0,
+            subst (λ (k : Marking). AtAny (words w) first (stands .0) (from-kept k (c .lies .a)) (c .lies .end) (c .lies .to))
+                (c .base .marks) (stands .1),
+          )
 
-      alone : folded m (c .lies .a) ≡ shown-all (left-all m (lone .d))
-      alone = ap (λ (x : Alts). shown-all (x and end)) (ap strip-any (lone .alone)) ∙ shown-alone (lone .d) m
+      alone : folded m (c .lies .a) ≡ shown-all (left-all m (lone .lies .d))
+      alone = ap (λ (x : Alts). shown-all (x and end)) (ap strip-any (lone .alone)) ∙ shown-alone (lone .lies .d) m
 
       pub vary-inner : Disjoining n w first left o
       vary-inner = record {
         base = c .base;
-        lies = record {
-          d = lone .d;
-          from = lone .from;
-          end = lone .end;
-          to = lone .to;
-          at = lone .here;
-          low =
-              omega (arith, c .lies .low, lone .high);
-          nests = lone .nests;
-          among = lone .among;
-        };
-        can = inner-can (lone .d) m (subst CanAny (ap strip-any (lone .alone)) (c .can) .0);
-        sane = inner-sane (lone .d) m (subst SaneAny (ap strip-any (lone .alone)) (c .sane) .0);
+        lies = lying-more (c .lies .low) (lone .lies);
+        among = lone .among;
+        can = inner-can (lone .lies .d) m (subst CanAny (ap strip-any (lone .alone)) (c .can) .0);
+        sane = inner-sane (lone .lies .d) m (subst SaneAny (ap strip-any (lone .alone)) (c .sane) .0);
         room = omega (arith, c .room, ap (λ (x : Disjs). length (disjs-words x)) alone);
       }
 
@@ -137,6 +124,7 @@ module _ (n : ℕ) (w : List ℕ) (p of left o : ℕ) (c : Varying n w p of left
       vary-offers = record {
         base = based n w (c .base) o (kept ∷ []) (o + 1) (set w (RESULT + o) kept) word;
         lies = c .lies;
+        among = c .among;
         can = c .can;
         sane = c .sane;
         room = omega (arith, c .room, ap length spread);

@@ -116,4 +116,5 @@ module _ (n : ℕ) (w : List ℕ) where
         U = b .U;
         ground = b .ground;
         holds = a .holds;
+        inside = b .inside;
       }

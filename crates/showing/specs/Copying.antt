@@ -9,10 +9,10 @@ use Rattle.theory.specs.Layout.{arc-words, node-words, nodes-words}
 use Rattle.area.specs.Map.{RESULT, SIZE}
 use Rattle.area.specs.Region.{words}
 use Rattle.layout.specs.Standing.{Stands, graph-words}
-use Rattle.engine.specs.Placed.{Placed, own}
-use Rattle.loading.specs.Loaded.{number-step, moved-arcs, moved-node, located}
+use Rattle.engine.specs.Placed.{own}
+use Rattle.loading.specs.Loaded.{moved-arcs, moved-node, located}
 use Rattle.loading.specs.Loading.{Put}
-use Rattle.loading.specs.At.{At}
+use Rattle.marks.specs.Readable.{Readable}
 
 -- a kind of thing: when it may come, its words, and what they are loaded as where node 0 has a number
 pub record Kind : Type 1 where
@@ -48,14 +48,9 @@ Copies K w number p o r w' = (c : Copying K w number p o) → Put w w' (RESULT +
 
 -- the graph of a description, by itself
 pub record Graphing (w : List ℕ) (g o : ℕ) : Type 0 where
-  pub long : SIZE ≤ length w
-  pub d : Placed
-  pub from : ℕ
-  pub end : ℕ
-  pub to : ℕ
-  pub at : At (words w) g from d end to
-  pub low : to < number-step
-  pub room : o + length (graph-words (own d)) ≤ 2048
+  pub left : ℕ
+  pub read : Readable w g left
+  pub room : o + length (graph-words (own (read .lies .d))) ≤ 2048
 
 abbrev pub Graphs : (w : List ℕ) (g o r : ℕ) (w' : List ℕ) → Type 0
-Graphs w g o r w' = (c : Graphing w g o) → Put w w' (RESULT + o) (graph-words (own (c .d))) (RESULT + r)
+Graphs w g o r w' = (c : Graphing w g o) → Put w w' (RESULT + o) (graph-words (own (c .read .lies .d))) (RESULT + r)

@@ -11,21 +11,16 @@ use Rattle.theory.specs.Layout.{disjs-words, alts-words}
 use Rattle.theory.specs.Layout as layout
 use Rattle.theory.proofs.Mean.{Can, CanAll, CanAny}
 use Rattle.area.specs.Map.{WORDS, RESULT}
-use Rattle.area.specs.Region.{words}
 use Rattle.layout.specs.Standing.{Stands, graph-words}
 use Rattle.engine.specs.Placed.{Placed, place, Places, Options, strip, strip-all, strip-any}
 use Rattle.engine.specs.Marks.{Marking, keep, keep-all, keep-any}
 use Rattle.engine.specs.Certain.{sure}
 use Rattle.engine.specs.Shown.{or-else, shown, shown-all, shown-any}
 use Rattle.engine.proofs.Sane.{Sane, SaneAll, SaneAny}
-use Rattle.loading.specs.Entry.{Entry}
-use Rattle.loading.specs.Numbered.{options}
-use Rattle.loading.specs.At.{At, AtAny}
-use Rattle.marks.specs.Marked.{marking}
-use Rattle.loading.specs.Nesting.{Nests, NestsAny}
+use Rattle.loading.specs.Lying.{Lying, LyingAny}
 use Rattle.classes.specs.Holds.{Holds}
-use Rattle.entering.specs.Taken.{Among, AmongAny}
-use Rattle.entering.specs.Ground.{Ground}
+use Rattle.entering.specs.Taken.{AmongOf, AmongAnyOf}
+use Rattle.entering.specs.Footing.{Footing}
 
 -- w' is w with the words xs in the result from o up to r, and nothing is pushed; before the loaded words anything may have changed
 pub record Written (n : ℕ) (w : List ℕ) (o : ℕ) (xs : List ℕ) (r : ℕ) (w' : List ℕ) : Type 0 where
@@ -35,32 +30,16 @@ pub record Written (n : ℕ) (w : List ℕ) (o : ℕ) (xs : List ℕ) (r : ℕ) 
   pub stands : Stands w' (RESULT + o) xs (RESULT + r)
   pub holds : Holds n [] 0 w'
 
--- nothing is pushed, the words t are loaded, in which the graphs U lie, and the marks are m
-pub record Base (n : ℕ) (w : List ℕ) : Type 0 where
-  pub t : List ℕ
-  pub loaded : words w ≡ t
-  pub m : Marking
-  pub marks : marking w ≡ m
-  pub U : List Entry
-  pub ground : Ground n t U
-  pub holds : Holds n [] 0 w
+-- nothing is pushed
+abbrev pub Base : (n : ℕ) (w : List ℕ) → Type 0
+Base n w = Footing n 0 w []
 
 -- ---- a description
--- the description d stands loaded at g
-pub record Lying (n : ℕ) (t : List ℕ) (U : List Entry) (g left : ℕ) : Type 0 where
-  pub d : Placed
-  pub from : ℕ
-  pub end : ℕ
-  pub to : ℕ
-  pub at : At t g from d end to
-  pub low : to ≤ n
-  pub nests : Nests d left
-  pub among : Among U t g from d end to at
-
 -- all that is certain in what is left of it agrees, at every depth, and there is room for it
 pub record Describing (n : ℕ) (w : List ℕ) (g left o : ℕ) : Type 0 where
   pub base : Base n w
-  pub lies : Lying n (base .t) (base .U) g left
+  pub lies : Lying n (base .t) g left
+  pub among : AmongOf (base .U) lies
   pub can : Can (strip (keep (base .m) (lies .d)))
   pub sane : Sane (strip (keep (base .m) (lies .d)))
   pub room : o + length (layout.words (shown (strip (keep (base .m) (lies .d))))) ≤ 2048
@@ -86,7 +65,8 @@ left-all m d = strip-all (keep-all m (later d))
 
 pub record Disjoining (n : ℕ) (w : List ℕ) (g left o : ℕ) : Type 0 where
   pub base : Base n w
-  pub lies : Lying n (base .t) (base .U) g left
+  pub lies : Lying n (base .t) g left
+  pub among : AmongOf (base .U) lies
   pub can : CanAll (left-all (base .m) (lies .d))
   pub sane : SaneAll (left-all (base .m) (lies .d))
   pub room : o + length (disjs-words (shown-all (left-all (base .m) (lies .d)))) ≤ 2048
@@ -99,26 +79,14 @@ Disjoins n w g left o r count w' =
     × (count ≡ disjs (shown-all (left-all (c .base .m) (c .lies .d))))
 
 -- ---- the alternatives of one disjunction
--- the alternatives a stand loaded at p, `of` of them
-pub record LyingAny (n : ℕ) (t : List ℕ) (U : List Entry) (p of left : ℕ) : Type 0 where
-  pub a : Options
-  pub from : ℕ
-  pub end : ℕ
-  pub to : ℕ
-  pub at : AtAny t p from a end to
-  pub within : p ≤ length t
-  pub low : to ≤ n
-  pub many : options a ≡ of
-  pub nests : NestsAny a left
-  pub among : AmongAny U t p from a end to at
-
 -- "One with exactly one left is folded": what is left of a disjunction, as disjunctions
 abbrev pub folded : Marking → Options → Disjs
 folded m a = shown-all (strip-any (keep-any m a) and end)
 
 pub record Varying (n : ℕ) (w : List ℕ) (p of left o : ℕ) : Type 0 where
   pub base : Base n w
-  pub lies : LyingAny n (base .t) (base .U) p of left
+  pub lies : LyingAny n (base .t) p of left
+  pub among : AmongAnyOf (base .U) lies
   pub can : CanAny (strip-any (keep-any (base .m) (lies .a)))
   pub sane : SaneAny (strip-any (keep-any (base .m) (lies .a)))
   pub room : o + length (disjs-words (folded (base .m) (lies .a))) ≤ 2048
@@ -132,7 +100,8 @@ Varies n w p of left o r count after w' =
 
 pub record Offering (n : ℕ) (w : List ℕ) (p of left o : ℕ) : Type 0 where
   pub base : Base n w
-  pub lies : LyingAny n (base .t) (base .U) p of left
+  pub lies : LyingAny n (base .t) p of left
+  pub among : AmongAnyOf (base .U) lies
   pub can : CanAny (strip-any (keep-any (base .m) (lies .a)))
   pub sane : SaneAny (strip-any (keep-any (base .m) (lies .a)))
   pub room : o + length (alts-words (shown-any (strip-any (keep-any (base .m) (lies .a))))) ≤ 2048

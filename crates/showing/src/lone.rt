@@ -3,11 +3,13 @@ use marks::positions::alternatives_at;
 use marks::positions::disjunctions_at;
 use marks::positions::tail_at;
 use marks::tally::count_kept;
-ghost use Rattle.showing.specs.Alone.{Looking, Looks};
+ghost use Prim.Native.Nat.{ℕ};
+ghost use Rattle.marks.specs.Readable.{Readable};
+ghost use Rattle.showing.specs.Alone.{Looks};
 
 // Has the description at g a disjunction with one alternative left?
 pub fn lone(w: &[u32], g: usize) -> bool
-    requires { ⌜ Looking (now w) g ⌝ }
+    requires { ⌜ ((left : ℕ) × Readable (now w) g left) ⌝ }
     ensures { λ r. ⌜ Looks (now (w .entry)) g r ⌝ }
 {
     let e = tail_at(w, g);

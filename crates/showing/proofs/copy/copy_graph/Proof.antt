@@ -14,7 +14,7 @@ use Rattle.marks.proofs.positions.word_at.Reads as word-at-reads
 use Rattle.showing.proofs.copy.copy_nodes.Reads as copy-nodes-reads
 
 number-at-requires : tie.Need-number-at-requires
-number-at-requires c κs = (let h = graph-here _ _ _ (c .before .before .pre) .0 in omega arith, c .before .before .pre .long)
+number-at-requires c κs = (let h = graph-here _ _ _ (c .before .before .pre) .0 in omega arith, c .before .before .pre .read .room)
 
 cast-number : tie.Need-cast-number
 cast-number c = let p = c .before .before .before .pre in let h = graph-here _ _ _ p in let a = h .1 in let b = h .3 in
@@ -24,7 +24,7 @@ word-at-requires : tie.Need-word-at-requires
 word-at-requires c κs = (
   let h = graph-here _ _ _ (c .before .before .before .before .pre) .0 in
       omega arith,
-  c .before .before .before .before .pre .long,
+  c .before .before .before .before .pre .read .room,
 )
 
 nodes-of-requires : tie.Need-nodes-of-requires
