@@ -47,17 +47,20 @@ module _ (n : ℕ) (t : List ℕ) (p : Pair n t) where
   -- ---- mode 1 fails, and mode 2 with it
   pub quick-none : quick-at (p .j) ≡ none → quick (p .d) (p .e) ≡ none
   quick-none q = inputs-are quick
-      ∙ whole.quick-none (p .inputs .first .d) (p .inputs .second .d) (first-can n t p) (second-can n t p) (first-proper n t p) (second-proper n t p)
+      ∙ whole.quick-none (p .inputs .first .d) (p .inputs .second .d) (first-can n t p) (second-can n t p) (first-proper n t p)
+      (second-proper n t p)
       (first-distinct n t p) (second-distinct n t p) (both-apart n t p) (p .j) (p .joined) q
 
   pub full-none : quick-at (p .j) ≡ none → full (p .d) (p .e) ≡ none
-  full-none q = inputs-are full ∙ whole.full-none (p .inputs .first .d) (p .inputs .second .d) (first-can n t p) (second-can n t p) (first-proper n t p)
+  full-none q = inputs-are full
+      ∙ whole.full-none (p .inputs .first .d) (p .inputs .second .d) (first-can n t p) (second-can n t p) (first-proper n t p)
       (second-proper n t p) (first-distinct n t p) (second-distinct n t p) (both-apart n t p) (p .j) (p .joined) q
 
   -- ---- mode 1 leaves these marks
   module _ (m : Marking) (q : Leaves (p .j) m) where
     pub left-can : Can (strip (keep m (p .j)))
-    left-can = whole.left-can (p .inputs .first .d) (p .inputs .second .d) (first-can n t p) (second-can n t p) (first-proper n t p) (second-proper n t p)
+    left-can = whole.left-can (p .inputs .first .d) (p .inputs .second .d) (first-can n t p) (second-can n t p) (first-proper n t p)
+        (second-proper n t p)
         (first-distinct n t p) (second-distinct n t p) (both-apart n t p) (p .j) (p .joined) m q
 
     pub left-sane : Sane (strip (keep m (p .j)))
@@ -66,5 +69,6 @@ module _ (n : ℕ) (t : List ℕ) (p : Pair n t) where
 
     pub quick-shown : quick (p .d) (p .e) ≡ some (shown (strip (keep m (p .j))))
     quick-shown = inputs-are quick
-        ∙ whole.quick-shown (p .inputs .first .d) (p .inputs .second .d) (first-can n t p) (second-can n t p) (first-proper n t p) (second-proper n t p)
+        ∙ whole.quick-shown (p .inputs .first .d) (p .inputs .second .d) (first-can n t p) (second-can n t p) (first-proper n t p)
+        (second-proper n t p)
         (first-distinct n t p) (second-distinct n t p) (both-apart n t p) (p .j) (p .joined) m q

@@ -84,7 +84,13 @@ module _ (n k : ℕ) (w : List ℕ) (g left : ℕ) (c : Entering n k w g left) w
     where
       go : (d : Placed) (at : Here (c .lies) d) → AmongHere (c .s .U) (c .lies) d at →
           Pushing n k w g
-      go (place K ds) at u = record { es = c .es; e = entry g (c .lies .from) K; is = refl; holds = c .s .holds; comes = own-comes K ds at u }
+      go (place K ds) at u = record {
+        es = c .es;
+        e = entry g (c .lies .from) K;
+        is = refl;
+        holds = c .s .holds;
+        comes = own-comes K ds at u;
+      }
 
   inside-all : Inside (c .s .U) (entered c)
   inside-all = inside-append (c .s .U) (c .es) (taken-of (marking w) (c .lies)) (c .s .inside)
@@ -145,7 +151,8 @@ module _ (n k : ℕ) (w : List ℕ) (g left : ℕ) (c : Entering n k w g left) w
                   (λ o i. ⊎-elim (λ q. subst (λ (x : Entry). List·Memᴰ x (c .s .U)) (sym q) (s .0)) (λ j. absurd (List·Memᴰ·not-nil j))
                   (List·Memᴰ·cases-cons i));
               free = free-append (c .lies .from + length K) (c .lies .to) (c .es) (own ∷ [])
-                  (free-narrow (c .lies .from) (c .lies .to) (c .lies .from + length K) (c .lies .to) (c .es) (omega arith) (omega arith) (c .free))
+                  (free-narrow (c .lies .from) (c .lies .to) (c .lies .from + length K) (c .lies .to) (c .es) (omega arith) (omega arith)
+                  (c .free))
                   (λ o i. ⊎-elim (λ q. let v : o .number ≡ c .lies .from = ap (λ (x : Entry). x .number) q in
                   inl (omega arith)) (λ j. absurd (List·Memᴰ·not-nil j)) (List·Memᴰ·cases-cons i));
               total = same ∙ sym (append-assoc (c .es) (own ∷ [])
@@ -268,7 +275,8 @@ module _ (n k : ℕ) (w : List ℕ) (g left : ℕ) (c : Entering n k w g left) w
         total-alone = next h .total-next ∙ sym (append-assoc (v .es) list rest-list)
 
         settled-is : settled these ≡ v .es ++ list
-        settled-is = ap (λ (u : Marking). v .es ++ taken-any (c .s .t) u (at + 1) (v .from) (next h .a) (next h .q) (next h .m) (next h .any))
+        settled-is = ap (λ (u : Marking). v .es ++ taken-any (c .s .t) u (at + 1) (v .from) (next h .a) (next h .q) (next h .m)
+            (next h .any))
             marks₁
 
         -- past it
@@ -319,7 +327,8 @@ module _ (n k : ℕ) (w : List ℕ) (g left : ℕ) (c : Entering n k w g left) w
               walk-clash z =
                   let k = subst (λ (l : List Entry). Clash (graphs l)) walk-entered (u .clashed z .1 walk-inner .0) in
                   subst (λ (l : List Entry). Clash (graphs l)) (sym total-alone)
-                  (clash-more n (c .s .t) (c .s .U) (v .es ++ list) rest-list (c .s .ground) (subst (Inside (c .s .U)) total-alone inside-all) k)
+                  (clash-more n (c .s .t) (c .s .U) (v .es ++ list) rest-list (c .s .ground)
+                  (subst (Inside (c .s .U)) total-alone inside-all) k)
 
               pub walk-in : (i : ℕ) → o ≡ In i → Walking (more - 1) after i w₂
               walk-in i z = subst (λ (p : ℕ). Walking (more - 1) p i w₂) (sym (told .after-is))
@@ -355,7 +364,8 @@ enters-own n k w g left o w₁ u z = record {
         let all : entered c ≡ (c .es ++ own ∷ []) ++ rest = same ∙ sym (append-assoc (c .es) (own ∷ []) rest) in
         let first = subst Clash (sym (graphs-append (c .es) (own ∷ []))) (told .0) in (
           subst (λ (l : List Entry). Clash (graphs l)) (sym all)
-              (clash-more n (c .s .t) (c .s .U) (c .es ++ own ∷ []) rest (c .s .ground) (subst (Inside (c .s .U)) all (inside-all n k w g left c)) first),
+              (clash-more n (c .s .t) (c .s .U) (c .es ++ own ∷ []) rest (c .s .ground)
+              (subst (Inside (c .s .U)) all (inside-all n k w g left c)) first),
           told .1,
         )
 

@@ -1,6 +1,6 @@
 -- Two inputs that stand loaded and whose definite graphs join: what theory and engine ask of them.
 -- Assumes nothing.
-use Prim.Native.Nat.{ℕ, _+_, _<_}
+use Prim.Native.Nat.{ℕ, _+_}
 use native.Mathlib.Omega.{arith}
 use mathlib.Core.Path.{_≡_, sym, ap, subst, _∙_}
 use mathlib.Core.Option.{some}
@@ -64,4 +64,5 @@ module _ (n : ℕ) (t : List ℕ) (p : Pair n t) where
       (joined-comes (strip (p .inputs .first .d)) (strip (p .inputs .second .d)) first-can second-can first-proper second-proper)
 
   pub whole-distinct : Distinct (p .j)
-  whole-distinct = subst SomeDistinct (p .joined) (joined-distinct (p .inputs .first .d) (p .inputs .second .d) first-distinct second-distinct both-apart)
+  whole-distinct = subst SomeDistinct (p .joined)
+      (joined-distinct (p .inputs .first .d) (p .inputs .second .d) first-distinct second-distinct both-apart)

@@ -103,7 +103,10 @@ module _ (n k : ℕ) (w : List ℕ) (p count left : ℕ) where
       pushed = λ i y. let x : _≡_ {A = ℕ} 0 1 = cc in absurd (omega arith);
       clashed = λ y. (
         since-refl n (c₀ .es) k w (c₀ .s .holds),
-        λ c. (c .s .holds, settle-none (graphs (c .es)) (marking w) (c .lies .a) (sym (tally (counted n k w p count left c) .kept-are) ∙ z)),
+        λ c. (
+          c .s .holds,
+          settle-none (graphs (c .es)) (marking w) (c .lies .a) (sym (tally (counted n k w p count left c) .kept-are) ∙ z),
+        ),
       );
     }
 

@@ -35,4 +35,5 @@ pub record Settles (n k : ℕ) (w : List ℕ) (p count left : ℕ) (r : Pushed) 
       × ((c : Alternating n k w p count left) →
       Holds n (settled c) k' w' × (settle-at (graphs (c .es)) (marking w) (c .lies .a) ≡ stands (graphs (settled c)) (marking w)))
   pub clashed : r ≡ Clashed → Since k w k w'
-      × ((c : Alternating n k w p count left) → Holds n (c .es) k w' × (settle-at (graphs (c .es)) (marking w) (c .lies .a) ≡ fails (marking w)))
+      × ((c : Alternating n k w p count left) → Holds n (c .es) k w'
+      × (settle-at (graphs (c .es)) (marking w) (c .lies .a) ≡ fails (marking w)))

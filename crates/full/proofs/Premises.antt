@@ -27,7 +27,8 @@ module _ (n : ℕ) (t : List ℕ) (p : Pair n t) where
   -- what the full step leaves can be folded
   pub pair-full : (m : Marking) → Leaves (p .j) m → (k : ℕ) → length (search (keep m (p .j))) ≡ suc k →
       Can (strip (keep (lit (search (keep m (p .j)))) (p .j))) × Sane (strip (keep (lit (search (keep m (p .j)))) (p .j)))
-  pair-full m q k e = full-can (p .inputs .first .d) (p .inputs .second .d) (first-can n t p) (second-can n t p) (first-proper n t p) (second-proper n t p)
+  pair-full m q k e = full-can (p .inputs .first .d) (p .inputs .second .d) (first-can n t p) (second-can n t p) (first-proper n t p)
+      (second-proper n t p)
       (first-distinct n t p) (second-distinct n t p) (both-apart n t p) (p .j) (p .joined) m q k e
 
   -- where the choices are not too many, nor are the readings

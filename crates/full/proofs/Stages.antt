@@ -114,7 +114,8 @@ module _ (n : ℕ) (t : List ℕ) (p : Pair n t) where
             (List·Memᴰ·append-cases (taken-of m (p .inputs .first)) i)));
         clear-second = subst (λ (x : Marking). ClearOf both x (p .inputs .second))
             (sym marks) (clear-of m both (p .inputs .second)
-            (λ o i. ⊎-elim (λ j. let low = between-of m (p .inputs .first) o j .1 in inl (inl (omega (arith, p .inputs .apart)))) (λ j. inr j)
+            (λ o i. ⊎-elim (λ j. let low = between-of m (p .inputs .first) o j .1 in inl (inl (omega (arith, p .inputs .apart))))
+            (λ j. inr j)
             (List·Memᴰ·append-cases (taken-of m (p .inputs .first)) i)));
       };
       undoable = undoable;

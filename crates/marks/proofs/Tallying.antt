@@ -46,11 +46,19 @@ module _ (w : List ℕ) (p count : ℕ) (s : Alternatives w p count) where
     more : marking w (number-at w at) ≡ false → (found ≡ 0 → ⊥) → first' ≡ first → found' ≡ found → Turn at next first found first' found'
 
   pub tally-none : Tallying count p p 0
-  tally-none = record { rest = s .lies .a; k = s .lies .from; stand = s .lies .at; many = s .lies .many; total = omega arith; mark = inl (refl, refl, refl) }
+  tally-none = record {
+    rest = s .lies .a;
+    k = s .lies .from;
+    stand = s .lies .at;
+    many = s .lies .many;
+    total = omega arith;
+    mark = inl (refl, refl, refl);
+  }
 
   pub tally-read : (left at first found : ℕ) → Tallying left at first found → 0 < left →
       (at < 2048) × (number-at w at < 1024) × (tail-at w at < 2048)
-  tally-read left at first found t h = read-first w (s .room) (t .rest) at (t .k) (s .lies .end) (s .lies .to) left (t .stand) small (t .many) h
+  tally-read left at first found t h = read-first w (s .room) (t .rest) at (t .k) (s .lies .end) (s .lies .to) left (t .stand) small
+      (t .many) h
 
   pub tally-step : (left at first found next first' found' : ℕ) → Tallying left at first found → 0 < left → next ≡ after-at w at →
       Turn at next first found first' found' → Tallying (left - 1) next first' found'
@@ -59,7 +67,8 @@ module _ (w : List ℕ) (p count : ℕ) (s : Alternatives w p count) where
       m : Marking
       m = marking w
 
-      go : (a : Options) → AtAny (words w) at (t .k) a (s .lies .end) (s .lies .to) → options a ≡ left → kept-of m (s .lies .a) ≡ found + kept-of m a →
+      go : (a : Options) → AtAny (words w) at (t .k) a (s .lies .end) (s .lies .to) → options a ≡ left →
+          kept-of m (s .lies .a) ≡ found + kept-of m a →
           Before a at first found ⊎ Since first found → Tallying (left - 1) next first' found'
       go no-more o many total mark = absurd (omega arith)
       go (option x d a) o many total mark =
@@ -88,7 +97,8 @@ module _ (w : List ℕ) (p count : ℕ) (s : Alternatives w p count) where
             omega arith,
             (
               t .k,
-              subst (λ (c : Options). AtAny (words w) first' (t .k) c (s .lies .end) (s .lies .to)) (sym (b .2 ∙ from-true m x d a (own true f)))
+              subst (λ (c : Options). AtAny (words w) first' (t .k) c (s .lies .end) (s .lies .to))
+                  (sym (b .2 ∙ from-true m x d a (own true f)))
                   (subst (λ (j : ℕ). AtAny (words w) j (t .k) (option x d a) (s .lies .end) (s .lies .to)) (sym (g ∙ b .1)) o),
             ),
           )

@@ -179,7 +179,8 @@ module _ (n k : ℕ) (w : List ℕ) (p count left : ℕ) where
                   clear' = subst (λ (m : Marking). ClearAnyOf (c .es) m (c .lies)) (sym marks₁)
                       (c .clear);
                   off = told .off;
-                  is = sifts c ∙ go (kept-of (marking w₁) (c .lies .a)) refl (ap (λ (m : Marking). kept-of m (c .lies .a)) marks₁ ∙ kept-is c);
+                  is = sifts c ∙ go (kept-of (marking w₁) (c .lies .a)) refl (ap (λ (m : Marking). kept-of m (c .lies .a)) marks₁
+                      ∙ kept-is c);
                 }
               where
                 go : (j : ℕ) → kept-of (marking w₁) (c .lies .a) ≡ j → kept-of (marking w₁) (c .lies .a) ≡ kept →
@@ -241,7 +242,8 @@ module _ (n k : ℕ) (w : List ℕ) (p count left : ℕ) where
                           (List·Memᴰ·append-cases (c .es) i);
                     };
                     clear' = subst (λ (m : Marking). ClearAnyOf (settled (after-sift c)) m (c .lies))
-                        (sym marks₂) (clear-any-of (marking w₁) (settled (after-sift c)) (c .lies) (λ o i. ⊎-elim (λ a. inl (free c o a)) (λ b. inr b) (List·Memᴰ·append-cases (c .es) i)));
+                        (sym marks₂) (clear-any-of (marking w₁) (settled (after-sift c)) (c .lies)
+                        (λ o i. ⊎-elim (λ a. inl (free c o a)) (λ b. inr b) (List·Memᴰ·append-cases (c .es) i)));
                     off = off₂ c;
                     is = sifts c ∙ told .1 ∙ ap (λ (m : Marking). stands (graphs (settled (after-sift c))) m) (sym marks₂);
                   }

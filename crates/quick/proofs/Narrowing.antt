@@ -18,7 +18,8 @@ use Rattle.loading.specs.Loaded.{extent}
 use Rattle.loading.specs.Numbered.{places}
 use Rattle.loading.specs.At.{AtAll}
 use Rattle.loading.specs.Lying.{Here, Rest}
-use Rattle.loading.proofs.Walking.{at-bounds, all-bounds, any-bounds}
+use Rattle.loading.proofs.Walking.{all-bounds, any-bounds}
+use Rattle.loading.proofs.Lying.{bounds-of}
 use Rattle.marks.specs.Positions.{tail-at, disjunctions-at, alternatives-at}
 use Rattle.marks.specs.Marked.{marking}
 use Rattle.marks.specs.Readable.{Readable, Alternatives}
@@ -76,7 +77,7 @@ module _ (n k : ℕ) (w : List ℕ) (g left : ℕ) where
 
     -- there are numbers, and so the roots have a class
     some : 0 < n
-    some = let b = at-bounds (c .s .t) (c .lies .d) g (c .lies .from) (c .lies .end) (c .lies .to) (c .lies .at) .2 in omega (arith, c .lies .low)
+    some = omega (arith, bounds-of (c .lies) .2, c .lies .low)
 
     pub narrow-runs : getD w 0 0 ≤ 2048 → Runs w (getD w 0 0)
     narrow-runs = roots-run n (c .es) k w (c .s .holds) some
@@ -198,7 +199,7 @@ module _ (n k : ℕ) (w : List ℕ) (g left : ℕ) where
             within = (let there = next .o .2 in omega arith);
             low = omega (arith, last, c .lies .low);
             many = sym (e ∙ alternatives-is w₁ (next .a) (next .ds) at (s .l) (c .lies .end) (c .lies .to)
-              (subst (λ (t : List ℕ). AtAll t at (s .l) (next .a also next .ds) (c .lies .end) (c .lies .to)) (sym loaded₁) (next .o)));
+                (subst (λ (t : List ℕ). AtAll t at (s .l) (next .a also next .ds) (c .lies .end) (c .lies .to)) (sym loaded₁) (next .o)));
             nests = next .nested .1;
           };
           among = next .amongst .0;
@@ -249,7 +250,8 @@ module _ (n k : ℕ) (w : List ℕ) (g left : ℕ) where
                     fresh = λ o i. ⊎-elim (λ b. s .stood .fresh o b) (λ b. let u = b .0 in let x = b .1 in
                         inr (omega arith, omega arith)) (told .stood .fresh o i);
                   };
-                  ahead = all-alike (c .s .t) (marking w₁) (marking w₂) (s .es₁) (told .es') (next .o .0) (next .o .1) (next .ds) (c .lies .end)
+                  ahead = all-alike (c .s .t) (marking w₁) (marking w₂) (s .es₁) (told .es') (next .o .0) (next .o .1) (next .ds)
+                      (c .lies .end)
                       (c .lies .to) (first .1) (next .o .5) (λ y a b. told .off y (inr a))
                       (λ o i. ⊎-elim (λ b. inl b) (λ b. let u = b .1 in inr (inl u)) (told .stood .fresh o i)) (next .clear .1);
                   behind = λ E K alike new x. next .before E K
@@ -258,7 +260,8 @@ module _ (n k : ℕ) (w : List ℕ) (g left : ℕ) where
                       (λ b. inr (⊎-elim (λ d. inl d) (λ d. inr (omega arith)) b)) (new o i)) (
                         any-alike (c .s .t) (marking w₂) K (told .es') E (at + 1) (s .l) (next .a) (next .o .0) (next .o .1) (omega arith)
                             (next .o .4) (λ y a b. alike y (omega arith) b)
-                            (λ o i. ⊎-elim (λ b. inl b) (λ b. inr (⊎-elim (λ d. inl (omega arith)) (λ d. inr d) b)) (new o i)) (told .clear'),
+                            (λ o i. ⊎-elim (λ b. inl b) (λ b. inr (⊎-elim (λ d. inl (omega arith)) (λ d. inr d) b)) (new o i))
+                            (told .clear'),
                         x,
                       );
                   off = λ y h. told .off y (⊎-elim (λ b. inl (omega arith)) (λ b. inr (omega arith)) h) ∙ s .off y h;

@@ -70,7 +70,8 @@ module _ (n k : ℕ) (w : List ℕ) (g left : ℕ) (c : Entering n k w g left) w
   module _ (none : disjunctions-at w (tail-at w g) ≡ 0) where
     -- it agrees
     module _ (s : Guesses n k w g Agrees) where
-      bare-stays : try-at (graphs (c .es)) (marking w) (c .lies .d) ≡ stands (graphs (c .es) ++ bare-one n k w g left c none .0 ∷ []) (marking w)
+      bare-stays : try-at (graphs (c .es)) (marking w) (c .lies .d) ≡ stands (graphs (c .es) ++ bare-one n k w g left c none .0 ∷ [])
+          (marking w)
       unfolding Rattle.modes_by_marks.specs.Quickly.try-at
       bare-stays = ap (try-at (graphs (c .es)) (marking w)) (bare-one n k w g left c none .1 .0)
           ∙ ap (λ (b : Bool). elim b [

@@ -137,7 +137,11 @@ module _ (n k : ℕ) (w₀ : List ℕ) where
     standing = λ a b x. let f : log ≡ a = cc in
         subst (λ (a : ℕ). Moved k w₀ a w × Each (λ t p. Leaves (p .j) (marking w) × Stage n t p a w)) f (
           v .moved,
-          λ t p s e. (v .ended z t p s e, stage n t p log w (v .between t p s e) (undoable-on n k w₀ (s .undoable) log w (v .moved .since))),
+          λ t p s e. (
+            v .ended z t p s e,
+            stage n t p log w (v .between t p s e)
+                (undoable-on n k w₀ (s .undoable) log w (v .moved .since)),
+          ),
         );
     failing = λ x. let q : _≡_ {A = ℕ} 0 1 = cc in absurd (omega arith);
   }

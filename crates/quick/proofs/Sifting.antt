@@ -184,7 +184,8 @@ module _ (n k : ℕ) (w : List ℕ) (p count left : ℕ) where
 
     read : (w₂ : List ℕ) → 16384 ≤ length w₂ → words w₂ ≡ c .s .t → Read w₂ at (next .x) (next .o .0)
     read w₂ room e = read-option w₂ room (next .x) (next .d) (next .a) at (s .l) (c .lies .end) (c .lies .to)
-        (subst (λ (t : List ℕ). AtAny t at (s .l) (option (next .x) (next .d) (next .a)) (c .lies .end) (c .lies .to)) (sym e) (next .o)) low .0
+        (subst (λ (t : List ℕ). AtAny t at (s .l) (option (next .x) (next .d) (next .a)) (c .lies .end) (c .lies .to)) (sym e)
+        (next .o)) low .0
 
     first : (at < next .o .0) × (next .o .0 ≤ length (c .s .t)) × (s .l < next .o .1)
     first = at-bounds (c .s .t) (next .d) at (s .l) (next .o .0) (next .o .1) (next .o .3)

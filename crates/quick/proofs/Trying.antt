@@ -84,7 +84,8 @@ module _ (n k : ℕ) (w : List ℕ) (g left : ℕ) where
       asks-narrow = goes c₀
 
       -- it is narrowed where it stands
-      going : (c : Entering n k w g left) → try-at (graphs (c .es)) (marking w) (c .lies .d) ≡ inside-at (graphs (entered c)) (marking w₁) (c .lies .d)
+      going : (c : Entering n k w g left) →
+          try-at (graphs (c .es)) (marking w) (c .lies .d) ≡ inside-at (graphs (entered c)) (marking w₁) (c .lies .d)
       going c =
           let good = agrees-true _ (fine n k w g left c)
           (subst Agree (entered-graphs n k w g left c) (holds-agree n (entered c) e w₁ (u .pushed e z .1 c))) in

@@ -2,7 +2,7 @@
 -- Assumes nothing.
 use Prim.Native.Nat.{ℕ, zero, suc, _+_, _≤_, _<_}
 use native.Mathlib.Omega.{arith}
-use mathlib.Core.Path.{_≡_, refl, sym, ap, subst, _∙_}
+use mathlib.Core.Path.{_≡_, sym, ap, subst, _∙_}
 use mathlib.Core.Logic.{_⊎_}
 use mathlib.Core.Bool.{Bool, true, false}
 use mathlib.Core.Option.{some}
@@ -129,7 +129,8 @@ module _ (n k : ℕ) (w : List ℕ) where
     found-is a l =
         let m = marking w in
         let S = graphs (c .stage .es) in
-        both-found (c .p .inputs .first .d) (c .p .inputs .second .d) (c .p .j) (c .p .joined) m (whole-comes n (c .t) (c .p) .0) S (c .stage .same)
+        both-found (c .p .inputs .first .d) (c .p .inputs .second .d) (c .p .j) (c .p .joined) m (whole-comes n (c .t) (c .p) .0) S
+        (c .stage .same)
         (agreed-true S (agrees-true S (c .stage .same .fine₁) (holds-agree n (c .stage .es) k w (c .stage .ready .holds))))
         ∙ sym (resume-at-after m (inner (c .p .inputs .first .d))
         (plan-on standing behind (SECOND + 1) (c .p .inputs .second .from) (second .frames))

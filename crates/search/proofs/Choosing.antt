@@ -123,7 +123,8 @@ module _ (n k : ℕ) (w : List ℕ) (p count : ℕ) (a : Agenda) where
 
     read : (v : List ℕ) → 16384 ≤ length v → words v ≡ c .s .t → Read v at (next .x) (next .o .0)
     read v room e = read-option v room (next .x) (next .d) (next .b) at (s .l) (c .lies .end) (c .lies .to)
-        (subst (λ (t : List ℕ). AtAny t at (s .l) (option (next .x) (next .d) (next .b)) (c .lies .end) (c .lies .to)) (sym e) (next .o)) low .0
+        (subst (λ (t : List ℕ). AtAny t at (s .l) (option (next .x) (next .d) (next .b)) (c .lies .end) (c .lies .to)) (sym e)
+        (next .o)) low .0
 
     room₁ : 16384 ≤ length w₁
     room₁ = omega (arith, mv .len, c .s .holds .long)

@@ -104,5 +104,6 @@ module _ (n k : ℕ) (w : List ℕ) (g : ℕ) where
       moved = moved-noted k w k w w₁ g 1 (c₀ .s .holds .long) stays v;
       found = λ c. finds-same n k w (c .es) ((c .lies .from ∷ []) ∷ []) (taken-with c) 1 w₁ (f .agrees y a refl c)
           (finds-taking n k w (c .es) (c .lies .from) ([] ∷ []) g 1 w w₁ (c .s .holds .long) (finds-leaf n k w (c .es) (c .s .holds)) v
-          (read n k w g a c w (c .s .holds .long) (c .s .loaded) .number) (ap (λ (m : Marking). m (c .lies .from)) (c .s .marks) ∙ c .kept));
+          (read n k w g a c w (c .s .holds .long) (c .s .loaded) .number) (ap (λ (m : Marking). m (c .lies .from)) (c .s .marks)
+          ∙ c .kept));
     }

@@ -229,7 +229,8 @@ module _ (n k : ℕ) (w : List ℕ) (a : Agenda) where
                 × ((S : List Graph) → resume-at (c .s .m) (plan-on (c .s) (slots₂ c) (lies c .end) (lies c .to) G) S
                 ≡ resume-at (c .s .m) (behind c) S)
             frames₂ c = frames-onto n (c .s .t) (c .s .U) (c .s .m) (c .es) (lies c .end) (a .more0 - 1) (5 - length (next c .l))
-                (next c .later) (next c .l) (next c .rest) (lies c .end) (lies c .to) (omega arith) (omega (arith, next c .meets)) (omega arith)
+                (next c .later) (next c .l) (next c .rest) (lies c .end) (lies c .to) (omega arith) (omega (arith, next c .meets))
+                (omega arith)
 
             abbrev left-of : (c : Resuming n k w a) → List Places
             left-of c = plan-on (c .s) (slots₂ c) (lies c .end) (lies c .to) (frames₂ c .0)

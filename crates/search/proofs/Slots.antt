@@ -24,7 +24,8 @@ unfolding slots
 lists-none a z = record {
   few = omega arith;
   is =
-      ap (λ (f : ℕ). take f ((a .at0, a .more0) ∷ (a .at1, a .more1) ∷ (a .at2, a .more2) ∷ (a .at3, a .more3) ∷ (a .at4, a .more4) ∷ [])) z;
+      ap (λ (f : ℕ). take f
+      ((a .at0, a .more0) ∷ (a .at1, a .more1) ∷ (a .at2, a .more2) ∷ (a .at3, a .more3) ∷ (a .at4, a .more4) ∷ [])) z;
 }
 
 pub lists-size : (a : Agenda) (l : List Slot) → Lists a l → a .frames ≡ length l

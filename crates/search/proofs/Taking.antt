@@ -129,7 +129,8 @@ module _ (n k : ℕ) (w : List ℕ) (g : ℕ) (a : Agenda) where
       before₁ c = record {
         lies = c .lies;
         among = c .among;
-        clear = subst (λ (m : Marking). ClearOf (pushed-all c) m (c .lies)) (c .s .marks) (entered-clear n k w g depth-limit (asks-enter c));
+        clear = subst (λ (m : Marking). ClearOf (pushed-all c) m (c .lies)) (c .s .marks)
+            (entered-clear n k w g depth-limit (asks-enter c));
         here = omega arith;
         low = omega arith;
         deep = c .deep;
@@ -150,7 +151,8 @@ module _ (n k : ℕ) (w : List ℕ) (g : ℕ) (a : Agenda) where
         abbrev wide₁ : (c : Taking n k w g a) →
             (G : FramesOn (standing₁ c) (slots₁ c) 0 0)
             × (plan-on (standing₁ c) (slots₁ c) 0 0 G ≡ plan-on (standing₁ c) (slots₁ c) (g + 1) (c .lies .from) (opened₁ c .frames))
-        wide₁ c = frames-wide n (c .s .t) (c .s .U) (c .s .m) (pushed-all c) (slots₁ c) (g + 1) (c .lies .from) 0 0 (omega arith) (omega arith)
+        wide₁ c = frames-wide n (c .s .t) (c .s .U) (c .s .m) (pushed-all c) (slots₁ c) (g + 1) (c .lies .from) 0 0 (omega arith)
+            (omega arith)
             (opened₁ c .frames)
 
         abbrev resuming₁ : Taking n k w g a → Resuming n e w₁ b
@@ -163,7 +165,8 @@ module _ (n k : ℕ) (w : List ℕ) (g : ℕ) (a : Agenda) where
         take-falls =
             let c = c₀ in
             let many : length (c .s .t) ≡ 2048 = ap length (sym (c .s .loaded)) ∙ words-many w (c .s .holds .long) in
-            let r = frames-reach n (c .s .t) (c .s .U) (c .s .m) (pushed-all c) many (slots₁ c) (g + 1) (c .lies .from) (opened₁ c .frames) in
+            let r = frames-reach n (c .s .t) (c .s .U) (c .s .m) (pushed-all c) many (slots₁ c) (g + 1) (c .lies .from)
+            (opened₁ c .frames) in
             let e : reach (slots b) ≡ reach (slots₁ c) = ap reach (lists (c .l) (c .lists) .is) in
             omega arith
 

@@ -166,8 +166,14 @@ module _ (w : List ℕ) (g o : ℕ) (c : Graphing w g o) where
           let near = counts .1 in
           let end = r .end in
           let low = lies .low in
-          let all = c .read .few in
-          (omega arith, r .number, at-header (words w) K ds g (lies .from) (lies .end) (lies .to) at (omega arith) .0, omega arith, omega arith)
+          let all = c .read .few in (
+            omega arith,
+            r .number,
+            at-header (words w) K ds g (lies .from) (lies .end) (lies .to) at
+                (omega arith) .0,
+            omega arith,
+            omega arith,
+          )
 
   pub graph-room : (o < 2048) × (RESULT + o < length w)
   graph-room = let r = c .room in let l = c .read .room in (omega arith, omega arith)
@@ -197,7 +203,8 @@ module _ (w : List ℕ) (g o : ℕ) (c : Graphing w g o) where
           fine = sym is;
           q = g + extent (own (lies .d));
           within = (let h = graph-here .0 in omega arith);
-          stands = subst (λ (n : ℕ). Stands (words (set w (RESULT + o) count)) (g + 1) (located n (own (lies .d))) (g + extent (own (lies .d))))
+          stands = subst (λ (n : ℕ). Stands (words (set w (RESULT + o) count)) (g + 1) (located n (own (lies .d)))
+              (g + extent (own (lies .d))))
               (sym e)
               (subst (λ (u : List ℕ). Stands u (g + 1) (located (lies .from) (own (lies .d))) (g + extent (own (lies .d))))
               (sym (put-words w (set w (RESULT + o) count) o (count ∷ []) (RESULT + (o + 1)) (c .read .room) one)) stand);
@@ -210,5 +217,6 @@ module _ (w : List ℕ) (g o : ℕ) (c : Graphing w g o) where
     unfolding graph-asks
     graph-copied number e r w₁ u =
         subst (λ (k : ℕ). Put w w₁ (RESULT + o) (k ∷ nodes-words (own (lies .d))) (RESULT + r)) is
-        (put-append w (set w (RESULT + o) count) w₁ (count ∷ []) (nodes-words (own (lies .d))) (RESULT + o) (RESULT + (o + 1)) (RESULT + r) one
+        (put-append w (set w (RESULT + o) count) w₁ (count ∷ []) (nodes-words (own (lies .d))) (RESULT + o) (RESULT + (o + 1))
+        (RESULT + r) one
         (u (graph-asks number e)))

@@ -8,7 +8,6 @@ use lib.ListN.{length, length-append}
 use Rattle.theory.specs.Descr.{Disjs, end, disjs}
 use Rattle.theory.specs.Layout.{disjs-words}
 use Rattle.theory.proofs.Mean.{CanAll, CanAny}
-use Rattle.area.specs.Region.{words}
 use Rattle.area.proofs.Region.{words-many}
 use Rattle.engine.specs.Placed.{Placed, place, Places, stop, _also_, Options, strip-all, strip-any}
 use Rattle.engine.specs.Marks.{Marking, keep-all, keep-any}

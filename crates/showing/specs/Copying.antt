@@ -1,6 +1,6 @@
 -- What copying a graph as it was loaded asks, and what then stands in the result.
 -- Assumes nothing: these are definitions.
-use Prim.Native.Nat.{ℕ, _+_, _≤_, _<_}
+use Prim.Native.Nat.{ℕ, _+_, _≤_}
 use mathlib.Core.Path.{_≡_}
 use mathlib.Core.List.{List}
 use lib.ListN.{length}

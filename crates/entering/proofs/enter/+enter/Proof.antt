@@ -108,7 +108,8 @@ enter-disjunctions-at-requires t c κs = let r =
     reach-own _ _ _ _ _ _ _ (c .before .before .before .before .before .before .before .before .push .ensures)
     (c .before .before .before .before .own .given .1) in (
       let e = c .before .tail-at .ensures in
-          let h = starts _ _ _ _ _ (c .before .before .before .before .before .before .before .before .before .before .before .pre .1) _ _ r .1 in
+          let h = starts _ _ _ _ _
+          (c .before .before .before .before .before .before .before .before .before .before .before .pre .1) _ _ r .1 in
           omega arith,
       omega (
         arith,
@@ -227,7 +228,8 @@ enter-returns-2 t c = let q = c .before .before .before .before .before .before 
                 c .before .before .before .before .before .before .before .before .before .before .before .before .before .before .before .before
                 .before .loop .inv _ e (reached t
                 (c .before .before .before .before .before .before .before .before .before .before .before .before .before .before .before .before
-                .before .before)) (begun t (c .before .before .before .before .before .before .before .before .before .before .before .before .before
+                .before .before)) (begun t
+                (c .before .before .before .before .before .before .before .before .before .before .before .before .before
                 .before .before .before .before .before) e) in (
                   walk-clash _ _ _ _ _ e _ _ (z .0) _ _ (z .1) (omega arith) _
                       (c .before .before .before .before .before .before .before .before .before .before .before .before .before .before .alternatives-at

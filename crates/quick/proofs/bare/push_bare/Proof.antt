@@ -36,7 +36,8 @@ same-length-2 c = search needs
 returns-2 : tie.Need-returns-2
 returns-2 c = record {
   tries =
-      λ left e z. bare-stands _ _ _ _ left _ _ (c .before .before .before .before .before .before .before .before .before .push .ensures) e _
+      λ left e z. bare-stands _ _ _ _ left _ _
+      (c .before .before .before .before .before .before .before .before .before .push .ensures) e _
       (c .before .before .before .before .before .own .given .1) z _ (c .before .before .back .ensures);
 }
 
