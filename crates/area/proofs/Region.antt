@@ -5,7 +5,7 @@ use Prim.Native.Nat.{ℕ, zero, suc, _+_, _≤_, _<_}
 use native.Mathlib.Omega.{arith}
 use lib.ListN.{length, take, drop, set, getD, length-take, length-drop}
 use lib.Seq.{ext-getD, drop-set-add, take-set-lt, take-take, getD-take, getD-drop}
-use Rattle.area.specs.Map.{WORDS, MARKS}
+use Rattle.area.specs.Map.{HELD, WORDS, MARKS}
 use Rattle.area.specs.Region.{region, words}
 
 pub length-region : (a n : ℕ) (w : List ℕ) → a + n ≤ length w → length (region a n w) ≡ n
@@ -51,3 +51,7 @@ pub words-same : (w w' : List ℕ) → 16384 ≤ length w → length w' ≡ leng
     words w' ≡ words w
 unfolding words
 words-same w w' h len same = region-ext WORDS 2048 w' w (omega arith) len (λ j l. same (WORDS + j) (omega arith) (omega arith))
+
+-- what the classes hold stands first
+pub held-at : (c : ℕ) → HELD + c ≡ c
+held-at c = omega arith

@@ -1,6 +1,14 @@
 -- The map of the working area, as `src/map.rt` shows it. Assumes nothing.
 use Prim.Native.Nat.{ℕ}
 
+-- the numbers of nodes are below this
+abbrev pub NODES : ℕ
+NODES = 1024
+
+-- what each class holds
+abbrev pub HELD : ℕ
+HELD = 0
+
 abbrev pub PARENT : ℕ
 PARENT = 1024
 

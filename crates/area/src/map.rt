@@ -1,6 +1,6 @@
 // The map of the working area, 16,384 words:
 //   from    words  holds
-//        0  1,024  what each class holds: 0, the first arc of its chain counted from 1, or an atom's head
+//        0  1,024  HELD: what each class holds, as `forest::held` reads it
 //    1,024  1,024  PARENT: the parents of the union forest
 //    2,048  2,048  NEXT: what follows an arc on its chain
 //    4,096  4,096  LOG: the undo log, a word an entry: address + 4,096 * old value
@@ -10,16 +10,15 @@
 //   12,288  2,048  RESULT
 //   14,336  2,048  unused
 //
-// The tables go by the numbers of nodes, which are below NODES. A class holds 0, or an arc counted from 1 up to LAST_ARC,
-// or an atom's head, which is above that.
+// The tables go by the numbers of nodes, which are below NODES.
 pub const NODES: usize = 1024;
-
-pub const LAST_ARC: u32 = 2048;
 
 // An entry of the log is address + ENTRY_STEP * old value, a pending comparison from + FRAME_STEP * to.
 pub const ENTRY_STEP: u32 = 4096;
 
 pub const FRAME_STEP: u32 = 4096;
+
+pub const HELD: usize = 0;
 
 pub const PARENT: usize = 1024;
 

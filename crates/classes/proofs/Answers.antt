@@ -6,16 +6,23 @@ use native.Mathlib.Omega.{arith}
 use lib.ListN.{getD}
 use Rattle.theory.specs.Limits.{code-limit}
 use Rattle.theory.specs.Net.{beside}
-use Rattle.area.specs.Region.{words}
+use Rattle.area.specs.Map.{PARENT}
+use Rattle.area.specs.Region.{region, words}
 use Rattle.loading.specs.Entry.{Entry, graphs}
-use Rattle.forest.specs.State.{targets, Runs, Looked}
+use Rattle.forest.specs.Forest.{Root}
+use Rattle.forest.specs.Held.{ChainCode, AtomCode}
+use Rattle.forest.specs.State.{targets, None, Runs, Looked}
 use Rattle.classes.specs.Holds.{Holds, class, Labelled, Classed}
 use Rattle.classes.proofs.Content.{Content}
 use Rattle.classes.specs.Ask.{AtomOf, TargetOf}
 use Rattle.classes.specs.declared.ask.Borne.the-variants.{Atom, Nothing}
 use Rattle.classes.specs.declared.ask.Led.the-variants.{To, Nowhere}
-use Rattle.forest.proofs.Links.{first-mem, first-feature, first-det, none-first}
+use Rattle.forest.proofs.Links.{chain-zero, first-mem, first-feature, first-det, none-first}
 use Rattle.classes.proofs.Writer.{spot-low, class-low, class-top, content}
+
+-- a root is the class
+pub root-classed : (n : ℕ) (w : List ℕ) (x c : ℕ) → Root (region PARENT n w) x c → Classed n w x c
+root-classed n w x c root = record { is = λ es k h. sym (root .is (h .state .M) (h .state .forest)) }
 
 module _ (n : ℕ) (w : List ℕ) (x : ℕ) (hx : x < n) (c : ℕ) (cl : Classed n w x c) where
   module _ (es : List Entry) (k : ℕ) (h : Holds n es k w) where
@@ -30,11 +37,11 @@ module _ (n : ℕ) (w : List ℕ) (x : ℕ) (hx : x < n) (c : ℕ) (cl : Classed
   asked-low g = let l = class-low n (g .es) (g .k) w (g .holds) x hx in let e = is (g .es) (g .k) (g .holds) in omega arith
 
   -- ---- the atom
-  pub asked-head : Labelled n w → 2048 < getD w c 0 → 65536 ≤ getD w c 0
+  pub asked-head : Labelled n w → AtomCode (getD w c 0) → 65536 ≤ getD w c 0
   asked-head g l = let o = holds (g .es) (g .k) (g .holds) .atom-from l in let e : getD w c 0 ≡ code-limit + o .1 .1 .0 = o .1 .1 .1 .1 in
       omega arith
 
-  pub atom-there : 2048 < getD w c 0 → AtomOf n w x (Atom (getD w c 0 - 65536))
+  pub atom-there : AtomCode (getD w c 0) → AtomOf n w x (Atom (getD w c 0 - 65536))
   atom-there l = record {
     is = λ es k h a e.
         let o = holds es k h .atom-from l in
@@ -47,7 +54,7 @@ module _ (n : ℕ) (w : List ℕ) (x : ℕ) (hx : x < n) (c : ℕ) (cl : Classed
         ap Atom (omega arith);
   }
 
-  pub atom-none : getD w c 0 ≤ 2048 → AtomOf n w x Nothing
+  pub atom-none : ChainCode (getD w c 0) → AtomOf n w x Nothing
   atom-none l = record {
     is = λ es k h a e. let y : _≡_ {A = ℕ} 0 1 = cc in absurd (omega arith);
     told = λ es k h s a u e. let q : getD w c 0 ≡ code-limit + a = holds es k h .atom-in s a u (e ∙ sym (is es k h)) in
@@ -55,17 +62,17 @@ module _ (n : ℕ) (w : List ℕ) (x : ℕ) (hx : x < n) (c : ℕ) (cl : Classed
   }
 
   -- ---- the target under f
-  pub asked-runs : Labelled n w → getD w c 0 ≤ 2048 → Runs w (getD w c 0)
+  pub asked-runs : Labelled n w → ChainCode (getD w c 0) → Runs w (getD w c 0)
   asked-runs g l = let o = holds (g .es) (g .k) (g .holds) in record { xs = o .chain; chain = o .linked l; short = o .short }
 
   module _ (f : ℕ) where
-    pub target-bare : 2048 < getD w c 0 → TargetOf n w x f Nowhere
+    pub target-bare : AtomCode (getD w c 0) → TargetOf n w x f Nowhere
     target-bare l = record {
       is = λ es k h d e. let y : _≡_ {A = ℕ} 0 1 = cc in absurd (omega arith);
       told = λ es k h s t a e. let q = holds es k h .arc-in s f t a (e ∙ sym (is es k h)) .0 in absurd (omega arith);
     }
 
-    pub target-none : getD w c 0 ≤ 2048 → Looked (words w) w f (getD w c 0) 0 → TargetOf n w x f Nowhere
+    pub target-none : ChainCode (getD w c 0) → Looked (words w) w f (getD w c 0) 0 → TargetOf n w x f Nowhere
     target-none l m = record {
       is = λ es k h d e. let y : _≡_ {A = ℕ} 0 1 = cc in absurd (omega arith);
       told = λ es k h s t a e.
@@ -74,7 +81,13 @@ module _ (n : ℕ) (w : List ℕ) (x : ℕ) (hx : x < n) (c : ℕ) (cl : Classed
           absurd (none-first (words w) f (o .chain) (q .0) (m .miss (omega arith) (o .chain) (o .linked l)) (q .1 .0));
     }
 
-    module _ (l : getD w c 0 ≤ 2048) (i : ℕ) (m : Looked (words w) w f (getD w c 0) (suc i)) where
+    pub target-void : getD w c 0 ≡ 0 → TargetOf n w x f Nowhere
+    target-void z = target-none (omega arith) (record {
+      miss = λ e xs d. subst (None (words w) f) (sym (chain-zero w (getD w c 0) xs z d)) tt;
+      hit = λ i e. absurd (omega arith);
+    })
+
+    module _ (l : ChainCode (getD w c 0)) (i : ℕ) (m : Looked (words w) w f (getD w c 0) (suc i)) where
       pub target-low : Labelled n w → (i < 2047) × (getD (targets w) i 0 < n)
       target-low g =
           let o = holds (g .es) (g .k) (g .holds) in

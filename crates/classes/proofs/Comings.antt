@@ -12,6 +12,7 @@ use Rattle.theory.proofs.Weight.{weight, weights, weights-append}
 use Rattle.theory.proofs.Instance.{numbered-target}
 use Rattle.theory.proofs.Meaning.{canonical-some}
 use Rattle.area.specs.Region.{words}
+use Rattle.forest.specs.Held.{AtomCode}
 use Rattle.forest.specs.State.{targets, Pile, Done, Same, Clashes, State, Full, withPair}
 use Rattle.classes.specs.Nodes.{spans, NodesAt, Ahead, listed}
 use Rattle.loading.specs.Entry.{Entry, graphs}
@@ -43,7 +44,7 @@ apart-more (o ∷ es) e a f = (
 )
 
 -- an atom's head is large
-code-large : (v : Node) → (code v ≡ 0 → ⊥) → 2048 < code v
+code-large : (v : Node) → (code v ≡ 0 → ⊥) → AtomCode (code v)
 code-large (atom a) n = omega arith
 code-large (arcs l) n = absurd (n refl)
 
@@ -140,7 +141,7 @@ module _ (n : ℕ) (es : List Entry) (k : ℕ) (w : List ℕ) (e : Entry) (h : H
       (omega arith, (omega arith, omega arith)))
       (arc-cases q m)
 
-  atoms' : (i : ℕ) → List·Memᴰ i (pile .N) → (pile .A i ≡ 0 → ⊥) → 2048 < pile .A i
+  atoms' : (i : ℕ) → List·Memᴰ i (pile .N) → (pile .A i ≡ 0 → ⊥) → AtomCode (pile .A i)
   atoms' i m z = ⊎-elim
       (λ o. let q = extends .codes i o in rw q (h .state .atoms i o (λ y. z (q ∙ y))))
       (λ (o : (j : ℕ) × ((j < length vs) × (i ≡ x + j))). let q : pile .A i ≡ code (nodeAt vs (o .0)) = ap (pile .A) (o .1 .1)

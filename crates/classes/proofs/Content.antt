@@ -6,6 +6,7 @@ use lib.ListN.{length, getD}
 use Rattle.theory.specs.Limits.{code-limit}
 use Rattle.theory.specs.Net.{beside}
 use Rattle.area.specs.Region.{words}
+use Rattle.forest.specs.Held.{ChainCode, AtomCode}
 use Rattle.forest.specs.State.{targets, Chain, First}
 use Rattle.loading.specs.Entry.{Entry, graphs}
 use Rattle.classes.specs.Entry.{Spots, number-of}
@@ -14,13 +15,13 @@ use Rattle.classes.specs.Entry.{Spots, number-of}
 -- has one for each of its features
 pub record Content (es : List Entry) (class : ℕ → ℕ) (w : List ℕ) (c : ℕ) : Type 0 where
   pub atom-in : (s : Spots es) (a : ℕ) → beside (graphs es) .Atom s a → class (number-of es s) ≡ c → getD w c 0 ≡ code-limit + a
-  pub atom-from : 2048 < getD w c 0 →
+  pub atom-from : AtomCode (getD w c 0) →
       (s : Spots es) × ((class (number-of es s) ≡ c) × ((a : ℕ) × (beside (graphs es) .Atom s a × (getD w c 0 ≡ code-limit + a))))
   pub chain : List ℕ
   pub short : length chain ≤ 2048
-  pub linked : getD w c 0 ≤ 2048 → Chain w (getD w c 0) chain
+  pub linked : ChainCode (getD w c 0) → Chain w (getD w c 0) chain
   pub arc-in : (s : Spots es) (f : ℕ) (t : Spots es) → beside (graphs es) .Arc s f t → class (number-of es s) ≡ c
-      → (getD w c 0 ≤ 2048) × ((q : ℕ) × (First (words w) f chain q × (class (getD (targets w) q 0) ≡ class (number-of es t))))
+      → ChainCode (getD w c 0) × ((q : ℕ) × (First (words w) f chain q × (class (getD (targets w) q 0) ≡ class (number-of es t))))
   pub arc-from : (q : ℕ) → List·Memᴰ q chain
       → (q < 2047) × ((s : Spots es)
       × ((t : Spots es) × ((class (number-of es s) ≡ c)

@@ -6,6 +6,7 @@ use Prim.Native.Nat.{ℕ, zero, suc, _+_, _*_, _≤_, _<_}
 use native.Mathlib.Omega.{arith}
 use lib.ListN.{length, getD}
 use Rattle.theory.specs.Net.{atom, arcs, Graph, nodeAt}
+use Rattle.forest.specs.Held.{AtomCode}
 use Rattle.forest.specs.State.{Pile, Done, Same, First, State}
 use Rattle.classes.specs.Nodes.{spans, noded, listed}
 use Rattle.classes.specs.Holds.{code}
@@ -32,7 +33,7 @@ module _ (G G' : Pile) (F T : List ℕ) (x : Extends G G') where
       (subst (λ (z : ℕ). Same G' F T (G .S p) z) (sym (x .sources q b)) (same-extends r)))
 
   pub state-extends : (H : Done) (n k : ℕ) (w : List ℕ) → ((q : ℕ) → List·Memᴰ q (G' .B) → (q < 2047) × ((G' .S q < n) × (getD T q 0 < n)))
-      → ((i : ℕ) → List·Memᴰ i (G' .N) → (G' .A i ≡ 0 → ⊥) → 2048 < G' .A i) → State G H F T n k 0 [] w → State G' H F T n k 0 [] w
+      → ((i : ℕ) → List·Memᴰ i (G' .N) → (G' .A i ≡ 0 → ⊥) → AtomCode (G' .A i)) → State G H F T n k 0 [] w → State G' H F T n k 0 [] w
   state-extends H n k w arcs' atoms' u = record {
     logged = u .logged;
     shape = u .shape;

@@ -6,6 +6,7 @@ use native.Mathlib.Omega.{arith}
 use lib.ListN.{length, getD}
 use Rattle.area.specs.Map.{SIZE}
 use Rattle.forest.specs.Labels.{Eq}
+use Rattle.forest.specs.Held.{AtomCode}
 use Rattle.forest.specs.State.{Pile, Done, Same, Clashes, First, State, Full}
 use Rattle.forest.proofs.Fuse.{low, top}
 use Rattle.forest.proofs.Links.{first-det, first-mem}
@@ -35,7 +36,7 @@ module _ (G : Pile) (H : Done) (F T : List ℕ) (n k s : ℕ) (w : List ℕ) (hn
       let m = f .atoms x a nx in
       let hx = u .nodes x m .0 in
       let o = u .cover q (f .arcs q b) in
-      let g : 2048 < getD w (getD (u .M) x 0) 0 = subst (λ (z : ℕ). 2048 < z) (sym (u .met x m nx)) (u .atoms x a nx) in
+      let g : AtomCode (getD w (getD (u .M) x 0) 0) = subst AtomCode (sym (u .met x m nx)) (u .atoms x a nx) in
       let nil = u .bare (getD (u .M) x 0) (low G H F T n k s [] w (omega arith) hw u x hx)
       (top G H F T n k s [] w (omega arith) hw u x hx) g .0 in
       List·Memᴰ·not-nil (subst (List·Memᴰ (o .0)) nil

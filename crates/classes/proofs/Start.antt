@@ -9,9 +9,9 @@ use native.Mathlib.Decide.{ℕ-discrete, decLt}
 use lib.ListN.{length, set, getD, replicate, length-replicate, length-set}
 use lib.Seq.{getD-set-same, getD-set-other}
 use lib.Dec.{eqb}
-use Rattle.area.specs.Map.{PARENT, NEXT, LOG, SIZE}
+use Rattle.area.specs.Map.{HELD, PARENT, NEXT, LOG, SIZE}
 use Rattle.area.specs.Region.{region, words}
-use Rattle.area.proofs.Region.{length-region, getD-region}
+use Rattle.area.proofs.Region.{length-region, getD-region, held-at}
 use Rattle.forest.specs.Labels.{pick}
 use Rattle.forest.specs.Forest.{tops}
 use Rattle.forest.specs.State.{targets, Pile, Done, Same, Chain, State, total}
@@ -160,7 +160,7 @@ started-none w = record {
 
 module _ (w₀ w : List ℕ) (i : ℕ) (h : i < 1024) (l : SIZE ≤ length w₀) (s : Started w₀ i w) where
   abbrev w1 : List ℕ
-  w1 = set w i 0
+  w1 = set w (HELD + i) 0
 
   abbrev w2 : List ℕ
   w2 = set w1 (PARENT + i) i
@@ -183,11 +183,12 @@ module _ (w₀ w : List ℕ) (i : ℕ) (h : i < 1024) (l : SIZE ≤ length w₀)
   -- elsewhere nothing changes
   off : (j : ℕ) → (j ≡ i → ⊥) → (j ≡ PARENT + i → ⊥) → (j ≡ NEXT + i → ⊥) → (j ≡ NEXT + 1024 + i → ⊥) → getD w4 j 0 ≡ getD w j 0
   off j a b c d = getD-set-other w3 (NEXT + 1024 + i) j 0 0 d ∙ getD-set-other w2 (NEXT + i) j 0 0 c
-      ∙ getD-set-other w1 (PARENT + i) j i 0 b ∙ getD-set-other w i j 0 0 a
+      ∙ getD-set-other w1 (PARENT + i) j i 0 b ∙ getD-set-other w (HELD + i) j 0 0 (λ e. a (e ∙ held-at i))
 
   at-first : getD w4 i 0 ≡ 0
   at-first = getD-set-other w3 (NEXT + 1024 + i) i 0 0 (λ z. omega arith) ∙ getD-set-other w2 (NEXT + i) i 0 0 (λ z. omega arith)
-      ∙ getD-set-other w1 (PARENT + i) i i 0 (λ z. omega arith) ∙ getD-set-same w i 0 0 (omega (arith, s .len))
+      ∙ getD-set-other w1 (PARENT + i) i i 0 (λ z. omega arith) ∙ ap (λ (j : ℕ). getD w1 j 0) (sym (held-at i))
+      ∙ getD-set-same w (HELD + i) 0 0 (omega (arith, s .len))
 
   at-parent : getD w4 (PARENT + i) 0 ≡ i
   at-parent = getD-set-other w3 (NEXT + 1024 + i) (PARENT + i) 0 0 (λ z. omega arith)

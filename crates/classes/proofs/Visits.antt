@@ -14,6 +14,7 @@ use Rattle.area.specs.Region.{region}
 use Rattle.forest.specs.Labels.{Eq}
 use Rattle.area.specs.Log.{Logged, Put}
 use Rattle.forest.specs.Forest.{Root, tops}
+use Rattle.forest.specs.Held.{last-arc, ChainCode, AtomCode}
 use Rattle.forest.specs.State.{Pile, Done, Same, Clashes, Chain, First, None, Near, Bears, State, Runs, Calm, Looked, withPair, withArc}
 use Rattle.forest.specs.State.{withNode, Fresh, Visited, United, Bearing, Headed}
 use Rattle.forest.specs.Order.{Rising, Risen, Between, Hint, Ordered, Located, Steady}
@@ -45,6 +46,14 @@ ordered-hint F n k w x c at g r t = record {
 
 pub hint-first : (F w : List ℕ) (c : ℕ) (r : Bool) → Risen F w (getD w c 0) r → r ≡ true → Hint F w c 1
 hint-first F w c r u e = record { low = omega arith; up = u .up e; on = λ z. absurd (omega arith) }
+
+-- no arcs rise
+pub hint-none : (F w : List ℕ) (c : ℕ) → getD w c 0 ≡ 0 → Hint F w c 1
+hint-none F w c e = record {
+  low = omega arith;
+  up = λ xs d. subst (Rising F 0) (sym (chain-zero w (getD w c 0) xs e d)) tt;
+  on = λ z. absurd (omega arith);
+}
 
 -- a union that leaves the chains as they are
 pub hint-calm : (F w w' : List ℕ) (f c at r : ℕ) → c < 1024 → 0 < r → r ≤ 2048 → Looked F w f (getD w c 0) r → Hint F w c at → Calm w w' →
@@ -78,10 +87,10 @@ module _ (F T : List ℕ) (n k : ℕ) (w : List ℕ) (hn : n ≤ 1024) (hw : SIZ
     Mc : getD (u .M) c 0 ≡ c
     Mc = let l = length-P in let h = c-in in u .forest .tops c (omega arith) (root .top)
 
-    chain-c : getD w c 0 ≤ 2048 → Chain w (getD w c 0) (getD (u .C) c [])
+    chain-c : ChainCode (getD w c 0) → Chain w (getD w c 0) (getD (u .C) c [])
     chain-c l = u .chain c c-in Mc l
 
-    pub class-runs : getD w c 0 ≤ 2048 → Runs w (getD w c 0)
+    pub class-runs : ChainCode (getD w c 0) → Runs w (getD w c 0)
     class-runs l = record { xs = getD (u .C) c []; chain = chain-c l; short = short G H F T n k 0 [] w (omega arith) hw u c }
 
     -- an arc of the class
@@ -97,11 +106,11 @@ module _ (F T : List ℕ) (n k : ℕ) (w : List ℕ) (hn : n ≤ 1024) (hw : SIZ
     head-of [] d e = absurd (d e)
     head-of (j ∷ l) d e = (j, List·Memᴰ·head refl)
 
-    bearer : (g : 2048 < getD w c 0) → Same G F T (u .bare c c-in Mc g .1 .i) x
+    bearer : (g : AtomCode (getD w c 0)) → Same G F T (u .bare c c-in Mc g .1 .i) x
     bearer g = let r = u .bare c c-in Mc g .1 in u .sound (r .i) x (r .small) hx (r .class ∙ sym Mx)
 
   -- ---- an arc and an atom
-  pub visit-clash : (t : ℕ) → Logged k w → 2048 < getD w c 0 → Visited F T n k w x t k true w
+  pub visit-clash : (t : ℕ) → Logged k w → AtomCode (getD w c 0) → Visited F T n k w x t k true w
   visit-clash t g h = record {
     later = later-refl k w g;
     fine = λ z. let y : _≡_ {A = ℕ} 0 1 = cc in absurd (omega arith);
@@ -112,7 +121,7 @@ module _ (F T : List ℕ) (n k : ℕ) (w : List ℕ) (hn : n ≤ 1024) (hw : SIZ
   }
 
   -- ---- the feature is there: the targets are equal
-  module _ (t r i : ℕ) (lc : getD w c 0 ≤ 2048) (look : Looked F w (getD F t 0) (getD w c 0) r) (ri : r ≡ suc i) where
+  module _ (t r i : ℕ) (lc : ChainCode (getD w c 0)) (look : Looked F w (getD F t 0) (getD w c 0) r) (ri : r ≡ suc i) where
     found : (G : Pile) (H : Done) (u : State G H F T n k 0 [] w) → First F (getD F t 0) (getD (u .C) c []) i
     found G H u = look .hit i ri (getD (u .C) c []) (chain-c G H u lc)
 
@@ -188,7 +197,7 @@ module _ (F T : List ℕ) (n k : ℕ) (w : List ℕ) (hn : n ≤ 1024) (hw : SIZ
                 )
 
   -- ---- the feature is not there: the arc goes onto the chain, after the link l
-  module _ (t : ℕ) (ht : t < 2048) (lc : getD w c 0 ≤ 2048) (at l : ℕ) (hint : 0 < at →
+  module _ (t : ℕ) (ht : t < 2048) (lc : ChainCode (getD w c 0)) (at l : ℕ) (hint : 0 < at →
       Hint F w c at) (loc : Located F w (getD F t 0) c l 0) (h : ℕ) (eh : h ≡ getD w l 0) (hk : k + 2 ≤ 4096)
       (k1 k2 : ℕ) (w1 w2 : List ℕ) (p1 : Put k w (NEXT + t) h k1 w1) (p2 : Put k1 w1 l (t + 1) k2 w2) where
     off : (j : ℕ) → (j ≡ NEXT + t → ⊥) → (j ≡ l → ⊥) → j < LOG → getD w2 j 0 ≡ getD w j 0
@@ -245,10 +254,10 @@ module _ (F T : List ℕ) (n k : ℕ) (w : List ℕ) (hn : n ≤ 1024) (hw : SIZ
       spliced : (L : List ℕ) × (Grows F t xs L × Chain w2 (getD w2 c 0) L)
       spliced = (lodge F t c l xs gap, (lodge-grows F t c l xs gap, lodged))
 
-      c-small : getD w2 c 0 ≤ 2048
+      c-small : ChainCode (getD w2 c 0)
       c-small = go (spliced .0) (spliced .1 .1)
         where
-          go : (L : List ℕ) → Chain w2 (getD w2 c 0) L → getD w2 c 0 ≤ 2048
+          go : (L : List ℕ) → Chain w2 (getD w2 c 0) L → ChainCode (getD w2 c 0)
           go [] e = omega arith
           go (j ∷ L) e = let a = e .0 in let b = e .1 .0 in omega arith
 
@@ -271,7 +280,7 @@ module _ (F T : List ℕ) (n k : ℕ) (w : List ℕ) (hn : n ≤ 1024) (hw : SIZ
         first : (d : ℕ) → d < n → (d ≡ c → ⊥) → getD w2 d 0 ≡ getD w d 0
         first d a z = off d (λ i. omega arith) (aside d (omega arith) z) (omega arith)
 
-        chains : (d : ℕ) → d < n → getD (u .M) d 0 ≡ d → getD w2 d 0 ≤ 2048 → Dec (d ≡ c) →
+        chains : (d : ℕ) → d < n → getD (u .M) d 0 ≡ d → ChainCode (getD w2 d 0) → Dec (d ≡ c) →
             Chain w2 (getD w2 d 0) (getD (set (u .C) c L) d [])
         chains d a b e (yes z) = subst (λ (v : ℕ). Chain w2 (getD w2 v 0) (getD (set (u .C) c L) v [])) (sym z)
             (subst (Chain w2 (getD w2 c 0)) (sym C') cL)
@@ -281,7 +290,7 @@ module _ (F T : List ℕ) (n k : ℕ) (w : List ℕ) (hn : n ≤ 1024) (hw : SIZ
             (subst (λ (v : ℕ). Chain w2 v (getD (u .C) d [])) (sym o)
             (chain-same w w2 (getD w d 0) (getD (u .C) d []) (λ q m. keeps d q a z m) (u .chain d a b (omega arith))))
 
-        bares : (d : ℕ) → d < n → getD (u .M) d 0 ≡ d → 2048 < getD w2 d 0 → Dec (d ≡ c) →
+        bares : (d : ℕ) → d < n → getD (u .M) d 0 ≡ d → AtomCode (getD w2 d 0) → Dec (d ≡ c) →
             (getD (set (u .C) c L) d [] ≡ []) × Bears G n (u .M) d (getD w2 d 0)
         bares d a b e (yes z) = let o : getD w2 d 0 ≡ getD w2 c 0 = ap (λ (v : ℕ). getD w2 v 0) z in let i = c-small in absurd (omega arith)
         bares d a b e (no z) =
@@ -403,15 +412,15 @@ module _ (F T : List ℕ) (n k : ℕ) (w : List ℕ) (hn : n ≤ 1024) (hw : SIZ
     }
 
   -- ---- an atom
-  module _ (v : ℕ) (hv : 2048 < v) where
+  module _ (v : ℕ) (hv : AtomCode v) where
     pub mark-clash : Logged k w → (getD w c 0 ≡ 0 → ⊥) → (getD w c 0 ≡ v → ⊥) → Headed F T n k w x v k true w
     mark-clash g d e = record {
       later = later-refl k w g;
       fine = λ z. let y : _≡_ {A = ℕ} 0 1 = cc in absurd (omega arith);
-      clash = λ z G H u b. go G H u b (decLt 2048 (getD w c 0));
+      clash = λ z G H u b. go G H u b (decLt last-arc (getD w c 0));
     }
       where
-        go : (G : Pile) (H : Done) (u : State G H F T n k 0 [] w) → Bearing G H n x v → Dec (2048 < getD w c 0) → Clashes G F T
+        go : (G : Pile) (H : Done) (u : State G H F T n k 0 [] w) → Bearing G H n x v → Dec (AtomCode (getD w c 0)) → Clashes G F T
         go G H u b (yes l) =
             let r = u .bare c c-in (Mc G H u) l .1 in
             let q : (G .A) (r .i) ≡ getD w c 0 = r .is in
@@ -506,7 +515,7 @@ module _ (F T : List ℕ) (n k : ℕ) (w : List ℕ) (hn : n ≤ 1024) (hw : SIZ
               let l = low G H F T n k 0 [] w (omega arith) hw u i (u .nodes i m .0) in
               off1 (getD (u .M) i 0) (λ e. a (sym (u .met i m a) ∙ ap (λ (j : ℕ). getD w j 0) e ∙ e0)) (omega arith) ∙ u .met i m a
 
-          chains : (d : ℕ) → d < n → getD (u .M) d 0 ≡ d → getD w1 d 0 ≤ 2048 → Dec (d ≡ c) → Chain w1 (getD w1 d 0) (getD (u .C) d [])
+          chains : (d : ℕ) → d < n → getD (u .M) d 0 ≡ d → ChainCode (getD w1 d 0) → Dec (d ≡ c) → Chain w1 (getD w1 d 0) (getD (u .C) d [])
           chains d a m l (yes z) = let o : getD w1 d 0 ≡ v = ap (λ (j : ℕ). getD w1 j 0) z ∙ at1 in absurd (omega arith)
           chains d a m l (no z) =
               let o : getD w1 d 0 ≡ getD w d 0 = off1 d z (omega arith) in
@@ -514,7 +523,7 @@ module _ (F T : List ℕ) (n k : ℕ) (w : List ℕ) (hn : n ≤ 1024) (hw : SIZ
               (chain-same w w1 (getD w d 0) (getD (u .C) d []) (λ q r. let b = u .arcs q (u .known q (u .home d q a r .0)) .0 in
               next1 q (omega arith)) (u .chain d a m (omega arith)))
 
-          bares : (d : ℕ) → d < n → getD (u .M) d 0 ≡ d → 2048 < getD w1 d 0 → Dec (d ≡ c) →
+          bares : (d : ℕ) → d < n → getD (u .M) d 0 ≡ d → AtomCode (getD w1 d 0) → Dec (d ≡ c) →
               (getD (u .C) d [] ≡ []) × Bears G n (u .M) d (getD w1 d 0)
           bares d a m l (yes z) =
               subst (λ (j : ℕ). (getD (u .C) j [] ≡ []) × Bears G n (u .M) j (getD w1 j 0)) (sym z) (

@@ -12,6 +12,7 @@ use Rattle.theory.specs.Net.{beside, Same, roots}
 use Rattle.theory.proofs.Meaning.{some-root}
 use Rattle.area.specs.Region.{region, words}
 use Rattle.forest.specs.Forest.{tops}
+use Rattle.forest.specs.Held.{last-arc, ChainCode, AtomCode}
 use Rattle.forest.specs.State.{targets, First}
 use Rattle.loading.specs.Entry.{Entry, graphs}
 use Rattle.classes.specs.Entry.{Spots, number-of}
@@ -60,7 +61,7 @@ module _ (n : ℕ) (es : List Entry) (k : ℕ) (w : List ℕ) (h : Holds n es k 
   -- ---- what a class holds
   module _ (c : ℕ) (hc : c < n) (own : class h c ≡ c) where
     arc-in : (s : Spots es) (f : ℕ) (t : Spots es) → beside (graphs es) .Arc s f t → class h (number-of es s) ≡ c
-        → (getD w c 0 ≤ 2048) × ((q : ℕ)
+        → ChainCode (getD w c 0) × ((q : ℕ)
         × (First (words w) f (getD (h .state .C) c []) q × (class h (getD (targets w) q 0) ≡ class h (number-of es t))))
     arc-in s f t a e =
         let r = arc-down (words w) (targets w) es (h .G) (h .tied) es (λ e i. i) s f t a in
@@ -69,11 +70,11 @@ module _ (n : ℕ) (es : List Entry) (k : ℕ) (w : List ℕ) (h : Holds n es k 
         let x : First (words w) f (getD (h .state .C) c []) (o .0) =
         subst (λ (i : ℕ). First (words w) f (getD (h .state .C) i []) (o .0)) z
         (subst (λ (i : ℕ). First (words w) i (getD (h .state .C) (class h (h .G .S (r .0))) []) (o .0)) (r .1 .1 .1 .0) (o .1 .0)) in (
-          small (o .0) x (decLt 2048 (getD w c 0)),
+          small (o .0) x (decLt last-arc (getD w c 0)),
           (o .0, (x, near-none (words w) (targets w) (h .state .M) w (o .1 .1) ∙ ap (class h) (r .1 .1 .1 .1))),
         )
       where
-        small : (q : ℕ) → First (words w) f (getD (h .state .C) c []) q → Dec (2048 < getD w c 0) → getD w c 0 ≤ 2048
+        small : (q : ℕ) → First (words w) f (getD (h .state .C) c []) q → Dec (AtomCode (getD w c 0)) → ChainCode (getD w c 0)
         small q x (yes l) = absurd (List·Memᴰ·not-nil
             (subst (List·Memᴰ q) (h .state .bare c hc own l .0) (first-mem (words w) f (getD (h .state .C) c []) q x)))
         small q x (no l) = omega arith

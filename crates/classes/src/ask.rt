@@ -1,10 +1,10 @@
 // What may be asked of the classes: the atom of one, and its target under a feature.
 use crate::push::class_of;
-use area::map::LAST_ARC;
 use forest::chain::look;
 use forest::chain::target;
+use forest::held::Held;
+use forest::held::held_by;
 use limits::CODE_LIMIT;
-use limits::wide;
 ghost use Prim.Native.Nat.{_<_};
 ghost use Rattle.classes.specs.Holds.{Labelled};
 ghost use Rattle.classes.specs.Ask.{AtomOf, TargetOf};
@@ -28,11 +28,11 @@ pub fn atom_of(w: &[u32], n: usize, x: usize) -> Borne
     ensures { λ r. ⌜ AtomOf n (now (w .entry)) x r ⌝ }
 {
     let c = class_of(w, n, x);
-    let h = w[c];
-    if h > LAST_ARC {
-        return Borne::Atom(h - CODE_LIMIT);
+    let held = held_by(w, c);
+    match held {
+        Held::Atom(v) => Borne::Atom(v - CODE_LIMIT),
+        Held::Nothing | Held::Arcs(_) => Borne::Nothing,
     }
-    Borne::Nothing
 }
 
 // The target of the class of the number x under the feature f.
@@ -42,11 +42,11 @@ pub fn target_of(w: &[u32], n: usize, x: usize, f: u32) -> Led
     ensures { λ r. ⌜ TargetOf n (now (w .entry)) x f r ⌝ }
 {
     let c = class_of(w, n, x);
-    let h = w[c];
-    if h > LAST_ARC {
+    let held = held_by(w, c);
+    let Held::Arcs(chain) = held else {
         return Led::Nowhere;
-    }
-    let r = look(w, wide(h), f);
+    };
+    let r = look(w, chain, f);
     if r == 0 {
         return Led::Nowhere;
     }

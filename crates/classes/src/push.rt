@@ -1,6 +1,7 @@
 // Graphs are pushed and taken back.
 use crate::visit::nodes;
 use area::log::undo;
+use area::map::HELD;
 use area::map::NEXT;
 use area::map::NODES;
 use area::map::PARENT;
@@ -27,7 +28,7 @@ pub fn start(w: &mut [u32])
 {
     let mut i: usize = 0;
     while i < NODES {
-        w[i] = 0;
+        w[HELD + i] = 0;
         w[PARENT + i] = i as u32;
         w[NEXT + i] = 0;
         w[NEXT + NODES + i] = 0;

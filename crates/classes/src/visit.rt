@@ -1,12 +1,14 @@
 // The arcs and atoms of a graph meet the classes of its nodes.
 use area::log::put;
-use area::map::LAST_ARC;
+use area::map::HELD;
 use area::map::NEXT;
 use forest::chain::loaded;
 use forest::chain::locate;
 use forest::chain::rises;
 use forest::chain::target;
 use forest::forest::find;
+use forest::held::Held;
+use forest::held::held_by;
 use forest::merge::Made;
 use forest::settle::unite;
 use limits::CODE_LIMIT;
@@ -17,6 +19,7 @@ ghost use Prim.Native.Nat.{_+_, _*_, _-_, _≤_, _<_};
 ghost use lib.ListN.{length};
 ghost use Rattle.area.specs.Map.{SIZE};
 ghost use Rattle.area.specs.Region.{words};
+ghost use Rattle.forest.specs.Held.{AtomCode};
 ghost use Rattle.forest.specs.State.{targets, Coming, Heading, Headed};
 ghost use Rattle.forest.specs.Order.{Ordered, Steady, Turning, Taken};
 ghost use Rattle.classes.specs.Nodes.{Batched, Run, Noding, Noded, Listing, Listed};
@@ -36,12 +39,15 @@ fn afresh(w: &[u32], k: usize, n: usize, x: usize) -> usize
     ensures { λ r. ⌜ Ordered (words (now (w .entry))) n (now (w .entry)) x r ⌝ }
 {
     let c = find(w, n, x);
-    let h = w[c];
-    if h > LAST_ARC {
-        return 0;
+    let held = held_by(w, c);
+    match held {
+        Held::Nothing => 1,
+        Held::Arcs(chain) => {
+            let up = rises(w, chain);
+            if up { 1 } else { 0 }
+        }
+        Held::Atom(_) => 0,
     }
-    let up = rises(w, wide(h));
-    if up { 1 } else { 0 }
 }
 
 // The link to begin with for the d arcs of x. Where they are few, each is looked for by itself.
@@ -86,8 +92,8 @@ fn visit(w: &mut [u32], k: usize, n: usize, x: usize, t: usize, at: usize) -> Ca
         (now (w .exit)) ⌝ }
 {
     let c = find(w, n, x);
-    let h = w[c];
-    if h > LAST_ARC {
+    let held = held_by(w, c);
+    if let Held::Atom(_) = held {
         return Came {
             k: k,
             at: 0,
@@ -131,31 +137,38 @@ fn visit(w: &mut [u32], k: usize, n: usize, x: usize, t: usize, at: usize) -> Ca
 // The atom's head v of the node x meets what its class holds.
 fn mark(w: &mut [u32], k: usize, n: usize, x: usize, v: u32) -> Made
     requires { ⌜ (n ≤ 1024) × ((x < n) × (SIZE ≤ length (now w))) ⌝ }
-    requires { ⌜ (2048 < v) × (v < 1048576) ⌝ }
+    requires { ⌜ AtomCode v × (v < 1048576) ⌝ }
     requires { ⌜ Heading (words (now w)) (targets (now w)) n k (now w) x v ⌝ }
     ensures { λ r. ⌜ Headed (words (now (w .entry))) (targets (now (w .entry))) n k (now (w .entry)) x v (r .k) (r .bad) (now (w .exit)) ⌝ }
 {
     let c = find(w, n, x);
-    let h = w[c];
-    if h == 0 {
-        let e = put(w, k, c, v);
-        return Made {
-            k: e,
-            s: 0,
-            bad: false,
-        };
-    }
-    if h == v {
-        return Made {
-            k: k,
-            s: 0,
-            bad: false,
-        };
-    }
-    Made {
+    let held = held_by(w, c);
+    let same = Made {
+        k: k,
+        s: 0,
+        bad: false,
+    };
+    let clash = Made {
         k: k,
         s: 0,
         bad: true,
+    };
+    match held {
+        Held::Nothing => {
+            let e = put(w, k, HELD + c, v);
+            Made {
+                k: e,
+                s: 0,
+                bad: false,
+            }
+        }
+        Held::Arcs(_) => clash,
+        Held::Atom(h) => {
+            if h == v {
+                return same;
+            }
+            clash
+        }
     }
 }
 

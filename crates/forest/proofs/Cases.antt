@@ -14,12 +14,15 @@ use Rattle.area.specs.Map.{PARENT, NEXT, LOG, STACK, SIZE}
 use Rattle.area.specs.Region.{region}
 use Rattle.forest.proofs.Relabel.{relabelled}
 use Rattle.area.specs.Log.{Logged, Later, Put}
+use Rattle.forest.specs.declared.held.Held.the-variants.{Arcs, Atom}
 use Rattle.forest.specs.Forest.{tops}
+use Rattle.forest.specs.Held.{last-arc, ChainCode, AtomCode, held-by, Covers}
 use Rattle.forest.specs.State.{Pile, Done, Same, Clashes, Chain, Seg, First, Near, Framed, Bears, State, Ready, Met, Grow, Last, Runs}
 use Rattle.forest.specs.State.{frames}
 use Rattle.area.proofs.Region.{length-region, region-ext}
 use Rattle.area.proofs.Undo.{later-refl, later-trans, later-scratch, put-at, put-off, put-region}
 use Rattle.forest.proofs.Wood.{tops-link, tops-pos}
+use Rattle.forest.proofs.Contents.{told-nothing, told-arcs, told-atom}
 use Rattle.forest.proofs.Links.{calm-refl, chain-same, chain-zero, seg-link, seg-chain, first-way, first-mem, first-feature}
 use Rattle.forest.proofs.Links.{frames-same}
 use Rattle.forest.proofs.Fuse.{fused, short, Fuses, Ma, Mb, Na, Ca, fuse-state}
@@ -73,8 +76,8 @@ module _ (n k s : ℕ) (w : List ℕ) (a b : ℕ) (lt : a < b) (hb : b < n) (hn 
         List·Memᴰ q (getD (u .C) c []) → q < 2048
     below u c q h m = let b = u .arcs q (u .known q (u .home c q h m .0)) .0 in omega arith
 
-    pub plain : (getD w b 0 ≡ 0) ⊎ ((2048 < getD w b 0) × (getD w b 0 ≡ getD w a 0)) → Met n k s w a b r s false w1
-    plain d = record {
+    pub plain : Covers w a b → Met n k s w a b r s false w1
+    plain covers = record {
       later = p .later;
       new = [];
       stack = stack1;
@@ -85,6 +88,11 @@ module _ (n k s : ℕ) (w : List ℕ) (a b : ℕ) (lt : a < b) (hb : b < n) (hn 
       clash = λ z. let y : _≡_ {A = ℕ} 0 1 = cc in absurd (omega arith);
     }
       where
+        d : (getD w b 0 ≡ 0) ⊎ (AtomCode (getD w b 0) × (getD w b 0 ≡ getD w a 0))
+        d = ⊎-elim (λ e. inl (told-nothing w b e)) (λ e. let at-b = told-atom w b (e .0) (e .1 .0) in
+            let at-a = told-atom w a (e .0) (e .1 .1) in
+            inr (omega (arith, at-b .0, at-b .1), sym (at-b .0) ∙ at-a .0)) covers
+
         fuses : (G : Pile) (H : Done) (F T : List ℕ) (fs : List (ℕ × ℕ)) (u : State G H F T n k s fs w) →
             Fuses G H F T n k s fs w (omega arith) hw u a b lt hb ra rb r s [] w1
         fuses G H F T fs u = record {
@@ -181,8 +189,8 @@ module _ (n k s : ℕ) (w : List ℕ) (a b : ℕ) (lt : a < b) (hb : b < n) (hn 
               nil = chain-zero w (getD w a 0) (getD (u .C) a []) e0 (u .chain a (omega arith) ma (omega arith))
 
     -- ---- both have chains: that of b goes before that of a
-    module _ (x y z r2 r3 : ℕ) (w2 w3 w4 : List ℕ) (ex : x ≡ getD w b 0) (ey : y ≡ getD w a 0) (hx : 0 < x) (lx : x ≤ 2048) (hy : 0 < y)
-        (ly : y ≤ 2048) (la : Last w x z)
+    module _ (x y z r2 r3 : ℕ) (w2 w3 w4 : List ℕ) (ex : x ≡ getD w b 0) (ey : y ≡ getD w a 0) (lx : (0 < x) × ChainCode x)
+        (ly : (0 < y) × ChainCode y) (la : Last w x z)
         (p2 : Put r w1 (NEXT + z) y r2 w2) (p3 : Put r2 w2 a x r3 w3) (e4 : w4 ≡ set w3 (STACK + s) (x + 4096 * y)) where
       r1-is : r ≡ k + 1
       r1-is = p .next
@@ -352,8 +360,8 @@ module _ (n k s : ℕ) (w : List ℕ) (a b : ℕ) (lt : a < b) (hb : b < n) (hn 
               }
 
   -- ---- a clash
-  pub clashed : (getD w b 0 ≡ 0 → ⊥) → (getD w a 0 ≡ 0 → ⊥) → (getD w b 0 ≡ getD w a 0 → ⊥) → (2048 < getD w b 0) ⊎ (2048 < getD w a 0) →
-      Met n k s w a b k s true w
+  clashed : (getD w b 0 ≡ 0 → ⊥) → (getD w a 0 ≡ 0 → ⊥) → (getD w b 0 ≡ getD w a 0 → ⊥) →
+      AtomCode (getD w b 0) ⊎ AtomCode (getD w a 0) → Met n k s w a b k s true w
   clashed nb na ne big = record {
     later = later-refl k w logged;
     new = [];
@@ -362,11 +370,11 @@ module _ (n k s : ℕ) (w : List ℕ) (a b : ℕ) (lt : a < b) (hb : b < n) (hn 
     grow = λ j h x. refl;
     calm = λ h. (refl, calm-refl w);
     fine = λ z. let y : _≡_ {A = ℕ} 0 1 = cc in absurd (omega arith);
-    clash = λ z G H F T fs u same. told G H F T fs u same (decLt 2048 (getD w b 0)) (decLt 2048 (getD w a 0));
+    clash = λ z G H F T fs u same. told G H F T fs u same (decLt last-arc (getD w b 0)) (decLt last-arc (getD w a 0));
   }
     where
       told : (G : Pile) (H : Done) (F T : List ℕ) (fs : List (ℕ × ℕ)) (u : State G H F T n k s fs w) → Same G F T a b →
-          Dec (2048 < getD w b 0) → Dec (2048 < getD w a 0) → Clashes G F T
+          Dec (AtomCode (getD w b 0)) → Dec (AtomCode (getD w a 0)) → Clashes G F T
       told G H F T fs u same db da = go db da
         where
           ma : getD (u .M) a 0 ≡ a
@@ -382,14 +390,14 @@ module _ (n k s : ℕ) (w : List ℕ) (a b : ℕ) (lt : a < b) (hb : b < n) (hn 
           head-of c h d [] e = absurd (d e)
           head-of c h d (j ∷ l) e = (j, List·Memᴰ·head refl)
 
-          arc : (c : ℕ) → c < n → getD (u .M) c 0 ≡ c → (getD w c 0 ≡ 0 → ⊥) → (2048 < getD w c 0 → ⊥) →
+          arc : (c : ℕ) → c < n → getD (u .M) c 0 ≡ c → (getD w c 0 ≡ 0 → ⊥) → (AtomCode (getD w c 0) → ⊥) →
               (e : ℕ) × (List·Memᴰ e (G .B) × Same G F T c (G .S e))
           arc c h e d l =
               let t = head-of c h d (getD (u .C) c []) (u .chain c h e (omega arith)) in
               let m = u .known (t .0) (u .home c (t .0) h (t .1) .0) in
               (t .0, (m, u .sound c (G .S (t .0)) h (u .arcs (t .0) m .1 .0) (e ∙ sym (u .home c (t .0) h (t .1) .1))))
 
-          go : Dec (2048 < getD w b 0) → Dec (2048 < getD w a 0) → Clashes G F T
+          go : Dec (AtomCode (getD w b 0)) → Dec (AtomCode (getD w a 0)) → Clashes G F T
           go (yes p) (yes q) =
               let x = u .bare b hb mb p .1 in
               let y = u .bare a (omega arith) ma q .1 in
@@ -406,8 +414,23 @@ module _ (n k s : ℕ) (w : List ℕ) (a b : ℕ) (lt : a < b) (hb : b < n) (hn 
               Clashes.mixed (x .node) (λ e. na (sym (x .is) ∙ e)) (y .1 .0) (Same.on (node a (omega arith) ma x) (Same.on same (y .1 .1)))
           go (no p) (no q) = absurd (⊎-elim (λ l. p l) (λ l. q l) big)
 
+  pub arcs-atom : (x v : ℕ) → held-by w b ≡ Arcs x → held-by w a ≡ Atom v → Met n k s w a b k s true w
+  arcs-atom x v came there =
+      let at-b = told-arcs w b x came in let at-a = told-atom w a v there in
+      clashed (λ e. omega (arith, at-b)) (λ e. omega (arith, at-a)) (λ e. omega (arith, at-b, at-a)) (inr (omega (arith, at-a)))
+
+  pub atom-arcs : (v y : ℕ) → held-by w b ≡ Atom v → held-by w a ≡ Arcs y → Met n k s w a b k s true w
+  atom-arcs v y came there =
+      let at-b = told-atom w b v came in let at-a = told-arcs w a y there in
+      clashed (λ e. omega (arith, at-b)) (λ e. omega (arith, at-a)) (λ e. omega (arith, at-b, at-a)) (inl (omega (arith, at-b)))
+
+  pub two-atoms : (u v : ℕ) → held-by w b ≡ Atom u → held-by w a ≡ Atom v → (u ≡ v → ⊥) → Met n k s w a b k s true w
+  two-atoms u v came there differ =
+      let at-b = told-atom w b u came in let at-a = told-atom w a v there in
+      clashed (λ e. omega (arith, at-b)) (λ e. omega (arith, at-a)) (λ e. differ (at-b .0 ∙ e ∙ sym (at-a .0))) (inl (omega (arith, at-b)))
+
   -- ---- a root's chain is short
-  pub ready-runs : (c : ℕ) → c < n → getD (region PARENT n w) c 0 ≡ c → getD w c 0 ≤ 2048 → Runs w (getD w c 0)
+  pub ready-runs : (c : ℕ) → c < n → getD (region PARENT n w) c 0 ≡ c → ChainCode (getD w c 0) → Runs w (getD w c 0)
   ready-runs c h e l =
       let u = g .state in
       let p = length-region PARENT n w (omega arith) in

@@ -14,6 +14,7 @@ use Rattle.forest.specs.Labels.{Eq}
 use Rattle.forest.proofs.Relabel.{relab, relabelled}
 use Rattle.area.specs.Log.{Logged}
 use Rattle.forest.specs.Forest.{Shape, Forest, tops}
+use Rattle.forest.specs.Held.{last-arc, ChainCode, AtomCode}
 use Rattle.forest.specs.State.{Pile, Done, Same, Chain, First, None, Near, Framed, Bears, State, Grow, total, withPair}
 use Rattle.area.proofs.Region.{length-region}
 use Rattle.forest.proofs.Kernel.{relab-hit, relab-miss, relab-case}
@@ -69,9 +70,9 @@ module _ (G : Pile) (H : Done) (F T : List ℕ) (n k s : ℕ) (fs : List (ℕ ×
 
   -- a class with an arc has a chain
   pub chain-of : (c q : ℕ) → c < n → getD (u .M) c 0 ≡ c → List·Memᴰ q (getD (u .C) c []) → Chain w (getD w c 0) (getD (u .C) c [])
-  chain-of c q h e m = go (decLt 2048 (getD w c 0))
+  chain-of c q h e m = go (decLt last-arc (getD w c 0))
     where
-      go : Dec (2048 < getD w c 0) → Chain w (getD w c 0) (getD (u .C) c [])
+      go : Dec (AtomCode (getD w c 0)) → Chain w (getD w c 0) (getD (u .C) c [])
       go (yes y) = absurd (List·Memᴰ·not-nil (subst (λ (l : List ℕ). List·Memᴰ q l) (u .bare c h e y .0) m))
       go (no y) = u .chain c h e (omega arith)
 
@@ -89,11 +90,11 @@ module _ (G : Pile) (H : Done) (F T : List ℕ) (n k s : ℕ) (fs : List (ℕ ×
       pub first : (c : ℕ) → c < n → (c ≡ a → ⊥) → getD w' c 0 ≡ getD w c 0
       pub nexts : (c q : ℕ) → c < n → (c ≡ b → ⊥) → List·Memᴰ q (getD (u .C) c []) → getD w' (NEXT + q) 0 ≡ getD w (NEXT + q) 0
       pub grow : Grow w w'
-      pub chain : getD w' a 0 ≤ 2048 → Chain w' (getD w' a 0) (getD (u .C) b [] ++ getD (u .C) a [])
-      pub alone : 2048 < getD w' a 0 →
+      pub chain : ChainCode (getD w' a 0) → Chain w' (getD w' a 0) (getD (u .C) b [] ++ getD (u .C) a [])
+      pub alone : AtomCode (getD w' a 0) →
           (getD (u .C) b [] ++ getD (u .C) a [] ≡ []) × ((getD w' a 0 ≡ getD w a 0) ⊎ (getD w' a 0 ≡ getD w b 0))
-      pub keep-a : 2048 < getD w a 0 → getD w' a 0 ≡ getD w a 0
-      pub keep-b : 2048 < getD w b 0 → getD w' a 0 ≡ getD w b 0
+      pub keep-a : AtomCode (getD w a 0) → getD w' a 0 ≡ getD w a 0
+      pub keep-b : AtomCode (getD w b 0) → getD w' a 0 ≡ getD w b 0
       pub owes : (f q i : ℕ) → First F f (getD (u .C) b []) q → First F f (getD (u .C) a []) i →
           Near F T (relabelled b a (u .M)) w' (new ++ fs) (getD T q 0) (getD T i 0)
       pub news : (x y : ℕ) → List·Memᴰ (x, y) new → Framed n (relabelled b a (u .M)) (fused (u .C) a b) w' x y
@@ -179,13 +180,13 @@ module _ (G : Pile) (H : Done) (F T : List ℕ) (n k s : ℕ) (fs : List (ℕ ×
       old-root c h e x = ⊎-elim (λ y. absurd (x (sym e ∙ y .1)))
           (λ y. ((λ d. y .0 (ap (λ (i : ℕ). getD (u .M) i 0) d ∙ Mb)), sym (y .1) ∙ e)) (split c)
 
-      chains : (c : ℕ) → c < n → getD N c 0 ≡ c → getD w' c 0 ≤ 2048 → Chain w' (getD w' c 0) (getD (fused (u .C) a b) c [])
+      chains : (c : ℕ) → c < n → getD N c 0 ≡ c → ChainCode (getD w' c 0) → Chain w' (getD w' c 0) (getD (fused (u .C) a b) c [])
       chains c h e l = go (ℕ-discrete c a)
         where
           go : Dec (c ≡ a) → Chain w' (getD w' c 0) (getD (fused (u .C) a b) c [])
           go (yes q) =
               subst (λ (d : ℕ). Chain w' (getD w' d 0) (getD (fused (u .C) a b) d [])) (sym q)
-              (subst (λ (l : List ℕ). Chain w' (getD w' a 0) l) (sym Ca) (z .chain (subst (λ (d : ℕ). getD w' d 0 ≤ 2048) q l)))
+              (subst (λ (l : List ℕ). Chain w' (getD w' a 0) l) (sym Ca) (z .chain (subst (λ (d : ℕ). ChainCode (getD w' d 0)) q l)))
           go (no x) =
               let o = old-root c h e x in
               let f : getD w' c 0 ≡ getD w c 0 = z .first c h x in
@@ -200,10 +201,10 @@ module _ (G : Pile) (H : Done) (F T : List ℕ) (n k s : ℕ) (fs : List (ℕ ×
       to-a c i (inl q) e = coarse i a (e ∙ q ∙ sym Ma) ∙ Na
       to-a c i (inr q) e = coarse i b (e ∙ q ∙ sym Mb) ∙ Nb
 
-      bares : (c : ℕ) → c < n → getD N c 0 ≡ c → 2048 < getD w' c 0 → (getD (fused (u .C) a b) c [] ≡ []) × Bears G n N c (getD w' c 0)
+      bares : (c : ℕ) → c < n → getD N c 0 ≡ c → AtomCode (getD w' c 0) → (getD (fused (u .C) a b) c [] ≡ []) × Bears G n N c (getD w' c 0)
       bares c h e l = go (ℕ-discrete c a)
         where
-          at-a : 2048 < getD w' a 0 → (getD (fused (u .C) a b) a [] ≡ []) × Bears G n N a (getD w' a 0)
+          at-a : AtomCode (getD w' a 0) → (getD (fused (u .C) a b) a [] ≡ []) × Bears G n N a (getD w' a 0)
           at-a g = (
             Ca ∙ z .alone g .0,
             ⊎-elim
@@ -216,7 +217,7 @@ module _ (G : Pile) (H : Done) (F T : List ℕ) (n k s : ℕ) (fs : List (ℕ ×
 
           go : Dec (c ≡ a) → (getD (fused (u .C) a b) c [] ≡ []) × Bears G n N c (getD w' c 0)
           go (yes q) = subst (λ (d : ℕ). (getD (fused (u .C) a b) d [] ≡ []) × Bears G n N d (getD w' d 0)) (sym q)
-              (at-a (subst (λ (d : ℕ). 2048 < getD w' d 0) q l))
+              (at-a (subst (λ (d : ℕ). AtomCode (getD w' d 0)) q l))
           go (no x) =
               let o = old-root c h e x in
               let f : getD w' c 0 ≡ getD w c 0 = z .first c h x in
@@ -303,7 +304,7 @@ module _ (G : Pile) (H : Done) (F T : List ℕ) (n k s : ℕ) (fs : List (ℕ ×
 
       meets : (i : ℕ) → List·Memᴰ i (H .U) → (G .A i ≡ 0 → ⊥) → getD w' (getD N i 0) 0 ≡ G .A i
       meets i m x = ⊎-elim
-          (λ p. ap (λ (c : ℕ). getD w' c 0) (p .1) ∙ z .keep-b (subst (λ (c : ℕ). 2048 < getD w c 0) (p .0) big)
+          (λ p. ap (λ (c : ℕ). getD w' c 0) (p .1) ∙ z .keep-b (subst (λ (c : ℕ). AtomCode (getD w c 0)) (p .0) big)
           ∙ ap (λ (c : ℕ). getD w c 0) (sym (p .0)) ∙ o)
           (λ p. ap (λ (c : ℕ). getD w' c 0) (p .1) ∙ other p (ℕ-discrete (getD (u .M) i 0) a))
           (split i)
@@ -311,12 +312,12 @@ module _ (G : Pile) (H : Done) (F T : List ℕ) (n k s : ℕ) (fs : List (ℕ ×
           o : getD w (getD (u .M) i 0) 0 ≡ G .A i
           o = u .met i m x
 
-          big : 2048 < getD w (getD (u .M) i 0) 0
+          big : AtomCode (getD w (getD (u .M) i 0) 0)
           big = rw o (u .atoms i (u .nodes i m .1) x)
 
           other : (getD (u .M) i 0 ≡ b → ⊥) × (getD N i 0 ≡ getD (u .M) i 0) → Dec (getD (u .M) i 0 ≡ a) →
               getD w' (getD (u .M) i 0) 0 ≡ G .A i
-          other p (yes e) = ap (λ (c : ℕ). getD w' c 0) e ∙ z .keep-a (subst (λ (c : ℕ). 2048 < getD w c 0) e big)
+          other p (yes e) = ap (λ (c : ℕ). getD w' c 0) e ∙ z .keep-a (subst (λ (c : ℕ). AtomCode (getD w c 0)) e big)
               ∙ ap (λ (c : ℕ). getD w c 0) (sym e) ∙ o
           other p (no y) = z .first (getD (u .M) i 0) (low i (u .nodes i m .0)) y ∙ o
 

@@ -1,9 +1,10 @@
--- `Kernel` and `Relabel` have the laws of a label, `Wood` those of a forest, `Words` those of the loaded words, `Links`, `Steps` and
--- `Walks` those of chains, `Places` those of rising ones.
+-- `Kernel` and `Relabel` have the laws of a label, `Wood` those of a forest, `Words` those of the loaded words, `Contents` those of what a class
+-- holds, `Links`, `Steps` and `Walks` those of chains, `Places` those of rising ones.
 -- `Fuse` shows that a merge keeps the state, `Cases` has the ends of a merge, `Turns` and `Drain` work off frames.
 pub mod Kernel
 pub mod Wood
 pub mod Words
+pub mod Contents
 pub mod Links
 pub mod Walks
 pub mod Places

@@ -1,6 +1,7 @@
--- `Labels` are classes as labels, `Forest` says what a forest of parents is, `State` what stands for the graphs that are pushed and
--- how it changes, `Order` what chains whose features rise are good for.
+-- `Labels` are classes as labels, `Forest` says what a forest of parents is, `Held` what a class holds, `State` what stands for the
+-- graphs that are pushed and how it changes, `Order` what chains whose features rise are good for.
 pub mod Labels
 pub mod Forest
+pub mod Held
 pub mod State
 pub mod Order

@@ -11,13 +11,14 @@ use Rattle.area.specs.Region.{region, words}
 use Rattle.forest.specs.Labels.{Eq}
 use Rattle.area.specs.Log.{Logged, Later}
 use Rattle.forest.specs.Forest.{Shape, Forest, tops}
+use Rattle.forest.specs.Held.{ChainCode, AtomCode}
 
 -- ---- what follows each of the loaded words
 unfoldable pub targets : List ℕ → List ℕ
 targets w = region (WORDS + 1) 2047 w
 
 -- ---- the meaning
--- what is pushed: the source S of each arc, the arcs B, the roots R, the nodes N, and the atom A of each node, as a code above 2048, or 0
+-- what is pushed: the source S of each arc, the arcs B, the roots R, the nodes N, and the head A of the atom of each node, or 0
 pub record Pile : Type 0 where
   pub S : ℕ → ℕ
   pub B : List ℕ
@@ -132,7 +133,7 @@ pub record State (G : Pile) (H : Done) (F T : List ℕ) (n k s : ℕ) (fs : List
   pub stack : s + tops 0 (region PARENT n w) ≤ n
   -- what is pushed is in bounds
   pub arcs : (q : ℕ) → List·Memᴰ q (G .B) → (q < 2047) × ((G .S q < n) × (getD T q 0 < n))
-  pub atoms : (i : ℕ) → List·Memᴰ i (G .N) → (G .A i ≡ 0 → ⊥) → 2048 < G .A i
+  pub atoms : (i : ℕ) → List·Memᴰ i (G .N) → (G .A i ≡ 0 → ⊥) → AtomCode (G .A i)
   -- M labels each node by its class
   pub M : List ℕ
   pub forest : Forest (region PARENT n w) M
@@ -140,9 +141,9 @@ pub record State (G : Pile) (H : Done) (F T : List ℕ) (n k s : ℕ) (fs : List
   pub C : List (List ℕ)
   pub wide : length C ≡ n
   pub all : total C ≤ length (H .K)
-  pub chain : (c : ℕ) → c < n → getD M c 0 ≡ c → getD w c 0 ≤ 2048 → Chain w (getD w c 0) (getD C c [])
+  pub chain : (c : ℕ) → c < n → getD M c 0 ≡ c → ChainCode (getD w c 0) → Chain w (getD w c 0) (getD C c [])
   -- a class with an atom has no arcs
-  pub bare : (c : ℕ) → c < n → getD M c 0 ≡ c → 2048 < getD w c 0 → (getD C c [] ≡ []) × Bears G n M c (getD w c 0)
+  pub bare : (c : ℕ) → c < n → getD M c 0 ≡ c → AtomCode (getD w c 0) → (getD C c [] ≡ []) × Bears G n M c (getD w c 0)
   -- an arc is on the chain of its source's class
   pub home : (c q : ℕ) → c < n → List·Memᴰ q (getD C c []) → List·Memᴰ q (H .K) × (getD M (G .S q) 0 ≡ c)
   pub known : (j : ℕ) → List·Memᴰ j (H .K) → List·Memᴰ j (G .B)

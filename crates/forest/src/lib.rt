@@ -2,5 +2,6 @@
 // that follows from it.
 pub mod chain;
 pub mod forest;
+pub mod held;
 pub mod merge;
 pub mod settle;

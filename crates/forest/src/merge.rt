@@ -1,22 +1,24 @@
-// A merge of two classes. The word c of the area has what the class c holds: nothing (0), the first arc of its chain, counted from 1,
-// or an atom's head.
-// A merge puts one chain before the other and leaves a frame on the stack: the part of the chain that came, up to what was there,
-// whose arcs have yet to be compared with those after it.
+// A merge of two classes.
+// It puts one chain before the other and leaves a frame on the stack: the part of the chain that came, up to what was there, whose arcs
+// have yet to be compared with those after it.
 use crate::chain::last;
 use crate::forest::find;
+use crate::held::Held;
+use crate::held::held_by;
 use area::log::put;
 use area::map::FRAME_STEP;
-use area::map::LAST_ARC;
+use area::map::HELD;
 use area::map::NEXT;
 use area::map::PARENT;
 use area::map::STACK;
-use limits::wide;
 ghost use mathlib.Core.Path.{_≡_};
 ghost use mathlib.Core.Bool.{true, false};
 ghost use Prim.Native.Nat.{_+_, _*_, _≤_, _<_};
 ghost use lib.ListN.{length, getD};
 ghost use Rattle.area.specs.Map.{PARENT, SIZE};
 ghost use Rattle.area.specs.Region.{region};
+ghost use Rattle.forest.specs.declared.held.Held.the-variants.{Nothing, Arcs};
+ghost use Rattle.forest.specs.Held.{held-by, Covers};
 ghost use Rattle.forest.specs.State.{Ready, Met};
 
 // The log's entries and the frames on the stack after a step, and whether it met a clash.
@@ -26,19 +28,55 @@ pub struct Made {
     pub bad: bool,
 }
 
-// The class b goes into the class a, where both have chains, from p and from q.
-fn knit(w: &mut [u32], k: usize, s: usize, n: usize, a: usize, b: usize, p: u32, q: u32) -> Made
+// The class b goes under the class a, which keeps what it holds: b holds nothing, or the same atom.
+fn go_under(w: &mut [u32], k: usize, s: usize, n: usize, a: usize, b: usize) -> Made
     requires { ⌜ (a < b) × ((b < n) × ((n ≤ 1024) × (SIZE ≤ length (now w)))) ⌝ }
     requires { ⌜ (getD (region PARENT n (now w)) a 0 ≡ a) × (getD (region PARENT n (now w)) b 0 ≡ b) ⌝ }
-    requires { ⌜ ((p ≡ getD (now w) b 0) × (q ≡ getD (now w) a 0)) × (((0 < p) × (p ≤ 2048)) × ((0 < q) × (q ≤ 2048))) ⌝ }
+    requires { ⌜ Covers (now w) a b ⌝ }
     requires { ⌜ Ready n k s (now w) ⌝ }
     ensures { λ r. ⌜ Met n k s (now (w .entry)) a b (r .k) (r .s) (r .bad) (now (w .exit)) ⌝ }
 {
-    let z = last(w, wide(p));
     let e = put(w, k, PARENT + b, a as u32);
-    let d = put(w, e, NEXT + z, q);
-    let c = put(w, d, a, p);
-    w[STACK + s] = p + FRAME_STEP * q;
+    Made {
+        k: e,
+        s: s,
+        bad: false,
+    }
+}
+
+// The class b goes under the class a, which holds nothing and takes over what b holds.
+fn take_over(w: &mut [u32], k: usize, s: usize, n: usize, a: usize, b: usize) -> Made
+    requires { ⌜ (a < b) × ((b < n) × ((n ≤ 1024) × (SIZE ≤ length (now w)))) ⌝ }
+    requires { ⌜ (getD (region PARENT n (now w)) a 0 ≡ a) × (getD (region PARENT n (now w)) b 0 ≡ b) ⌝ }
+    requires { ⌜ held-by (now w) a ≡ Nothing ⌝ }
+    requires { ⌜ Ready n k s (now w) ⌝ }
+    ensures { λ r. ⌜ Met n k s (now (w .entry)) a b (r .k) (r .s) (r .bad) (now (w .exit)) ⌝ }
+{
+    let h = w[HELD + b];
+    let e = put(w, k, PARENT + b, a as u32);
+    let d = put(w, e, HELD + a, h);
+    Made {
+        k: d,
+        s: s,
+        bad: false,
+    }
+}
+
+// The class b goes under the class a, where both have chains, from p and from q.
+fn knit(w: &mut [u32], k: usize, s: usize, n: usize, a: usize, b: usize, p: usize, q: usize) -> Made
+    requires { ⌜ (a < b) × ((b < n) × ((n ≤ 1024) × (SIZE ≤ length (now w)))) ⌝ }
+    requires { ⌜ (getD (region PARENT n (now w)) a 0 ≡ a) × (getD (region PARENT n (now w)) b 0 ≡ b) ⌝ }
+    requires { ⌜ (held-by (now w) b ≡ Arcs p) × (held-by (now w) a ≡ Arcs q) ⌝ }
+    requires { ⌜ Ready n k s (now w) ⌝ }
+    ensures { λ r. ⌜ Met n k s (now (w .entry)) a b (r .k) (r .s) (r .bad) (now (w .exit)) ⌝ }
+{
+    let x = p as u32;
+    let y = q as u32;
+    let z = last(w, p);
+    let e = put(w, k, PARENT + b, a as u32);
+    let d = put(w, e, NEXT + z, y);
+    let c = put(w, d, HELD + a, x);
+    w[STACK + s] = x + FRAME_STEP * y;
     Made {
         k: c,
         s: s + 1,
@@ -46,55 +84,38 @@ fn knit(w: &mut [u32], k: usize, s: usize, n: usize, a: usize, b: usize, p: u32,
     }
 }
 
-// The class b goes into the class a.
+// The class b goes under the class a.
 fn fuse(w: &mut [u32], k: usize, s: usize, n: usize, a: usize, b: usize) -> Made
     requires { ⌜ (a < b) × ((b < n) × ((n ≤ 1024) × (SIZE ≤ length (now w)))) ⌝ }
     requires { ⌜ (getD (region PARENT n (now w)) a 0 ≡ a) × (getD (region PARENT n (now w)) b 0 ≡ b) ⌝ }
     requires { ⌜ Ready n k s (now w) ⌝ }
     ensures { λ r. ⌜ Met n k s (now (w .entry)) a b (r .k) (r .s) (r .bad) (now (w .exit)) ⌝ }
 {
-    let p = w[b];
-    let q = w[a];
-    if p == 0 {
-        let e = put(w, k, PARENT + b, a as u32);
-        return Made {
-            k: e,
-            s: s,
-            bad: false,
-        };
+    let came = held_by(w, b);
+    let there = held_by(w, a);
+    let clash = Made {
+        k: k,
+        s: s,
+        bad: true,
+    };
+    match came {
+        Held::Nothing => go_under(w, k, s, n, a, b),
+        Held::Arcs(p) => match there {
+            Held::Nothing => take_over(w, k, s, n, a, b),
+            Held::Arcs(q) => knit(w, k, s, n, a, b, p, q),
+            Held::Atom(_) => clash,
+        },
+        Held::Atom(u) => match there {
+            Held::Nothing => take_over(w, k, s, n, a, b),
+            Held::Arcs(_) => clash,
+            Held::Atom(v) => {
+                if u == v {
+                    return go_under(w, k, s, n, a, b);
+                }
+                clash
+            }
+        },
     }
-    if q == 0 {
-        let e = put(w, k, PARENT + b, a as u32);
-        let d = put(w, e, a, p);
-        return Made {
-            k: d,
-            s: s,
-            bad: false,
-        };
-    }
-    if p > LAST_ARC {
-        if p == q {
-            let e = put(w, k, PARENT + b, a as u32);
-            return Made {
-                k: e,
-                s: s,
-                bad: false,
-            };
-        }
-        return Made {
-            k: k,
-            s: s,
-            bad: true,
-        };
-    }
-    if q > LAST_ARC {
-        return Made {
-            k: k,
-            s: s,
-            bad: true,
-        };
-    }
-    knit(w, k, s, n, a, b, p, q)
 }
 
 // The classes of x and y become one.

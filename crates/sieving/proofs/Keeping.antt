@@ -6,25 +6,21 @@ use mathlib.Core.List.{List, [], _∷_}
 use Prim.Native.Nat.{ℕ, zero, suc, _+_, _-_, _%_, _≤_, _<_}
 use native.Mathlib.Omega.{arith}
 use lib.ListN.{length, getD, replicate}
-use Rattle.area.specs.Map.{NEXT, LOG, SIZE}
-use Rattle.area.specs.Region.{words}
+use Rattle.area.specs.Map.{PARENT, NEXT, LOG, SIZE}
+use Rattle.area.specs.Region.{region, words}
 use Rattle.area.specs.Log.{body, back, past}
-use Rattle.area.proofs.Region.{words-same}
+use Rattle.area.proofs.Region.{region-ext, words-same}
 use Rattle.area.proofs.Undo.{word}
-use Rattle.loading.specs.Entry.{Entry}
+use Rattle.forest.specs.Forest.{Root}
+use Rattle.forest.specs.Held.{ChainCode}
 use Rattle.forest.specs.State.{Chain, Runs, Looked}
-use Rattle.classes.specs.Holds.{Holds, class, Since}
-use Rattle.classes.proofs.Writer.{class-low, content}
-use Rattle.sieving.specs.Sieved.{Blank, Sieved}
+use Rattle.classes.specs.Holds.{Labelled, Since}
+use Rattle.classes.proofs.Answers.{root-classed, asked-runs}
+use Rattle.sieving.specs.Sieved.{Blank, Sieves, OfRoots, Sieved}
 
--- the class of all roots is that of the number 0
-pub roots-first : (n : ℕ) (es : List Entry) (k : ℕ) (w : List ℕ) (h : Holds n es k w) → 0 < n → class h 0 ≡ 0
-roots-first n es k w h l = let a = class-low n es k w h 0 l in omega arith
-
--- it bears an atom or has a chain
-pub roots-run : (n : ℕ) (es : List Entry) (k : ℕ) (w : List ℕ) → Holds n es k w → 0 < n → getD w 0 0 ≤ 2048 → Runs w (getD w 0 0)
-roots-run n es k w h l b = let o = content n es k w h 0 l (roots-first n es k w h l) in
-    record { xs = o .chain; chain = o .linked b; short = o .short }
+-- the class of all roots has a chain where it bears no atom
+pub roots-run : (n : ℕ) (w : List ℕ) → 0 < n → Labelled n w → (c : ℕ) → OfRoots n w c → ChainCode (getD w c 0) → Runs w (getD w c 0)
+roots-run n w l g c root = asked-runs n w 0 l c (root-classed n w 0 c root) g
 
 -- ---- nothing is noted
 pub blank : (n : ℕ) → Blank (replicate n 0)
@@ -33,11 +29,11 @@ blank (suc n) zero = refl
 blank (suc n) (suc i) = blank n i
 
 -- a sieve of no words tells nothing
-pub sieved-none : (w : List ℕ) → Sieved w []
-sieved-none w = record { runs = λ f h. absurd (omega arith); same = λ f r h. absurd (omega arith) }
+pub sieved-none : (n : ℕ) (w : List ℕ) → Sieved n w []
+sieved-none n w = record { tells = λ c root. record { runs = λ f h. absurd (omega arith); same = λ f r h. absurd (omega arith) } }
 
 -- ---- from the code y on the feature f is looked for: the one that t has for it, or the first of the chain
-module _ (w t : List ℕ) (s : Sieved w t) (f g : ℕ) (e : g ≡ f) (x : ℕ) (is : x ≡ getD w 0 0) (y : ℕ)
+module _ (w t : List ℕ) (x : ℕ) (s : Sieves w t x) (f g : ℕ) (e : g ≡ f) (y : ℕ)
     (o : ((g % 256 < length t) × (y ≡ getD t (g % 256) 0)) ⊎ (y ≡ x)) where
   low : g % 256 < length t → f % 256 < length t
   low = subst (λ (i : ℕ). i % 256 < length t) e
@@ -49,7 +45,7 @@ module _ (w t : List ℕ) (s : Sieved w t) (f g : ℕ) (e : g ≡ f) (x : ℕ) (
   through-runs r = ⊎-elim (λ u. subst (Runs w) (sym (there (u .1))) (s .runs f (low (u .0)))) (λ u. subst (Runs w) (sym u) r) o
 
   pub through-same : (r : ℕ) → Looked (words w) w f y r → Looked (words w) w f x r
-  through-same r k = ⊎-elim (λ u. at (sym is) (s .same f r (low (u .0)) (at (there (u .1)) k))) (λ u. at u k) o
+  through-same r k = ⊎-elim (λ u. s .same f r (low (u .0)) (at (there (u .1)) k)) (λ u. at u k) o
     where
       at : {i j : ℕ} → i ≡ j → Looked (words w) w f i r → Looked (words w) w f j r
       at q = subst (λ (z : ℕ). Looked (words w) w f z r) q
@@ -79,14 +75,23 @@ unfolding past back
 same-body k w w' p = let e : k - k ≡ 0 = omega arith in rw e at p
 
 -- all that was pushed since is taken back, and marks are free
-pub sieved-since : (k : ℕ) (w w' t : List ℕ) → SIZE ≤ length w → Since k w k w' → Sieved w t → Sieved w' t
-sieved-since k w w' t h p s =
-    let f = word w w' (same-body k w w' (p .keeps k (omega arith))) in
-    let e = words-same w w' h (p .len) (p .same) in
-    record {
-      runs = λ i l. let r = s .runs i l in
-          record { xs = r .xs; chain = chain-same w w' f (getD t (i % 256) 0) (r .xs) (r .chain); short = r .short };
-      same = λ i r l k. subst (λ (z : ℕ). Looked (words w') w' i z r) (sym (f 0 (omega arith)))
-          (looked-same w w' f e i (getD w 0 0) r
-          (s .same i r l (looked-same w' w (λ j l. sym (f j l)) (sym e) i (getD t (i % 256) 0) r k)));
+pub sieved-since : (n k : ℕ) (w w' t : List ℕ) → n ≤ 1024 → SIZE ≤ length w → Since k w k w' → Sieved n w t → Sieved n w' t
+sieved-since n k w w' t b h p s = record { tells = λ c root. tells c (root .low) (s .tells c (subst (λ (P : List ℕ). Root P 0 c) parents root)) }
+  where
+    body-same : (j : ℕ) → j < LOG → getD w' j 0 ≡ getD w j 0
+    body-same = word w w' (same-body k w w' (p .keeps k (omega arith)))
+
+    parents : region PARENT n w' ≡ region PARENT n w
+    parents = region-ext PARENT n w' w (omega (arith, p .len)) (p .len) (λ j l. body-same (PARENT + j) (omega arith))
+
+    loaded-same : words w' ≡ words w
+    loaded-same = words-same w w' h (p .len) (p .same)
+
+    tells : (c : ℕ) → c ≤ 0 → Sieves w t (getD w c 0) → Sieves w' t (getD w' c 0)
+    tells c low u = record {
+      runs = λ i l. let r = u .runs i l in
+          record { xs = r .xs; chain = chain-same w w' body-same (getD t (i % 256) 0) (r .xs) (r .chain); short = r .short };
+      same = λ i r l k. subst (λ (z : ℕ). Looked (words w') w' i z r) (sym (body-same c (omega arith)))
+          (looked-same w w' body-same loaded-same i (getD w c 0) r
+          (u .same i r l (looked-same w' w (λ j l. sym (body-same j l)) (sym loaded-same) i (getD t (i % 256) 0) r k)));
     }

@@ -3,15 +3,24 @@ use mathlib.Core.Path.{_≡_}
 use mathlib.Core.List.{List}
 use Prim.Native.Nat.{ℕ, _%_, _<_}
 use lib.ListN.{length, getD}
-use Rattle.area.specs.Region.{words}
+use Rattle.area.specs.Map.{PARENT}
+use Rattle.area.specs.Region.{region, words}
+use Rattle.forest.specs.Forest.{Root}
 use Rattle.forest.specs.State.{Runs, Looked}
 
 -- nothing is noted
 abbrev pub Blank : List ℕ → Type 0
 Blank t = (i : ℕ) → getD t i 0 ≡ 0
 
--- t has an arc for the feature f, or 0, and what is found from there on is what is found on the whole chain of the class of all roots,
--- whose number is 0
-pub record Sieved (w t : List ℕ) : Type 0 where
+-- t has an arc for the feature f, or 0, and what is found from there on is what is found on the whole chain from the code x
+pub record Sieves (w t : List ℕ) (x : ℕ) : Type 0 where
   pub runs : (f : ℕ) → f % 256 < length t → Runs w (getD t (f % 256) 0)
-  pub same : (f r : ℕ) → f % 256 < length t → Looked (words w) w f (getD t (f % 256) 0) r → Looked (words w) w f (getD w 0 0) r
+  pub same : (f r : ℕ) → f % 256 < length t → Looked (words w) w f (getD t (f % 256) 0) r → Looked (words w) w f x r
+
+-- c is the class of all roots, with which the number 0 is united
+abbrev pub OfRoots : ℕ → List ℕ → ℕ → Type 0
+OfRoots n w c = Root (region PARENT n w) 0 c
+
+-- t tells of the chain of the class of all roots
+pub record Sieved (n : ℕ) (w t : List ℕ) : Type 0 where
+  pub tells : (c : ℕ) → OfRoots n w c → Sieves w t (getD w c 0)

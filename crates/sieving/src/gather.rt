@@ -2,25 +2,28 @@
 // from 1, or 0 where there is none.
 use forest::chain::loaded;
 use forest::chain::next;
+use forest::forest::find;
+use forest::held::Held;
+use forest::held::held_by;
 use limits::wide;
 ghost use mathlib.Core.Path.{_≡_};
-ghost use Prim.Native.Nat.{_≤_};
-ghost use lib.ListN.{length, getD};
-ghost use Rattle.area.specs.Map.{SIZE};
-ghost use Rattle.forest.specs.State.{Runs};
+ghost use Prim.Native.Nat.{_≤_, _<_};
+ghost use lib.ListN.{length};
+ghost use Rattle.classes.specs.Holds.{Labelled};
 ghost use Rattle.sieving.specs.Sieved.{Blank, Sieved};
 
-// Notes in t, where nothing is noted yet, the arcs on the chain of the class of all roots, which is that of the number 0.
-pub fn gather(w: &[u32], t: &mut [u32])
-    requires { ⌜ (SIZE ≤ length (now w)) × (256 ≤ length (now t)) ⌝ }
-    requires { ⌜ (getD (now w) 0 0 ≤ 2048 → Runs (now w) (getD (now w) 0 0)) ⌝ }
+// Notes in t, where nothing is noted yet, the arcs on the chain of the class of all roots.
+pub fn gather(w: &[u32], n: usize, t: &mut [u32])
+    requires { ⌜ (0 < n) × (256 ≤ length (now t)) ⌝ }
+    requires { ⌜ Labelled n (now w) ⌝ }
     requires { ⌜ Blank (now t) ⌝ }
-    ensures { λ _. ⌜ Sieved (now (w .entry)) (now (t .exit)) ⌝ }
+    ensures { λ _. ⌜ Sieved n (now (w .entry)) (now (t .exit)) ⌝ }
 {
-    let x = wide(w[0]);
-    if 2048 < x {
+    let c = find(w, n, 0);
+    let held = held_by(w, c);
+    let Held::Arcs(x) = held else {
         return;
-    }
+    };
     let mut y = x;
     while y != 0 {
         let j = y - 1;
@@ -33,15 +36,15 @@ pub fn gather(w: &[u32], t: &mut [u32])
 }
 
 // Gathers t anew where the log, which had k entries when t told the same, has another number j of them now.
-pub fn renew(w: &[u32], t: &mut [u32; 256], k: usize, j: usize)
-    requires { ⌜ (SIZE ≤ length (now w)) × (length (now t) ≡ 256) ⌝ }
-    requires { ⌜ (getD (now w) 0 0 ≤ 2048 → Runs (now w) (getD (now w) 0 0)) ⌝ }
-    requires { ⌜ (j ≡ k → Sieved (now w) (now t)) ⌝ }
-    ensures { λ _. ⌜ (length (now (t .exit)) ≡ 256) × Sieved (now (w .entry)) (now (t .exit)) ⌝ }
+pub fn renew(w: &[u32], n: usize, t: &mut [u32; 256], k: usize, j: usize)
+    requires { ⌜ (0 < n) × (length (now t) ≡ 256) ⌝ }
+    requires { ⌜ Labelled n (now w) ⌝ }
+    requires { ⌜ (j ≡ k → Sieved n (now w) (now t)) ⌝ }
+    ensures { λ _. ⌜ (length (now (t .exit)) ≡ 256) × Sieved n (now (w .entry)) (now (t .exit)) ⌝ }
 {
     if j == k {
         return;
     }
     *t = [0; 256];
-    gather(w, t);
+    gather(w, n, t);
 }

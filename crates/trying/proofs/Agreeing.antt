@@ -14,6 +14,7 @@ use Rattle.theory.proofs.Meaning.{beside-all, clash-unsatisfied}
 use Rattle.theory.proofs.Fit.{numbered-rising, rising-one}
 use Rattle.area.specs.Region.{words}
 use Rattle.loading.specs.Entry.{Entry, graphs}
+use Rattle.forest.specs.Held.{ChainCode}
 use Rattle.forest.specs.State.{targets, Chain, First, None}
 use Rattle.classes.specs.Entry.{Spots, number-of, Comes}
 use Rattle.classes.specs.Holds.{Holds, class}
@@ -32,7 +33,7 @@ satisfies-append S (g ∷ a) b s t = (s .0, satisfies-append S a b (s .1) t)
 
 module _ (n : ℕ) (es : List Entry) (k : ℕ) (w : List ℕ) (e : Entry) (h : Holds n es k w) (c : Comes n es e w) (d : ℕ)
     (fl : Flat (words w) (targets w) (e .number) (e .at + 1) d (e .graph))
-    (some : length (e .graph) ≡ suc d) (ls : Leaves n w (e .at) (e .number) d d) (low : getD w (class h 0) 0 ≤ 2048) where
+    (some : length (e .graph) ≡ suc d) (ls : Leaves n w (e .at) (e .number) d d) (low : ChainCode (getD w (class h 0) 0)) where
   abbrev F : List ℕ
   F = words w
 
@@ -72,7 +73,7 @@ module _ (n : ℕ) (es : List Entry) (k : ℕ) (w : List ℕ) (e : Entry) (h : H
 
   -- an arc of a class, as its chain has it
   record Old (x f : ℕ) (y : Place) : Type 0 where
-    small : getD w x 0 ≤ 2048
+    small : ChainCode (getD w x 0)
     xs : List ℕ
     chain : Chain w (getD w x 0) xs
     q : ℕ

@@ -10,6 +10,7 @@ use Rattle.theory.specs.Limits.{code-limit}
 use Rattle.theory.specs.Net.{Node, nodeAt, arcsOf, Clash}
 use Rattle.area.specs.Region.{words}
 use Rattle.loading.specs.Entry.{Entry, graphs}
+use Rattle.forest.specs.Held.{last-arc, ChainCode, AtomCode}
 use Rattle.forest.specs.State.{targets, Pile, Same, Clashes, Chain}
 use Rattle.classes.specs.Entry.{Comes}
 use Rattle.classes.specs.Holds.{Holds, class, code}
@@ -56,7 +57,7 @@ module _ (n : ℕ) (es : List Entry) (k : ℕ) (w : List ℕ) (e : Entry) (h : H
       (r .0, (r .1 .0, (subst (Same G F T 0) z (same' n es k w e h c), r .1 .1 .1)))
 
   -- what bears an atom in a class
-  bearer : (x : ℕ) → x < n → 2048 < getD w (class h x) 0 →
+  bearer : (x : ℕ) → x < n → AtomCode (getD w (class h x) 0) →
       (i : ℕ) × (List·Memᴰ i (G .N) × ((G .A i ≡ getD w (class h x) 0) × Same G F T i x))
   bearer x hx l =
       let m = class-low n es k w h x hx in
@@ -84,7 +85,7 @@ module _ (n : ℕ) (es : List Entry) (k : ℕ) (w : List ℕ) (e : Entry) (h : H
       )
 
   -- ---- the roots bear an atom, and the graph has an arc
-  pub root-clash : 0 < d → 2048 < getD w (class h 0) 0 → Clash (graphs es ++ e .graph ∷ [])
+  pub root-clash : 0 < d → AtomCode (getD w (class h 0) 0) → Clash (graphs es ++ e .graph ∷ [])
   root-clash some l =
       let b = bearer 0 first l in
       let r = arc-there w e d fl 0 some in
@@ -103,7 +104,7 @@ module _ (n : ℕ) (es : List Entry) (k : ℕ) (w : List ℕ) (e : Entry) (h : H
         (r .0, r .1 ∙ ap code (a .1) ∙ sym (ap head (a .1)) ∙ y)
 
     module _ (q : ℕ) (under : Under h (feature w (e .at) i) q) (other : held h q ≢ leaf-head w (e .at) d i) (some : held h q ≢ 0)
-        (low : getD w (class h 0) 0 ≤ 2048) where
+        (low : ChainCode (getD w (class h 0) 0)) where
       on-chain : List·Memᴰ q (getD (h .state .C) (class h 0) []) × (getD F q 0 ≡ feature w (e .at) i)
       on-chain =
           let l = class-low n es k w h 0 first in
@@ -126,7 +127,7 @@ module _ (n : ℕ) (es : List Entry) (k : ℕ) (w : List ℕ) (e : Entry) (h : H
           subst (Same G F T to) (r .1 .1 .1 .1)
           (Same.along (o .0) (r .1 .0) (on-chain .1 ∙ sym (r .1 .1 .1 .0)) (Same.on (o .1 .0) (r .1 .1 .0)))
 
-      go : Dec (2048 < held h q) → Clashes G F T
+      go : Dec (AtomCode (held h q)) → Clashes G F T
       go (yes l) =
           let b = bearer to to-low l in
           let z : G .A (b .0) ≡ held h q = b .1 .1 .0 in
@@ -143,4 +144,4 @@ module _ (n : ℕ) (es : List Entry) (k : ℕ) (w : List ℕ) (e : Entry) (h : H
           Clashes.mixed (leaf .0) (λ x. omega (arith, bears, y, x)) (o .0) (Same.on (Same.back joined) (Same.back (o .1 .0)))
 
       pub leaf-clash : Clash (graphs es ++ e .graph ∷ [])
-      leaf-clash = clash' n es k w e h c (go (decLt 2048 (held h q)))
+      leaf-clash = clash' n es k w e h c (go (decLt last-arc (held h q)))

@@ -7,12 +7,15 @@ use native.Mathlib.Omega.{arith}
 use lib.ListN.{length, getD}
 use Rattle.area.specs.Region.{words}
 use Rattle.loading.specs.Entry.{Entry}
+use Rattle.forest.specs.Held.{ChainCode, AtomCode}
 use Rattle.forest.specs.State.{targets}
 use Rattle.classes.specs.Entry.{Comes}
-use Rattle.classes.specs.Holds.{Holds, Pushing, Labelled, Classed, class}
+use Rattle.classes.specs.Holds.{Holds, Pushing, Labelled, class}
+use Rattle.classes.proofs.Answers.{root-classed}
 use Rattle.classes.proofs.Added.{weight-spans}
 use Rattle.classes.proofs.Comings.{lie, some'}
 use Rattle.classes.proofs.Pushings.{parts}
+use Rattle.sieving.specs.Sieved.{OfRoots}
 use Rattle.trying.specs.Leaf.{Anchored, Leaves, Torn, LeavesTold}
 use Rattle.trying.specs.Guessed.{Guesses}
 use Rattle.trying.specs.declared.told.Guess.{Guess}
@@ -60,23 +63,23 @@ module _ (n k : ℕ) (w : List ℕ) (g head d : ℕ) (is : head ≡ getD (words 
       let m = weight-spans (p .e .graph) in
       omega arith
 
-  module _ (a : ℕ) (cl : Classed n w 0 a) where
-    pub guess-anchored : Pushing n k w g → (x : ℕ) → x ≡ getD w a 0 → getD w a 0 ≤ 2048 → Anchored n w x
+  module _ (a : ℕ) (all : OfRoots n w a) where
+    pub guess-anchored : Pushing n k w g → (x : ℕ) → x ≡ getD w a 0 → ChainCode (getD w a 0) → Anchored n w x
     guess-anchored p x z l = let b = guess-low n k w g p in
-        record { labelled = b .1 .1; some = b .1 .0; c = a; classed = cl; is = z; low = omega arith }
+        record { labelled = b .1 .1; some = b .1 .0; c = a; root = all; is = z; low = omega arith }
 
     held : (es : List Entry) (h : Holds n es k w) → getD w a 0 ≡ getD w (class h 0) 0
-    held es h = ap (λ (z : ℕ). getD w z 0) (cl .is es k h)
+    held es h = ap (λ (z : ℕ). getD w z 0) (root-classed n w 0 a all .is es k h)
 
     -- the roots bear an atom
-    pub guesses-root : 0 < d → 2048 < getD w a 0 → Guesses n k w g Clashes
+    pub guesses-root : 0 < d → AtomCode (getD w a 0) → Guesses n k w g Clashes
     guesses-root some l = record {
       agrees = λ y. let i : _≡_ {A = ℕ} 0 1 = cc in absurd (omega arith);
-      clashes = λ y es e i h c. root-clash n es k w e h c d (level es e i h c) some (subst (λ (z : ℕ). 2048 < z) (held es h) l);
+      clashes = λ y es e i h c. root-clash n es k w e h c d (level es e i h c) some (subst AtomCode (held es h) l);
     }
 
     -- what is told of all arcs
-    pub guesses-arcs : getD w a 0 ≤ 2048 → (r : Guess) → LeavesTold n w g (head / 1024 % 1024) d r → Guesses n k w g r
+    pub guesses-arcs : ChainCode (getD w a 0) → (r : Guess) → LeavesTold n w g (head / 1024 % 1024) d r → Guesses n k w g r
     guesses-arcs l r s = record {
       agrees = λ y es e i h c. flat-agrees n es k w e h c d (level es e i h c) (many es e i h c) (leaves es e i h c d (s .agrees y))
           (low es h);
@@ -90,8 +93,8 @@ module _ (n k : ℕ) (w : List ℕ) (g head d : ℕ) (is : head ≡ getD (words 
           (low es h);
     }
       where
-        low : (es : List Entry) (h : Holds n es k w) → getD w (class h 0) 0 ≤ 2048
-        low es h = subst (λ (z : ℕ). z ≤ 2048) (held es h) l
+        low : (es : List Entry) (h : Holds n es k w) → ChainCode (getD w (class h 0) 0)
+        low es h = subst ChainCode (held es h) l
 
         leaves : (es : List Entry) (e : Entry) (i : e .at ≡ g) (h : Holds n es k w) (c : Comes n es e w) (j : ℕ) →
             Leaves n w g (head / 1024 % 1024) d j → Leaves n w (e .at) (e .number) d j

@@ -6,33 +6,32 @@ use native.Mathlib.Omega.{arith}
 use lib.ListN.{getD}
 use Rattle.area.specs.Region.{words}
 use Rattle.loading.specs.Entry.{Entry}
+use Rattle.forest.specs.Held.{ChainCode}
 use Rattle.forest.specs.State.{targets, Chain, Runs, Looked}
 use Rattle.classes.specs.Holds.{Holds, class, Classed}
 use Rattle.forest.proofs.Links.{first-det, none-first}
-use Rattle.classes.proofs.Answers.{asked-low, asked-runs, target-low}
+use Rattle.classes.proofs.Answers.{root-classed, asked-low, target-low}
 use Rattle.classes.proofs.Writer.{class-low, class-top}
-use Rattle.sieving.proofs.Keeping.{roots-first}
+use Rattle.sieving.proofs.Keeping.{roots-run}
 use Rattle.trying.specs.Leaf.{Anchored, Under, held, Suits}
 use Rattle.trying.specs.declared.told.Guess.the-variants.{Agrees, Clashes, Unsure}
 
 -- a chain begins with what the class of all roots holds
-pub root-chain : (n : ℕ) (es : List Entry) (k : ℕ) (w : List ℕ) (h : Holds n es k w) → 0 < n → getD w (class h 0) 0 ≤ 2048 →
+pub root-chain : (n : ℕ) (es : List Entry) (k : ℕ) (w : List ℕ) (h : Holds n es k w) → 0 < n → ChainCode (getD w (class h 0) 0) →
     (xs : List ℕ) × Chain w (getD w (class h 0) 0) xs
 root-chain n es k w h some low = let l = class-low n es k w h 0 some in
     (getD (h .state .C) (class h 0) [], h .state .chain (class h 0) (omega arith) (class-top n es k w h 0 some) low)
 
 module _ (n : ℕ) (w : List ℕ) (x : ℕ) (a : Anchored n w x) where
-  -- that class is the one of the number 0
-  pub anchored-first : x ≡ getD w 0 0
-  anchored-first = let g = a .labelled in a .is
-      ∙ ap (λ (z : ℕ). getD w z 0) (a .classed .is (g .es) (g .k) (g .holds) ∙ roots-first n (g .es) (g .k) w (g .holds) (a .some))
+  classed : Classed n w 0 (a .c)
+  classed = root-classed n w 0 (a .c) (a .root)
 
   pub anchored-runs : Runs w x
   anchored-runs = let l = a .low in let e = a .is in
-      subst (Runs w) (sym (a .is)) (asked-runs n w 0 (a .some) (a .c) (a .classed) (a .labelled) (omega arith))
+      subst (Runs w) (sym (a .is)) (roots-run n w (a .some) (a .labelled) (a .c) (a .root) (omega arith))
 
   head-is : (es : List Entry) (k : ℕ) (h : Holds n es k w) → x ≡ getD w (class h 0) 0
-  head-is es k h = a .is ∙ ap (λ (z : ℕ). getD w z 0) (a .classed .is es k h)
+  head-is es k h = a .is ∙ ap (λ (z : ℕ). getD w z 0) (classed .is es k h)
 
   module _ (f v r : ℕ) (m : Looked (words w) w f x r) where
     chained : (es : List Entry) (k : ℕ) (h : Holds n es k w) → Looked (words w) w f (getD w (class h 0) 0) r
@@ -55,7 +54,7 @@ module _ (n : ℕ) (w : List ℕ) (x : ℕ) (a : Anchored n w x) where
       suits-low =
           let l = a .low in let e = a .is in
           let z : r ≡ suc (r - 1) = omega arith in
-          target-low n w 0 (a .some) (a .c) (a .classed) f (omega arith) (r - 1)
+          target-low n w 0 (a .some) (a .c) classed f (omega arith) (r - 1)
           (subst (Looked (words w) w f (getD w (a .c) 0)) z (subst (λ (z : ℕ). Looked (words w) w f z r) (a .is) m)) (a .labelled)
 
       module _ (c : ℕ) (cl : Classed n w (getD (targets w) (r - 1) 0) c) where

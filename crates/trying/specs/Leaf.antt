@@ -7,8 +7,10 @@ use lib.ListN.{getD}
 use Rattle.theory.specs.Limits.{code-limit}
 use Rattle.area.specs.Region.{words}
 use Rattle.loading.specs.Entry.{Entry}
+use Rattle.forest.specs.Held.{ChainCode}
 use Rattle.forest.specs.State.{targets, Chain, First}
-use Rattle.classes.specs.Holds.{Holds, Labelled, class, Classed}
+use Rattle.classes.specs.Holds.{Holds, Labelled, class}
+use Rattle.sieving.specs.Sieved.{OfRoots}
 use Rattle.trying.specs.declared.told.Guess.{Guess}
 use Rattle.trying.specs.declared.told.Guess.the-variants.{Agrees, Clashes}
 
@@ -17,9 +19,9 @@ pub record Anchored (n : ℕ) (w : List ℕ) (x : ℕ) : Type 0 where
   pub labelled : Labelled n w
   pub some : 0 < n
   pub c : ℕ
-  pub classed : Classed n w 0 c
+  pub root : OfRoots n w c
   pub is : x ≡ getD w c 0
-  pub low : x ≤ 2048
+  pub low : ChainCode x
 
 -- ---- an atom under a feature of the roots
 -- the first arc with the feature f on the chain of the class of all roots is q

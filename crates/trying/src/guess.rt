@@ -1,23 +1,27 @@
 // A flat graph is tried on the classes of the graphs that are pushed, and nothing is written. Its root has an arc to each of its other
 // nodes, in order, and each of these is a leaf: it bears an atom or says nothing.
 use crate::told::Guess;
-use area::map::LAST_ARC;
 use classes::push::class_of;
 use forest::chain::loaded;
 use forest::chain::target;
+use forest::forest::find;
+use forest::held::Held;
+use forest::held::held_by;
 use limits::CODE_LIMIT;
 use limits::wide;
 use sieving::through::look_through;
 ghost use Prim.Native.Nat.{_+_, _*_, _≤_, _<_};
+ghost use Rattle.forest.specs.Held.{AtomCode};
 ghost use Rattle.classes.specs.Holds.{Pushing};
-ghost use Rattle.sieving.specs.Sieved.{Sieved};
+ghost use Rattle.sieving.specs.Sieved.{Sieves, Sieved};
 ghost use Rattle.trying.specs.Leaf.{Anchored, Suits, LeafTold, LeavesTold};
 ghost use Rattle.trying.specs.Guessed.{Guesses};
 
 // Whether the atom's head v may stand under the feature f of the roots, whose chain begins with the code x.
 fn suit(w: &[u32], n: usize, x: usize, f: u32, v: u32, t: &[u32]) -> Guess
     requires { ⌜ Anchored n (now w) x ⌝ }
-    requires { ⌜ Sieved (now w) (now t) ⌝ }
+    requires { ⌜ Sieves (now w) (now t) x ⌝ }
+    requires { ⌜ AtomCode v ⌝ }
     ensures { λ r. ⌜ Suits n (now (w .entry)) f v r ⌝ }
 {
     let r = look_through(w, x, f, t);
@@ -26,14 +30,16 @@ fn suit(w: &[u32], n: usize, x: usize, f: u32, v: u32, t: &[u32]) -> Guess
     }
     let y = target(w, r - 1);
     let c = class_of(w, n, y);
-    let z = w[c];
-    if z == v {
-        return Guess::Agrees;
-    }
-    if z == 0 {
-        Guess::Unsure
-    } else {
-        Guess::Clashes
+    let held = held_by(w, c);
+    match held {
+        Held::Nothing => Guess::Unsure,
+        Held::Arcs(_) => Guess::Clashes,
+        Held::Atom(z) => {
+            if z == v {
+                return Guess::Agrees;
+            }
+            Guess::Clashes
+        }
     }
 }
 
@@ -49,7 +55,7 @@ fn lead(
     t: &[u32],
 ) -> Guess
     requires { ⌜ Anchored n (now w) x ⌝ }
-    requires { ⌜ Sieved (now w) (now t) ⌝ }
+    requires { ⌜ Sieves (now w) (now t) x ⌝ }
     requires { ⌜ (base < 1024) × ((i < d) × (g + 2 + 3 * d ≤ 2048)) ⌝ }
     ensures { λ r. ⌜ LeafTold n (now (w .entry)) g base d i r ⌝ }
 {
@@ -72,7 +78,7 @@ fn lead(
 // All the d arcs.
 fn lead_all(w: &[u32], n: usize, g: usize, base: usize, d: usize, x: usize, t: &[u32]) -> Guess
     requires { ⌜ Anchored n (now w) x ⌝ }
-    requires { ⌜ Sieved (now w) (now t) ⌝ }
+    requires { ⌜ Sieves (now w) (now t) x ⌝ }
     requires { ⌜ (base < 1024) × (g + 2 + 3 * d ≤ 2048) ⌝ }
     ensures { λ r. ⌜ LeavesTold n (now (w .entry)) g base d r ⌝ }
 {
@@ -91,7 +97,7 @@ fn lead_all(w: &[u32], n: usize, g: usize, base: usize, d: usize, x: usize, t: &
 // for through the sieve t.
 pub fn guess_through(w: &[u32], k: usize, n: usize, g: usize, t: &[u32]) -> Guess
     requires { ⌜ Pushing n k (now w) g ⌝ }
-    requires { ⌜ Sieved (now w) (now t) ⌝ }
+    requires { ⌜ Sieved n (now w) (now t) ⌝ }
     ensures { λ r. ⌜ Guesses n k (now (w .entry)) g r ⌝ }
 {
     let head = wide(loaded(w, g));
@@ -101,15 +107,19 @@ pub fn guess_through(w: &[u32], k: usize, n: usize, g: usize, t: &[u32]) -> Gues
     if d + 1 != c {
         return Guess::Unsure;
     }
-    let a = class_of(w, n, 0);
-    let h = w[a];
-    if h > LAST_ARC {
-        if d == 0 {
-            return Guess::Unsure;
+    let a = find(w, n, 0);
+    let held = held_by(w, a);
+    let x = match held {
+        Held::Nothing => 0,
+        Held::Arcs(chain) => chain,
+        Held::Atom(_) => {
+            if d == 0 {
+                return Guess::Unsure;
+            }
+            return Guess::Clashes;
         }
-        return Guess::Clashes;
-    }
-    lead_all(w, n, g, base, d, wide(h), t)
+    };
+    lead_all(w, n, g, base, d, x, t)
 }
 
 // The same without a sieve: one of no words tells nothing.

@@ -12,6 +12,7 @@ use Rattle.theory.proofs.Weight.{arc-length}
 use Rattle.layout.specs.Standing.{Stands}
 use Rattle.layout.proofs.Standing.{stands-append, stands-length}
 use Rattle.area.specs.Map.{LOG, RESULT, SIZE}
+use Rattle.forest.specs.Held.{ChainCode, AtomCode}
 use Rattle.writing.specs.Classes.{Fan, Classes, Met}
 use Rattle.writing.specs.Writing.{Kept, Arcing, Arced, Noding, Noded, Listing, Listed}
 use Rattle.writing.proofs.Keeping.{kept-refl, kept-trans, kept-both, kept-wider, kept-put, kept-stands, kept-classes, met-kept}
@@ -35,7 +36,7 @@ module _ (n k : ℕ) (w : List ℕ) (i at m c : ℕ) (e : c ≡ getD w (LOG + k 
 
   module _ (p : Noding n k w i at m) where
     -- an atom
-    pub noded-atom : 2048 < getD w c 0 → Noded n k w i at m (at + 1) m (set w (RESULT + at) (getD w c 0))
+    pub noded-atom : AtomCode (getD w c 0) → Noded n k w i at m (at + 1) m (set w (RESULT + at) (getD w c 0))
     unfolding Stands
     noded-atom b =
         let low = noding-low p in let long = low .1 .0 in let fits = low .1 .1 .0 in let few = low .1 .1 .1 in
@@ -58,10 +59,10 @@ module _ (n k : ℕ) (w : List ℕ) (i at m c : ℕ) (e : c ≡ getD w (LOG + k 
             )
         go G lab ord s a h (arcs l) d =
             let f = a .few in
-            let y : getD w c 0 ≤ 2048 = subst (λ (z : ℕ). getD w z 0 ≤ 2048) (sym (class-is ord a h)) (s .fans i l (omega arith) d .0) in
+            let y : ChainCode (getD w c 0) = subst (λ (z : ℕ). ChainCode (getD w z 0)) (sym (class-is ord a h)) (s .fans i l (omega arith) d .0) in
             absurd (omega arith)
 
-    module _ (b : getD w c 0 ≤ 2048) where
+    module _ (b : ChainCode (getD w c 0)) where
       -- its arcs, where it bears no atom
       arcs-of : (G : Graph) (lab : ℕ → ℕ) (ord : List ℕ) → Classes n k w G lab ord → Met k m ord w → i < m → (v : Node) → nodeAt G i ≡ v →
           nodeAt G i ≡ arcs (arcsOf v)

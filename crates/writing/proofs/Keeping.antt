@@ -11,6 +11,7 @@ use Rattle.layout.specs.Standing.{Stands}
 use Rattle.area.specs.Map.{PARENT, NEXT, LOG, STACK, WORDS, RESULT}
 use Rattle.area.specs.Region.{region, words}
 use Rattle.area.proofs.Region.{region-ext, words-same}
+use Rattle.forest.specs.Held.{ChainCode}
 use Rattle.forest.specs.State.{targets, Chain}
 use Rattle.forest.proofs.Words.{targets-same}
 use Rattle.forest.proofs.Links.{chain-same}
@@ -104,7 +105,7 @@ module _ (n k at at' : ℕ) (w w' : List ℕ) (r : Kept k at at' w w') (lab : �
           first = c .first;
           atoms = λ i a h e. word i h ∙ c .atoms i a h e;
           fans = λ i l h e. let s = c .fans i l h e in (
-            subst (λ (z : ℕ). z ≤ 2048) (sym (word i h)) (s .0),
+            subst ChainCode (sym (word i h)) (s .0),
             kept-fan (getD w' (getD ord i 0) 0) 0 l (subst (λ (z : ℕ). Fan n w lab ord z 0 l) (sym (word i h)) (s .1)),
           );
         }

@@ -20,6 +20,7 @@ use Rattle.area.proofs.Region.{length-region}
 use Rattle.loading.specs.Entry.{Entry, graphs}
 use Rattle.forest.specs.Labels.{pick}
 use Rattle.forest.specs.Forest.{tops}
+use Rattle.forest.specs.Held.{last-arc, ChainCode, AtomCode}
 use Rattle.classes.specs.Entry.{Spots, number-of}
 use Rattle.classes.specs.Holds.{Holds, class}
 use Rattle.classes.proofs.Content.{Content}
@@ -182,10 +183,10 @@ module _ (n : ℕ) (es : List Entry) (k : ℕ) (w : List ℕ) (h : Holds n es k 
     atom-head a e = let p = j .atom-from i a e in held i l .atom-in (p .0) a (p .2) (labelled (p .0) (p .1))
 
     module _ (out : List (ℕ × ℕ)) (e : nodeAt G i ≡ arcs out) where
-      chained : getD w (getD ord i 0) 0 ≤ 2048
-      chained = go (decLt 2048 (getD w (getD ord i 0) 0))
+      chained : ChainCode (getD w (getD ord i 0) 0)
+      chained = go (decLt last-arc (getD w (getD ord i 0) 0))
         where
-          go : Dec (2048 < getD w (getD ord i 0) 0) → getD w (getD ord i 0) 0 ≤ 2048
+          go : Dec (AtomCode (getD w (getD ord i 0) 0)) → ChainCode (getD w (getD ord i 0) 0)
           go (no b) = omega arith
           go (yes b) =
               let p = held i l .atom-from b in

@@ -8,6 +8,7 @@ use Rattle.theory.specs.Net.{Graph, atom, arcs, nodeAt}
 use Rattle.area.specs.Map.{PARENT, LOG, STACK, SIZE}
 use Rattle.area.specs.Region.{region, words}
 use Rattle.forest.specs.Forest.{Shape, Root}
+use Rattle.forest.specs.Held.{ChainCode}
 use Rattle.forest.specs.State.{targets, Chain}
 
 -- the chain from x has the arcs l, whose features are from low on, and else only arcs below low: ord lists the classes of the nodes,
@@ -36,7 +37,7 @@ pub record Classes (n k : ℕ) (w : List ℕ) (G : Graph) (lab : ℕ → ℕ) (o
   pub first : lab 0 ≡ getD ord 0 0
   pub atoms : (i a : ℕ) → i < length ord → nodeAt G i ≡ atom a → getD w (getD ord i 0) 0 ≡ code-limit + a
   pub fans : (i : ℕ) (l : List (ℕ × ℕ)) → i < length ord → nodeAt G i ≡ arcs l →
-      (getD w (getD ord i 0) 0 ≤ 2048) × Fan n w lab ord (getD w (getD ord i 0) 0) 0 l
+      ChainCode (getD w (getD ord i 0) 0) × Fan n w lab ord (getD w (getD ord i 0) 0) 0 l
 
 -- "Numbering is by first arrival": the first m classes of ord have their numbers
 pub record Met (k m : ℕ) (ord w : List ℕ) : Type 0 where

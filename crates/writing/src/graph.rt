@@ -2,11 +2,12 @@
 use crate::arcs::Place;
 use crate::arcs::arcs;
 use crate::arcs::number;
-use area::map::LAST_ARC;
 use area::map::LOG;
 use area::map::RESULT;
 use area::map::STACK;
 use forest::forest::find;
+use forest::held::Held;
+use forest::held::held_by;
 use limits::wide;
 ghost use mathlib.Core.Path.{_≡_};
 ghost use Prim.Native.Nat.{ℕ, _+_, _≤_, _<_};
@@ -32,12 +33,16 @@ fn node(w: &mut [u32], k: usize, n: usize, i: usize, at: usize, m: usize) -> Pla
     ensures { λ r. ⌜ Noded n k (now (w .entry)) i at m (r .at) (r .met) (now (w .exit)) ⌝ }
 {
     let c = wide(w[LOG + k + i]);
-    let h = w[c];
-    if h > LAST_ARC {
-        w[RESULT + at] = h;
-        return Place { at: at + 1, met: m };
-    }
-    let p = arcs(w, k, n, wide(h), at + 1, m);
+    let held = held_by(w, c);
+    let x = match held {
+        Held::Nothing => 0,
+        Held::Arcs(chain) => chain,
+        Held::Atom(h) => {
+            w[RESULT + at] = h;
+            return Place { at: at + 1, met: m };
+        }
+    };
+    let p = arcs(w, k, n, x, at + 1, m);
     let e = p.at;
     w[RESULT + at] = ((e - at) / 2) as u32;
     p

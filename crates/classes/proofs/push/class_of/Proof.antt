@@ -1,5 +1,5 @@
 -- `classes::push::class_of` meets its contract. Assumes nothing.
-use mathlib.Core.Path.{sym}
+use Rattle.classes.proofs.Answers.{root-classed}
 use Rattle.classes.proofs.push.class_of.Statement.{statement}
 use Rattle.classes.proofs.push.class_of.Tie as tie
 
@@ -10,7 +10,7 @@ find-requires c κs =
     ((pre .0, (g .below, g .long)), g .state .shape)
 
 returns : tie.Need-returns
-returns c = record { is = λ es k h. sym (c .find .ensures .is (h .state .M) (h .state .forest)) }
+returns c = root-classed _ _ _ _ (c .find .ensures)
 
 pub class-of-spec : {M : Type 1} → statement M
 class-of-spec = tie.close (tie.spec find-requires returns)

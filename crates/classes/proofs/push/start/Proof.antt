@@ -21,6 +21,9 @@ loop-holds c =
     let wn = a .w .now in
     (omega arith, started-none wn)
 
+add-w : tie.Need-add-w Inv-loop μ-loop
+add-w c = search needs
+
 mul-w : tie.Need-mul-w Inv-loop μ-loop
 mul-w c = search needs
 
@@ -36,8 +39,8 @@ slice-write-w c =
 cast-w : tie.Need-cast-w Inv-loop μ-loop
 cast-w c = search needs
 
-add-w : tie.Need-add-w Inv-loop μ-loop
-add-w c = search needs
+add-w-2 : tie.Need-add-w-2 Inv-loop μ-loop
+add-w-2 c = search needs
 
 mul-w-2 : tie.Need-mul-w-2 Inv-loop μ-loop
 mul-w-2 c = search needs
@@ -51,8 +54,8 @@ slice-write-w-2 c =
     let le : length (o .w) ≡ length wn = o .inv .1 .len in
     simp length-set (omega arith)
 
-add-w-2 : tie.Need-add-w-2 Inv-loop μ-loop
-add-w-2 c = search needs
+add-w-3 : tie.Need-add-w-3 Inv-loop μ-loop
+add-w-3 c = search needs
 
 mul-w-3 : tie.Need-mul-w-3 Inv-loop μ-loop
 mul-w-3 c = search needs
@@ -66,11 +69,11 @@ slice-write-w-3 c =
     let le : length (o .w) ≡ length wn = o .inv .1 .len in
     simp length-set (omega arith)
 
-add-w-3 : tie.Need-add-w-3 Inv-loop μ-loop
-add-w-3 c = search needs
-
 add-w-4 : tie.Need-add-w-4 Inv-loop μ-loop
 add-w-4 c = search needs
+
+add-w-5 : tie.Need-add-w-5 Inv-loop μ-loop
+add-w-5 c = search needs
 
 mul-w-4 : tie.Need-mul-w-4 Inv-loop μ-loop
 mul-w-4 c = search needs
@@ -119,17 +122,18 @@ start-spec =
     Inv-loop
     μ-loop
     loop-holds
+    add-w
     mul-w
     slice-write-w
     cast-w
-    add-w
+    add-w-2
     mul-w-2
     slice-write-w-2
-    add-w-2
+    add-w-3
     mul-w-3
     slice-write-w-3
-    add-w-3
     add-w-4
+    add-w-5
     mul-w-4
     slice-write-w-4
     add-i

@@ -1,11 +1,12 @@
 -- `classes::visit::afresh` meets its contract. Assumes nothing.
+use mathlib.Core.Path.{sym, _∙_, subst}
 use Prim.Native.Nat.{ℕ}
-use mathlib.Core.Path.{sym, subst}
 use native.Mathlib.Omega.{arith}
 use Rattle.area.specs.Region.{words}
 use Rattle.forest.specs.State.{Runs}
 use Rattle.forest.specs.Order.{Risen}
-use Rattle.classes.proofs.Visits.{ordered-none, ordered-hint, hint-first, class-runs}
+use Rattle.forest.proofs.Contents.{told-nothing, told-arcs}
+use Rattle.classes.proofs.Visits.{ordered-none, ordered-hint, hint-none, hint-first, class-runs}
 use borrow.Author.Needs.{needs}
 use Rattle.classes.proofs.visit.afresh.Statement.{statement}
 use Rattle.classes.proofs.visit.afresh.Tie as tie
@@ -13,54 +14,71 @@ use Rattle.classes.proofs.visit.afresh.Tie as tie
 find-requires : tie.Need-find-requires
 find-requires c κs = ((omega arith, (omega arith, omega arith)), c .before .pre .1 .state .shape)
 
-mul-h : tie.Need-mul-h
-mul-h c = let l = c .find .ensures .low in search needs
+held-by-requires : tie.Need-held-by-requires
+held-by-requires c κs = let l = c .find .ensures .low in (omega arith, omega arith)
 
-shared-slice-read-h : tie.Need-shared-slice-read-h
-shared-slice-read-h c = let l = c .before .find .ensures .low in omega arith
+enum-told : tie.Need-enum-told
+enum-told c = search needs
 
-returns : tie.Need-returns
-returns c = let a = c .before .before .before .before .args in ordered-none (words (a .w .now)) (a .n) (a .w .now) (a .x)
-
-wide-requires : tie.Need-wide-requires
-wide-requires c κs = search needs
+enum-known-held : tie.Need-enum-known-held
+enum-known-held c = search needs
 
 rises-requires : tie.Need-rises-requires
 rises-requires c κs =
-    let a = c .before .before .before .before .before .args in
-    let wn = a .w .now in
-    let g = c .before .before .before .before .before .pre .1 in (
+    let s = c .before .before .before .before .before .before in
+    let a = s .args in
+    let g = s .pre .1 in
+    let find = c .before .before .before .before .find in
+    let chain = told-arcs _ _ _ (sym (c .before .before .before .held-by .ensures) ∙ c .before .held .given .1) in (
       omega arith,
-      subst (Runs wn) (sym (c .wide .ensures))
-          (class-runs (g .F) (g .T) (a .n) (a .k) wn (omega arith) (omega arith) (a .x) (omega arith)
-          (c .before .before .before .find .result) (c .before .before .before .find .ensures) (g .G) (g .H) (g .state)
-          (c .before .if1 .left)),
+      subst (Runs (a .w .now)) (sym (chain .0))
+          (class-runs (g .F) (g .T) (a .n) (a .k) (a .w .now) (omega arith) (omega arith) (a .x) (omega arith) (find .result)
+          (find .ensures) (g .G) (g .H) (g .state) (omega arith)),
     )
+
+enum-told-2 : tie.Need-enum-told-2
+enum-told-2 c = search needs
+
+returns : tie.Need-returns
+returns c =
+    let s = c .before .before .before .before .before in
+    let a = s .args in
+    let find = c .before .before .before .find in
+    let none = told-nothing _ _ (sym (c .before .before .held-by .ensures) ∙ c .enum-told .given .1) in
+    ordered-hint (words (a .w .now)) (a .n) (a .k) (a .w .now) (a .x) (find .result) 1 (s .pre .1) (find .ensures)
+    (hint-none (words (a .w .now)) (a .w .now) (find .result) none)
 
 returns-2 : tie.Need-returns-2
 returns-2 c =
-    let a = c .before .before .before .before .before .before .before .args in
-    let wn = a .w .now in
-    let F = words wn in
-    let r = c .before .rises in
-    ordered-hint F (a .n) (a .k) wn (a .x) (c .before .before .before .before .before .find .result) 1
-    (c .before .before .before .before .before .before .before .pre .1) (c .before .before .before .before .before .find .ensures)
-    (hint-first F wn (c .before .before .before .before .before .find .result) (r .result)
-    (subst (λ (z : ℕ). Risen F wn z (r .result)) (c .before .before .wide .ensures) (r .ensures)) (c .if2 .taken))
+    let s = c .before .before .before .before .before .before .before .before in
+    let a = s .args in
+    let F = words (a .w .now) in
+    let find = c .before .before .before .before .before .before .find in
+    let rises = c .before .rises in
+    let chain = told-arcs _ _ _ (sym (c .before .before .before .before .before .held-by .ensures) ∙ c .before .before .before .held .given .1) in
+    ordered-hint F (a .n) (a .k) (a .w .now) (a .x) (find .result) 1 (s .pre .1) (find .ensures)
+    (hint-first F (a .w .now) (find .result) (rises .result)
+    (subst (λ (z : ℕ). Risen F (a .w .now) z (rises .result)) (chain .0) (rises .ensures)) (c .if1 .taken))
 
 returns-3 : tie.Need-returns-3
-returns-3 c = let a = c .before .before .before .before .before .before .before .args in
+returns-3 c =
+    let a = c .before .before .before .before .before .before .before .before .args in
     ordered-none (words (a .w .now)) (a .n) (a .w .now) (a .x)
+
+returns-4 : tie.Need-returns-4
+returns-4 c = let a = c .before .before .before .before .before .args in ordered-none (words (a .w .now)) (a .n) (a .w .now) (a .x)
 
 pub afresh-spec : {M : Type 1} → statement M
 afresh-spec =
     tie.close
     (tie.spec
     find-requires
-    mul-h
-    shared-slice-read-h
-    returns
-    wide-requires
+    held-by-requires
+    enum-told
+    enum-known-held
     rises-requires
+    enum-told-2
+    returns
     returns-2
-    returns-3)
+    returns-3
+    returns-4)

@@ -1,11 +1,12 @@
 -- `classes::visit::visit` meets its contract. Assumes nothing.
 use Prim.Native.Nat.{ℕ, suc, _-_, _<_}
-use mathlib.Core.Path.{_≡_, refl}
+use mathlib.Core.Path.{_≡_, refl, sym, _∙_}
 use native.Mathlib.Omega.{arith}
 use lib.ListN.{getD}
 use Rattle.area.specs.Region.{words}
 use Rattle.forest.specs.State.{targets, Looked, withPair}
 use Rattle.forest.specs.Order.{Located}
+use Rattle.forest.proofs.Contents.{told-atom, told-chain}
 use Rattle.forest.proofs.Words.{words-later}
 use Rattle.forest.proofs.Walks.{some}
 use Rattle.classes.proofs.Visits.{ordered-none, hint-calm, class-runs, visit-clash, visit-hung, hung-ordered, visit-found, found-arc}
@@ -15,25 +16,31 @@ use Rattle.classes.proofs.visit.visit.Statement.{statement}
 use Rattle.classes.proofs.visit.visit.Tie as tie
 
 find-requires : tie.Need-find-requires
-find-requires c κs = ((omega arith, (omega arith, omega arith)), c .before .before .pre .1 .1 .0 .state .shape)
+find-requires c κs =
+    let s = c .before .before in
+    ((omega arith, (omega arith, omega arith)), s .pre .1 .1 .0 .state .shape)
 
-mul-h : tie.Need-mul-h
-mul-h c = search needs
+held-by-requires : tie.Need-held-by-requires
+held-by-requires c κs = let l = c .before .find .ensures .low in (omega arith, omega arith)
 
-slice-read-h : tie.Need-slice-read-h
-slice-read-h c = search needs
+enum-told : tie.Need-enum-told
+enum-told c = search needs
 
 same-length : tie.Need-same-length
 same-length c = search needs
 
 returns : tie.Need-returns
 returns c =
-    let a = c .before .before .before .before .before .args in
+    let s = c .before .before .before .before .before .before .before in
+    let find = c .before .before .before .before .find in
+    let held = c .before .before .held-by in
+    let bears = told-atom _ _ _ (sym (held .ensures) ∙ c .enum-told .given .1) in
+    let a = s .args in
     let wn = a .w .now in
-    let g = c .before .before .before .before .before .pre .1 .1 .0 in
+    let g = s .pre .1 .1 .0 in
     record {
       visited = visit-clash (words wn) (targets wn) (a .n) (a .k) wn (omega arith) (omega arith) (a .x) (omega arith)
-          (c .before .before .find .result) (c .before .before .find .ensures) (a .t) (g .state .logged) (c .if1 .taken);
+          (find .result) (find .ensures) (a .t) (g .state .logged) (omega arith);
       next = λ z. let y : _≡_ {A = ℕ} 0 1 = cc in absurd (omega arith);
     }
 
@@ -42,35 +49,45 @@ loaded-requires c κs = search needs
 
 locate-requires : tie.Need-locate-requires
 locate-requires c κs =
-    let a = c .before .before .before .before .before .before .before .before .args in
+    let s = c .before .before .before .before .before .before .before .before .before in
+    let find = c .before .before .before .before .before .before .find in
+    let held = c .before .before .before .before .held-by in
+    let chained = told-chain _ _ _ (held .ensures) (c .before .before .before .match .keys2) in
+    let a = s .args in
     let wn = a .w .now in
-    let g = c .before .before .before .before .before .before .before .before .pre .1 .1 .0 in
-    let lw = c .before .before .before .before .before .find .ensures .low in (
+    let g = s .pre .1 .1 .0 in
+    let lw = find .ensures .low in (
       (omega arith, omega arith),
       (
         class-runs (words wn) (targets wn) (a .n) (a .k) wn (omega arith) (omega arith) (a .x) (omega arith)
-            (c .before .before .before .before .before .find .result) (c .before .before .before .before .before .find .ensures) (g .G) (g .H)
-            (g .state) (c .before .before .before .if1 .left),
-        λ z. c .before .before .before .before .before .before .before .before .pre .1 .1 .1 .hint z
-            (c .before .before .before .before .before .find .result) (c .before .before .before .before .before .find .ensures),
+            (find .result) (find .ensures) (g .G) (g .H)
+            (g .state) chained,
+        λ z. s .pre .1 .1 .1 .hint z
+            (find .result) (find .ensures),
       ),
     )
 
 mul-y : tie.Need-mul-y
-mul-y c = let l = c .before .locate .ensures .low in search needs
+mul-y c =
+    let locate = c .before .locate in
+    let l = locate .ensures .low in search needs
 
 slice-read-y : tie.Need-slice-read-y
-slice-read-y c = let l = c .before .before .locate .ensures .low in omega arith
+slice-read-y c =
+    let locate = c .before .before .locate in
+    let l = locate .ensures .low in omega arith
 
 add-put : tie.Need-add-put
 add-put c = search needs
 
 put-requires : tie.Need-put-requires
 put-requires c κs =
-    let g = c .before .before .before .before .before .before .before .before .before .before .before .before .pre .1 .1 .0 in
+    let s = c .before .before .before .before .before .before .before .before .before .before .before .before .before in
+    let locate = c .before .before .before .locate in
+    let g = s .pre .1 .1 .0 in
     let rr = g .fresh .room in
     let rq = g .state .room in
-    let sm = g .state .logged .small (c .before .before .before .locate .result .link) (c .before .before .before .locate .ensures .low) in
+    let sm = g .state .logged .small (locate .result .link) (locate .ensures .low) in
     (g .state .logged, (omega arith, (omega arith, (omega arith, omega arith))))
 
 add-put-2 : tie.Need-add-put-2
@@ -81,12 +98,13 @@ cast-put c = search needs
 
 put-requires-2 : tie.Need-put-requires-2
 put-requires-2 c κs =
+    let s = c .before .before .before .before .before .before .before .before .before .before .before .before .before .before .before .before .before in
+    let locate = c .before .before .before .before .before .before .before .locate in
     let put = c .before .before .before .put in
-    let g = c .before .before .before .before .before .before .before .before .before .before .before .before .before .before .before
-    .before .pre .1 .1 .0 in
+    let g = s .pre .1 .1 .0 in
     let rr = g .fresh .room in
     let rq = g .state .room in
-    let lw = c .before .before .before .before .before .before .before .locate .ensures .low in (
+    let lw = locate .ensures .low in (
       put .ensures .later .logged,
       (
         omega arith,
@@ -102,39 +120,40 @@ same-length-2 c = search needs
 
 returns-2 : tie.Need-returns-2
 returns-2 c =
-    let bn = c .before .before .before .before .before .before .before .before .before .before .before .before .before .before .before
-    .before .before .before .before .before .pre .0 in
-    let bx = c .before .before .before .before .before .before .before .before .before .before .before .before .before .before .before
-    .before .before .before .before .before .pre .1 .0 in
-    let find = c .before .before .before .before .before .before .before .before .before .before .before .before .before .before .before
-    .before .before .find in
-    let a = c .before .before .before .before .before .before .before .before .before .before .before .before .before .before .before
-    .before .before .before .before .before .args in
+    let s = c .before .before .before .before .before .before .before .before .before .before .before .before .before .before .before .before .before .before .before .before .before in
+    let locate = c .before .before .before .before .before .before .before .before .before .before .before .locate in
+    let loaded = c .before .before .before .before .before .before .before .before .before .before .before .before .before .loaded in
+    let if1 = c .before .before .before .before .before .before .before .before .before .before .if1 in
+    let put = c .before .before .before .before .before .before .before .put in
+    let put2 = c .before .before .before .put2 in
+    let find = c .before .before .before .before .before .before .before .before .before .before .before .before .before .before .before .before .before .before .find in
+    let held = c .before .before .before .before .before .before .before .before .before .before .before .before .before .before .before .before .held-by in
+    let chained = told-chain _ _ _ (held .ensures) (c .before .before .before .before .before .before .before .before .before .before .before .before .before .before .before .match .keys2) in
+    let bn = s .pre .0 in
+    let bx = s .pre .1 .0 in
+    let a = s .args in
     let wn = a .w .now in
     let F = words wn in
     let T = targets wn in
-    let g = c .before .before .before .before .before .before .before .before .before .before .before .before .before .before .before
-    .before .before .before .before .before .pre .1 .1 .0 in
+    let g = s .pre .1 .1 .0 in
     let rr = g .fresh .room in
     let rq = g .state .room in
     let lc : Located F wn (getD F (a .t) 0) (find .result)
-    (c .before .before .before .before .before .before .before .before .before .before .before .locate .result .link) 0 =
+    (locate .result .link) 0 =
     rw (
-      c .before .before .before .before .before .before .before .before .before .before .before .before .before .loaded .ensures,
-      c .before .before .before .before .before .before .before .before .before .before .if2 .taken,
+      loaded .ensures,
+      if1 .taken,
     ) at
-    (c .before .before .before .before .before .before .before .before .before .before .before .locate .ensures) in
+    (locate .ensures) in
     record {
       visited = visit-hung F T (a .n) (a .k) wn (omega arith) (omega arith) (a .x) (omega arith) (find .result) (find .ensures) (a .t)
-          (omega arith) (c .before .before .before .before .before .before .before .before .before .before .before .before .before .before
-          .before .if1 .left) (a .at) (c .before .before .before .before .before .before .before .before .before .before .before .locate
-          .result .link) (λ z. c .before .before .before .before .before .before .before .before .before .before .before .before .before
-          .before .before .before .before .before .before .before .pre .1 .1 .1 .hint z (find .result) (find .ensures)) lc
-          (getD wn (c .before .before .before .before .before .before .before .before .before .before .before .locate .result .link) 0) refl
-          (omega arith) (c .before .before .before .before .before .before .before .put .result) (c .before .before .before .put2 .result)
-          (c .before .before .before .before .before .before .before .put .last .0) (c .before .before .before .put2 .last .0)
-          (c .before .before .before .before .before .before .before .put .ensures) (c .before .before .before .put2 .ensures);
-      next = λ z. ordered-none F (a .n) (c .before .before .before .put2 .last .0) (a .x);
+          (omega arith) chained (a .at) (locate
+          .result .link) (λ z. s .pre .1 .1 .1 .hint z (find .result) (find .ensures)) lc
+          (getD wn (locate .result .link) 0) refl
+          (omega arith) (put .result) (put2 .result)
+          (put .last .0) (put2 .last .0)
+          (put .ensures) (put2 .ensures);
+      next = λ z. ordered-none F (a .n) (put2 .last .0) (a .x);
     }
 
 same-length-3 : tie.Need-same-length-3
@@ -142,124 +161,142 @@ same-length-3 c = search needs
 
 returns-3 : tie.Need-returns-3
 returns-3 c =
-    let bn = c .before .before .before .before .before .before .before .before .before .before .before .before .before .before .before
-    .before .before .before .before .before .pre .0 in
-    let bx = c .before .before .before .before .before .before .before .before .before .before .before .before .before .before .before
-    .before .before .before .before .before .pre .1 .0 in
-    let find = c .before .before .before .before .before .before .before .before .before .before .before .before .before .before .before
-    .before .before .find in
-    let a = c .before .before .before .before .before .before .before .before .before .before .before .before .before .before .before
-    .before .before .before .before .before .args in
+    let s = c .before .before .before .before .before .before .before .before .before .before .before .before .before .before .before .before .before .before .before .before .before in
+    let locate = c .before .before .before .before .before .before .before .before .before .before .before .locate in
+    let loaded = c .before .before .before .before .before .before .before .before .before .before .before .before .before .loaded in
+    let if1 = c .before .before .before .before .before .before .before .before .before .before .if1 in
+    let put = c .before .before .before .before .before .before .before .put in
+    let put2 = c .before .before .before .put2 in
+    let if2 = c .if2 in
+    let find = c .before .before .before .before .before .before .before .before .before .before .before .before .before .before .before .before .before .before .find in
+    let held = c .before .before .before .before .before .before .before .before .before .before .before .before .before .before .before .before .held-by in
+    let chained = told-chain _ _ _ (held .ensures) (c .before .before .before .before .before .before .before .before .before .before .before .before .before .before .before .match .keys2) in
+    let bn = s .pre .0 in
+    let bx = s .pre .1 .0 in
+    let a = s .args in
     let wn = a .w .now in
     let F = words wn in
     let T = targets wn in
-    let g = c .before .before .before .before .before .before .before .before .before .before .before .before .before .before .before
-    .before .before .before .before .before .pre .1 .1 .0 in
+    let g = s .pre .1 .1 .0 in
     let rr = g .fresh .room in
     let rq = g .state .room in
     let lc : Located F wn (getD F (a .t) 0) (find .result)
-    (c .before .before .before .before .before .before .before .before .before .before .before .locate .result .link) 0 =
+    (locate .result .link) 0 =
     rw (
-      c .before .before .before .before .before .before .before .before .before .before .before .before .before .loaded .ensures,
-      c .before .before .before .before .before .before .before .before .before .before .if2 .taken,
+      loaded .ensures,
+      if1 .taken,
     ) at
-    (c .before .before .before .before .before .before .before .before .before .before .before .locate .ensures) in
+    (locate .ensures) in
     record {
       visited = visit-hung F T (a .n) (a .k) wn (omega arith) (omega arith) (a .x) (omega arith) (find .result) (find .ensures) (a .t)
-          (omega arith) (c .before .before .before .before .before .before .before .before .before .before .before .before .before .before
-          .before .if1 .left) (a .at) (c .before .before .before .before .before .before .before .before .before .before .before .locate
-          .result .link) (λ z. c .before .before .before .before .before .before .before .before .before .before .before .before .before
-          .before .before .before .before .before .before .before .pre .1 .1 .1 .hint z (find .result) (find .ensures)) lc
-          (getD wn (c .before .before .before .before .before .before .before .before .before .before .before .locate .result .link) 0) refl
-          (omega arith) (c .before .before .before .before .before .before .before .put .result) (c .before .before .before .put2 .result)
-          (c .before .before .before .before .before .before .before .put .last .0) (c .before .before .before .put2 .last .0)
-          (c .before .before .before .before .before .before .before .put .ensures) (c .before .before .before .put2 .ensures);
+          (omega arith) chained (a .at) (locate
+          .result .link) (λ z. s .pre .1 .1 .1 .hint z (find .result) (find .ensures)) lc
+          (getD wn (locate .result .link) 0) refl
+          (omega arith) (put .result) (put2 .result)
+          (put .last .0) (put2 .last .0)
+          (put .ensures) (put2 .ensures);
       next = λ z. hung-ordered F T (a .n) (a .k) wn (omega arith) (omega arith) (a .x) (omega arith) (find .result) (find .ensures) (a .t)
-          (omega arith) (c .before .before .before .before .before .before .before .before .before .before .before .before .before .before
-          .before .if1 .left) (a .at) (c .before .before .before .before .before .before .before .before .before .before .before .locate
-          .result .link) (λ z. c .before .before .before .before .before .before .before .before .before .before .before .before .before
-          .before .before .before .before .before .before .before .pre .1 .1 .1 .hint z (find .result) (find .ensures)) lc
-          (getD wn (c .before .before .before .before .before .before .before .before .before .before .before .locate .result .link) 0) refl
-          (omega arith) (c .before .before .before .before .before .before .before .put .result) (c .before .before .before .put2 .result)
-          (c .before .before .before .before .before .before .before .put .last .0) (c .before .before .before .put2 .last .0)
-          (c .before .before .before .before .before .before .before .put .ensures) (c .before .before .before .put2 .ensures) (g .G) (g .H)
-          (g .state) (g .fresh) (some (a .at) (c .if3 .left));
+          (omega arith) chained (a .at) (locate
+          .result .link) (λ z. s .pre .1 .1 .1 .hint z (find .result) (find .ensures)) lc
+          (getD wn (locate .result .link) 0) refl
+          (omega arith) (put .result) (put2 .result)
+          (put .last .0) (put2 .last .0)
+          (put .ensures) (put2 .ensures) (g .G) (g .H)
+          (g .state) (g .fresh) (some (a .at) (if2 .left));
     }
 
 target-requires : tie.Need-target-requires
 target-requires c κs = search needs
 
 sub-target : tie.Need-sub-target
-sub-target c = some (c .before .before .before .before .locate .result .arc) (c .before .before .before .if2 .left)
+sub-target c =
+    let locate = c .before .before .before .before .locate in
+    let if1 = c .before .before .before .if1 in
+    some (locate .result .arc) (if1 .left)
 
 target-requires-2 : tie.Need-target-requires-2
 target-requires-2 c κs =
-    let bn = c .before .before .before .before .before .before .before .before .before .before .before .before .before .pre .0 in
-    let bx = c .before .before .before .before .before .before .before .before .before .before .before .before .before .pre .1 .0 in
-    let a = c .before .before .before .before .before .before .before .before .before .before .before .before .before .args in
+    let s = c .before .before .before .before .before .before .before .before .before .before .before .before .before .before in
+    let find = c .before .before .before .before .before .before .before .before .before .before .before .find in
+    let locate = c .before .before .before .before .locate in
+    let loaded = c .before .before .before .before .before .before .loaded in
+    let if1 = c .before .before .before .if1 in
+    let held = c .before .before .before .before .before .before .before .before .before .held-by in
+    let chained = told-chain _ _ _ (held .ensures) (c .before .before .before .before .before .before .before .before .match .keys2) in
+    let bn = s .pre .0 in
+    let bx = s .pre .1 .0 in
+    let a = s .args in
     let wn = a .w .now in
     let F = words wn in
     let T = targets wn in
-    let g = c .before .before .before .before .before .before .before .before .before .before .before .before .before .pre .1 .1 .0 in
+    let g = s .pre .1 .1 .0 in
     let lk : Looked F wn (getD F (a .t) 0)
-    (getD wn (c .before .before .before .before .before .before .before .before .before .before .find .result) 0)
-    (c .before .before .before .before .locate .result .arc) =
-    rw (c .before .before .before .before .before .before .loaded .ensures) at
-    (c .before .before .before .before .locate .ensures .looked) in
-    let r = c .before .before .before .before .locate .result .arc in
-    let rp = some r (c .before .before .before .if2 .left) in
+    (getD wn (find .result) 0)
+    (locate .result .arc) =
+    rw (loaded .ensures) at
+    (locate .ensures .looked) in
+    let r = locate .result .arc in
+    let rp = some r (if1 .left) in
     let ri : r ≡ suc (r - 1) = omega arith in
     let fa = found-arc F T (a .n) (a .k) wn (omega arith) (omega arith) (a .x) (omega arith)
-    (c .before .before .before .before .before .before .before .before .before .before .find .result)
-    (c .before .before .before .before .before .before .before .before .before .before .find .ensures) (a .t) r (r - 1)
-    (c .before .before .before .before .before .before .before .before .if1 .left) lk ri (g .G) (g .H) (g .state) in
+    (find .result)
+    (find .ensures) (a .t) r (r - 1)
+    chained lk ri (g .G) (g .H) (g .state) in
     let mi : r - 1 < 2047 = fa .1 in
     (omega arith, omega arith)
 
 unite-requires : tie.Need-unite-requires
 unite-requires c κs =
-    let bn = c .before .before .before .before .before .before .before .before .before .before .before .before .before .before .before .pre
+    let s = c .before .before .before .before .before .before .before .before .before .before .before .before .before .before .before .before in
+    let find = c .before .before .before .before .before .before .before .before .before .before .before .before .before .find in
+    let locate = c .before .before .before .before .before .before .locate in
+    let loaded = c .before .before .before .before .before .before .before .before .loaded in
+    let if1 = c .before .before .before .before .before .if1 in
+    let target = c .before .before .before .target in
+    let target2 = c .before .target2 in
+    let held = c .before .before .before .before .before .before .before .before .before .before .before .held-by in
+    let chained = told-chain _ _ _ (held .ensures) (c .before .before .before .before .before .before .before .before .before .before .match .keys2) in
+    let bn = s .pre
     .0 in
-    let bx = c .before .before .before .before .before .before .before .before .before .before .before .before .before .before .before .pre
+    let bx = s .pre
     .1 .0 in
-    let a = c .before .before .before .before .before .before .before .before .before .before .before .before .before .before .before
-    .args in
+    let a = s .args in
     let wn = a .w .now in
     let F = words wn in
     let T = targets wn in
-    let g = c .before .before .before .before .before .before .before .before .before .before .before .before .before .before .before .pre
+    let g = s .pre
     .1 .1 .0 in
     let lk : Looked F wn (getD F (a .t) 0)
-    (getD wn (c .before .before .before .before .before .before .before .before .before .before .before .before .find .result) 0)
-    (c .before .before .before .before .before .before .locate .result .arc) =
-    rw (c .before .before .before .before .before .before .before .before .loaded .ensures) at
-    (c .before .before .before .before .before .before .locate .ensures .looked) in
-    let r = c .before .before .before .before .before .before .locate .result .arc in
-    let rp = some r (c .before .before .before .before .before .if2 .left) in
+    (getD wn (find .result) 0)
+    (locate .result .arc) =
+    rw (loaded .ensures) at
+    (locate .ensures .looked) in
+    let r = locate .result .arc in
+    let rp = some r (if1 .left) in
     let ri : r ≡ suc (r - 1) = omega arith in
     let fa = found-arc F T (a .n) (a .k) wn (omega arith) (omega arith) (a .x) (omega arith)
-    (c .before .before .before .before .before .before .before .before .before .before .before .before .find .result)
-    (c .before .before .before .before .before .before .before .before .before .before .before .before .find .ensures) (a .t) r (r - 1)
-    (c .before .before .before .before .before .before .before .before .before .before .if1 .left) lk ri (g .G) (g .H) (g .state) in
+    (find .result)
+    (find .ensures) (a .t) r (r - 1)
+    chained lk ri (g .G) (g .H) (g .state) in
     let mi : r - 1 < 2047 = fa .1 in
     let tt = g .state .arcs (a .t) (g .fresh .arc) .1 .1 in
     let sm = found-same F T (a .n) (a .k) wn (omega arith) (omega arith) (a .x) (omega arith)
-    (c .before .before .before .before .before .before .before .before .before .before .before .before .find .result)
-    (c .before .before .before .before .before .before .before .before .before .before .before .before .find .ensures) (a .t) r (r - 1)
-    (c .before .before .before .before .before .before .before .before .before .before .if1 .left) lk ri (g .G) (g .H) (g .state)
+    (find .result)
+    (find .ensures) (a .t) r (r - 1)
+    chained lk ri (g .G) (g .H) (g .state)
     (g .fresh) in (
       (omega arith, omega arith),
       (
         (
-          omega (arith, c .before .before .before .target .ensures, tt),
-          omega (arith, c .before .target2 .ensures, fa .0),
+          omega (arith, target .ensures, tt),
+          omega (arith, target2 .ensures, fa .0),
         ),
         record {
           G = g .G;
           H = g .H;
           state = g .state;
           same =
-              rw (c .before .before .before .target .ensures, c .before .target2 .ensures) sm;
+              rw (target .ensures, target2 .ensures) sm;
         },
       ),
     )
@@ -269,77 +306,79 @@ same-length-4 c = search needs
 
 returns-4 : tie.Need-returns-4
 returns-4 c =
-    let bn = c .before .before .before .before .before .before .before .before .before .before .before .before .before .before .before
-    .before .before .before .before .pre .0 in
-    let bx = c .before .before .before .before .before .before .before .before .before .before .before .before .before .before .before
-    .before .before .before .before .pre .1 .0 in
+    let s = c .before .before .before .before .before .before .before .before .before .before .before .before .before .before .before .before .before .before .before .before in
+    let find = c .before .before .before .before .before .before .before .before .before .before .before .before .before .before .before .before .before .find in
+    let locate = c .before .before .before .before .before .before .before .before .before .before .locate in
+    let loaded = c .before .before .before .before .before .before .before .before .before .before .before .before .loaded in
+    let if1 = c .before .before .before .before .before .before .before .before .before .if1 in
+    let target = c .before .before .before .before .before .before .before .target in
+    let target2 = c .before .before .before .before .before .target2 in
+    let if3 = c .if3 in
     let unite = c .before .before .before .unite in
-    let a = c .before .before .before .before .before .before .before .before .before .before .before .before .before .before .before
-    .before .before .before .before .args in
+    let held = c .before .before .before .before .before .before .before .before .before .before .before .before .before .before .before .held-by in
+    let chained = told-chain _ _ _ (held .ensures) (c .before .before .before .before .before .before .before .before .before .before .before .before .before .before .match .keys2) in
+    let bn = s .pre .0 in
+    let bx = s .pre .1 .0 in
+    let a = s .args in
     let wn = a .w .now in
     let F = words wn in
     let T = targets wn in
     let lk : Looked F wn (getD F (a .t) 0)
-    (getD wn (c .before .before .before .before .before .before .before .before .before .before .before .before .before .before .before
-    .before .find .result) 0) (c .before .before .before .before .before .before .before .before .before .before .locate .result .arc) =
-    rw (c .before .before .before .before .before .before .before .before .before .before .before .before .loaded .ensures) at
-    (c .before .before .before .before .before .before .before .before .before .before .locate .ensures .looked) in
-    let r = c .before .before .before .before .before .before .before .before .before .before .locate .result .arc in
-    let rp = some r (c .before .before .before .before .before .before .before .before .before .if2 .left) in
+    (getD wn (find .result) 0) (locate .result .arc) =
+    rw (loaded .ensures) at
+    (locate .ensures .looked) in
+    let r = locate .result .arc in
+    let rp = some r (if1 .left) in
     let ri : r ≡ suc (r - 1) = omega arith in
     record {
-      visited = rw (c .if4 .taken) at
+      visited = rw (if3 .taken) at
           (visit-found F T (a .n) (a .k) wn (omega arith) (omega arith) (a .x) (omega arith)
-          (c .before .before .before .before .before .before .before .before .before .before .before .before .before .before .before .before
-          .find .result) (c .before .before .before .before .before .before .before .before .before .before .before .before .before .before
-          .before .before .find .ensures) (a .t) r (r - 1)
-          (c .before .before .before .before .before .before .before .before .before .before .before .before .before .before .if1 .left) lk
+          (find .result) (find .ensures) (a .t) r (r - 1)
+          chained lk
           ri (unite .result .k) (unite .result .bad) (unite .last .0)
           (rw (
-            c .before .before .before .before .before .before .before .target .ensures,
-            c .before .before .before .before .before .target2 .ensures,
+            target .ensures,
+            target2 .ensures,
           ) at (unite .ensures)));
       next = λ z. let y : _≡_ {A = ℕ} 0 1 = cc in absurd (omega arith);
     }
 
 onward-requires : tie.Need-onward-requires
 onward-requires c κs =
-    let bn = c .before .before .before .before .before .before .before .before .before .before .before .before .before .before .before
-    .before .before .before .before .before .pre .0 in
-    let bx = c .before .before .before .before .before .before .before .before .before .before .before .before .before .before .before
-    .before .before .before .before .before .pre .1 .0 in
+    let s = c .before .before .before .before .before .before .before .before .before .before .before .before .before .before .before .before .before .before .before .before .before in
+    let find = c .before .before .before .before .before .before .before .before .before .before .before .before .before .before .before .before .before .before .find in
+    let locate = c .before .before .before .before .before .before .before .before .before .before .before .locate in
+    let loaded = c .before .before .before .before .before .before .before .before .before .before .before .before .before .loaded in
+    let if1 = c .before .before .before .before .before .before .before .before .before .before .if1 in
+    let target = c .before .before .before .before .before .before .before .before .target in
+    let target2 = c .before .before .before .before .before .before .target2 in
+    let if3 = c .before .if3 in
     let unite = c .before .before .before .before .unite in
-    let a = c .before .before .before .before .before .before .before .before .before .before .before .before .before .before .before
-    .before .before .before .before .before .args in
+    let held = c .before .before .before .before .before .before .before .before .before .before .before .before .before .before .before .before .held-by in
+    let chained = told-chain _ _ _ (held .ensures) (c .before .before .before .before .before .before .before .before .before .before .before .before .before .before .before .match .keys2) in
+    let bn = s .pre .0 in
+    let bx = s .pre .1 .0 in
+    let a = s .args in
     let wn = a .w .now in
     let F = words wn in
     let T = targets wn in
-    let g = c .before .before .before .before .before .before .before .before .before .before .before .before .before .before .before
-    .before .before .before .before .before .pre .1 .1 .0 in
-    let lw = c .before .before .before .before .before .before .before .before .before .before .before .before .before .before .before
-    .before .before .find .ensures .low in
+    let g = s .pre .1 .1 .0 in
+    let lw = find .ensures .low in
     let lk : Looked F wn (getD F (a .t) 0)
-    (getD wn (c .before .before .before .before .before .before .before .before .before .before .before .before .before .before .before
-    .before .before .find .result) 0)
-    (c .before .before .before .before .before .before .before .before .before .before .before .locate .result .arc) =
-    rw (c .before .before .before .before .before .before .before .before .before .before .before .before .before .loaded .ensures) at
-    (c .before .before .before .before .before .before .before .before .before .before .before .locate .ensures .looked) in
-    let r = c .before .before .before .before .before .before .before .before .before .before .before .locate .result .arc in
-    let rp = some r (c .before .before .before .before .before .before .before .before .before .before .if2 .left) in
+    (getD wn (find .result) 0)
+    (locate .result .arc) =
+    rw (loaded .ensures) at
+    (locate .ensures .looked) in
+    let r = locate .result .arc in
+    let rp = some r (if1 .left) in
     let ri : r ≡ suc (r - 1) = omega arith in
     let fa = found-arc F T (a .n) (a .k) wn (omega arith) (omega arith) (a .x) (omega arith)
-    (c .before .before .before .before .before .before .before .before .before .before .before .before .before .before .before .before
-    .before .find .result) (c .before .before .before .before .before .before .before .before .before .before .before .before .before
-    .before .before .before .before .find .ensures) (a .t) r (r - 1)
-    (c .before .before .before .before .before .before .before .before .before .before .before .before .before .before .before .if1
-    .left) lk ri (g .G) (g .H) (g .state) in
+    (find .result) (find .ensures) (a .t) r (r - 1)
+    chained lk ri (g .G) (g .H) (g .state) in
     let mi : r - 1 < 2047 = fa .1 in
     let sm = found-same F T (a .n) (a .k) wn (omega arith) (omega arith) (a .x) (omega arith)
-    (c .before .before .before .before .before .before .before .before .before .before .before .before .before .before .before .before
-    .before .find .result) (c .before .before .before .before .before .before .before .before .before .before .before .before .before
-    .before .before .before .before .find .ensures) (a .t) r (r - 1)
-    (c .before .before .before .before .before .before .before .before .before .before .before .before .before .before .before .if1
-    .left) lk ri (g .G) (g .H) (g .state) (g .fresh) in
+    (find .result) (find .ensures) (a .t) r (r - 1)
+    chained lk ri (g .G) (g .H) (g .state) (g .fresh) in
     let rr = g .fresh .room in
     let rq = g .state .room in
     let wl = words-later (a .k) wn (unite .result .k) (unite .last .0) (omega arith) (unite .ensures .later) in (
@@ -351,26 +390,22 @@ onward-requires c κs =
               steady = record {
                 G = g .G;
                 H =
-                    withPair (g .H) (c .before .before .before .before .before .before .before .before .target .result)
-                    (c .before .before .before .before .before .before .target2 .result);
+                    withPair (g .H) (target .result)
+                    (target2 .result);
                 F = F;
                 T = T;
                 state =
-                    unite .ensures .fine (c .before .if4 .left) (g .G) (g .H) (g .state)
+                    unite .ensures .fine (if3 .left) (g .G) (g .H) (g .state)
                     (rw (
-                      c .before .before .before .before .before .before .before .before .target .ensures,
-                      c .before .before .before .before .before .before .target2 .ensures,
+                      target .ensures,
+                      target2 .ensures,
                     ) sm);
               };
               kept = λ h z. hint-calm F wn (unite .last .0) (getD F (a .t) 0)
-                  (c .before .before .before .before .before .before .before .before .before .before .before .before .before .before .before
-                  .before .before .find .result) (a .at) r (omega arith) rp (omega arith) lk
-                  (c .before .before .before .before .before .before .before .before .before .before .before .before .before .before .before
-                  .before .before .before .before .before .pre .1 .1 .1 .hint z
-                  (c .before .before .before .before .before .before .before .before .before .before .before .before .before .before .before
-                  .before .before .find .result)
-                  (c .before .before .before .before .before .before .before .before .before .before .before .before .before .before .before
-                  .before .before .find .ensures)) (unite .ensures .calm h);
+                  (find .result) (a .at) r (omega arith) rp (omega arith) lk
+                  (s .pre .1 .1 .1 .hint z
+                  (find .result)
+                  (find .ensures)) (unite .ensures .calm h);
             }),
       ),
     )
@@ -380,41 +415,45 @@ same-length-5 c = search needs
 
 returns-5 : tie.Need-returns-5
 returns-5 c =
-    let bn = c .before .before .before .before .before .before .before .before .before .before .before .before .before .before .before
-    .before .before .before .before .before .before .pre .0 in
-    let bx = c .before .before .before .before .before .before .before .before .before .before .before .before .before .before .before
-    .before .before .before .before .before .before .pre .1 .0 in
+    let s = c .before .before .before .before .before .before .before .before .before .before .before .before .before .before .before .before .before .before .before .before .before .before in
+    let find = c .before .before .before .before .before .before .before .before .before .before .before .before .before .before .before .before .before .before .before .find in
+    let locate = c .before .before .before .before .before .before .before .before .before .before .before .before .locate in
+    let loaded = c .before .before .before .before .before .before .before .before .before .before .before .before .before .before .loaded in
+    let if1 = c .before .before .before .before .before .before .before .before .before .before .before .if1 in
+    let if3 = c .before .before .if3 in
+    let target = c .before .before .before .before .before .before .before .before .before .target in
+    let target2 = c .before .before .before .before .before .before .before .target2 in
+    let onward = c .onward in
     let unite = c .before .before .before .before .before .unite in
-    let a = c .before .before .before .before .before .before .before .before .before .before .before .before .before .before .before
-    .before .before .before .before .before .before .args in
+    let held = c .before .before .before .before .before .before .before .before .before .before .before .before .before .before .before .before .before .held-by in
+    let chained = told-chain _ _ _ (held .ensures) (c .before .before .before .before .before .before .before .before .before .before .before .before .before .before .before .before .match .keys2) in
+    let bn = s .pre .0 in
+    let bx = s .pre .1 .0 in
+    let a = s .args in
     let wn = a .w .now in
     let F = words wn in
     let T = targets wn in
     let lk : Looked F wn (getD F (a .t) 0)
-    (getD wn (c .before .before .before .before .before .before .before .before .before .before .before .before .before .before .before
-    .before .before .before .find .result) 0)
-    (c .before .before .before .before .before .before .before .before .before .before .before .before .locate .result .arc) =
-    rw (c .before .before .before .before .before .before .before .before .before .before .before .before .before .before .loaded
-    .ensures) at (c .before .before .before .before .before .before .before .before .before .before .before .before .locate .ensures
+    (getD wn (find .result) 0)
+    (locate .result .arc) =
+    rw (loaded
+    .ensures) at (locate .ensures
     .looked) in
-    let r = c .before .before .before .before .before .before .before .before .before .before .before .before .locate .result .arc in
-    let rp = some r (c .before .before .before .before .before .before .before .before .before .before .before .if2 .left) in
+    let r = locate .result .arc in
+    let rp = some r (if1 .left) in
     let ri : r ≡ suc (r - 1) = omega arith in
     let wl = words-later (a .k) wn (unite .result .k) (unite .last .0) (omega arith) (unite .ensures .later) in
     record {
-      visited = rw (c .before .before .if4 .left) at
+      visited = rw (if3 .left) at
           (visit-found F T (a .n) (a .k) wn (omega arith) (omega arith) (a .x) (omega arith)
-          (c .before .before .before .before .before .before .before .before .before .before .before .before .before .before .before .before
-          .before .before .find .result)
-          (c .before .before .before .before .before .before .before .before .before .before .before .before .before .before .before .before
-          .before .before .find .ensures) (a .t) r (r - 1)
-          (c .before .before .before .before .before .before .before .before .before .before .before .before .before .before .before .before
-          .if1 .left) lk ri (unite .result .k) (unite .result .bad) (unite .last .0)
+          (find .result)
+          (find .ensures) (a .t) r (r - 1)
+          chained lk ri (unite .result .k) (unite .result .bad) (unite .last .0)
           (rw (
-            c .before .before .before .before .before .before .before .before .before .target .ensures,
-            c .before .before .before .before .before .before .before .target2 .ensures,
+            target .ensures,
+            target2 .ensures,
           ) at (unite .ensures)));
-      next = λ z. rw wl at (c .onward .ensures);
+      next = λ z. rw wl at (onward .ensures);
     }
 
 pub visit-spec : {M : Type 1} → statement M
@@ -422,8 +461,8 @@ visit-spec =
     tie.close
     (tie.spec
     find-requires
-    mul-h
-    slice-read-h
+    held-by-requires
+    enum-told
     same-length
     returns
     loaded-requires

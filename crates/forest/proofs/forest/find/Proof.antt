@@ -1,4 +1,4 @@
--- `classes::forest::find` meets its contract. The loop's invariant: x has the root of i, and p is its parent. Assumes nothing.
+-- `forest::forest::find` meets its contract. The loop's invariant: x has the root of i, and p is its parent. Assumes nothing.
 use mathlib.Core.Path.{_≡_, refl, sym, ap, _∙_}
 use mathlib.Core.List.{List}
 use Prim.Native.Nat.{ℕ, _≤_}

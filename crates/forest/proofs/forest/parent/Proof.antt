@@ -1,4 +1,4 @@
--- `classes::forest::parent` meets its contract. Assumes nothing.
+-- `forest::forest::parent` meets its contract. Assumes nothing.
 use mathlib.Core.Path.{_≡_, sym, _∙_}
 use native.Mathlib.Omega.{arith}
 use lib.ListN.{length}

@@ -1,4 +1,4 @@
--- `classes::merge::join` meets its contract. Assumes nothing.
+-- `forest::merge::join` meets its contract. Assumes nothing.
 use native.Mathlib.Omega.{arith}
 use Rattle.forest.proofs.Turns.{joined-same, joined-up, joined-down}
 use borrow.Author.Needs.{needs}

@@ -1,27 +1,35 @@
--- `classes::merge::knit` meets its contract. Assumes nothing.
+-- `forest::merge::knit` meets its contract. Assumes nothing.
 use Prim.Native.Nat.{ℕ, _+_, _*_}
 use mathlib.Core.Path.{refl, sym, _∙_, subst}
 use native.Mathlib.Omega.{arith}
 use lib.ListN.{set, length-set}
 use Rattle.area.specs.Map.{STACK}
-use Rattle.forest.specs.State.{Runs, Last}
+use Rattle.area.specs.Log.{Put}
+use Rattle.area.proofs.Region.{held-at}
+use Rattle.forest.specs.State.{Runs}
+use Rattle.forest.proofs.Contents.{told-arcs}
 use Rattle.forest.proofs.Cases.{room, high, knitted, ready-runs}
 use borrow.Author.Needs.{needs}
 use Rattle.forest.proofs.merge.knit.Statement.{statement}
 use Rattle.forest.proofs.merge.knit.Tie as tie
 
-wide-requires : tie.Need-wide-requires
-wide-requires c κs = search needs
+cast-x : tie.Need-cast-x
+cast-x c = let a = c .before .args in let came = told-arcs (a .w .now) (a .b) (a .p) (c .before .pre .1 .1 .0 .0) in omega arith
+
+cast-y : tie.Need-cast-y
+cast-y c = let a = c .before .args in let there = told-arcs (a .w .now) (a .a) (a .q) (c .before .pre .1 .1 .0 .1) in omega arith
 
 last-requires : tie.Need-last-requires
 last-requires c κs =
-    let s = c .before .before .before in
+    let s = c .before .before in
     let a = s .args in
-    let wn = a .w .now in (
-      (omega (arith, c .wide .ensures), omega arith),
-      subst (λ (z : ℕ). Runs wn z) (sym (c .wide .ensures ∙ s .pre .1 .1 .0 .0 .0))
-          (ready-runs (a .n) (a .k) (a .s) wn (a .a) (a .b) (omega arith) (omega arith) (omega arith) (omega arith) (s .pre .1 .0 .0)
-          (s .pre .1 .0 .1) (s .pre .1 .1 .1) (a .b) (omega arith) (s .pre .1 .0 .1) (omega arith)),
+    let p = s .pre .1 in
+    let wn = a .w .now in
+    let came = told-arcs wn (a .b) (a .p) (p .1 .0 .0) in (
+      (omega arith, omega arith),
+      subst (Runs wn) (sym (came .0))
+          (ready-runs (a .n) (a .k) (a .s) wn (a .a) (a .b) (omega arith) (omega arith) (omega arith) (omega arith) (p .0 .0) (p .0 .1)
+          (p .1 .1) (a .b) (omega arith) (p .0 .1) (omega arith)),
     )
 
 add-put : tie.Need-add-put
@@ -32,12 +40,12 @@ cast-put c = search needs
 
 put-requires : tie.Need-put-requires
 put-requires c κs =
-    let s = c .before .before .before .before .before in
+    let s = c .before .before .before .before in
     let a = s .args in
-    let wn = a .w .now in
-    let rm = room (a .n) (a .k) (a .s) wn (a .a) (a .b) (omega arith) (omega arith) (omega arith) (omega arith) (s .pre .1 .0 .0)
-    (s .pre .1 .0 .1) (s .pre .1 .1 .1) in
-    (s .pre .1 .1 .1 .state .logged, (omega arith, (omega arith, (omega arith, omega arith))))
+    let p = s .pre .1 in
+    let rm = room (a .n) (a .k) (a .s) (a .w .now) (a .a) (a .b) (omega arith) (omega arith) (omega arith) (omega arith) (p .0 .0)
+    (p .0 .1) (p .1 .1) in
+    (p .1 .1 .state .logged, (omega arith, (omega arith, (omega arith, omega arith))))
 
 add-put-2 : tie.Need-add-put-2
 add-put-2 c = search needs
@@ -45,11 +53,12 @@ add-put-2 c = search needs
 put-requires-2 : tie.Need-put-requires-2
 put-requires-2 c κs =
     let put = c .before .before .before .put in
-    let s = c .before .before .before .before .before .before .before .before .before in
+    let s = c .before .before .before .before .before .before .before .before in
     let a = s .args in
-    let wn = a .w .now in
-    let rm = room (a .n) (a .k) (a .s) wn (a .a) (a .b) (omega arith) (omega arith) (omega arith) (omega arith) (s .pre .1 .0 .0)
-    (s .pre .1 .0 .1) (s .pre .1 .1 .1) in
+    let p = s .pre .1 in
+    let rm = room (a .n) (a .k) (a .s) (a .w .now) (a .a) (a .b) (omega arith) (omega arith) (omega arith) (omega arith) (p .0 .0)
+    (p .0 .1) (p .1 .1) in
+    let there = told-arcs (a .w .now) (a .a) (a .q) (p .1 .0 .1) in
     let l = c .before .before .before .before .before .last .ensures .below in (
       put .ensures .later .logged,
       (
@@ -58,15 +67,19 @@ put-requires-2 c κs =
       ),
     )
 
+add-put-3 : tie.Need-add-put-3
+add-put-3 c = search needs
+
 put-requires-3 : tie.Need-put-requires-3
 put-requires-3 c κs =
     let put2 = c .before .before .before .put2 in
     let put = c .before .before .before .before .before .before .before .put in
-    let s = c .before .before .before .before .before .before .before .before .before .before .before .before .before in
+    let s = c .before .before .before .before .before .before .before .before .before .before .before .before in
     let a = s .args in
-    let wn = a .w .now in
-    let rm = room (a .n) (a .k) (a .s) wn (a .a) (a .b) (omega arith) (omega arith) (omega arith) (omega arith) (s .pre .1 .0 .0)
-    (s .pre .1 .0 .1) (s .pre .1 .1 .1) in (
+    let p = s .pre .1 in
+    let rm = room (a .n) (a .k) (a .s) (a .w .now) (a .a) (a .b) (omega arith) (omega arith) (omega arith) (omega arith) (p .0 .0)
+    (p .0 .1) (p .1 .1) in
+    let came = told-arcs (a .w .now) (a .b) (a .p) (p .1 .0 .0) in (
       put2 .ensures .later .logged,
       (
         omega arith,
@@ -78,10 +91,19 @@ put-requires-3 c κs =
     )
 
 mul-w : tie.Need-mul-w
-mul-w c = search needs
+mul-w c =
+    let s = c .before .before .before .before .before .before .before .before .before .before .before .before .before .before .before in
+    let a = s .args in
+    let there = told-arcs (a .w .now) (a .a) (a .q) (s .pre .1 .1 .0 .1) in
+    omega arith
 
 add-w : tie.Need-add-w
-add-w c = search needs
+add-w c =
+    let s = c .before .before .before .before .before .before .before .before .before .before .before .before .before .before .before in
+    let a = s .args in
+    let came = told-arcs (a .w .now) (a .b) (a .p) (s .pre .1 .1 .0 .0) in
+    let there = told-arcs (a .w .now) (a .a) (a .q) (s .pre .1 .1 .0 .1) in
+    omega arith
 
 add-w-2 : tie.Need-add-w-2
 add-w-2 c = search needs
@@ -91,12 +113,11 @@ mul-w-2 c = search needs
 
 slice-write-w : tie.Need-slice-write-w
 slice-write-w c =
-    let s = c .before .before .before .before .before .before .before .before .before .before .before .before .before .before .before
-    .before in
+    let s = c .before .before .before .before .before .before .before .before .before .before .before .before .before .before .before in
     let a = s .args in
-    let wn = a .w .now in
-    let hi = high (a .n) (a .k) (a .s) wn (a .a) (a .b) (omega arith) (omega arith) (omega arith) (omega arith) (s .pre .1 .0 .0)
-    (s .pre .1 .0 .1) (s .pre .1 .1 .1) in
+    let p = s .pre .1 in
+    let hi = high (a .n) (a .k) (a .s) (a .w .now) (a .a) (a .b) (omega arith) (omega arith) (omega arith) (omega arith) (p .0 .0)
+    (p .0 .1) (p .1 .1) in
     omega (
       arith,
       c .before .before .before .before .before .before .before .before .before .before .put .ensures .later .len,
@@ -105,8 +126,8 @@ slice-write-w c =
       hi,
     )
 
-add-t15 : tie.Need-add-t15
-add-t15 c = search needs
+add-t19 : tie.Need-add-t19
+add-t19 c = search needs
 
 same-length : tie.Need-same-length
 same-length c = simp length-set (c .before .before .put3 .ensures .later .len
@@ -119,36 +140,36 @@ returns c =
     let put = c .before .before .before .before .before .before .before .before .before .before .put in
     let put2 = c .before .before .before .before .before .before .put2 in
     let put3 = c .before .before .put3 in
-    let s = c .before .before .before .before .before .before .before .before .before .before .before .before .before .before .before
-    .before in
+    let s = c .before .before .before .before .before .before .before .before .before .before .before .before .before .before .before in
     let a = s .args in
-    let wn = a .w .now in
-    let la : Last wn (a .p) (last .result) =
-    subst (λ (v : ℕ). Last wn v (last .result))
-    (c .before .before .before .before .before .before .before .before .before .before .before .before .before .wide .ensures)
-    (last .ensures) in
-    knitted (a .n) (a .k) (a .s) wn (a .a) (a .b) (omega arith) (omega arith) (omega arith) (omega arith) (s .pre .1 .0 .0)
-    (s .pre .1 .0 .1) (s .pre .1 .1 .1) (put .result) (put .last .0) (put .ensures) (a .p) (a .q) (last .result) (put2 .result)
-    (put3 .result) (put2 .last .0) (put3 .last .0) (set (put3 .last .0) (STACK + a .s) (a .p + 4096 * a .q)) (s .pre .1 .1 .0 .0 .0)
-    (s .pre .1 .1 .0 .0 .1) (omega arith) (omega arith) (omega arith) (omega arith) la (put2 .ensures) (put3 .ensures) refl
+    let p = s .pre .1 in
+    let came = told-arcs (a .w .now) (a .b) (a .p) (p .1 .0 .0) in
+    let there = told-arcs (a .w .now) (a .a) (a .q) (p .1 .0 .1) in
+    knitted (a .n) (a .k) (a .s) (a .w .now) (a .a) (a .b) (omega arith) (omega arith) (omega arith) (omega arith) (p .0 .0) (p .0 .1)
+    (p .1 .1) (put .result) (put .last .0) (put .ensures) (a .p) (a .q) (last .result) (put2 .result) (put3 .result) (put2 .last .0)
+    (put3 .last .0) (set (put3 .last .0) (STACK + a .s) (a .p + 4096 * a .q)) (came .0) (there .0) (came .1) (there .1) (last .ensures)
+    (put2 .ensures)
+    (subst (λ (i : ℕ). Put (put2 .result) (put2 .last .0) i (a .p) (put3 .result) (put3 .last .0)) (held-at (a .a)) (put3 .ensures)) refl
 
 pub knit-spec : {M : Type 1} → statement M
 knit-spec =
     tie.close
     (tie.spec
-    wide-requires
+    cast-x
+    cast-y
     last-requires
     add-put
     cast-put
     put-requires
     add-put-2
     put-requires-2
+    add-put-3
     put-requires-3
     mul-w
     add-w
     add-w-2
     mul-w-2
     slice-write-w
-    add-t15
+    add-t19
     same-length
     returns)

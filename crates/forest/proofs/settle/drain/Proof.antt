@@ -1,4 +1,4 @@
--- `classes::settle::drain` meets its contract. The loop's invariant: the frame is worked off from `from` to x. Assumes nothing.
+-- `forest::settle::drain` meets its contract. The loop's invariant: the frame is worked off from `from` to x. Assumes nothing.
 use mathlib.Core.Path.{_≡_, _∙_}
 use native.Mathlib.Omega.{arith}
 use lib.ListN.{length}

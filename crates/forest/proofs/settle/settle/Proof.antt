@@ -1,4 +1,4 @@
--- `classes::settle::settle` meets its contract. The loop's invariant: h frames are left. Assumes nothing.
+-- `forest::settle::settle` meets its contract. The loop's invariant: h frames are left. Assumes nothing.
 use Prim.Native.Nat.{ℕ, _+_, _/_, _%_}
 use mathlib.Core.Path.{_≡_, ap, _∙_}
 use native.Mathlib.Omega.{arith}

@@ -1,4 +1,4 @@
--- `classes::settle::step` meets its contract. Assumes nothing.
+-- `forest::settle::step` meets its contract. Assumes nothing.
 use Prim.Native.Nat.{ℕ, suc, _-_, _<_}
 use mathlib.Core.Path.{_≡_, subst}
 use native.Mathlib.Omega.{arith}

@@ -1,4 +1,4 @@
--- `classes::settle::unite` meets its contract. Assumes nothing.
+-- `forest::settle::unite` meets its contract. Assumes nothing.
 use mathlib.Core.Path.{_∙_}
 use native.Mathlib.Omega.{arith}
 use Rattle.area.specs.Region.{words}

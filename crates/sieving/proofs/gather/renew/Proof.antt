@@ -11,7 +11,7 @@ gather-requires : tie.Need-gather-requires
 gather-requires c κs = let p = c .before .before .before .before .pre in ((p .0 .0, omega arith), (p .1 .0, blank 256))
 
 returns-2 : tie.Need-returns-2
-returns-2 c = (c .gather .kept .1 .0, c .gather .ensures)
+returns-2 c = (c .gather .kept .1 .1 .0, c .gather .ensures)
 
 pub renew-spec : {M : Type 1} → statement M
 renew-spec = tie.close (tie.spec returns gather-requires returns-2)

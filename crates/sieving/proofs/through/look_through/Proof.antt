@@ -21,15 +21,15 @@ wide-requires-2 c κs = search needs
 look-requires : tie.Need-look-requires
 look-requires c κs =
     let p = c .before .before .before .before .pre in (
-      p .0 .0,
-      through-runs _ _ (p .1 .1) _ _ (c .before .wide .ensures) _ (p .0 .1) _
+      p .0,
+      through-runs _ _ _ (p .1 .1) _ _ (c .before .wide .ensures) _
           (⊎-elim (λ u. inl (u .0 .taken, u .3 ∙ u .2 .ensures)) (λ u. inr (u .1)) (c .if1 .came)) (p .1 .0),
     )
 
 returns : tie.Need-returns
 returns c =
     let p = c .before .before .before .before .before .pre in
-    through-same _ _ (p .1 .1) _ _ (c .before .before .wide .ensures) _ (p .0 .1) _
+    through-same _ _ _ (p .1 .1) _ _ (c .before .before .wide .ensures) _
     (⊎-elim (λ u. inl (u .0 .taken, u .3 ∙ u .2 .ensures)) (λ u. inr (u .1)) (c .before .if1 .came)) _ (c .look .ensures)
 
 pub look-through-spec : {M : Type 1} → statement M

@@ -8,7 +8,7 @@ slice-aggregate-guess-through : tie.Need-slice-aggregate-guess-through
 slice-aggregate-guess-through c = search needs
 
 guess-through-requires : tie.Need-guess-through-requires
-guess-through-requires c κs = (c .before .before .pre, sieved-none _)
+guess-through-requires c κs = (c .before .before .pre, sieved-none _ _)
 
 returns : tie.Need-returns
 returns c = search needs

@@ -53,7 +53,10 @@ loaded-requires-2 : tie.Need-loaded-requires-2
 loaded-requires-2 c κs = search needs
 
 suit-requires : tie.Need-suit-requires
-suit-requires c κs = search needs
+suit-requires c κs =
+    let p = c .before .before .before .before .before .before .before .before .pre in
+    let l = c .before .if3 .left in
+    (p .0, (p .1 .0, omega arith))
 
 returns-4 : tie.Need-returns-4
 returns-4 c =

@@ -1,20 +1,19 @@
 -- `trying::guess::suit` meets its contract. Assumes nothing.
 use Prim.Native.Nat.{ℕ}
-use mathlib.Core.Path.{subst}
+use mathlib.Core.Path.{sym, _∙_, subst}
 use native.Mathlib.Omega.{arith}
 use Rattle.classes.specs.Holds.{Classed}
+use Rattle.forest.proofs.Contents.{told-arcs, told-atom}
 use Rattle.forest.proofs.Walks.{some}
-use Rattle.trying.proofs.Suiting.{anchored-first, anchored-runs, suits-free, suits-low, suits-inside, suits-same, suits-other}
-use Rattle.trying.proofs.Suiting.{suits-unsure}
+use Rattle.trying.proofs.Suiting.{anchored-runs, suits-free, suits-low, suits-inside, suits-same, suits-other, suits-unsure}
 use borrow.Author.Needs.{needs}
 use Rattle.trying.proofs.guess.suit.Statement.{statement}
 use Rattle.trying.proofs.guess.suit.Tie as tie
 
 look-through-requires : tie.Need-look-through-requires
-look-through-requires c κs = let s = c .before .before in let a = s .args in (
-  (s .pre .0 .labelled .holds .long, anchored-first (a .n) (a .w .now) (a .x) (s .pre .0)),
-  (anchored-runs (a .n) (a .w .now) (a .x) (s .pre .0), s .pre .1),
-)
+look-through-requires c κs =
+    let s = c .before .before in let a = s .args in
+    (s .pre .0 .labelled .holds .long, (anchored-runs (a .n) (a .w .now) (a .x) (s .pre .0), s .pre .1 .0))
 
 returns : tie.Need-returns
 returns c = let s = c .before .before .before .before in let a = s .args in
@@ -41,37 +40,36 @@ class-of-requires c κs =
     let t = c .target .ensures in
     (omega arith, s .pre .0 .labelled)
 
-mul-z : tie.Need-mul-z
-mul-z c =
+held-by-requires : tie.Need-held-by-requires
+held-by-requires c κs =
     let s = c .before .before .before .before .before .before in let a = s .args in
     let r = c .before .before .before .look-through in
     let v = subst (λ (z : ℕ). Classed (a .n) (a .w .now) z (c .class-of .result)) (c .before .target .ensures) (c .class-of .ensures) in
     let p = some (r .result) (c .before .before .if1 .left) in
     let l = suits-inside (a .n) (a .w .now) (a .x) (s .pre .0) (a .f) (a .v) (r .result) (r .ensures) p (c .class-of .result) v in
     let b = s .pre .0 .labelled .holds .below in
-    search needs
+    (omega arith, s .pre .0 .labelled .holds .long)
 
-shared-slice-read-z : tie.Need-shared-slice-read-z
-shared-slice-read-z c =
-    let s = c .before .before .before .before .before .before .before in let a = s .args in
-    let r = c .before .before .before .before .look-through in
-    let v = subst (λ (z : ℕ). Classed (a .n) (a .w .now) z (c .before .class-of .result)) (c .before .before .target .ensures)
-    (c .before .class-of .ensures) in
-    let p = some (r .result) (c .before .before .before .if1 .left) in
-    let l = suits-inside (a .n) (a .w .now) (a .x) (s .pre .0) (a .f) (a .v) (r .result) (r .ensures) p (c .before .class-of .result) v in
-    let b = s .pre .0 .labelled .holds .below in
-    let g = s .pre .0 .labelled .holds .long in
-    omega arith
+enum-told : tie.Need-enum-told
+enum-told c = search needs
+
+enum-told-2 : tie.Need-enum-told-2
+enum-told-2 c = search needs
+
+enum-known-held : tie.Need-enum-known-held
+enum-known-held c = search needs
 
 returns-2 : tie.Need-returns-2
 returns-2 c =
-    let s = c .before .before .before .before .before .before .before .before in let a = s .args in
-    let r = c .before .before .before .before .before .look-through in
-    let v = subst (λ (z : ℕ). Classed (a .n) (a .w .now) z (c .before .before .class-of .result))
-    (c .before .before .before .target .ensures) (c .before .before .class-of .ensures) in
-    let p = some (r .result) (c .before .before .before .before .if1 .left) in
-    suits-same (a .n) (a .w .now) (a .x) (s .pre .0) (a .f) (a .v) (r .result) (r .ensures) p (c .before .before .class-of .result) v
-    (c .if2 .taken)
+    let s = c .before .before .before .before .before .before .before .before .before .before .before in let a = s .args in
+    let r = c .before .before .before .before .before .before .before .before .look-through in
+    let p = some (r .result) (c .before .before .before .before .before .before .before .if1 .left) in
+    let class = c .before .before .before .before .before .class-of in
+    let v = subst (λ (z : ℕ). Classed (a .n) (a .w .now) z (class .result))
+    (c .before .before .before .before .before .before .target .ensures) (class .ensures) in
+    let bears = told-atom _ _ _ (sym (c .before .before .before .before .held-by .ensures) ∙ c .before .before .held .given .1) in
+    suits-same (a .n) (a .w .now) (a .x) (s .pre .0) (a .f) (a .v) (r .result) (r .ensures) p (class .result) v
+    (sym (bears .0) ∙ c .if2 .taken)
 
 returns-3 : tie.Need-returns-3
 returns-3 c = suits-unsure _ _ _ _
@@ -80,11 +78,25 @@ returns-4 : tie.Need-returns-4
 returns-4 c =
     let s = c .before .before .before .before .before .before .before .before .before in let a = s .args in
     let r = c .before .before .before .before .before .before .look-through in
-    let v = subst (λ (z : ℕ). Classed (a .n) (a .w .now) z (c .before .before .before .class-of .result))
-    (c .before .before .before .before .target .ensures) (c .before .before .before .class-of .ensures) in
     let p = some (r .result) (c .before .before .before .before .before .if1 .left) in
-    suits-other (a .n) (a .w .now) (a .x) (s .pre .0) (a .f) (a .v) (r .result) (r .ensures) p
-    (c .before .before .before .class-of .result) v (c .before .if2 .left) (c .if3 .left)
+    let class = c .before .before .before .class-of in
+    let v = subst (λ (z : ℕ). Classed (a .n) (a .w .now) z (class .result)) (c .before .before .before .before .target .ensures)
+    (class .ensures) in
+    let chain = told-arcs _ _ _ (sym (c .before .before .held-by .ensures) ∙ c .enum-told2 .given .1) in
+    suits-other (a .n) (a .w .now) (a .x) (s .pre .0) (a .f) (a .v) (r .result) (r .ensures) p (class .result) v
+    (λ e. omega (arith, chain, s .pre .1 .1)) (λ e. omega (arith, chain))
+
+returns-5 : tie.Need-returns-5
+returns-5 c =
+    let s = c .before .before .before .before .before .before .before .before .before .before .before in let a = s .args in
+    let r = c .before .before .before .before .before .before .before .before .look-through in
+    let p = some (r .result) (c .before .before .before .before .before .before .before .if1 .left) in
+    let class = c .before .before .before .before .before .class-of in
+    let v = subst (λ (z : ℕ). Classed (a .n) (a .w .now) z (class .result))
+    (c .before .before .before .before .before .before .target .ensures) (class .ensures) in
+    let bears = told-atom _ _ _ (sym (c .before .before .before .before .held-by .ensures) ∙ c .before .before .held .given .1) in
+    suits-other (a .n) (a .w .now) (a .x) (s .pre .0) (a .f) (a .v) (r .result) (r .ensures) p (class .result) v
+    (λ e. c .if2 .left (bears .0 ∙ e)) (λ e. omega (arith, bears))
 
 pub suit-spec : {M : Type 1} → statement M
 suit-spec =
@@ -95,8 +107,11 @@ suit-spec =
     sub-target
     target-requires
     class-of-requires
-    mul-z
-    shared-slice-read-z
+    held-by-requires
+    enum-told
+    enum-told-2
+    enum-known-held
     returns-2
     returns-3
-    returns-4)
+    returns-4
+    returns-5)

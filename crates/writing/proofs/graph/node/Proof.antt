@@ -1,9 +1,12 @@
 -- `writing::graph::node` meets its contract. Assumes nothing.
-use mathlib.Core.Path.{sym, subst}
-use Prim.Native.Nat.{ℕ, _+_, _≤_}
+use mathlib.Core.Path.{sym, _∙_, subst}
+use mathlib.Core.Logic.{inl, inr, ⊎-elim}
+use Prim.Native.Nat.{ℕ, _+_}
 use native.Mathlib.Omega.{arith}
-use lib.ListN.{getD}
-use Rattle.writing.specs.Writing.{Arcing, Arced}
+use lib.ListN.{set}
+use Rattle.area.specs.Map.{RESULT}
+use Rattle.forest.proofs.Contents.{told-atom, told-code}
+use Rattle.writing.specs.Writing.{Arcing, Arced, Noded}
 use Rattle.writing.proofs.Heads.{noding-low, noded-atom, noding-arcs, noded-small, noded-arcs}
 use borrow.Author.Needs.{needs}
 use Rattle.writing.proofs.graph.node.Statement.{statement}
@@ -24,19 +27,22 @@ slice-read-wide c = search needs
 wide-requires : tie.Need-wide-requires
 wide-requires c κs = search needs
 
-mul-h : tie.Need-mul-h
-mul-h c =
-    let s = c .before .before .before in
-    let l = noding-low (s .args .n) (s .args .k) (s .args .w .now) (s .args .i) (s .args .at) (s .args .m) (c .wide .result)
-    (c .wide .ensures) (s .pre) .0 in
-    omega arith
-
-slice-read-h : tie.Need-slice-read-h
-slice-read-h c =
+held-by-requires : tie.Need-held-by-requires
+held-by-requires c κs =
     let s = c .before .before .before .before in
-    let l = noding-low (s .args .n) (s .args .k) (s .args .w .now) (s .args .i) (s .args .at) (s .args .m) (c .before .wide .result)
-    (c .before .wide .ensures) (s .pre) in
-    omega arith
+    let a = s .args in
+    let wide = c .before .wide in
+    let l = noding-low (a .n) (a .k) (a .w .now) (a .i) (a .at) (a .m) (wide .result) (wide .ensures) (s .pre) in
+    (l .0, l .1 .0)
+
+enum-told : tie.Need-enum-told
+enum-told c = search needs
+
+enum-known-held : tie.Need-enum-known-held
+enum-known-held c = search needs
+
+enum-known-held-2 : tie.Need-enum-known-held-2
+enum-known-held-2 c = search needs
 
 add-w : tie.Need-add-w
 add-w c = search needs
@@ -47,20 +53,21 @@ mul-w c = search needs
 slice-write-w : tie.Need-slice-write-w
 slice-write-w c = search needs
 
-add-t18 : tie.Need-add-t18
-add-t18 c = search needs
+add-t22 : tie.Need-add-t22
+add-t22 c = search needs
 
 same-length : tie.Need-same-length
 same-length c = search needs
 
 returns : tie.Need-returns
 returns c =
-    let s = c .before .before .before .before .before in
-    noded-atom (s .args .n) (s .args .k) (s .args .w .now) (s .args .i) (s .args .at) (s .args .m) (c .before .before .wide .result)
-    (c .before .before .wide .ensures) (s .pre) (omega arith)
-
-wide-requires-2 : tie.Need-wide-requires-2
-wide-requires-2 c κs = search needs
+    let s = c .before .before .before .before .before .before .before .before in
+    let a = s .args in
+    let wide = c .before .before .before .before .before .wide in
+    let bears = told-atom _ _ _ (sym (c .before .before .before .held-by .ensures) ∙ c .before .held2 .given .1) in
+    subst (λ (h : ℕ). Noded (a .n) (a .k) (a .w .now) (a .i) (a .at) (a .m) (a .at + 1) (a .m) (set (a .w .now) (RESULT + a .at) h))
+    (sym (bears .0))
+    (noded-atom (a .n) (a .k) (a .w .now) (a .i) (a .at) (a .m) (wide .result) (wide .ensures) (s .pre) (omega arith))
 
 add-arcs : tie.Need-add-arcs
 add-arcs c = search needs
@@ -68,11 +75,12 @@ add-arcs c = search needs
 arcs-requires : tie.Need-arcs-requires
 arcs-requires c κs =
     let s = c .before .before .before .before .before .before .before in
-    let x = c .before .before .before .before .wide .result in
-    let b : getD (s .args .w .now) x 0 ≤ 2048 = (let l = c .before .before .if1 .left in omega arith) in
-    subst (λ (z : ℕ). Arcing (s .args .n) (s .args .k) (s .args .w .now) z (s .args .at + 1) (s .args .m)) (sym (c .wide2 .ensures))
-    (noding-arcs (s .args .n) (s .args .k) (s .args .w .now) (s .args .i) (s .args .at) (s .args .m)
-    (c .before .before .before .before .wide .result) (c .before .before .before .before .wide .ensures) (s .pre) b)
+    let a = s .args in
+    let wide = c .before .before .before .before .wide in
+    let code = told-code _ _ _ (c .before .before .held-by .ensures) _
+    (⊎-elim (λ u. inl (u .1 .given .1, u .2)) (λ u. inr (_, (u .1 .given .1, u .3))) (c .before .match .came)) in
+    subst (λ (z : ℕ). Arcing (a .n) (a .k) (a .w .now) z (a .at + 1) (a .m)) (sym (code .0))
+    (noding-arcs (a .n) (a .k) (a .w .now) (a .i) (a .at) (a .m) (wide .result) (wide .ensures) (s .pre) (omega arith))
 
 sub-w : tie.Need-sub-w
 sub-w c = search needs
@@ -80,15 +88,15 @@ sub-w c = search needs
 cast-w : tie.Need-cast-w
 cast-w c =
     let s = c .before .before .before .before .before .before .before .before .before .before in
+    let a = s .args in
+    let wide = c .before .before .before .before .before .before .before .wide in
     let arcs = c .before .before .arcs in
-    let x = c .before .before .before .before .before .before .before .wide .result in
-    let b : getD (s .args .w .now) x 0 ≤ 2048 = (let l = c .before .before .before .before .before .if1 .left in omega arith) in
-    let r = subst (λ (z : ℕ). Arced (s .args .n) (s .args .k) (s .args .w .now) z (s .args .at + 1) (s .args .m) (arcs .result .at)
-    (arcs .result .met) (arcs .last .0)) (c .before .before .before .wide2 .ensures) (arcs .ensures) in
-    let l = noded-small (s .args .n) (s .args .k) (s .args .w .now) (s .args .i) (s .args .at) (s .args .m)
-    (c .before .before .before .before .before .before .before .wide .result)
-    (c .before .before .before .before .before .before .before .wide .ensures) (s .pre) b (arcs .result .at) (arcs .result .met)
-    (arcs .last .0) r in
+    let code = told-code _ _ _ (c .before .before .before .before .before .held-by .ensures) _
+    (⊎-elim (λ u. inl (u .1 .given .1, u .2)) (λ u. inr (_, (u .1 .given .1, u .3))) (c .before .before .before .before .match .came)) in
+    let r = subst (λ (z : ℕ). Arced (a .n) (a .k) (a .w .now) z (a .at + 1) (a .m) (arcs .result .at) (arcs .result .met)
+    (arcs .last .0)) (code .0) (arcs .ensures) in
+    let l = noded-small (a .n) (a .k) (a .w .now) (a .i) (a .at) (a .m) (wide .result) (wide .ensures) (s .pre) (omega arith)
+    (arcs .result .at) (arcs .result .met) (arcs .last .0) r in
     omega arith
 
 add-w-2 : tie.Need-add-w-2
@@ -106,15 +114,15 @@ same-length-2 c = search needs
 returns-2 : tie.Need-returns-2
 returns-2 c =
     let s = c .before .before .before .before .before .before .before .before .before .before in
+    let a = s .args in
+    let wide = c .before .before .before .before .before .before .before .wide in
     let arcs = c .before .before .arcs in
-    let x = c .before .before .before .before .before .before .before .wide .result in
-    let b : getD (s .args .w .now) x 0 ≤ 2048 = (let l = c .before .before .before .before .before .if1 .left in omega arith) in
-    let r = subst (λ (z : ℕ). Arced (s .args .n) (s .args .k) (s .args .w .now) z (s .args .at + 1) (s .args .m) (arcs .result .at)
-    (arcs .result .met) (arcs .last .0)) (c .before .before .before .wide2 .ensures) (arcs .ensures) in
-    noded-arcs (s .args .n) (s .args .k) (s .args .w .now) (s .args .i) (s .args .at) (s .args .m)
-    (c .before .before .before .before .before .before .before .wide .result)
-    (c .before .before .before .before .before .before .before .wide .ensures) (s .pre) b (arcs .result .at) (arcs .result .met)
-    (arcs .last .0) r
+    let code = told-code _ _ _ (c .before .before .before .before .before .held-by .ensures) _
+    (⊎-elim (λ u. inl (u .1 .given .1, u .2)) (λ u. inr (_, (u .1 .given .1, u .3))) (c .before .before .before .before .match .came)) in
+    let r = subst (λ (z : ℕ). Arced (a .n) (a .k) (a .w .now) z (a .at + 1) (a .m) (arcs .result .at) (arcs .result .met)
+    (arcs .last .0)) (code .0) (arcs .ensures) in
+    noded-arcs (a .n) (a .k) (a .w .now) (a .i) (a .at) (a .m) (wide .result) (wide .ensures) (s .pre) (omega arith) (arcs .result .at)
+    (arcs .result .met) (arcs .last .0) r
 
 pub node-spec : {M : Type 1} → statement M
 node-spec =
@@ -125,15 +133,16 @@ node-spec =
     mul-wide
     slice-read-wide
     wide-requires
-    mul-h
-    slice-read-h
+    held-by-requires
+    enum-told
+    enum-known-held
+    enum-known-held-2
     add-w
     mul-w
     slice-write-w
-    add-t18
+    add-t22
     same-length
     returns
-    wide-requires-2
     add-arcs
     arcs-requires
     sub-w
