@@ -5,7 +5,7 @@ use native.Mathlib.Omega.{arith}
 use mathlib.Core.Path.{_≡_, refl, sym, ap, subst, _∙_}
 use mathlib.Core.Logic.{_⊎_, inl, inr, ⊎-elim}
 use mathlib.Core.List.{List, List·Memᴰ}
-use lib.ListN.{length, getD}
+use lib.ListN.{length}
 use Rattle.theory.specs.Net.{Graph}
 use Rattle.area.specs.Region.{words}
 use Rattle.area.proofs.Region.{words-many}
@@ -27,11 +27,10 @@ use Rattle.marks.specs.Tallied.{Tallied}
 use Rattle.marks.proofs.Reading.{readable, reads, tail-of, disjunctions-of, alternatives-is}
 use Rattle.marks.proofs.Marks.{marking-frame}
 use Rattle.loading.specs.Nesting.{Nests, NestsAll}
-use Rattle.forest.specs.State.{Runs}
-use Rattle.classes.specs.Holds.{Since, Backs}
+use Rattle.classes.specs.Holds.{Since, Backs, Labelled}
 use Rattle.classes.proofs.Laws.{since-refl, since-trans}
 use Rattle.sieving.specs.Sieved.{Sieved}
-use Rattle.sieving.proofs.Keeping.{roots-run, sieved-since}
+use Rattle.sieving.proofs.Keeping.{sieved-since}
 use Rattle.quick.specs.declared.step.Step.{Step}
 use Rattle.quick.specs.declared.step.Step.the-variants.{Stands, Fails}
 use Rattle.entering.specs.Taken.{AmongHere, AmongRest}
@@ -79,8 +78,8 @@ module _ (n k : ℕ) (w : List ℕ) (g left : ℕ) where
     some : 0 < n
     some = omega (arith, bounds-of (c .lies) .2, c .lies .low)
 
-    pub narrow-runs : getD w 0 0 ≤ 2048 → Runs w (getD w 0 0)
-    narrow-runs = roots-run n (c .es) k w (c .s .holds) some
+    pub narrow-rooted : (0 < n) × Labelled n w
+    narrow-rooted = (some, record { k = k; es = c .es; holds = c .s .holds })
 
     pub moved-start : Moved k w k w
     moved-start = record { len = refl; rest = λ j h. refl; since = since-refl n (c .es) k w (c .s .holds) }
@@ -218,11 +217,11 @@ module _ (n k : ℕ) (w : List ℕ) (g left : ℕ) where
             told = v .standing j i y .2 asks
 
             -- the sieve is gathered again, or tells the same
-            pub runs-after : getD w₂ 0 0 ≤ 2048 → Runs w₂ (getD w₂ 0 0)
-            runs-after = roots-run n (told .es') j w₂ (told .stood .holds) (some c)
+            pub rooted-after : (0 < n) × Labelled n w₂
+            rooted-after = (some c, record { k = j; es = told .es'; holds = told .stood .holds })
 
-            pub sieved-after : (t : List ℕ) → Sieved w₁ t → j ≡ log → Sieved w₂ t
-            sieved-after t u e = sieved-since log w₁ w₂ t (omega (arith, m .len, c .s .holds .long))
+            pub sieved-after : (t : List ℕ) → Sieved n w₁ t → j ≡ log → Sieved n w₂ t
+            sieved-after t u e = sieved-since n log w₁ w₂ t (c .s .holds .below) (omega (arith, m .len, c .s .holds .long))
                 (subst (λ (i : ℕ). Since log w₁ i w₂) e (v .standing j i y .0 .since)) u
 
             pub narrow-on : (kept first' after : ℕ) → ((a : Alternatives w₁ (at + 1) count) → Tallied w₁ a kept first' after) →

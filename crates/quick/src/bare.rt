@@ -25,7 +25,7 @@ fn push_bare(w: &mut [u32], k: usize, n: usize, g: usize) -> Step
 // Tries the alternative at g. Mostly its graph need not be pushed for that.
 pub fn try_bare(w: &mut [u32], k: usize, n: usize, g: usize, t: &[u32]) -> Step
     requires { ⌜ Pushing n k (now w) g ⌝ }
-    requires { ⌜ Sieved (now w) (now t) ⌝ }
+    requires { ⌜ Sieved n (now w) (now t) ⌝ }
     ensures { λ r. ⌜ TriesBare n k (now (w .entry)) g r (now (w .exit)) ⌝ }
 {
     let told = guess_through(w, k, n, g, t);

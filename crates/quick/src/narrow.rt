@@ -27,7 +27,7 @@ ghost use Rattle.quick.specs.Stepped.{Narrowing, Narrows, Choosing, Choo
 // and there is nothing to narrow.
 fn try_one(w: &mut [u32], k: usize, n: usize, g: usize, left: u32, t: &[u32]) -> Step
     requires { ⌜ Entering n k (now w) g left ⌝ }
-    requires { ⌜ Sieved (now w) (now t) ⌝ }
+    requires { ⌜ Sieved n (now w) (now t) ⌝ }
     ensures { λ r. ⌜ Tries n k (now (w .entry)) g left r (now (w .exit)) ⌝ }
 {
     let e = tail_at(w, g);
@@ -59,7 +59,7 @@ pub fn narrow(w: &mut [u32], k: usize, n: usize, g: usize, left: u32) -> Step
         return Step::Stands(k, 0);
     }
     let mut t: [u32; 256] = [0; 256];
-    gather(w, &mut t);
+    gather(w, n, &mut t);
     let mut at = e + 1;
     let mut log = k;
     let mut drops: usize = 0;
@@ -81,7 +81,7 @@ pub fn narrow(w: &mut [u32], k: usize, n: usize, g: usize, left: u32) -> Step
             back(w, log, k);
             return Step::Fails;
         };
-        renew(w, &mut t, log, j);
+        renew(w, n, &mut t, log, j);
         log = j;
         drops += i;
         at = tally.after;
@@ -104,7 +104,7 @@ fn narrow_one(
 ) -> Step
     requires { ⌜ Choosing n k (now w) p count left ⌝ }
     requires { ⌜ ((after : ℕ) × ((s : Alternatives (now w) p count) → Tallied (now w) s found first after)) ⌝ }
-    requires { ⌜ Sieved (now w) (now t) ⌝ }
+    requires { ⌜ Sieved n (now w) (now t) ⌝ }
     ensures { λ r. ⌜ Chooses n k (now (w .entry)) p count left r (now (w .exit)) ⌝ }
 {
     if found == 0 {
@@ -127,7 +127,7 @@ fn narrow_one(
 // Tries each kept one of the `count` alternatives from p on, and drops those that fail. How many alternatives were dropped, at every depth.
 fn sift(w: &mut [u32], k: usize, n: usize, p: usize, count: usize, left: u32, t: &[u32]) -> usize
     requires { ⌜ Alternating n k (now w) p count left ⌝ }
-    requires { ⌜ Sieved (now w) (now t) ⌝ }
+    requires { ⌜ Sieved n (now w) (now t) ⌝ }
     ensures { λ r. ⌜ Sifts n k (now (w .entry)) p count left r (now (w .exit)) ⌝ }
 {
     let mut rest = count;

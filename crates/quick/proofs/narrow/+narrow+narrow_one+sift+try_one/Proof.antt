@@ -21,8 +21,8 @@ use Rattle.quick.proofs.Sifting.{fewer-none, fewer-trans, fewer-small, 
 use Rattle.quick.proofs.Sifting.{sift-here, sift-asks, turn-moved, turn-inside, turn-fewer, turn-on, sift-done}
 use Rattle.quick.proofs.Choosing.{chosen, chooses-none, asks-alone, chooses-one, asks-sift, asks-settle, chooses-still}
 use Rattle.quick.proofs.Choosing.{chooses-fails, chooses-stands}
-use Rattle.quick.proofs.Narrowing.{Going, narrow-starts, narrow-runs, moved-start, narrow-begin, narrow-done, narrow-here}
-use Rattle.quick.proofs.Narrowing.{narrow-deep, asks-one, moved-on, runs-after, sieved-after, narrow-on, moved-back, fewer-back}
+use Rattle.quick.proofs.Narrowing.{Going, narrow-starts, narrow-rooted, moved-start, narrow-begin, narrow-done, narrow-here}
+use Rattle.quick.proofs.Narrowing.{narrow-deep, asks-one, moved-on, rooted-after, sieved-after, narrow-on, moved-back, fewer-back}
 use Rattle.quick.proofs.Narrowing.{narrow-fails, narrows-stands, narrows-fails, narrows-len}
 use borrow.Fn.Kinds.{In}
 use borrow.Fn.PlainCycle.{Measures, is, falls, and}
@@ -96,7 +96,7 @@ try-one-below t = and 2 try-one-kinds.ps (falls 2 try-one-kinds.ps _<_ μ-try-on
 abbrev narrow-Inv-loop : narrow-lts.InvT-loop
 narrow-Inv-loop w₀ k n g left e more₀ t₀ at₀ log₀ drops₀ w more t at log drops =
     Moved k w₀ log w × Fewer drops (marking w₀) (marking w) × ((c : Narrowing n k w₀ g left) → Going n k w₀ g left c more at log w)
-    × (length t ≡ 256) × Sieved w t
+    × (length t ≡ 256) × Sieved n w t
 
 abbrev narrow-μ-loop : narrow-lts.MeasureT-loop
 narrow-μ-loop w₀ k n g left e more₀ t₀ at₀ log₀ drops₀ w more t at log drops = more
@@ -145,7 +145,8 @@ narrow-slice-aggregate-gather t c = search needs
 
 narrow-gather-requires : (t : ℕ) → narrow-lts.Need-gather-requires (narrow-claims t) (narrow-at t) narrow.Post narrow-Inv-loop narrow-μ-loop
 narrow-gather-requires t c κs = let p = c .before .before .before .before .before .before .before .before .pre .1 in
-    ((p .s .holds .long, omega arith), (narrow-runs _ _ _ _ _ p, blank 256))
+    let rooted = narrow-rooted _ _ _ _ _ p in
+    ((rooted .0, omega arith), (rooted .1, blank 256))
 
 narrow-add-at : (t : ℕ) → narrow-lts.Need-add-at (narrow-claims t) (narrow-at t) narrow.Post narrow-Inv-loop narrow-μ-loop
 narrow-add-at t c = let p = c .before .before .before .before .before .before .before .before .before .before .pre .1 in
@@ -158,7 +159,7 @@ narrow-loop-holds t c = let p = c .before .before .before .before .before .befor
   fewer-none _,
   λ d. narrow-begin _ _ _ _ _ d _ _ (c .before .before .before .before .before .before .before .tail-at .ensures)
       (c .before .before .before .before .before .disjunctions-at .ensures),
-  c .before .gather .kept .1 .0,
+  c .before .gather .kept .1 .1 .0,
   c .before .gather .ensures,
 )
 
@@ -276,12 +277,13 @@ narrow-renew-requires t c κs = let p =
     let v = c .before .before .before .before .before .before .before .before .before .before .before .before .before .before .before .loop
     .inv in let q = c .before .before .before .before .before .before .before .before .before .before .before .before .before .before
     .loop-test in let one = c .before .before .before .before .before .before .before .narrow-one .ensures in
-    let stands = c .before .before .before .one .given .1 in (
-      (omega (arith, one .standing _ _ stands .0 .len, v .0 .len, p .s .holds .long), v .3),
+    let stands = c .before .before .before .one .given .1 in
+    let rooted = rooted-after _ _ _ _ _ p _ _ _ _ (v .0) (v .2 p) (omega arith) _
+    (c .before .before .before .before .before .before .before .before .before .before .before .before .alternatives-at .ensures) _ _ one _
+    _ stands in (
+      (rooted .0, v .3),
       (
-        runs-after _ _ _ _ _ p _ _ _ _ (v .0) (v .2 p) (omega arith) _
-            (c .before .before .before .before .before .before .before .before .before .before .before .before .alternatives-at .ensures) _ _ one _
-            _ stands,
+        rooted .1,
         sieved-after _ _ _ _ _ p _ _ _ _ (v .0) (v .2 p) (omega arith) _
             (c .before .before .before .before .before .before .before .before .before .before .before .before .alternatives-at .ensures) _ _ one _
             _ stands _ (v .4),
@@ -464,7 +466,7 @@ sift-try-one-requires t c κs = let p = c .before .before .before .before .befor
       omega (arith, c .before .before .before .before .before .before .before .before .before .before .pre .0),
       (
         sift-asks _ _ _ _ _ _ p _ _ _ (v .0) (v .2 p) (omega arith),
-        sieved-since _ _ _ _ (p .s .holds .long) (v .0 .since)
+        sieved-since _ _ _ _ _ (p .s .holds .below) (p .s .holds .long) (v .0 .since)
             (c .before .before .before .before .before .before .before .before .before .before .pre .1 .1),
       ),
     )
