@@ -5,6 +5,31 @@ use Prim.Native.Nat.{ℕ}
 abbrev pub NODES : ℕ
 NODES = 1024
 
+-- both inputs have as many loaded words at most, and all but the last have one after them
+abbrev pub LOADED : ℕ
+LOADED = 2048
+
+abbrev pub TARGETS : ℕ
+TARGETS = 2047
+
+-- the log has as many entries at most, each an address and this times what stood there, which is below the most
+abbrev pub ENTRIES : ℕ
+ENTRIES = 4096
+
+abbrev pub ENTRY_STEP : ℕ
+ENTRY_STEP = 4096
+
+abbrev pub ENTRY_MOST : ℕ
+ENTRY_MOST = 1048576
+
+-- a pending comparison is an arc and this times another
+abbrev pub FRAME_STEP : ℕ
+FRAME_STEP = 4096
+
+-- the words of the longest result
+abbrev pub LONGEST : ℕ
+LONGEST = 2048
+
 -- what each class holds
 abbrev pub HELD : ℕ
 HELD = 0

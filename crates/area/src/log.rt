@@ -5,13 +5,13 @@ use limits::wide;
 ghost use mathlib.Core.Path.{_≡_};
 ghost use Prim.Native.Nat.{_+_, _*_, _≤_, _<_};
 ghost use lib.ListN.{length};
-ghost use Rattle.area.specs.Map.{LOG, SIZE};
+ghost use Rattle.area.specs.Map.{LOG, SIZE, ENTRIES, ENTRY_MOST};
 ghost use Rattle.area.specs.Log.{Logged, Put, Undone};
 
 // Stores v at i of the body, and what stood there in the log, which has n entries. The entries after it.
 pub fn put(w: &mut [u32], n: usize, i: usize, v: u32) -> usize
     requires { ⌜ Logged n (now w) ⌝ }
-    requires { ⌜ (i < LOG) × ((n < 4096) × ((v < 1048576) × (SIZE ≤ length (now w)))) ⌝ }
+    requires { ⌜ (i < LOG) × ((n < ENTRIES) × ((v < ENTRY_MOST) × (SIZE ≤ length (now w)))) ⌝ }
     ensures { λ r. ⌜ Put n (now (w .entry)) i v r (now (w .exit)) ⌝ }
 {
     let old = w[i];

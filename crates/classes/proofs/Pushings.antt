@@ -1,10 +1,13 @@
 -- A push, put together. Assumes nothing.
-use mathlib.Core.Path.{_≡_, refl, sym, ap, subst}
+use mathlib.Core.Path.{_≡_, refl, sym, ap, subst, _∙_}
 use mathlib.Core.Bool.{Bool, true, false}
 use mathlib.Core.List.{List, [], _∷_, _++_}
-use Prim.Native.Nat.{ℕ, _+_, _/_, _%_, _≤_, _<_}
+use Prim.Native.Nat.{ℕ, suc, _+_, _≤_, _<_}
 use native.Mathlib.Omega.{arith}
 use lib.ListN.{length, getD}
+use Rattle.theory.proofs.Weight.{weight}
+use Rattle.packing.specs.Packed.{graph-word, word-nodes, word-number}
+use Rattle.packing.proofs.Packed.{nodes-back, number-back}
 use Rattle.area.specs.Map.{SIZE}
 use Rattle.area.specs.Log.{body, Later, Undone}
 use Rattle.area.proofs.Undo.{later-trans, word, undone-is, undone-later}
@@ -85,22 +88,22 @@ module _ (n k : ℕ) (w : List ℕ) (g base c : ℕ) where
           listed es e i j m = rw (i, j, m) p2
 
 -- the parts of a header
-module _ (n k : ℕ) (w : List ℕ) (g head : ℕ) (is : head ≡ getD (words w) g 0) where
-  pub parts : (es : List Entry) (e : Entry) → e .at ≡ g → Comes n es e w →
-      (e .number ≡ head / 1024 % 1024) × (length (e .graph) ≡ head % 1024)
+module _ (n k : ℕ) (w : List ℕ) (g head base count : ℕ) (is : head ≡ getD (words w) g 0) (first : base ≡ word-number head)
+    (many : count ≡ word-nodes head) where
+  pub parts : (es : List Entry) (e : Entry) → e .at ≡ g → Comes n es e w → (e .number ≡ base) × (length (e .graph) ≡ count)
   parts es e i d =
       let l = d .lies in
-      let f = l .fits in let a = l .few in let b = l .low in
-      let w1 : getD (words w) g 0 ≡ getD (words w) (e .at) 0 = ap (λ (z : ℕ). getD (words w) z 0) (sym i) in
-      let w2 = word-at w (e .at) (omega arith) in
-      let w3 = l .head in
-      (omega arith, omega arith)
+      let word : head ≡ graph-word (length (e .graph)) (e .number) (suc (weight (e .graph))) =
+      is ∙ ap (λ (z : ℕ). getD (words w) z 0) (sym i) ∙ word-at w (e .at) (omega (arith, l .fits)) ∙ l .head in (
+        sym (first ∙ ap word-number word ∙ number-back (length (e .graph)) (e .number) (suc (weight (e .graph))) (l .few) (l .low)),
+        sym (many ∙ ap word-nodes word ∙ nodes-back (length (e .graph)) (e .number) (suc (weight (e .graph))) (l .few)),
+      )
 
-  pub push-adding : Pushing n k w g → Adding n k w g (head / 1024 % 1024) (head % 1024)
+  pub push-adding : Pushing n k w g → Adding n k w g base count
   push-adding p = let q = parts (p .es) (p .e) (p .is) (p .comes) in
       record { es = p .es; e = p .e; is = p .is; number = q .0; many = q .1; holds = p .holds; comes = p .comes }
 
-  module _ (p : Pushing n k w g) (k' : ℕ) (bad : Bool) (w' : List ℕ) (a : Adds n k w g (head / 1024 % 1024) (head % 1024) k' bad w') where
+  module _ (p : Pushing n k w g) (k' : ℕ) (bad : Bool) (w' : List ℕ) (a : Adds n k w g base count k' bad w') where
     fine : bad ≡ false → (es : List Entry) (e : Entry) → e .at ≡ g → Holds n es k w → Comes n es e w → Holds n (es ++ e ∷ []) k' w'
     fine z es e i h d = let q = parts es e i d in a .fine z es e i (q .0) (q .1) h d
 

@@ -4,7 +4,8 @@ use mathlib.Core.Logic.{_⊎_, inl, inr}
 use mathlib.Core.List.{List, [], _∷_, _++_, List·Memᴰ}
 use Prim.Native.Nat.{ℕ, suc, _+_, _*_, _≤_, _<_}
 use lib.ListN.{length, getD}
-use Rattle.area.specs.Map.{WORDS}
+use Rattle.packing.specs.Packed.{number-step, graph-word}
+use Rattle.area.specs.Map.{WORDS, LOADED, ENTRIES}
 use Rattle.loading.specs.Entry.{Entry, graphs}
 use Rattle.loading.specs.Loaded.{located}
 use Rattle.theory.specs.Net.{Graph, beside, Canonical}
@@ -21,10 +22,10 @@ number-of (e ∷ es) (inr y) = number-of es y
 
 -- the graph K lies in the words of w: at g its header, after it its nodes, the first of which has the number n
 pub record Lies (w : List ℕ) (g n : ℕ) (K : Graph) : Type 0 where
-  pub fits : g + suc (weight K) ≤ 2048
-  pub few : length K < 1024
-  pub low : n < 1024
-  pub head : getD w (WORDS + g) 0 ≡ length K + 1024 * n + 1048576 * suc (weight K)
+  pub fits : g + suc (weight K) ≤ LOADED
+  pub few : length K < number-step
+  pub low : n < number-step
+  pub head : getD w (WORDS + g) 0 ≡ graph-word (length K) n (suc (weight K))
   pub nodes : (j : ℕ) → j < weight K → getD w (WORDS + (suc g + j)) 0 ≡ getD (located n K) j 0
 
 -- two graphs that share no number and no word
@@ -40,4 +41,4 @@ pub record Comes (n : ℕ) (es : List Entry) (e : Entry) (w : List ℕ) : Type 0
   pub fits : GraphFits (e .graph)
   pub inside : e .number + length (e .graph) ≤ n
   pub aside : (o : Entry) → List·Memᴰ o es → Aside e o
-  pub room : 3 * n + weights (graphs es ++ e .graph ∷ []) ≤ 4096
+  pub room : 3 * n + weights (graphs es ++ e .graph ∷ []) ≤ ENTRIES

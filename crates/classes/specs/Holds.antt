@@ -5,7 +5,7 @@ use mathlib.Core.Logic.{_⊎_}
 use mathlib.Core.List.{List, [], _∷_, _++_, List·Memᴰ}
 use Prim.Native.Nat.{ℕ, suc, _+_, _*_, _≤_, _<_}
 use lib.ListN.{length, getD}
-use Rattle.area.specs.Map.{WORDS, MARKS, SIZE}
+use Rattle.area.specs.Map.{WORDS, MARKS, SIZE, NODES, ENTRIES}
 use Rattle.theory.specs.Limits.{code-limit}
 use Rattle.theory.specs.Net.{Node, atom, arcs, nodeAt, arcsOf, Canonical, Clash}
 use Rattle.theory.specs.Layout.{GraphFits}
@@ -73,7 +73,7 @@ pub record Sits (n : ℕ) (w : List ℕ) (e : Entry) : Type 0 where
 -- w, with k entries in its log, stands for the graphs es, whose numbers are below n
 pub record Holds (n : ℕ) (es : List Entry) (k : ℕ) (w : List ℕ) : Type 0 where
   pub long : SIZE ≤ length w
-  pub below : n ≤ 1024
+  pub below : n ≤ NODES
   pub G : Pile
   pub H : Done
   pub state : State G H (words w) (targets w) n k 0 [] w
@@ -88,7 +88,7 @@ pub record Holds (n : ℕ) (es : List Entry) (k : ℕ) (w : List ℕ) : Type 0 w
 pub record Since (m : ℕ) (w₀ : List ℕ) (k : ℕ) (w : List ℕ) : Type 0 where
   pub len : length w ≡ length w₀
   pub more : m ≤ k
-  pub few : k ≤ 4096
+  pub few : k ≤ ENTRIES
   pub began : Logged m w₀
   pub logged : Logged k w
   pub keeps : (i : ℕ) → i ≤ m → past i k w ≡ past i m w₀
@@ -150,7 +150,7 @@ pub record Undoable (n k : ℕ) (w : List ℕ) : Type 0 where
 pub record Starts (w w' : List ℕ) : Type 0 where
   pub len : length w' ≡ length w
   pub rest : (j : ℕ) → WORDS ≤ j → getD w' j 0 ≡ getD w j 0
-  pub holds : (n : ℕ) → n ≤ 1024 → Holds n [] 0 w'
+  pub holds : (n : ℕ) → n ≤ NODES → Holds n [] 0 w'
 
 -- what `class_of` asks: some graphs are there
 pub record Labelled (n : ℕ) (w : List ℕ) : Type 0 where

@@ -4,6 +4,7 @@ use mathlib.Core.Path.{_≡_}
 use mathlib.Core.Bool.{Bool, true, false}
 use mathlib.Core.List.{List, [], _∷_, List·Memᴰ}
 use lib.ListN.{length, getD}
+use Rattle.area.specs.Map.{ENTRIES, LOADED}
 use Rattle.theory.specs.Limits.{code-limit}
 use Rattle.theory.specs.Net.{Node, atom, arcs, Graph}
 use Rattle.area.specs.Log.{Later}
@@ -21,7 +22,7 @@ grown H t d = record { K = strung (H .K) t d; U = H .U; E = H .E }
 pub record Batch (G : Pile) (H : Done) (n x from d : ℕ) : Type 0 where
   pub arcs : (i : ℕ) → i < d → List·Memᴰ (from + 2 * i) (G .B) × (G .S (from + 2 * i) ≡ x)
   pub new : (i : ℕ) → i < d → List·Memᴰ (from + 2 * i) (H .K) → ⊥
-  pub room : 3 * n + (2 * (length (H .K) + d) + length (H .U)) ≤ 4096
+  pub room : 3 * n + (2 * (length (H .K) + d) + length (H .U)) ≤ ENTRIES
 
 pub record Batched (F T : List ℕ) (n k : ℕ) (w : List ℕ) (x from d : ℕ) : Type 0 where
   pub G : Pile
@@ -45,7 +46,7 @@ span (arcs l) = 1 + 2 * length l
 pub record AtomAt (F : List ℕ) (G : Pile) (n x p a : ℕ) : Type 0 where
   pub head : getD F p 0 ≡ code-limit + a
   pub small : a < code-limit
-  pub low : p < 2048
+  pub low : p < LOADED
   pub inside : x < n
   pub node : List·Memᴰ x (G .N)
   pub is : G .A x ≡ code-limit + a
@@ -53,7 +54,7 @@ pub record AtomAt (F : List ℕ) (G : Pile) (n x p a : ℕ) : Type 0 where
 -- the node x has d arcs, and its head stands at p
 pub record ArcsAt (F : List ℕ) (G : Pile) (n x p d : ℕ) : Type 0 where
   pub head : getD F p 0 ≡ d
-  pub low : p + (1 + 2 * d) ≤ 2048
+  pub low : p + (1 + 2 * d) ≤ LOADED
   pub inside : x < n
   pub arcs : (i : ℕ) → i < d → List·Memᴰ (p + 1 + 2 * i) (G .B) × (G .S (p + 1 + 2 * i) ≡ x)
 
@@ -64,7 +65,7 @@ NodeAt F G n x p (arcs l) = ArcsAt F G n x p (length l)
 -- nothing of the d words from p on is done, and there is room for them
 pub record Ahead (H : Done) (n p d : ℕ) : Type 0 where
   pub new : (q : ℕ) → p ≤ q → q < p + d → List·Memᴰ q (H .K) → ⊥
-  pub room : 3 * n + (2 * length (H .K) + length (H .U) + d) ≤ 4096
+  pub room : 3 * n + (2 * length (H .K) + length (H .U) + d) ≤ ENTRIES
 
 abbrev pub noded : Done → ℕ → ℕ → Node → Done
 noded H x p (atom a) = withNode H x

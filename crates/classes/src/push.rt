@@ -9,7 +9,8 @@ use forest::chain::loaded;
 use forest::forest::find;
 use forest::merge::Made;
 use forest::settle::unite;
-use limits::wide;
+use packing::nodes_of;
+use packing::number_of;
 ghost use Prim.Native.Nat.{_+_, _≤_, _<_};
 ghost use lib.ListN.{length};
 ghost use Rattle.area.specs.Map.{SIZE};
@@ -58,9 +59,9 @@ pub fn push(w: &mut [u32], k: usize, n: usize, g: usize) -> Pushed
     requires { ⌜ Pushing n k (now w) g ⌝ }
     ensures { λ r. ⌜ Pushes n k (now (w .entry)) g r (now (w .exit)) ⌝ }
 {
-    let head = wide(loaded(w, g));
-    let c = head % 1024;
-    let base = head / 1024 % 1024;
+    let head = loaded(w, g);
+    let c = nodes_of(head);
+    let base = number_of(head);
     let m = add(w, k, n, g, base, c);
     let e = m.k;
     if m.bad {

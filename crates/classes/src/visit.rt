@@ -17,7 +17,8 @@ ghost use mathlib.Core.Path.{_≡_};
 ghost use mathlib.Core.Bool.{true, false};
 ghost use Prim.Native.Nat.{_+_, _*_, _-_, _≤_, _<_};
 ghost use lib.ListN.{length};
-ghost use Rattle.area.specs.Map.{SIZE};
+ghost use Rattle.theory.specs.Limits.{code-limit};
+ghost use Rattle.area.specs.Map.{SIZE, NODES, LOADED, ENTRIES, TARGETS, ENTRY_MOST};
 ghost use Rattle.area.specs.Region.{words};
 ghost use Rattle.forest.specs.Held.{AtomCode};
 ghost use Rattle.forest.specs.State.{targets, Coming, Heading, Headed};
@@ -34,7 +35,7 @@ pub struct Came {
 
 // 1 where the chain of the class of x rises, or 0.
 fn afresh(w: &[u32], k: usize, n: usize, x: usize) -> usize
-    requires { ⌜ (x < n) × ((n ≤ 1024) × (SIZE ≤ length (now w))) ⌝ }
+    requires { ⌜ (x < n) × ((n ≤ NODES) × (SIZE ≤ length (now w))) ⌝ }
     requires { ⌜ Steady n k (now w) ⌝ }
     ensures { λ r. ⌜ Ordered (words (now (w .entry))) n (now (w .entry)) x r ⌝ }
 {
@@ -52,7 +53,7 @@ fn afresh(w: &[u32], k: usize, n: usize, x: usize) -> usize
 
 // The link to begin with for the d arcs of x. Where they are few, each is looked for by itself.
 fn outset(w: &[u32], k: usize, n: usize, x: usize, d: usize) -> usize
-    requires { ⌜ (x < n) × ((n ≤ 1024) × (SIZE ≤ length (now w))) ⌝ }
+    requires { ⌜ (x < n) × ((n ≤ NODES) × (SIZE ≤ length (now w))) ⌝ }
     requires { ⌜ Steady n k (now w) ⌝ }
     ensures { λ r. ⌜ Ordered (words (now (w .entry))) n (now (w .entry)) x r ⌝ }
 {
@@ -65,8 +66,8 @@ fn outset(w: &[u32], k: usize, n: usize, x: usize, d: usize) -> usize
 // The link to go on from after a union that took the log from k entries to e: where it took two at most, no chain has changed, and the
 // arc r is still on that of the class c.
 fn onward(w: &[u32], k: usize, e: usize, n: usize, x: usize, c: usize, r: usize, at: usize) -> usize
-    requires { ⌜ (x < n) × ((n ≤ 1024) × (SIZE ≤ length (now w))) ⌝ }
-    requires { ⌜ (0 < r) × ((r ≤ 2048) × (k ≤ 4096)) ⌝ }
+    requires { ⌜ (x < n) × ((n ≤ NODES) × (SIZE ≤ length (now w))) ⌝ }
+    requires { ⌜ (0 < r) × ((r ≤ LOADED) × (k ≤ ENTRIES)) ⌝ }
     requires { ⌜ Turning (words (now w)) n k e (now w) c r at ⌝ }
     ensures { λ r. ⌜ Ordered (words (now (w .entry))) n (now (w .entry)) x r ⌝ }
 {
@@ -84,8 +85,8 @@ fn onward(w: &[u32], k: usize, e: usize, n: usize, x: usize, c: usize, r: usize,
 
 // The arc t of the node x: it goes onto the chain of its class, or its target joins that of the arc there with its feature.
 fn visit(w: &mut [u32], k: usize, n: usize, x: usize, t: usize, at: usize) -> Came
-    requires { ⌜ (n ≤ 1024) × (SIZE ≤ length (now w)) ⌝ }
-    requires { ⌜ (x < n) × (t < 2047) ⌝ }
+    requires { ⌜ (n ≤ NODES) × (SIZE ≤ length (now w)) ⌝ }
+    requires { ⌜ (x < n) × (t < TARGETS) ⌝ }
     requires { ⌜ Coming (words (now w)) (targets (now w)) n k (now w) x t ⌝ }
     requires { ⌜ Ordered (words (now w)) n (now w) x at ⌝ }
     ensures { λ r. ⌜ Taken (words (now (w .entry))) (targets (now (w .entry))) n k (now (w .entry)) x t (r .k) (r .at) (r .bad)
@@ -136,8 +137,8 @@ fn visit(w: &mut [u32], k: usize, n: usize, x: usize, t: usize, at: usize) -> Ca
 
 // The atom's head v of the node x meets what its class holds.
 fn mark(w: &mut [u32], k: usize, n: usize, x: usize, v: u32) -> Made
-    requires { ⌜ (n ≤ 1024) × ((x < n) × (SIZE ≤ length (now w))) ⌝ }
-    requires { ⌜ AtomCode v × (v < 1048576) ⌝ }
+    requires { ⌜ (n ≤ NODES) × ((x < n) × (SIZE ≤ length (now w))) ⌝ }
+    requires { ⌜ AtomCode v × (v < ENTRY_MOST) ⌝ }
     requires { ⌜ Heading (words (now w)) (targets (now w)) n k (now w) x v ⌝ }
     ensures { λ r. ⌜ Headed (words (now (w .entry))) (targets (now (w .entry))) n k (now (w .entry)) x v (r .k) (r .bad) (now (w .exit)) ⌝ }
 {
@@ -174,8 +175,8 @@ fn mark(w: &mut [u32], k: usize, n: usize, x: usize, v: u32) -> Made
 
 // The d arcs of the node x that stand from `from` on.
 fn arcs(w: &mut [u32], k: usize, n: usize, x: usize, from: usize, d: usize) -> Made
-    requires { ⌜ (n ≤ 1024) × (SIZE ≤ length (now w)) ⌝ }
-    requires { ⌜ (x < n) × (from + 2 * d ≤ 2048) ⌝ }
+    requires { ⌜ (n ≤ NODES) × (SIZE ≤ length (now w)) ⌝ }
+    requires { ⌜ (x < n) × (from + 2 * d ≤ LOADED) ⌝ }
     requires { ⌜ Batched (words (now w)) (targets (now w)) n k (now w) x from d ⌝ }
     ensures { λ r. ⌜ Run (words (now (w .entry))) (targets (now (w .entry))) n k (now (w .entry)) x from d (r .k) (r .bad)
         (now (w .exit)) ⌝ }
@@ -205,7 +206,7 @@ fn arcs(w: &mut [u32], k: usize, n: usize, x: usize, from: usize, d: usize) -> M
 
 // The node x, whose head stands at p.
 fn node(w: &mut [u32], k: usize, n: usize, x: usize, p: usize) -> Made
-    requires { ⌜ (n ≤ 1024) × (SIZE ≤ length (now w)) ⌝ }
+    requires { ⌜ (n ≤ NODES) × (SIZE ≤ length (now w)) ⌝ }
     requires { ⌜ Noding (words (now w)) (targets (now w)) n k (now w) x p ⌝ }
     ensures { λ r. ⌜ Noded (words (now (w .entry))) (targets (now (w .entry))) n k (now (w .entry)) x p (r .k) (r .bad) (now (w .exit)) ⌝ }
 {
@@ -218,14 +219,14 @@ fn node(w: &mut [u32], k: usize, n: usize, x: usize, p: usize) -> Made
 
 // How many words a node with the head h takes.
 fn span(h: u32) -> usize
-    ensures { λ r. ⌜ ((65536 ≤ h → r ≡ 1) × (h < 65536 → r ≡ 1 + 2 * h)) ⌝ }
+    ensures { λ r. ⌜ ((code-limit ≤ h → r ≡ 1) × (h < code-limit → r ≡ 1 + 2 * h)) ⌝ }
 {
     if h >= CODE_LIMIT { 1 } else { 1 + 2 * wide(h) }
 }
 
 // The c nodes from x on, the first of which has its head at p.
 pub fn nodes(w: &mut [u32], k: usize, n: usize, x: usize, p: usize, c: usize) -> Made
-    requires { ⌜ (n ≤ 1024) × (SIZE ≤ length (now w)) ⌝ }
+    requires { ⌜ (n ≤ NODES) × (SIZE ≤ length (now w)) ⌝ }
     requires { ⌜ Listing (words (now w)) (targets (now w)) n k (now w) x p c ⌝ }
     ensures { λ r. ⌜ Listed (words (now (w .entry))) (targets (now (w .entry))) n k (now (w .entry)) x p c (r .k) (r .bad)
         (now (w .exit)) ⌝ }

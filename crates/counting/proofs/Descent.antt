@@ -14,7 +14,7 @@ use Rattle.engine.specs.Placed.{Placed, place, Places, stop, _also_, Options, n
 use Rattle.engine.specs.Marks.{Marking}
 use Rattle.engine.specs.Counting.{count-at, count-all-at, count-any-at}
 use Rattle.modes_by_marks.proofs.Counting.{count-left}
-use Rattle.loading.specs.Loaded.{number-step}
+use Rattle.packing.specs.Packed.{number-step}
 use Rattle.loading.specs.Numbered.{places, options}
 use Rattle.loading.specs.At.{AtAll, AtAny}
 use Rattle.loading.specs.Lying.{Here}

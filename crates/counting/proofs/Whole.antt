@@ -16,7 +16,8 @@ use Rattle.engine.specs.Marks.{Marking, all-kept}
 use Rattle.engine.specs.Counting.{count-at}
 use Rattle.modes_by_marks.proofs.Marks.{keep-all-marked}
 use Rattle.modes_by_marks.proofs.Counting.{count-left}
-use Rattle.loading.specs.Loaded.{number-step, nodes-in, nodes-any}
+use Rattle.packing.specs.Packed.{number-step}
+use Rattle.loading.specs.Loaded.{nodes-in, nodes-any}
 use Rattle.loading.specs.Numbered.{numbered, numbered-all, numbered-any}
 use Rattle.loading.specs.At.{At}
 use Rattle.loading.proofs.Names.{numbered-strip}

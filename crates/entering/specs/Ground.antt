@@ -6,7 +6,7 @@ use mathlib.Core.List.{List, List·Memᴰ}
 use Rattle.theory.specs.Net.{Canonical}
 use Rattle.area.specs.Region.{words}
 use Rattle.loading.specs.Entry.{Entry}
-use Rattle.loading.specs.Loaded.{number-step}
+use Rattle.packing.specs.Packed.{number-step}
 use Rattle.classes.specs.Entry.{Comes}
 use Rattle.classes.specs.Holds.{Holds}
 use Rattle.entering.specs.Taken.{Inside}

@@ -6,7 +6,7 @@ use mathlib.Core.Logic.{_⊎_}
 use mathlib.Core.List.{List, [], _∷_, _++_, List·Memᴰ}
 use lib.Dec.{eqb}
 use lib.ListN.{length, getD}
-use Rattle.area.specs.Map.{PARENT, NEXT, STACK, WORDS}
+use Rattle.area.specs.Map.{PARENT, NEXT, STACK, WORDS, TARGETS, LOADED, FRAME_STEP, ENTRIES, NODES}
 use Rattle.area.specs.Region.{region, words}
 use Rattle.forest.specs.Labels.{Eq}
 use Rattle.area.specs.Log.{Logged, Later}
@@ -15,7 +15,7 @@ use Rattle.forest.specs.Held.{ChainCode, AtomCode}
 
 -- ---- what follows each of the loaded words
 unfoldable pub targets : List ℕ → List ℕ
-targets w = region (WORDS + 1) 2047 w
+targets w = region (WORDS + 1) TARGETS w
 
 -- ---- the meaning
 -- what is pushed: the source S of each arc, the arcs B, the roots R, the nodes N, and the head A of the atom of each node, or 0
@@ -51,12 +51,12 @@ pub record Done : Type 0 where
 -- the chain from the code x is xs: a code is 0, or an arc and 1
 abbrev pub Chain : List ℕ → ℕ → List ℕ → Type 0
 Chain w x [] = x ≡ 0
-Chain w x (j ∷ xs) = (x ≡ suc j) × ((j < 2048) × Chain w (getD w (NEXT + j) 0) xs)
+Chain w x (j ∷ xs) = (x ≡ suc j) × ((j < LOADED) × Chain w (getD w (NEXT + j) 0) xs)
 
 -- the chain from x up to b
 abbrev pub Seg : List ℕ → ℕ → ℕ → List ℕ → Type 0
 Seg w b x [] = x ≡ b
-Seg w b x (j ∷ xs) = (x ≡ suc j) × ((j < 2048) × ((suc j ≡ b → ⊥) × Seg w b (getD w (NEXT + j) 0) xs))
+Seg w b x (j ∷ xs) = (x ≡ suc j) × ((j < LOADED) × ((suc j ≡ b → ⊥) × Seg w b (getD w (NEXT + j) 0) xs))
 
 -- i is the first arc of the list with the feature f
 abbrev pub First : List ℕ → ℕ → List ℕ → ℕ → Type 0
@@ -70,7 +70,7 @@ None F f (j ∷ xs) = (getD F j 0 ≡ f → ⊥) × None F f xs
 -- the first arc with the feature f from x on is q, after the arcs js
 abbrev pub Way : List ℕ → List ℕ → ℕ → ℕ → List ℕ → ℕ → Type 0
 Way w F f x [] q = (x ≡ suc q) × (getD F q 0 ≡ f)
-Way w F f x (j ∷ js) q = (x ≡ suc j) × ((j < 2048) × ((getD F j 0 ≡ f → ⊥) × Way w F f (getD w (NEXT + j) 0) js q))
+Way w F f x (j ∷ js) q = (x ≡ suc j) × ((j < LOADED) × ((getD F j 0 ≡ f → ⊥) × Way w F f (getD w (NEXT + j) 0) js q))
 
 -- for measures: the length of the chain from x up to b
 abbrev pub orSuc : Bool → ℕ → ℕ
@@ -84,7 +84,7 @@ hops (suc f) w b x = orSuc (eqb x b) (hops f w b (getD w (NEXT + (x - 1)) 0))
 pub record Runs (w : List ℕ) (x : ℕ) : Type 0 where
   pub xs : List ℕ
   pub chain : Chain w x xs
-  pub short : length xs ≤ 2048
+  pub short : length xs ≤ LOADED
 
 unfoldable pub total : List (List ℕ) → ℕ
 total [] = 0
@@ -93,7 +93,7 @@ total (x ∷ C) = length x + total C
 -- ---- frames
 unfoldable pub frames : List ℕ → ℕ → List (ℕ × ℕ)
 frames w zero = []
-frames w (suc s) = (getD w (STACK + s) 0 % 4096, getD w (STACK + s) 0 / 4096) ∷ frames w s
+frames w (suc s) = (getD w (STACK + s) 0 % FRAME_STEP, getD w (STACK + s) 0 / FRAME_STEP) ∷ frames w s
 
 -- the pair of targets of an arc of a frame's part and of its first match from b on is still to be merged
 pub data Near (F T M w : List ℕ) (fs : List (ℕ × ℕ)) : ℕ → ℕ → Type 0 where
@@ -107,7 +107,7 @@ pub data Near (F T M w : List ℕ) (fs : List (ℕ × ℕ)) : ℕ → ℕ → Ty
 pub record Framed (n : ℕ) (M : List ℕ) (C : List (List ℕ)) (w : List ℕ) (a b : ℕ) : Type 0 where
   pub zs : List ℕ
   pub seg : Seg w b a zs
-  pub short : length zs ≤ 2048
+  pub short : length zs ≤ LOADED
   pub c : ℕ
   pub c-in : c < n
   pub own : (q : ℕ) → List·Memᴰ q zs → List·Memᴰ q (getD C (getD M c 0) [])
@@ -129,10 +129,10 @@ pub record State (G : Pile) (H : Done) (F T : List ℕ) (n k s : ℕ) (fs : List
   pub shape : Shape (region PARENT n w)
   -- each root may still be merged, with three entries of the log; each arc takes two and each atom one
   pub room : k + 3 * tops 0 (region PARENT n w) ≤ 3 * n + (2 * length (H .K) + length (H .U))
-  pub few : 3 * n + (2 * length (H .K) + length (H .U)) ≤ 4096
+  pub few : 3 * n + (2 * length (H .K) + length (H .U)) ≤ ENTRIES
   pub stack : s + tops 0 (region PARENT n w) ≤ n
   -- what is pushed is in bounds
-  pub arcs : (q : ℕ) → List·Memᴰ q (G .B) → (q < 2047) × ((G .S q < n) × (getD T q 0 < n))
+  pub arcs : (q : ℕ) → List·Memᴰ q (G .B) → (q < TARGETS) × ((G .S q < n) × (getD T q 0 < n))
   pub atoms : (i : ℕ) → List·Memᴰ i (G .N) → (G .A i ≡ 0 → ⊥) → AtomCode (G .A i)
   -- M labels each node by its class
   pub M : List ℕ
@@ -174,12 +174,12 @@ withPair H x y = record { K = H .K; U = H .U; E = (x, y) ∷ H .E }
 
 -- arcs that have one after them keep it
 abbrev pub Grow : List ℕ → List ℕ → Type 0
-Grow w w' = (j : ℕ) → j < 2048 → (getD w (NEXT + j) 0 ≡ 0 → ⊥) → getD w' (NEXT + j) 0 ≡ getD w (NEXT + j) 0
+Grow w w' = (j : ℕ) → j < LOADED → (getD w (NEXT + j) 0 ≡ 0 → ⊥) → getD w' (NEXT + j) 0 ≡ getD w (NEXT + j) 0
 
 -- no chain has changed, but one that went from a class to an empty one
 pub record Calm (w w' : List ℕ) : Type 0 where
-  pub nexts : (j : ℕ) → j < 2048 → getD w' (NEXT + j) 0 ≡ getD w (NEXT + j) 0
-  pub firsts : (c : ℕ) → c < 1024 → (getD w c 0 ≡ 0 → ⊥) → getD w' c 0 ≡ getD w c 0
+  pub nexts : (j : ℕ) → j < LOADED → getD w' (NEXT + j) 0 ≡ getD w (NEXT + j) 0
+  pub firsts : (c : ℕ) → c < NODES → (getD w c 0 ≡ 0 → ⊥) → getD w' c 0 ≡ getD w c 0
 
 -- a merge of the classes of x and y; only where two chains meet does it take three entries
 pub record Met (n k s : ℕ) (w : List ℕ) (x y k' s' : ℕ) (bad : Bool) (w' : List ℕ) : Type 0 where
@@ -216,7 +216,7 @@ ClashTold F T n k s w x to = (G : Pile) (H : Done) (fs : List (ℕ × ℕ)) → 
 pub record Turned (F T : List ℕ) (n k s : ℕ) (w : List ℕ) (x to k' s' : ℕ) (bad : Bool) (w' : List ℕ) : Type 0 where
   pub later : Later k w k' w'
   pub fine : bad ≡ false → Walk F T n k s w x to k' s' w' (getD w' (NEXT + (x - 1)) 0)
-  pub less : bad ≡ false → hops 2048 w' to (getD w' (NEXT + (x - 1)) 0) < hops 2048 w to x
+  pub less : bad ≡ false → hops LOADED w' to (getD w' (NEXT + (x - 1)) 0) < hops LOADED w to x
   pub clash : bad ≡ true → ClashTold F T n k s w x to
 
 pub record Drained (F T : List ℕ) (n k s : ℕ) (w : List ℕ) (x to k' s' : ℕ) (bad : Bool) (w' : List ℕ) : Type 0 where
@@ -244,7 +244,7 @@ pub record United (F T : List ℕ) (n k : ℕ) (w : List ℕ) (x y k' : ℕ) (ba
 
 -- ---- chains, as the code walks them
 pub record Last (w : List ℕ) (x r : ℕ) : Type 0 where
-  pub below : r < 2048
+  pub below : r < LOADED
   pub end : getD w (NEXT + r) 0 ≡ 0
   pub on : (xs : List ℕ) → Chain w x xs → List·Memᴰ r xs
 
@@ -268,7 +268,7 @@ pub record Fresh (G : Pile) (H : Done) (n x t : ℕ) : Type 0 where
   pub arc : List·Memᴰ t (G .B)
   pub new : List·Memᴰ t (H .K) → ⊥
   pub is : (G .S) t ≡ x
-  pub room : 3 * n + (2 * suc (length (H .K)) + length (H .U)) ≤ 4096
+  pub room : 3 * n + (2 * suc (length (H .K)) + length (H .U)) ≤ ENTRIES
 
 pub record Coming (F T : List ℕ) (n k : ℕ) (w : List ℕ) (x t : ℕ) : Type 0 where
   pub G : Pile
@@ -289,7 +289,7 @@ pub record Bearing (G : Pile) (H : Done) (n x v : ℕ) : Type 0 where
   pub node : List·Memᴰ x (G .N)
   pub small : x < n
   pub is : (G .A) x ≡ v
-  pub room : 3 * n + (2 * length (H .K) + suc (length (H .U))) ≤ 4096
+  pub room : 3 * n + (2 * length (H .K) + suc (length (H .U))) ≤ ENTRIES
 
 pub record Heading (F T : List ℕ) (n k : ℕ) (w : List ℕ) (x v : ℕ) : Type 0 where
   pub G : Pile

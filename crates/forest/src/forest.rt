@@ -4,13 +4,13 @@ use limits::wide;
 ghost use mathlib.Core.Path.{_≡_};
 ghost use Prim.Native.Nat.{_+_, _≤_, _<_};
 ghost use lib.ListN.{length, getD};
-ghost use Rattle.area.specs.Map.{PARENT, SIZE};
+ghost use Rattle.area.specs.Map.{PARENT, SIZE, NODES};
 ghost use Rattle.area.specs.Region.{region};
 ghost use Rattle.forest.specs.Forest.{Shape, Root};
 
 // The parent of x.
 fn parent(w: &[u32], n: usize, x: usize) -> usize
-    requires { ⌜ (x < n) × ((n ≤ 1024) × (SIZE ≤ length (now w))) ⌝ }
+    requires { ⌜ (x < n) × ((n ≤ NODES) × (SIZE ≤ length (now w))) ⌝ }
     requires { ⌜ Shape (region PARENT n (now w)) ⌝ }
     ensures { λ r. ⌜ (r ≡ getD (region PARENT n (now (w .entry))) x 0) × (r ≤ x) ⌝ }
 {
@@ -19,7 +19,7 @@ fn parent(w: &[u32], n: usize, x: usize) -> usize
 
 // The root of i.
 pub fn find(w: &[u32], n: usize, i: usize) -> usize
-    requires { ⌜ (i < n) × ((n ≤ 1024) × (SIZE ≤ length (now w))) ⌝ }
+    requires { ⌜ (i < n) × ((n ≤ NODES) × (SIZE ≤ length (now w))) ⌝ }
     requires { ⌜ Shape (region PARENT n (now w)) ⌝ }
     ensures { λ r. ⌜ Root (region PARENT n (now (w .entry))) i r ⌝ }
 {

@@ -15,7 +15,7 @@ ghost use mathlib.Core.Path.{_≡_};
 ghost use mathlib.Core.Bool.{true, false};
 ghost use Prim.Native.Nat.{_+_, _*_, _≤_, _<_};
 ghost use lib.ListN.{length, getD};
-ghost use Rattle.area.specs.Map.{PARENT, SIZE};
+ghost use Rattle.area.specs.Map.{PARENT, SIZE, NODES};
 ghost use Rattle.area.specs.Region.{region};
 ghost use Rattle.forest.specs.declared.held.Held.the-variants.{Nothing, Arcs};
 ghost use Rattle.forest.specs.Held.{held-by, Covers};
@@ -30,7 +30,7 @@ pub struct Made {
 
 // The class b goes under the class a, which keeps what it holds: b holds nothing, or the same atom.
 fn go_under(w: &mut [u32], k: usize, s: usize, n: usize, a: usize, b: usize) -> Made
-    requires { ⌜ (a < b) × ((b < n) × ((n ≤ 1024) × (SIZE ≤ length (now w)))) ⌝ }
+    requires { ⌜ (a < b) × ((b < n) × ((n ≤ NODES) × (SIZE ≤ length (now w)))) ⌝ }
     requires { ⌜ (getD (region PARENT n (now w)) a 0 ≡ a) × (getD (region PARENT n (now w)) b 0 ≡ b) ⌝ }
     requires { ⌜ Covers (now w) a b ⌝ }
     requires { ⌜ Ready n k s (now w) ⌝ }
@@ -46,7 +46,7 @@ fn go_under(w: &mut [u32], k: usize, s: usize, n: usize, a: usize, b: usize) -> 
 
 // The class b goes under the class a, which holds nothing and takes over what b holds.
 fn take_over(w: &mut [u32], k: usize, s: usize, n: usize, a: usize, b: usize) -> Made
-    requires { ⌜ (a < b) × ((b < n) × ((n ≤ 1024) × (SIZE ≤ length (now w)))) ⌝ }
+    requires { ⌜ (a < b) × ((b < n) × ((n ≤ NODES) × (SIZE ≤ length (now w)))) ⌝ }
     requires { ⌜ (getD (region PARENT n (now w)) a 0 ≡ a) × (getD (region PARENT n (now w)) b 0 ≡ b) ⌝ }
     requires { ⌜ held-by (now w) a ≡ Nothing ⌝ }
     requires { ⌜ Ready n k s (now w) ⌝ }
@@ -64,7 +64,7 @@ fn take_over(w: &mut [u32], k: usize, s: usize, n: usize, a: usize, b: usize) ->
 
 // The class b goes under the class a, where both have chains, from p and from q.
 fn knit(w: &mut [u32], k: usize, s: usize, n: usize, a: usize, b: usize, p: usize, q: usize) -> Made
-    requires { ⌜ (a < b) × ((b < n) × ((n ≤ 1024) × (SIZE ≤ length (now w)))) ⌝ }
+    requires { ⌜ (a < b) × ((b < n) × ((n ≤ NODES) × (SIZE ≤ length (now w)))) ⌝ }
     requires { ⌜ (getD (region PARENT n (now w)) a 0 ≡ a) × (getD (region PARENT n (now w)) b 0 ≡ b) ⌝ }
     requires { ⌜ (held-by (now w) b ≡ Arcs p) × (held-by (now w) a ≡ Arcs q) ⌝ }
     requires { ⌜ Ready n k s (now w) ⌝ }
@@ -86,7 +86,7 @@ fn knit(w: &mut [u32], k: usize, s: usize, n: usize, a: usize, b: usize, p: usiz
 
 // The class b goes under the class a.
 fn fuse(w: &mut [u32], k: usize, s: usize, n: usize, a: usize, b: usize) -> Made
-    requires { ⌜ (a < b) × ((b < n) × ((n ≤ 1024) × (SIZE ≤ length (now w)))) ⌝ }
+    requires { ⌜ (a < b) × ((b < n) × ((n ≤ NODES) × (SIZE ≤ length (now w)))) ⌝ }
     requires { ⌜ (getD (region PARENT n (now w)) a 0 ≡ a) × (getD (region PARENT n (now w)) b 0 ≡ b) ⌝ }
     requires { ⌜ Ready n k s (now w) ⌝ }
     ensures { λ r. ⌜ Met n k s (now (w .entry)) a b (r .k) (r .s) (r .bad) (now (w .exit)) ⌝ }
@@ -120,7 +120,7 @@ fn fuse(w: &mut [u32], k: usize, s: usize, n: usize, a: usize, b: usize) -> Made
 
 // The classes of x and y become one.
 pub fn join(w: &mut [u32], k: usize, s: usize, n: usize, x: usize, y: usize) -> Made
-    requires { ⌜ (x < n) × ((y < n) × ((n ≤ 1024) × (SIZE ≤ length (now w)))) ⌝ }
+    requires { ⌜ (x < n) × ((y < n) × ((n ≤ NODES) × (SIZE ≤ length (now w)))) ⌝ }
     requires { ⌜ Ready n k s (now w) ⌝ }
     ensures { λ r. ⌜ Met n k s (now (w .entry)) x y (r .k) (r .s) (r .bad) (now (w .exit)) ⌝ }
 {

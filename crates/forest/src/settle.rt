@@ -11,13 +11,13 @@ ghost use mathlib.Core.Path.{_≡_};
 ghost use mathlib.Core.Bool.{true, false};
 ghost use Prim.Native.Nat.{_+_, _-_, _≤_, _<_};
 ghost use lib.ListN.{length};
-ghost use Rattle.area.specs.Map.{SIZE};
+ghost use Rattle.area.specs.Map.{SIZE, NODES};
 ghost use Rattle.area.specs.Region.{words};
 ghost use Rattle.forest.specs.State.{targets, Working, Turned, Drained, Stacked, Settled, Asked, United};
 
 // The first arc of what is left of a frame: its target joins that of the first arc from `to` on with its feature.
 fn step(w: &mut [u32], k: usize, s: usize, n: usize, x: usize, to: usize) -> Made
-    requires { ⌜ (n ≤ 1024) × (SIZE ≤ length (now w)) ⌝ }
+    requires { ⌜ (n ≤ NODES) × (SIZE ≤ length (now w)) ⌝ }
     requires { ⌜ (x ≡ to → ⊥) ⌝ }
     requires { ⌜ Working (words (now w)) (targets (now w)) n k s x to (now w) ⌝ }
     ensures { λ r. ⌜ Turned (words (now (w .entry))) (targets (now (w .entry))) n k s (now (w .entry)) x to (r .k) (r .s) (r .bad)
@@ -41,7 +41,7 @@ fn step(w: &mut [u32], k: usize, s: usize, n: usize, x: usize, to: usize) -> Mad
 
 // A frame, to its end.
 fn drain(w: &mut [u32], k: usize, s: usize, n: usize, from: usize, to: usize) -> Made
-    requires { ⌜ (n ≤ 1024) × (SIZE ≤ length (now w)) ⌝ }
+    requires { ⌜ (n ≤ NODES) × (SIZE ≤ length (now w)) ⌝ }
     requires { ⌜ Working (words (now w)) (targets (now w)) n k s from to (now w) ⌝ }
     ensures { λ r. ⌜ Drained (words (now (w .entry))) (targets (now (w .entry))) n k s (now (w .entry)) from to (r .k) (r .s) (r .bad)
         (now (w .exit)) ⌝ }
@@ -71,7 +71,7 @@ fn drain(w: &mut [u32], k: usize, s: usize, n: usize, from: usize, to: usize) ->
 
 // All frames, until none is left.
 fn settle(w: &mut [u32], k: usize, s: usize, n: usize) -> Made
-    requires { ⌜ (n ≤ 1024) × (SIZE ≤ length (now w)) ⌝ }
+    requires { ⌜ (n ≤ NODES) × (SIZE ≤ length (now w)) ⌝ }
     requires { ⌜ Stacked (words (now w)) (targets (now w)) n k s (now w) ⌝ }
     ensures { λ r. ⌜ Settled (words (now (w .entry))) (targets (now (w .entry))) n k s (now (w .entry)) (r .k) (r .bad) (now (w .exit)) ⌝ }
 {
@@ -102,7 +102,7 @@ fn settle(w: &mut [u32], k: usize, s: usize, n: usize) -> Made
 
 // The classes of x and y become one, with all that follows.
 pub fn unite(w: &mut [u32], k: usize, n: usize, x: usize, y: usize) -> Made
-    requires { ⌜ (n ≤ 1024) × (SIZE ≤ length (now w)) ⌝ }
+    requires { ⌜ (n ≤ NODES) × (SIZE ≤ length (now w)) ⌝ }
     requires { ⌜ (x < n) × (y < n) ⌝ }
     requires { ⌜ Asked (words (now w)) (targets (now w)) n k (now w) x y ⌝ }
     ensures { λ r. ⌜ United (words (now (w .entry))) (targets (now (w .entry))) n k (now (w .entry)) x y (r .k) (r .bad) (now (w .exit)) ⌝ }

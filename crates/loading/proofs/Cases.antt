@@ -7,7 +7,8 @@ use Rattle.theory.specs.Net.{Graph, atom, arcs}
 use Rattle.theory.specs.Descr.{Desc, desc, end, _and_, fail, _or_}
 use Rattle.theory.specs.Layout.{words}
 use Rattle.theory.specs.Known.{P}
-use Rattle.loading.specs.Loaded.{header, closing, loaded}
+use Rattle.packing.specs.Packed.{tail-word}
+use Rattle.loading.specs.Loaded.{header, loaded}
 
 -- feature 1 is this atom
 abbrev says : ℕ → Graph
@@ -22,5 +23,5 @@ known-words = refl
 pub known-loaded : loaded 1024 5 known
     ≡ (1 + 1024 * 5 + 1048576 * 2) ∷ 0 ∷ (1 + 4096 * 1040) ∷ 2 ∷ (2 + 1024 * 6 + 1048576 * 5) ∷ 1 ∷ 1 ∷ 7 ∷ 65546 ∷ (4096 * 1034)
     ∷ (2 + 1024 * 8 + 1048576 * 5) ∷ 1 ∷ 1 ∷ 9 ∷ 65547 ∷ (4096 * 1040) ∷ []
-unfolding header closing
+unfolding Rattle.packing.specs.Packed.graph-word Rattle.packing.specs.Packed.tail-word
 known-loaded = refl

@@ -14,7 +14,8 @@ use Rattle.theory.specs.Layout.{nodes-words, words, disjs-words, alts-words}
 use Rattle.layout.specs.Standing.{Stands}
 use Rattle.layout.proofs.Standing.{stands-append, stands-cons, stands-length}
 use Rattle.loading.specs.Entry.{Entry}
-use Rattle.loading.specs.Loaded.{extent, header, closing, located, nodes-in, nodes-all, nodes-any, loaded, loaded-all, loaded-any}
+use Rattle.packing.specs.Packed.{tail-word}
+use Rattle.loading.specs.Loaded.{extent, header, located, nodes-in, nodes-all, nodes-any, loaded, loaded-all, loaded-any}
 use Rattle.loading.proofs.Sizes.{located-length, loaded-length, any-length}
 
 abbrev pub entry : ℕ → ℕ → Graph → Entry
@@ -142,7 +143,7 @@ module _ (t : List ℕ) where
   mutual
     pub entries-lie : (p n q : ℕ) (d : Desc) → Stands t p (loaded p n d) q → Lie (entries p n d)
     entries-lie p n q (desc g ds) s =
-        let word = closing (disjs ds) (p + length (words (desc g ds))) in
+        let word = tail-word (disjs ds) (p + length (words (desc g ds))) in
         let inner = loaded-all (p + extent g + 1) (n + length g) ds in
         let parts = stands-append t (header n g ∷ located n g) (word ∷ inner) p q .0 s in
         let far : parts .0 ≡ p + extent g = stands-length t (header n g ∷ located n g) p (parts .0) (parts .1)

@@ -1,10 +1,9 @@
--- `Sizes` has lengths and bounds, `Packed` takes packed words apart, `Names` has the laws of the names, `Walking` those of what stands
+-- `Sizes` has lengths and bounds, `Names` has the laws of the names, `Walking` those of what stands
 -- loaded, `Loads` says that what is loaded stands so, `Lying` has its bounds,
 -- `Entries` lists its graphs, `Cases` has a known input.
 -- `Putting` has the laws of words put somewhere, `Series` those of things loaded one after the other, `Sequels` says which things come
 -- so, `Parts` what their functions ask and promise.
 pub mod Sizes
-pub mod Packed
 pub mod Names
 pub mod Putting
 pub mod Walking

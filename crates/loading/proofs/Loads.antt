@@ -12,7 +12,8 @@ use Rattle.theory.proofs.Meaning.{canonical-some}
 use Rattle.theory.proofs.Mean.{Can, CanAll, CanAny}
 use Rattle.layout.specs.Standing.{Stands}
 use Rattle.layout.proofs.Standing.{stands-append, stands-nil, stands-cons, stands-length}
-use Rattle.loading.specs.Loaded.{extent, header, closing, located, nodes-in, nodes-all, nodes-any, loaded, loaded-all, loaded-any}
+use Rattle.packing.specs.Packed.{tail-word}
+use Rattle.loading.specs.Loaded.{extent, header, located, nodes-in, nodes-all, nodes-any, loaded, loaded-all, loaded-any}
 use Rattle.loading.specs.Numbered.{numbered, numbered-all, numbered-any, places}
 use Rattle.loading.specs.At.{At, AtAll, AtAny}
 use Rattle.loading.proofs.Sizes.{located-length, loaded-length, any-length}
@@ -27,11 +28,11 @@ module _ (t : List ℕ) where
         let far : parts .0 ≡ p + extent g = stands-length t (header n g ∷ located n g) p (parts .0) (parts .1)
         ∙ ap (λ (k : ℕ). p + suc k) (located-length n g) in
         let graph = stands-cons t (header n g) (located n g) p (parts .0) .0 (parts .1) in
-        let word = closing (disjs ds) (p + length (words (desc g ds))) in
+        let word = tail-word (disjs ds) (p + length (words (desc g ds))) in
         let inner = loaded-all (p + extent g + 1) (n + length g) ds in
         let rest = stands-cons t word inner (p + extent g) q .0 (subst (λ (k : ℕ). Stands t k (word ∷ inner) q) far (parts .2)) in
-        let count : word ≡ closing (places (numbered-all (n + length g) ds)) q =
-        ap₂ closing (sym (numbered-places (n + length g) ds)) (sym whole) in (
+        let count : word ≡ tail-word (places (numbered-all (n + length g) ds)) q =
+        ap₂ tail-word (sym (numbered-places (n + length g) ds)) (sym whole) in (
           canonical-some g (c .0),
           graph .0,
           graph .1,

@@ -14,7 +14,8 @@ use Rattle.theory.proofs.Reading.{well-can}
 use Rattle.layout.specs.Standing.{Stands, graph-words}
 use Rattle.layout.proofs.Standing.{stands-nil, stands-length, stands-order, stands-within, stands-whole, stands-atom, stands-node}
 use Rattle.layout.proofs.Standing.{stands-arc, stands-graph, stands-disjunction, stands-description}
-use Rattle.loading.specs.Loaded.{extent, number-step, extent-step, end-step, header, closing, moved-arcs, located, loaded, loaded-all}
+use Rattle.packing.specs.Packed.{graph-word, tail-word}
+use Rattle.loading.specs.Loaded.{extent, header, moved-arcs, located, loaded, loaded-all}
 use Rattle.loading.specs.Loaded.{loaded-any}
 use Rattle.loading.specs.Loading.{Put, Kind, AllLow, its-arcs, a-node, its-nodes, a-graph, a-disjunction, a-description, Room, Asked}
 use Rattle.loading.specs.Loading.{Loads, Loadable, LoadedAt}
@@ -129,8 +130,7 @@ module _ (t ws : List ℕ) (shift p n : ℕ) (room : shift + length ws ≤ lengt
       )
 
   pub graph-loads : (u : List ℕ) (r w : ℕ) → Loads (its-nodes (getD ws p 0)) ws (p + 1) shift n t u r n →
-      w ≡ getD ws p 0 + number-step * n + extent-step * (r - p) → Loads a-graph ws p shift n t (set u (shift + p) w) r (n + getD ws p 0)
-  unfolding header
+      w ≡ graph-word (getD ws p 0) n (r - p) → Loads a-graph ws p shift n t (set u (shift + p) w) r (n + getD ws p 0)
   graph-loads u r w loads e g q f s =
       let parts = stands-graph ws g p q .0 s in
       let there = parts .0 in
@@ -138,7 +138,8 @@ module _ (t ws : List ℕ) (shift p n : ℕ) (room : shift + length ws ≤ lengt
       let done = loads g q (sym count, f .0, f .1) (parts .2) in
       let here = done .0 in
       let far = stands-length ws (nodes-words g) (p + 1) q (parts .2) in
-      let value : w ≡ header n g = omega arith in (
+      let size : r - p ≡ extent g = omega arith in
+      let value : w ≡ header n g = e ∙ ap₂ (λ (c x : ℕ). graph-word c n x) count size in (
         here,
         omega arith,
         subst (λ (y : ℕ). Put t (set u (shift + p) w) (shift + p) (y ∷ located n g) (shift + q)) value
@@ -205,9 +206,8 @@ module _ (ws : List ℕ) (few : length ws ≤ input-limit) where
         (far, omega (arith, weights-fit-all ds, stands-length ws (disjs-words ds) (r + 1) (ask .1) (ask .3)), there)
 
     pub description-loads : (v : List ℕ) (e m w : ℕ) → shift + length ws ≤ length t →
-        Loads (its-disjunctions left (getD ws r 0)) ws (r + 1) shift k u v e m → w ≡ getD ws r 0 + end-step * (shift + e) →
+        Loads (its-disjunctions left (getD ws r 0)) ws (r + 1) shift k u v e m → w ≡ tail-word (getD ws r 0) (shift + e) →
         Loads (a-description left) ws p shift n t (set v (shift + r) w) e m
-    unfolding closing
     description-loads v e m w room others value (desc g ds) q f s =
         let parts = stands-description ws g ds p q .0 s in
         let there = stands-graph ws g p (parts .0) .0 (parts .1) .0 in
@@ -224,7 +224,8 @@ module _ (ws : List ℕ) (few : length ws ≤ input-limit) where
         let whole = stands-length ws (words (desc g ds)) p q s in
         let place : shift + (r + 1) ≡ shift + p + extent g + 1 = omega arith in
         let inner = loaded-all (shift + p + extent g + 1) (n + length g) ds in
-        let word : w ≡ closing (disjs ds) (shift + p + length (words (desc g ds))) = omega arith in
+        let ends : shift + e ≡ shift + p + length (words (desc g ds)) = omega arith in
+        let word : w ≡ tail-word (disjs ds) (shift + p + length (words (desc g ds))) = value ∙ ap₂ tail-word count ends in
         let x = set v (shift + r) w in
         let others′ : Put u v (shift + r + 1) inner (shift + q) =
         subst (λ (j : ℕ). Put u v j inner (shift + q)) (shifted shift r)

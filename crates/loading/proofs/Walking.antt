@@ -8,10 +8,11 @@ use lib.ListN.{length, getD}
 use Rattle.theory.specs.Net.{Graph}
 use Rattle.engine.specs.Placed.{Placed, place, Places, stop, _also_, Options, no-more, option}
 use Rattle.modes_by_marks.proofs.Names.{names, names-all, names-any}
-use Rattle.loading.specs.Loaded.{extent, number-step, extent-step, end-step}
+use Rattle.packing.specs.Packed.{number-step, end-step, word-nodes, word-number, word-extent, word-disjunctions, word-end}
+use Rattle.loading.specs.Loaded.{extent}
 use Rattle.loading.specs.Numbered.{places, options}
 use Rattle.loading.specs.At.{At, AtAll, AtAny}
-use Rattle.loading.proofs.Packed.{header-nodes, header-number, header-extent, closing-count, closing-end}
+use Rattle.packing.proofs.Packed.{nodes-back, number-back, extent-back, count-back, end-back}
 use Rattle.loading.proofs.Sizes.{graph-extent}
 use Rattle.loading.proofs.Names.{Between, between-append, between-wide, between-none, between-one}
 
@@ -102,16 +103,19 @@ module _ (t : List ℕ) where
 
     -- what code reads at a graph, where numbers and positions are as small as the working area keeps them
     pub at-header : m < number-step →
-        (getD t p 0 % number-step ≡ length g) × (getD t p 0 / number-step % number-step ≡ n) × (getD t p 0 / extent-step ≡ extent g)
+        (word-nodes (getD t p 0) ≡ length g) × (word-number (getD t p 0) ≡ n) × (word-extent (getD t p 0) ≡ extent g)
     at-header h =
         let few : length g < number-step = omega (arith, at-counts .2) in
         let low : n < number-step = omega (arith, at-counts .2) in
-        let e = at .2 in
-        (rw e (header-nodes n g few), rw e (header-number n g few low), rw e (header-extent n g few low))
+        let e = at .2 in (
+          rw e (nodes-back (length g) n (extent g) few),
+          rw e (number-back (length g) n (extent g) few low),
+          rw e (extent-back (length g) n (extent g) few low),
+        )
 
     -- and after it
-    pub at-closing : q < end-step → (getD t (p + extent g) 0 % end-step ≡ places ds) × (getD t (p + extent g) 0 / end-step ≡ q)
+    pub at-closing : q < end-step → (word-disjunctions (getD t (p + extent g) 0) ≡ places ds) × (word-end (getD t (p + extent g) 0) ≡ q)
     at-closing h =
         let few : places ds < end-step = omega (arith, at-counts .1) in
         let e = at .5 in
-        (rw e (closing-count (places ds) q few), rw e (closing-end (places ds) q few))
+        (rw e (count-back (places ds) q few), rw e (end-back (places ds) q few))

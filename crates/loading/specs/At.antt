@@ -5,8 +5,9 @@ use mathlib.Core.Path.{_≡_}
 use mathlib.Core.List.{List}
 use lib.ListN.{length, getD}
 use Rattle.engine.specs.Placed.{Placed, place, Places, stop, _also_, Options, no-more, option}
+use Rattle.packing.specs.Packed.{tail-word}
 use Rattle.layout.specs.Standing.{Stands}
-use Rattle.loading.specs.Loaded.{extent, header, closing, located}
+use Rattle.loading.specs.Loaded.{extent, header, located}
 use Rattle.loading.specs.Numbered.{places, options}
 
 -- d stands loaded in t from position p up to q, its nodes numbered from n up to m: "graph: node count (at least 1), then each node in
@@ -16,7 +17,7 @@ abbrev mutual
   pub At : List ℕ → ℕ → ℕ → Placed → ℕ → ℕ → Type 0
   At t p n (place g ds) q m =
       (0 < length g) × (p < length t) × (getD t p 0 ≡ header n g) × Stands t (p + 1) (located n g) (p + extent g)
-      × (p + extent g < length t) × (getD t (p + extent g) 0 ≡ closing (places ds) q) × AtAll t (p + extent g + 1) (n + length g) ds q m
+      × (p + extent g < length t) × (getD t (p + extent g) 0 ≡ tail-word (places ds) q) × AtAll t (p + extent g + 1) (n + length g) ds q m
 
   pub AtAll : List ℕ → ℕ → ℕ → Places → ℕ → ℕ → Type 0
   AtAll t p n stop q m = (p ≡ q) × (n ≡ m)

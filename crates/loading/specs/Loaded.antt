@@ -1,9 +1,10 @@
 -- The words that a description is loaded as: those of the word layout, with targets by numbers that run through all graphs, and with
 -- what saves walking.
 -- Assumes nothing: these are definitions.
-use Prim.Native.Nat.{ℕ, suc, _+_, _*_}
+use Prim.Native.Nat.{ℕ, suc, _+_}
 use mathlib.Core.List.{List, [], _∷_, _++_}
 use lib.ListN.{length}
+use Rattle.packing.specs.Packed.{graph-word, tail-word}
 use Rattle.theory.specs.Net.{Node, atom, arcs, Graph}
 use Rattle.theory.specs.Descr.{Desc, desc, Disjs, end, _and_, Alts, fail, _or_, disjs, alts}
 use Rattle.theory.specs.Layout.{nodes-words, words, alts-words}
@@ -12,23 +13,9 @@ use Rattle.theory.specs.Layout.{nodes-words, words, alts-words}
 abbrev pub extent : Graph → ℕ
 extent g = suc (length (nodes-words g))
 
--- the factors of the packed words
-abbrev pub number-step : ℕ
-number-step = 1024
-
-abbrev pub extent-step : ℕ
-extent-step = 1048576
-
-abbrev pub end-step : ℕ
-end-step = 4096
-
--- the first word of a loaded graph: its node count, the number of its node 0, and its extent
-unfoldable pub header : ℕ → Graph → ℕ
-header n g = length g + number-step * n + extent-step * extent g
-
--- the word after a loaded graph: "the number of disjunctions", here c, and the position q where the description ends
-unfoldable pub closing : ℕ → ℕ → ℕ
-closing c q = c + end-step * q
+-- the first word of a loaded graph whose node 0 has the number n
+abbrev pub header : ℕ → Graph → ℕ
+header n g = graph-word (length g) n (extent g)
 
 -- "An arc is two words: feature 0..65,535, target node.": the target by its number, where node 0 has the number n
 abbrev pub moved-arcs : ℕ → List (ℕ × ℕ) → List (ℕ × ℕ)
@@ -64,7 +51,7 @@ abbrev mutual
 -- a description loaded at position p, its nodes numbered from n on in the order of the words
 abbrev mutual
   pub loaded : ℕ → ℕ → Desc → List ℕ
-  loaded p n (desc g ds) = (header n g ∷ located n g) ++ closing (disjs ds) (p + length (words (desc g ds)))
+  loaded p n (desc g ds) = (header n g ∷ located n g) ++ tail-word (disjs ds) (p + length (words (desc g ds)))
       ∷ loaded-all (p + extent g + 1) (n + length g) ds
 
   pub loaded-all : ℕ → ℕ → Disjs → List ℕ

@@ -1,9 +1,8 @@
 // Loading the words of a description, from the first to the last, once.
-use crate::packing::END_STEP;
-use crate::packing::EXTENT_STEP;
-use crate::packing::NUMBER_STEP;
 use limits::CODE_LIMIT;
 use limits::DEPTH_LIMIT;
+use packing::graph_word;
+use packing::tail_word;
 ghost use Rattle.loading.specs.Loading.{its-arcs, a-node, its-nodes, a-graph, a-disjunction, a-description, Room, Asked, Loads};
 ghost use Rattle.loading.specs.Loading.{Loadable, LoadedAt};
 
@@ -68,7 +67,7 @@ fn load_graph(t: &mut [u32], ws: &[u32], p: usize, shift: usize, number: u32) ->
     let count = ws[p];
     let at = load_nodes(t, ws, p + 1, shift, count, number);
     let extent = (at - p) as u32;
-    t[shift + p] = count + NUMBER_STEP * number + EXTENT_STEP * extent;
+    t[shift + p] = graph_word(count, number, extent);
     Reach {
         at,
         number: number + count,
@@ -101,7 +100,7 @@ fn load_description(
         more -= 1;
     }
     let end = (shift + at) as u32;
-    t[shift + q] = count + END_STEP * end;
+    t[shift + q] = tail_word(count, end);
     Reach { at, number: next }
 }
 

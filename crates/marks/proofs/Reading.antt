@@ -10,7 +10,8 @@ use Rattle.area.specs.Map.{SIZE}
 use Rattle.area.specs.Region.{words}
 use Rattle.area.proofs.Region.{words-many}
 use Rattle.engine.specs.Placed.{Placed, place, Places, _also_, Options, no-more, option}
-use Rattle.loading.specs.Loaded.{extent, number-step}
+use Rattle.packing.specs.Packed.{number-step}
+use Rattle.loading.specs.Loaded.{extent}
 use Rattle.loading.specs.Numbered.{places, options}
 use Rattle.loading.specs.At.{At, AtAll, AtAny}
 use Rattle.loading.specs.Lying.{Lying, LyingAny, Here}

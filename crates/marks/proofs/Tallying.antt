@@ -9,7 +9,7 @@ use mathlib.Core.List.{List}
 use Rattle.area.specs.Region.{words}
 use Rattle.engine.specs.Placed.{Options, no-more, option}
 use Rattle.engine.specs.Marks.{Marking, kept-of}
-use Rattle.loading.specs.Loaded.{number-step}
+use Rattle.packing.specs.Packed.{number-step}
 use Rattle.loading.specs.Numbered.{options}
 use Rattle.loading.specs.At.{AtAny}
 use Rattle.marks.specs.Positions.{number-at, tail-at, after-at}

@@ -7,17 +7,17 @@ use mathlib.Core.Bool.{true, false, not, _||_}
 use mathlib.Core.List.{List}
 use lib.Dec.{eqb}
 use lib.ListN.{length, getD}
-use Rattle.area.specs.Map.{MARKS, RESULT}
+use Rattle.area.specs.Map.{MARKS, RESULT, NODES}
 use Rattle.area.specs.Region.{region}
 use Rattle.engine.specs.Marks.{Marking, all-kept, drop}
 
 -- a mark of 1 means dropped, any other kept; there are 1,024
 unfoldable pub marking : List ℕ → Marking
-marking w x = not (eqb (getD (region MARKS 1024 w) x 0) 1)
+marking w x = not (eqb (getD (region MARKS NODES w) x 0) 1)
 
 -- a mark of 2 means found, that is, kept and in a consistent choice
 unfoldable pub lights : List ℕ → Marking
-lights w x = eqb (getD (region MARKS 1024 w) x 0) 2
+lights w x = eqb (getD (region MARKS NODES w) x 0) 2
 
 -- w' is w with the alternative x dropped, and no other word changed
 pub record Dropped (w : List ℕ) (x : ℕ) (w' : List ℕ) : Type 0 where
@@ -29,7 +29,7 @@ pub record Dropped (w : List ℕ) (x : ℕ) (w' : List ℕ) : Type 0 where
 pub record Cleared (w w' : List ℕ) : Type 0 where
   pub len : length w' ≡ length w
   pub marks : marking w' ≡ all-kept
-  pub zero : (x : ℕ) → x < 1024 → getD w' (MARKS + x) 0 ≡ 0
+  pub zero : (x : ℕ) → x < NODES → getD w' (MARKS + x) 0 ≡ 0
   pub rest : (j : ℕ) → (j < MARKS) ⊎ (RESULT ≤ j) → getD w' j 0 ≡ getD w j 0
 
 -- w' is w with the kept alternative x found, and no other word changed

@@ -1,26 +1,26 @@
 -- What the loaded words of the area w hold at a position, where a graph, its end, or a disjunction stands.
 -- Assumes nothing: these are definitions.
-use Prim.Native.Nat.{ℕ, _+_, _/_, _%_}
+use Prim.Native.Nat.{ℕ, _+_}
 use mathlib.Core.List.{List}
 use lib.ListN.{getD}
 use Rattle.area.specs.Region.{words}
-use Rattle.loading.specs.Loaded.{number-step, extent-step, end-step}
+use Rattle.packing.specs.Packed.{word-number, word-extent, word-disjunctions, word-end}
 
 -- the number of node 0 of the graph at p
 unfoldable pub number-at : List ℕ → ℕ → ℕ
-number-at w p = getD (words w) p 0 / number-step % number-step
+number-at w p = word-number (getD (words w) p 0)
 
 -- where it ends: the position of its closing word
 unfoldable pub tail-at : List ℕ → ℕ → ℕ
-tail-at w p = p + getD (words w) p 0 / extent-step
+tail-at w p = p + word-extent (getD (words w) p 0)
 
 -- "the number of disjunctions" after the graph that ends at e
 unfoldable pub disjunctions-at : List ℕ → ℕ → ℕ
-disjunctions-at w e = getD (words w) e 0 % end-step
+disjunctions-at w e = word-disjunctions (getD (words w) e 0)
 
 -- where the description ends whose graph ends at e
 unfoldable pub end-at : List ℕ → ℕ → ℕ
-end-at w e = getD (words w) e 0 / end-step
+end-at w e = word-end (getD (words w) e 0)
 
 -- "number of alternatives" of the disjunction at p
 unfoldable pub alternatives-at : List ℕ → ℕ → ℕ

@@ -5,7 +5,7 @@ use mathlib.Core.List.{List}
 use lib.ListN.{length}
 use Rattle.area.specs.Map.{SIZE}
 use Rattle.area.specs.Region.{words}
-use Rattle.loading.specs.Loaded.{number-step}
+use Rattle.packing.specs.Packed.{number-step}
 use Rattle.loading.specs.Lying.{Lying, LyingAny}
 
 -- a description stands loaded at g, in an area that is large enough and with numbers that are small enough

@@ -5,11 +5,12 @@ use area::map::NODES;
 ghost use mathlib.Core.Path.{_≡_};
 ghost use Prim.Native.Nat.{_≤_, _<_};
 ghost use lib.ListN.{length};
+ghost use Rattle.area.specs.Map.{SIZE, NODES};
 ghost use Rattle.marks.specs.Marked.{marking, Dropped, Cleared, Lighted, dimmed, LitKept, doused, Doused};
 
 // Is the alternative x kept?
 pub fn kept(w: &[u32], x: usize) -> bool
-    requires { ⌜ (x < 1024) × (16384 ≤ length (now w)) ⌝ }
+    requires { ⌜ (x < NODES) × (SIZE ≤ length (now w)) ⌝ }
     ensures { λ r. ⌜ r ≡ marking (now (w .entry)) x ⌝ }
 {
     w[MARKS + x] != 1
@@ -17,7 +18,7 @@ pub fn kept(w: &[u32], x: usize) -> bool
 
 // Drops the alternative x.
 pub fn drop(w: &mut [u32], x: usize)
-    requires { ⌜ (x < 1024) × (16384 ≤ length (now w)) ⌝ }
+    requires { ⌜ (x < NODES) × (SIZE ≤ length (now w)) ⌝ }
     ensures { λ _. ⌜ Dropped (now (w .entry)) x (now (w .exit)) ⌝ }
 {
     w[MARKS + x] = 1;
@@ -25,7 +26,7 @@ pub fn drop(w: &mut [u32], x: usize)
 
 // Keeps all alternatives.
 pub fn clear_marks(w: &mut [u32])
-    requires { ⌜ 16384 ≤ length (now w) ⌝ }
+    requires { ⌜ SIZE ≤ length (now w) ⌝ }
     ensures { λ _. ⌜ Cleared (now (w .entry)) (now (w .exit)) ⌝ }
 {
     let mut left: usize = NODES;
@@ -37,7 +38,7 @@ pub fn clear_marks(w: &mut [u32])
 
 // The alternative x, which is kept, was found.
 pub fn light(w: &mut [u32], x: usize)
-    requires { ⌜ (x < 1024) × (16384 ≤ length (now w)) ⌝ }
+    requires { ⌜ (x < NODES) × (SIZE ≤ length (now w)) ⌝ }
     ensures { λ _. ⌜ Lighted (now (w .entry)) x (now (w .exit)) ⌝ }
 {
     w[MARKS + x] = 2;
@@ -52,7 +53,7 @@ fn dim(v: u32) -> u32
 
 // Of the alternatives below n only those found are kept.
 pub fn keep_lit(w: &mut [u32], n: usize)
-    requires { ⌜ (n ≤ 1024) × (16384 ≤ length (now w)) ⌝ }
+    requires { ⌜ (n ≤ NODES) × (SIZE ≤ length (now w)) ⌝ }
     ensures { λ _. ⌜ LitKept (now (w .entry)) n (now (w .exit)) ⌝ }
 {
     let mut left = n;
@@ -71,7 +72,7 @@ fn doused(v: u32) -> u32
 
 // Of all alternatives none is found.
 pub fn douse(w: &mut [u32])
-    requires { ⌜ 16384 ≤ length (now w) ⌝ }
+    requires { ⌜ SIZE ≤ length (now w) ⌝ }
     ensures { λ _. ⌜ Doused (now (w .entry)) (now (w .exit)) ⌝ }
 {
     let mut left: usize = NODES;

@@ -12,7 +12,7 @@ use Rattle.theory.specs.LayoutOne.{Image}
 use Rattle.layout.specs.Standing.{Stands}
 use Rattle.loading.specs.Entry.{Entry}
 use Rattle.loading.specs.Loaded.{nodes-in, loaded}
-use Rattle.area.specs.Map.{SECOND, WORDS, MARKS, SIZE}
+use Rattle.area.specs.Map.{SECOND, WORDS, MARKS, SIZE, LOADED}
 use Rattle.area.specs.Region.{region}
 use Rattle.classes.specs.Holds.{Holds, Undoable}
 use Rattle.opening.specs.declared.Opened.{Opened}
@@ -59,7 +59,7 @@ definite p n (desc g ds) = record { at = p; number = n; graph = g }
 -- "0, join. The graph is the join of both definite graphs (a clash there is a clash in all modes).": both are pushed and can be taken
 -- back, or they clash
 abbrev pub OpenedAs : List ℕ → Desc → Desc → Opened → Type 0
-OpenedAs w d e (Joined n k) = Stand (region WORDS 2048 w) d e n × Holds n (definite 0 0 d ∷ definite SECOND (nodes-in d) e ∷ []) k w
+OpenedAs w d e (Joined n k) = Stand (region WORDS LOADED w) d e n × Holds n (definite 0 0 d ∷ definite SECOND (nodes-in d) e ∷ []) k w
     × Undoable n k w
 OpenedAs w (desc g ds) (desc h es) Clashed = Clash (g ∷ h ∷ [])
 

@@ -11,7 +11,7 @@ use Rattle.area.specs.Region.{words}
 use Rattle.area.proofs.Region.{words-same}
 use Rattle.engine.specs.Quickly.{fails, stands, try-at}
 use Rattle.loading.specs.Entry.{graphs}
-use Rattle.loading.specs.Loaded.{extent-step, end-step}
+use Rattle.packing.specs.Packed.{extent-step, end-step}
 use Rattle.marks.specs.Positions.{tail-at, disjunctions-at}
 use Rattle.marks.specs.Marked.{marking}
 use Rattle.classes.specs.Holds.{Pushes, Backs}

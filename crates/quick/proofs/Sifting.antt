@@ -16,7 +16,7 @@ use Rattle.engine.specs.Quickly as quickly
 use Rattle.engine.specs.Quickly.{tried, sift-at}
 use Rattle.modes_by_marks.proofs.Marks.{drop-self, drop-other}
 use Rattle.loading.specs.Entry.{graphs}
-use Rattle.loading.specs.Loaded.{number-step}
+use Rattle.packing.specs.Packed.{number-step}
 use Rattle.loading.specs.Numbered.{options}
 use Rattle.loading.specs.At.{AtAny}
 use Rattle.loading.specs.Lying.{RestAny}

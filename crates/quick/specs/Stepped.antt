@@ -5,6 +5,7 @@ use mathlib.Core.Path.{_≡_}
 use mathlib.Core.Logic.{_⊎_}
 use mathlib.Core.Bool.{true, false}
 use mathlib.Core.List.{List, List·Memᴰ}
+use Rattle.area.specs.Map.{NODES}
 use Rattle.theory.specs.Net.{Graph}
 use Rattle.engine.specs.Marks.{Marking}
 use Rattle.engine.specs.Quickly as quickly
@@ -31,7 +32,7 @@ kept-below k (suc c) = elim (k c) [ true ↦ suc (kept-below k c) | false ↦ ke
 
 -- how many of all
 unfoldable pub total : Marking → ℕ
-total k = kept-below k 1024
+total k = kept-below k NODES
 
 -- at least i alternatives were dropped, and none where i is 0
 pub record Fewer (i : ℕ) (k k' : Marking) : Type 0 where

@@ -15,7 +15,7 @@ use Rattle.engine.specs.Search.{Found, taking}
 use Rattle.engine.specs.Agenda.{dive-at, each-at}
 use Rattle.engine.proofs.Agenda.{each-at-none, each-at-dropped, each-at-kept}
 use Rattle.loading.specs.Entry.{graphs}
-use Rattle.loading.specs.Loaded.{number-step}
+use Rattle.packing.specs.Packed.{number-step}
 use Rattle.loading.specs.Numbered.{options}
 use Rattle.loading.specs.At.{AtAny}
 use Rattle.loading.specs.Lying.{RestAny}

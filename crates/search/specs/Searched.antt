@@ -8,7 +8,7 @@ use mathlib.Core.List.{List}
 use lib.Dec.{eqb, ltb}
 use lib.ListN.{length, getD}
 use Rattle.theory.specs.Limits.{depth-limit, choice-stop}
-use Rattle.area.specs.Map.{MARKS, RESULT}
+use Rattle.area.specs.Map.{MARKS, RESULT, SIZE, LOADED, NODES}
 use Rattle.engine.specs.Marks.{keep}
 use Rattle.engine.specs.Search.{Found, taking, lit}
 use Rattle.engine.specs.Search as engine
@@ -27,9 +27,9 @@ use Rattle.search.specs.Frames.{Slot, Lists, FramesOn, plan-on}
 
 -- ---- an alternative is found
 pub record Noting (w : List ℕ) (g : ℕ) : Type 0 where
-  pub room : 16384 ≤ length w
-  pub here : g < 2048
-  pub low : number-at w g < 1024
+  pub room : SIZE ≤ length w
+  pub here : g < LOADED
+  pub low : number-at w g < NODES
 
 pub record Notes (w : List ℕ) (g found : ℕ) (w' : List ℕ) : Type 0 where
   pub len : length w' ≡ length w

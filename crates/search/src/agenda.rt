@@ -6,6 +6,7 @@ ghost use mathlib.Core.Logic.{_⊎_};
 ghost use mathlib.Core.List.{List, [], _∷_};
 ghost use Prim.Native.Nat.{_+_, _≤_, _<_};
 ghost use lib.ListN.{length};
+ghost use Rattle.area.specs.Map.{SIZE, LOADED};
 ghost use Rattle.marks.specs.Positions.{tail-at, disjunctions-at};
 ghost use Rattle.search.specs.Frames.{Slot, Lists, onto};
 
@@ -89,8 +90,8 @@ pub fn before(at: usize, more: usize, a: Agenda) -> Agenda
 
 // The disjunctions of the description at g, and then what is left.
 pub fn descend(w: &[u32], g: usize, a: Agenda) -> Agenda
-    requires { ⌜ (g < 2048) × (16384 ≤ length (now w)) ⌝ }
-    requires { ⌜ tail-at (now w) g < 2048 ⌝ }
+    requires { ⌜ (g < LOADED) × (SIZE ≤ length (now w)) ⌝ }
+    requires { ⌜ tail-at (now w) g < LOADED ⌝ }
     requires { ⌜ (disjunctions-at (now w) (tail-at (now w) g) ≡ 0) ⊎ (a .frames < 5) ⌝ }
     ensures { λ r. ⌜ ((l : List Slot) → Lists a l →
         Lists r (onto (tail-at (now (w .entry)) g + 1) (disjunctions-at (now (w .entry)) (tail-at (now (w .entry)) g)) l)) ⌝ }

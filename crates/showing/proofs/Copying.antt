@@ -13,7 +13,8 @@ use Rattle.area.proofs.Region.{words-many}
 use Rattle.layout.specs.Standing.{Stands, graph-words}
 use Rattle.layout.proofs.Standing.{stands-append, stands-length, stands-within}
 use Rattle.engine.specs.Placed.{Placed, place, own}
-use Rattle.loading.specs.Loaded.{extent, number-step, moved-node, located}
+use Rattle.packing.specs.Packed.{number-step}
+use Rattle.loading.specs.Loaded.{extent, moved-node, located}
 use Rattle.loading.specs.Loading.{Put}
 use Rattle.loading.specs.Lying.{Lying, Here}
 use Rattle.loading.proofs.Sizes.{node-length}

@@ -16,7 +16,7 @@ use Rattle.engine.specs.Marks.{Marking, keep, keep-any}
 use Rattle.engine.specs.Shown.{shown, shown-any}
 use Rattle.modes_by_marks.proofs.Marks.{keep-true, keep-false}
 use Rattle.engine.proofs.Sane.{SaneAny}
-use Rattle.loading.specs.Loaded.{number-step}
+use Rattle.packing.specs.Packed.{number-step}
 use Rattle.loading.specs.Numbered.{options}
 use Rattle.loading.specs.At.{AtAny}
 use Rattle.loading.specs.Lying.{RestAny}

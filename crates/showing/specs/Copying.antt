@@ -6,7 +6,7 @@ use mathlib.Core.List.{List}
 use lib.ListN.{length}
 use Rattle.theory.specs.Net.{Node, Graph}
 use Rattle.theory.specs.Layout.{arc-words, node-words, nodes-words}
-use Rattle.area.specs.Map.{RESULT, SIZE}
+use Rattle.area.specs.Map.{RESULT, SIZE, LOADED, LONGEST}
 use Rattle.area.specs.Region.{words}
 use Rattle.layout.specs.Standing.{Stands, graph-words}
 use Rattle.engine.specs.Placed.{own}
@@ -38,9 +38,9 @@ pub record Copying (K : Kind) (w : List ℕ) (number p o : ℕ) : Type 0 where
   pub x : K .Thing
   pub fine : K .Fine x
   pub q : ℕ
-  pub within : p ≤ 2048
+  pub within : p ≤ LOADED
   pub stands : Stands (words w) p (K .image number x) q
-  pub room : o + length (K .text x) ≤ 2048
+  pub room : o + length (K .text x) ≤ LONGEST
 
 -- its words stand in the result, and no other word has changed
 abbrev pub Copies : (K : Kind) (w : List ℕ) (number p o r : ℕ) (w' : List ℕ) → Type 0
@@ -50,7 +50,7 @@ Copies K w number p o r w' = (c : Copying K w number p o) → Put w w' (RESULT +
 pub record Graphing (w : List ℕ) (g o : ℕ) : Type 0 where
   pub left : ℕ
   pub read : Readable w g left
-  pub room : o + length (graph-words (own (read .lies .d))) ≤ 2048
+  pub room : o + length (graph-words (own (read .lies .d))) ≤ LONGEST
 
 abbrev pub Graphs : (w : List ℕ) (g o r : ℕ) (w' : List ℕ) → Type 0
 Graphs w g o r w' = (c : Graphing w g o) → Put w w' (RESULT + o) (graph-words (own (c .read .lies .d))) (RESULT + r)

@@ -10,7 +10,7 @@ use Rattle.theory.specs.Descr.{Desc, desc, Disjs, disjs, end, _and_}
 use Rattle.theory.specs.Layout.{disjs-words, alts-words}
 use Rattle.theory.specs.Layout as layout
 use Rattle.theory.proofs.Mean.{Can, CanAll, CanAny}
-use Rattle.area.specs.Map.{WORDS, RESULT}
+use Rattle.area.specs.Map.{WORDS, RESULT, LONGEST}
 use Rattle.layout.specs.Standing.{Stands, graph-words}
 use Rattle.engine.specs.Placed.{Placed, place, Places, Options, strip, strip-all, strip-any}
 use Rattle.engine.specs.Marks.{Marking, keep, keep-all, keep-any}
@@ -42,7 +42,7 @@ pub record Describing (n : ℕ) (w : List ℕ) (g left o : ℕ) : Type 0 where
   pub among : AmongOf (base .U) lies
   pub can : Can (strip (keep (base .m) (lies .d)))
   pub sane : Sane (strip (keep (base .m) (lies .d)))
-  pub room : o + length (layout.words (shown (strip (keep (base .m) (lies .d))))) ≤ 2048
+  pub room : o + length (layout.words (shown (strip (keep (base .m) (lies .d))))) ≤ LONGEST
 
 -- what is left of it stands in the result
 abbrev pub Describes : (n : ℕ) (w : List ℕ) (g left o r : ℕ) (w' : List ℕ) → Type 0
@@ -69,7 +69,7 @@ pub record Disjoining (n : ℕ) (w : List ℕ) (g left o : ℕ) : Type 0 where
   pub among : AmongOf (base .U) lies
   pub can : CanAll (left-all (base .m) (lies .d))
   pub sane : SaneAll (left-all (base .m) (lies .d))
-  pub room : o + length (disjs-words (shown-all (left-all (base .m) (lies .d)))) ≤ 2048
+  pub room : o + length (disjs-words (shown-all (left-all (base .m) (lies .d)))) ≤ LONGEST
 
 -- they stand in the result, and are so many
 abbrev pub Disjoins : (n : ℕ) (w : List ℕ) (g left o r count : ℕ) (w' : List ℕ) → Type 0
@@ -89,7 +89,7 @@ pub record Varying (n : ℕ) (w : List ℕ) (p of left o : ℕ) : Type 0 where
   pub among : AmongAnyOf (base .U) lies
   pub can : CanAny (strip-any (keep-any (base .m) (lies .a)))
   pub sane : SaneAny (strip-any (keep-any (base .m) (lies .a)))
-  pub room : o + length (disjs-words (folded (base .m) (lies .a))) ≤ 2048
+  pub room : o + length (disjs-words (folded (base .m) (lies .a))) ≤ LONGEST
 
 -- they stand in the result and are so many, and the alternatives end at `after`
 abbrev pub Varies : (n : ℕ) (w : List ℕ) (p of left o r count after : ℕ) (w' : List ℕ) → Type 0
@@ -104,7 +104,7 @@ pub record Offering (n : ℕ) (w : List ℕ) (p of left o : ℕ) : Type 0 where
   pub among : AmongAnyOf (base .U) lies
   pub can : CanAny (strip-any (keep-any (base .m) (lies .a)))
   pub sane : SaneAny (strip-any (keep-any (base .m) (lies .a)))
-  pub room : o + length (alts-words (shown-any (strip-any (keep-any (base .m) (lies .a))))) ≤ 2048
+  pub room : o + length (alts-words (shown-any (strip-any (keep-any (base .m) (lies .a))))) ≤ LONGEST
 
 -- each kept one stands in the result
 abbrev pub Offers : (n : ℕ) (w : List ℕ) (p of left o r : ℕ) (w' : List ℕ) → Type 0

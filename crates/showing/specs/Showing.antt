@@ -7,7 +7,7 @@ use lib.ListN.{length, getD}
 use Rattle.theory.specs.Descr.{Desc}
 use Rattle.theory.specs.Layout.{words}
 use Rattle.theory.proofs.Mean.{Can}
-use Rattle.area.specs.Map.{SECOND, RESULT}
+use Rattle.area.specs.Map.{SECOND, RESULT, LONGEST}
 use Rattle.layout.specs.Standing.{Stands}
 use Rattle.engine.specs.Placed.{strip}
 use Rattle.engine.specs.Marks.{keep}
@@ -32,10 +32,10 @@ pub record Showing (n k : ℕ) (w : List ℕ) : Type 0 where
   pub stage : Stage n t p k w
   pub can : Can (strip (keep (marking w) (p .j)))
   pub sane : Sane (strip (keep (marking w) (p .j)))
-  pub room : length (words (outcome w p)) ≤ 2048
+  pub room : length (words (outcome w p)) ≤ LONGEST
 
 -- its words stand in the result from the start, and nothing after the result has changed
 pub record Shows (n k : ℕ) (w : List ℕ) (r : ℕ) (w' : List ℕ) : Type 0 where
   pub len : length w' ≡ length w
-  pub rest : (j : ℕ) → RESULT + 2048 ≤ j → getD w' j 0 ≡ getD w j 0
+  pub rest : (j : ℕ) → RESULT + LONGEST ≤ j → getD w' j 0 ≡ getD w j 0
   pub told : (c : Showing n k w) → (r ≡ length (words (outcome w (c .p)))) × Stands w' RESULT (words (outcome w (c .p))) (RESULT + r)

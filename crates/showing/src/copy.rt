@@ -1,9 +1,9 @@
 // A graph as it was loaded is put out as it came in: each target by its number within the graph.
 use area::map::RESULT;
 use limits::CODE_LIMIT;
-use marks::fields::nodes_of;
 use marks::positions::number_at;
 use marks::positions::word_at;
+use packing::nodes_of;
 ghost use Rattle.showing.specs.Copying.{its-arcs, a-node, its-nodes, Copying, Copies, Graphing, Graphs};
 
 // Copies the `count` arcs at p of the loaded words to o of the result. Where they end.

@@ -10,13 +10,13 @@ use writing::graph::write_graph;
 ghost use mathlib.Core.Path.{_≡_};
 ghost use Prim.Native.Nat.{_≤_, _<_};
 ghost use lib.ListN.{length};
-ghost use Rattle.area.specs.Map.{SECOND, SIZE};
+ghost use Rattle.area.specs.Map.{SECOND, SIZE, LOADED};
 ghost use Rattle.marks.specs.Positions.{tail-at};
 ghost use Rattle.showing.specs.Showing.{disjunctions-in, Showing, Shows};
 
 // How many disjunctions both inputs have.
 fn disjunctions(w: &[u32]) -> usize
-    requires { ⌜ (tail-at (now w) 0 < 2048) × (tail-at (now w) SECOND < 2048) × (SIZE ≤ length (now w)) ⌝ }
+    requires { ⌜ (tail-at (now w) 0 < LOADED) × (tail-at (now w) SECOND < LOADED) × (SIZE ≤ length (now w)) ⌝ }
     ensures { λ r. ⌜ r ≡ disjunctions-in (now (w .entry)) ⌝ }
 {
     let first = disjunctions_at(w, tail_at(w, 0));

@@ -2,9 +2,10 @@
 use mathlib.Core.Path.{_≡_, sym, ap, _∙_, subst}
 use mathlib.Core.Logic.{inl, inr, ⊎-elim}
 use mathlib.Core.List.{List}
-use Prim.Native.Nat.{ℕ, suc, _+_, _*_, _/_, _%_, _≤_, _<_}
+use Prim.Native.Nat.{ℕ, suc, _+_, _*_, _≤_, _<_}
 use native.Mathlib.Omega.{arith}
 use lib.ListN.{length, getD}
+use Rattle.packing.specs.Packed.{word-nodes, word-number}
 use Rattle.area.specs.Region.{words}
 use Rattle.loading.specs.Entry.{Entry}
 use Rattle.forest.specs.Held.{ChainCode, AtomCode}
@@ -40,14 +41,14 @@ guess-low n k w g p =
     (omega arith, (omega arith, record { k = k; es = p .es; holds = p .holds }))
 
 -- the header, and the root's head: it has an arc to each other node
-module _ (n k : ℕ) (w : List ℕ) (g head d : ℕ) (is : head ≡ getD (words w) g 0) (root : d ≡ getD (words w) (g + 1) 0)
-    (one : d + 1 ≡ head % 1024) where
+module _ (n k : ℕ) (w : List ℕ) (g head base count d : ℕ) (is : head ≡ getD (words w) g 0) (first : base ≡ word-number head)
+    (nodes : count ≡ word-nodes head) (root : d ≡ getD (words w) (g + 1) 0) (one : d + 1 ≡ count) where
   module _ (es : List Entry) (e : Entry) (i : e .at ≡ g) (h : Holds n es k w) (c : Comes n es e w) where
-    number : e .number ≡ head / 1024 % 1024
-    number = parts n k w g head is es e i c .0
+    number : e .number ≡ base
+    number = parts n k w g head base count is first nodes es e i c .0
 
     many : length (e .graph) ≡ suc d
-    many = let m = parts n k w g head is es e i c .1 in omega arith
+    many = let m = parts n k w g head base count is first nodes es e i c .1 in omega arith
 
     level : Flat (words w) (targets w) (e .number) (e .at + 1) d (e .graph)
     level =
@@ -79,7 +80,7 @@ module _ (n k : ℕ) (w : List ℕ) (g head d : ℕ) (is : head ≡ getD (words 
     }
 
     -- what is told of all arcs
-    pub guesses-arcs : ChainCode (getD w a 0) → (r : Guess) → LeavesTold n w g (head / 1024 % 1024) d r → Guesses n k w g r
+    pub guesses-arcs : ChainCode (getD w a 0) → (r : Guess) → LeavesTold n w g base d r → Guesses n k w g r
     guesses-arcs l r s = record {
       agrees = λ y es e i h c. flat-agrees n es k w e h c d (level es e i h c) (many es e i h c) (leaves es e i h c d (s .agrees y))
           (low es h);
@@ -97,5 +98,5 @@ module _ (n k : ℕ) (w : List ℕ) (g head d : ℕ) (is : head ≡ getD (words 
         low es h = subst ChainCode (held es h) l
 
         leaves : (es : List Entry) (e : Entry) (i : e .at ≡ g) (h : Holds n es k w) (c : Comes n es e w) (j : ℕ) →
-            Leaves n w g (head / 1024 % 1024) d j → Leaves n w (e .at) (e .number) d j
+            Leaves n w g base d j → Leaves n w (e .at) (e .number) d j
         leaves es e i h c j o = rw (i, number es e i h c) o

@@ -9,8 +9,11 @@ use forest::held::Held;
 use forest::held::held_by;
 use limits::CODE_LIMIT;
 use limits::wide;
+use packing::nodes_of;
+use packing::number_of;
 use sieving::through::look_through;
 ghost use Prim.Native.Nat.{_+_, _*_, _≤_, _<_};
+ghost use Rattle.area.specs.Map.{LOADED, NODES};
 ghost use Rattle.forest.specs.Held.{AtomCode};
 ghost use Rattle.classes.specs.Holds.{Pushing};
 ghost use Rattle.sieving.specs.Sieved.{Sieves, Sieved};
@@ -56,7 +59,7 @@ fn lead(
 ) -> Guess
     requires { ⌜ Anchored n (now w) x ⌝ }
     requires { ⌜ Sieves (now w) (now t) x ⌝ }
-    requires { ⌜ (base < 1024) × ((i < d) × (g + 2 + 3 * d ≤ 2048)) ⌝ }
+    requires { ⌜ (base < NODES) × ((i < d) × (g + 2 + 3 * d ≤ LOADED)) ⌝ }
     ensures { λ r. ⌜ LeafTold n (now (w .entry)) g base d i r ⌝ }
 {
     let at = g + 2 + 2 * i;
@@ -79,7 +82,7 @@ fn lead(
 fn lead_all(w: &[u32], n: usize, g: usize, base: usize, d: usize, x: usize, t: &[u32]) -> Guess
     requires { ⌜ Anchored n (now w) x ⌝ }
     requires { ⌜ Sieves (now w) (now t) x ⌝ }
-    requires { ⌜ (base < 1024) × (g + 2 + 3 * d ≤ 2048) ⌝ }
+    requires { ⌜ (base < NODES) × (g + 2 + 3 * d ≤ LOADED) ⌝ }
     ensures { λ r. ⌜ LeavesTold n (now (w .entry)) g base d r ⌝ }
 {
     let mut i: usize = 0;
@@ -100,9 +103,9 @@ pub fn guess_through(w: &[u32], k: usize, n: usize, g: usize, t: &[u32]) -> Gues
     requires { ⌜ Sieved n (now w) (now t) ⌝ }
     ensures { λ r. ⌜ Guesses n k (now (w .entry)) g r ⌝ }
 {
-    let head = wide(loaded(w, g));
-    let c = head % 1024;
-    let base = head / 1024 % 1024;
+    let head = loaded(w, g);
+    let c = nodes_of(head);
+    let base = number_of(head);
     let d = wide(loaded(w, g + 1));
     if d + 1 != c {
         return Guess::Unsure;

@@ -5,7 +5,7 @@ use Prim.Native.Nat.{ℕ, suc, _+_, _≤_, _<_}
 use lib.ListN.{length, getD}
 use Rattle.theory.specs.Limits.{code-limit}
 use Rattle.theory.specs.Net.{Graph, atom, arcs, nodeAt}
-use Rattle.area.specs.Map.{PARENT, LOG, STACK, SIZE}
+use Rattle.area.specs.Map.{PARENT, LOG, STACK, SIZE, LOADED, TARGETS, NODES, ENTRIES}
 use Rattle.area.specs.Region.{region, words}
 use Rattle.forest.specs.Forest.{Shape, Root}
 use Rattle.forest.specs.Held.{ChainCode}
@@ -16,8 +16,8 @@ use Rattle.forest.specs.State.{targets, Chain}
 pub record Fan (n : ℕ) (w : List ℕ) (lab : ℕ → ℕ) (ord : List ℕ) (x low : ℕ) (l : List (ℕ × ℕ)) : Type 0 where
   pub chain : List ℕ
   pub linked : Chain w x chain
-  pub short : length chain ≤ 2048
-  pub inside : (q : ℕ) → List·Memᴰ q chain → (q < 2047) × (getD (targets w) q 0 < n)
+  pub short : length chain ≤ LOADED
+  pub inside : (q : ℕ) → List·Memᴰ q chain → (q < TARGETS) × (getD (targets w) q 0 < n)
   pub from : (q : ℕ) → List·Memᴰ q chain → low ≤ getD (words w) q 0
       → (t : ℕ) × (List·Memᴰ (getD (words w) q 0, t) l × ((t < length ord) × (lab (getD (targets w) q 0) ≡ getD ord t 0)))
   pub to : (f t : ℕ) → List·Memᴰ (f, t) l → (q : ℕ) × (List·Memᴰ q chain × (getD (words w) q 0 ≡ f))
@@ -26,11 +26,11 @@ pub record Fan (n : ℕ) (w : List ℕ) (lab : ℕ → ℕ) (ord : List ℕ) (x 
 -- numbers, lab has the class of each number below n
 pub record Classes (n k : ℕ) (w : List ℕ) (G : Graph) (lab : ℕ → ℕ) (ord : List ℕ) : Type 0 where
   pub long : SIZE ≤ length w
-  pub below : n ≤ 1024
+  pub below : n ≤ NODES
   pub shape : Shape (region PARENT n w)
   pub label : (x r : ℕ) → x < n → Root (region PARENT n w) x r → r ≡ lab x
   pub many : length ord ≡ length G
-  pub room : k + length ord ≤ 4096
+  pub room : k + length ord ≤ ENTRIES
   pub own : (i j : ℕ) → i < length ord → j < length ord → getD ord i 0 ≡ getD ord j 0 → i ≡ j
   pub low : (i : ℕ) → i < length ord → getD ord i 0 < n
   pub some : 0 < length ord

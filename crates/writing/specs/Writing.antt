@@ -9,7 +9,7 @@ use Rattle.theory.specs.Layout.{arc-words, node-words, nodes-words}
 use Rattle.theory.proofs.Weight.{weight}
 use Rattle.layout.specs.Standing.{Stands, graph-words}
 use Rattle.loading.specs.Entry.{Entry, graphs}
-use Rattle.area.specs.Map.{LOG, STACK, WORDS, RESULT}
+use Rattle.area.specs.Map.{LOG, STACK, WORDS, RESULT, TARGETS, LONGEST}
 use Rattle.area.specs.Region.{words}
 use Rattle.forest.specs.State.{targets, Chain}
 use Rattle.classes.specs.Holds.{Holds, Since}
@@ -68,13 +68,13 @@ pub record Pointing (n k : ℕ) (w : List ℕ) (q at m : ℕ) : Type 0 where
   pub ord : List ℕ
   pub classes : Classes n k w G lab ord
   pub marks : Met k m ord w
-  pub low : q < 2047
+  pub low : q < TARGETS
   pub inner : getD (targets w) q 0 < n
   pub t : ℕ
   pub inside : t < length ord
   pub next : t ≤ m
   pub label : lab (getD (targets w) q 0) ≡ getD ord t 0
-  pub fits : at + 2 ≤ 2048
+  pub fits : at + 2 ≤ LONGEST
 
 -- "An arc is two words: feature 0..65,535, target node.": they stand in the result
 pub record Pointed (n k : ℕ) (w : List ℕ) (q at m m' : ℕ) (w' : List ℕ) : Type 0 where
@@ -94,7 +94,7 @@ pub record Arcing (n k : ℕ) (w : List ℕ) (x at m : ℕ) : Type 0 where
   pub fan : Fan n w lab ord x 0 l
   pub rising : Rising 0 l
   pub order : InOrder m l
-  pub fits : at + 2 * length l ≤ 2048
+  pub fits : at + 2 * length l ≤ LONGEST
 
 -- "Features rise strictly within a node.": the words of all arcs of l stand in the result
 pub record Arced (n k : ℕ) (w : List ℕ) (x at m at' m' : ℕ) (w' : List ℕ) : Type 0 where
@@ -121,7 +121,7 @@ pub record Noding (n k : ℕ) (w : List ℕ) (i at m : ℕ) : Type 0 where
   pub below : i < m
   pub rising : Rising 0 (arcsOf (nodeAt G i))
   pub order : InOrder m (arcsOf (nodeAt G i))
-  pub fits : at + length (node-words (nodeAt G i)) ≤ 2048
+  pub fits : at + length (node-words (nodeAt G i)) ≤ LONGEST
 
 -- "a head, then its arcs": the words of the node i stand in the result
 pub record Noded (n k : ℕ) (w : List ℕ) (i at m at' m' : ℕ) (w' : List ℕ) : Type 0 where
@@ -138,7 +138,7 @@ pub record Listing (n k : ℕ) (w : List ℕ) (at : ℕ) : Type 0 where
   pub classes : Classes n k w G lab ord
   pub marks : Met k 1 ord w
   pub canonical : Canonical G
-  pub fits : at + length (nodes-words G) ≤ 2048
+  pub fits : at + length (nodes-words G) ≤ LONGEST
 
 -- "then each node in order": the words of all nodes of G stand in the result
 pub record Listed (n k : ℕ) (w : List ℕ) (at at' m' : ℕ) (w' : List ℕ) : Type 0 where
@@ -153,7 +153,7 @@ pub record Writing (n k : ℕ) (w : List ℕ) (o : ℕ) : Type 0 where
   pub G : Graph
   pub holds : Holds n es k w
   pub joined : Joined (graphs es) G
-  pub room : o + suc (weight G) ≤ 2048
+  pub room : o + suc (weight G) ≤ LONGEST
 
 -- "Without a clash the classes form the joined graph.": its words stand in the result from o up to r
 pub record Writes (n k : ℕ) (w : List ℕ) (o r : ℕ) (w' : List ℕ) : Type 0 where

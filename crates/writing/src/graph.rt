@@ -12,12 +12,12 @@ use limits::wide;
 ghost use mathlib.Core.Path.{_≡_};
 ghost use Prim.Native.Nat.{ℕ, _+_, _≤_, _<_};
 ghost use lib.ListN.{length, getD};
-ghost use Rattle.area.specs.Map.{STACK, SIZE};
+ghost use Rattle.area.specs.Map.{STACK, SIZE, NODES};
 ghost use Rattle.writing.specs.Writing.{Noding, Noded, Listing, Listed, Cleared, Writing, Writes};
 
 // No class has a number.
 fn clear(w: &mut [u32], n: usize)
-    requires { ⌜ (n ≤ 1024) × (SIZE ≤ length (now w)) ⌝ }
+    requires { ⌜ (n ≤ NODES) × (SIZE ≤ length (now w)) ⌝ }
     ensures { λ _. ⌜ Cleared n (now (w .entry)) (now (w .exit)) ⌝ }
 {
     let mut i: usize = 0;

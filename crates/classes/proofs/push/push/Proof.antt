@@ -14,17 +14,21 @@ loaded-requires c κs =
     let i = it .is in
     (omega arith, it .holds .long)
 
-wide-requires : tie.Need-wide-requires
-wide-requires c κs = search needs
+nodes-of-requires : tie.Need-nodes-of-requires
+nodes-of-requires c κs = search needs
+
+number-of-requires : tie.Need-number-of-requires
+number-of-requires c κs = search needs
 
 add-requires : tie.Need-add-requires
 add-requires c κs =
-    let wide = c .before .wide in
-    let s = c .before .before .before .before .before in
+    let number = c .before .number-of in
+    let nodes = c .before .before .nodes-of in
+    let head = c .before .before .before .loaded in
+    let s = c .before .before .before .before .before .before in
     let a = s .args in
-    let wn = a .w .now in
-    let it = s .pre in
-    push-adding (a .n) (a .k) wn (a .g) (wide .result) (wide .ensures ∙ c .before .before .loaded .ensures) it
+    push-adding (a .n) (a .k) (a .w .now) (a .g) (head .result) (number .result) (nodes .result) (head .ensures) (number .ensures)
+    (nodes .ensures) (s .pre)
 
 undo-requires : tie.Need-undo-requires
 undo-requires c κs =
@@ -36,37 +40,37 @@ same-length c = c .before .before .undo .ensures .len ∙ c .before .before .bef
 
 returns : tie.Need-returns
 returns c =
-    let wide = c .before .before .before .before .before .before .before .before .before .wide in
+    let number = c .before .before .before .before .before .before .before .before .before .number-of in
+    let nodes = c .before .before .before .before .before .before .before .before .before .before .nodes-of in
+    let head = c .before .before .before .before .before .before .before .before .before .before .before .loaded in
     let add = c .before .before .before .before .before .before .before .add in
     let undo = c .before .before .undo in
-    let s = c .before .before .before .before .before .before .before .before .before .before .before .before .before in
+    let s = c .before .before .before .before .before .before .before .before .before .before .before .before .before .before in
     let a = s .args in
-    let wn = a .w .now in
-    let it = s .pre in
-    pushes-clashed (a .n) (a .k) wn (a .g) (wide .result) (wide .ensures
-    ∙ c .before .before .before .before .before .before .before .before .before .before .loaded .ensures) it (add .result .k)
-    (add .result .bad) (add .last .0) (add .ensures) (undo .last .0) (c .before .before .before .before .if1 .taken) (undo .ensures)
+    pushes-clashed (a .n) (a .k) (a .w .now) (a .g) (head .result) (number .result) (nodes .result) (head .ensures) (number .ensures)
+    (nodes .ensures) (s .pre) (add .result .k) (add .result .bad) (add .last .0) (add .ensures) (undo .last .0) (c .before .before .before .before .if1 .taken) (undo .ensures)
 
 same-length-2 : tie.Need-same-length-2
 same-length-2 c = c .before .before .before .add .ensures .later .len
 
 returns-2 : tie.Need-returns-2
 returns-2 c =
-    let wide = c .before .before .before .before .before .wide in
+    let number = c .before .before .before .before .before .number-of in
+    let nodes = c .before .before .before .before .before .before .nodes-of in
+    let head = c .before .before .before .before .before .before .before .loaded in
     let add = c .before .before .before .add in
-    let s = c .before .before .before .before .before .before .before .before .before in
+    let s = c .before .before .before .before .before .before .before .before .before .before in
     let a = s .args in
-    let wn = a .w .now in
-    let it = s .pre in
-    pushes-in (a .n) (a .k) wn (a .g) (wide .result) (wide .ensures ∙ c .before .before .before .before .before .before .loaded .ensures) it
-    (add .result .k) (add .result .bad) (add .last .0) (add .ensures) (c .if1 .left)
+    pushes-in (a .n) (a .k) (a .w .now) (a .g) (head .result) (number .result) (nodes .result) (head .ensures) (number .ensures)
+    (nodes .ensures) (s .pre) (add .result .k) (add .result .bad) (add .last .0) (add .ensures) (c .if1 .left)
 
 pub push-spec : {M : Type 1} → statement M
 push-spec =
     tie.close
     (tie.spec
     loaded-requires
-    wide-requires
+    nodes-of-requires
+    number-of-requires
     add-requires
     undo-requires
     same-length

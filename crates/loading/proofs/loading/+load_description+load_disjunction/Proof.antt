@@ -21,6 +21,7 @@ use Rattle.loading.proofs.loading.load_disjunction.Reads as load-disjun
 use Rattle.loading.proofs.loading.load_disjunction.Kinds as load-disjunction-kinds
 use Rattle.loading.proofs.loading.+load_description+load_disjunction.Lts-load_disjunction as load-disjunction-lts
 use Rattle.loading.proofs.loading.load_graph.Reads as load-graph-reads
+use Rattle.packing.proofs.tail_word.Reads as tail-word-reads
 use Rattle.loading.proofs.loading.+load_description+load_disjunction.{statement}
 use Rattle.loading.proofs.loading.+load_description+load_disjunction.Tie.{close}
 
@@ -62,6 +63,19 @@ load-disjunction-below t =
     (falls 2 load-disjunction-kinds.ps _<_ μ-load-disjunction t)
     load-disjunction.Pre
 
+abbrev description-claims : ℕ → load-description-lts.Claims
+description-claims t = (
+  load-graph-reads.Asked,
+  load-graph-reads.Learnt,
+  load-disjunction-below t,
+  load-disjunction.Post,
+  tail-word-reads.Asked,
+  tail-word-reads.Learnt,
+)
+
+abbrev disjunction-claims : ℕ → load-disjunction-lts.Claims
+disjunction-claims t = (load-description-below t, load-description.Post)
+
 abbrev load-description-Inv-loop : load-description-lts.InvT-loop
 load-description-Inv-loop t₀ ws p shift number left q count more₀ at₀ next₀ t more at next =
     (length t ≡ length t₀) × Onward ws shift at₀ next₀ (its-disjunctions left more₀) (its-disjunctions left more) t₀ t at next
@@ -69,23 +83,13 @@ load-description-Inv-loop t₀ ws p shift number left q count more₀ at₀ next
 abbrev load-description-μ-loop : load-description-lts.MeasureT-loop
 load-description-μ-loop t₀ ws p shift number left q count more₀ at₀ next₀ t more at next = more
 
-load-description-load-graph-requires : (t : ℕ) → load-description-lts.Need-load-graph-requires (
-  load-graph-reads.Asked,
-  load-graph-reads.Learnt,
-  load-disjunction-below t,
-  load-disjunction.Post,
-) (load-description-at t) load-description.Post load-description-Inv-loop load-description-μ-loop
+load-description-load-graph-requires : (t : ℕ) → load-description-lts.Need-load-graph-requires (description-claims t) (load-description-at t) load-description.Post load-description-Inv-loop load-description-μ-loop
 load-description-load-graph-requires t c κs = (
   c .before .before .before .pre .1 .0,
   description-asks _ (c .before .before .before .pre .1 .0 .few) _ _ _ (c .before .before .before .pre .1 .1),
 )
 
-load-description-mul-count : (t : ℕ) → load-description-lts.Need-mul-count (
-  load-graph-reads.Asked,
-  load-graph-reads.Learnt,
-  load-disjunction-below t,
-  load-disjunction.Post,
-) (load-description-at t) load-description.Post load-description-Inv-loop load-description-μ-loop
+load-description-mul-count : (t : ℕ) → load-description-lts.Need-mul-count (description-claims t) (load-description-at t) load-description.Post load-description-Inv-loop load-description-μ-loop
 load-description-mul-count t c =
     omega (
       arith,
@@ -94,12 +98,7 @@ load-description-mul-count t c =
     )
 
 load-description-shared-slice-read-count :
-    (t : ℕ) → load-description-lts.Need-shared-slice-read-count (
-      load-graph-reads.Asked,
-      load-graph-reads.Learnt,
-      load-disjunction-below t,
-      load-disjunction.Post,
-    )
+    (t : ℕ) → load-description-lts.Need-shared-slice-read-count (description-claims t)
     (load-description-at t)
     load-description.Post
     load-description-Inv-loop
@@ -111,33 +110,18 @@ load-description-shared-slice-read-count t c =
           (c .before .before .before .load-graph .ensures) (c .before .before .before .before .before .before .before .pre .1 .1) .0,
     )
 
-load-description-add-at : (t : ℕ) → load-description-lts.Need-add-at (
-  load-graph-reads.Asked,
-  load-graph-reads.Learnt,
-  load-disjunction-below t,
-  load-disjunction.Post,
-) (load-description-at t) load-description.Post load-description-Inv-loop load-description-μ-loop
+load-description-add-at : (t : ℕ) → load-description-lts.Need-add-at (description-claims t) (load-description-at t) load-description.Post load-description-Inv-loop load-description-μ-loop
 load-description-add-at t c = omega (
   arith,
   description-goes _ (c .before .before .before .before .before .before .before .pre .1 .0 .few) _ _ _ _ _ _ _ _
       (c .before .before .before .load-graph .ensures) (c .before .before .before .before .before .before .before .pre .1 .1) .0,
 )
 
-load-description-loop-holds : (t : ℕ) → load-description-lts.Need-loop-holds (
-  load-graph-reads.Asked,
-  load-graph-reads.Learnt,
-  load-disjunction-below t,
-  load-disjunction.Post,
-) (load-description-at t) load-description.Post load-description-Inv-loop load-description-μ-loop
+load-description-loop-holds : (t : ℕ) → load-description-lts.Need-loop-holds (description-claims t) (load-description-at t) load-description.Post load-description-Inv-loop load-description-μ-loop
 load-description-loop-holds t c = (refl, begin _ _ _ _ (its-disjunctions _ _) _)
 
 load-description-load-disjunction-requires :
-    (t : ℕ) → load-description-lts.Need-load-disjunction-requires (
-      load-graph-reads.Asked,
-      load-graph-reads.Learnt,
-      load-disjunction-below t,
-      load-disjunction.Post,
-    )
+    (t : ℕ) → load-description-lts.Need-load-disjunction-requires (description-claims t)
     (load-description-at t)
     load-description.Post
     load-description-Inv-loop
@@ -159,28 +143,13 @@ load-description-load-disjunction-requires t c κs = (
   ),
 )
 
-load-description-sub-more : (t : ℕ) → load-description-lts.Need-sub-more (
-  load-graph-reads.Asked,
-  load-graph-reads.Learnt,
-  load-disjunction-below t,
-  load-disjunction.Post,
-) (load-description-at t) load-description.Post load-description-Inv-loop load-description-μ-loop
+load-description-sub-more : (t : ℕ) → load-description-lts.Need-sub-more (description-claims t) (load-description-at t) load-description.Post load-description-Inv-loop load-description-μ-loop
 load-description-sub-more t c = search needs
 
-load-description-loop-less : (t : ℕ) → load-description-lts.Need-loop-less (
-  load-graph-reads.Asked,
-  load-graph-reads.Learnt,
-  load-disjunction-below t,
-  load-disjunction.Post,
-) (load-description-at t) load-description.Post load-description-Inv-loop load-description-μ-loop
+load-description-loop-less : (t : ℕ) → load-description-lts.Need-loop-less (description-claims t) (load-description-at t) load-description.Post load-description-Inv-loop load-description-μ-loop
 load-description-loop-less t c = search needs
 
-load-description-loop-again : (t : ℕ) → load-description-lts.Need-loop-again (
-  load-graph-reads.Asked,
-  load-graph-reads.Learnt,
-  load-disjunction-below t,
-  load-disjunction.Post,
-) (load-description-at t) load-description.Post load-description-Inv-loop load-description-μ-loop
+load-description-loop-again : (t : ℕ) → load-description-lts.Need-loop-again (description-claims t) (load-description-at t) load-description.Post load-description-Inv-loop load-description-μ-loop
 load-description-loop-again t c = (
   loads-keeps (a-disjunction _) _ _ _ _ _ _ _ _
       (asks-first (its-disjunctions _ _) (a-disjunction _) (its-disjunctions _ _) _ _ _ (disjunctions-step _ (omega arith) _)
@@ -195,12 +164,7 @@ load-description-loop-again t c = (
 )
 
 -- where the disjunctions end, and how many they are
-reach : (t : ℕ) (c : load-description-lts.After-loop (
-  load-graph-reads.Asked,
-  load-graph-reads.Learnt,
-  load-disjunction-below t,
-  load-disjunction.Post,
-) (load-description-at t) load-description.Post load-description-Inv-loop load-description-μ-loop)
+reach : (t : ℕ) (c : load-description-lts.After-loop (description-claims t) (load-description-at t) load-description.Post load-description-Inv-loop load-description-μ-loop)
     → (c .before .loop .at ≤ length (c .before .before .before .before .before .before .before .before .before .args .ws .now))
     × (getD (c .before .before .before .before .before .before .before .before .before .args .ws .now)
     (c .before .before .before .before .before .load-graph .result .at) 0
@@ -212,95 +176,45 @@ reach t c = description-ends _ (c .before .before .before .before .before .befor
     (c .before .before .before .before .before .before .before .before .before .pre .1 .1)
     (finish _ _ _ _ (its-disjunctions _ _) (its-disjunctions _ _) _ _ _ _ (c .before .loop .inv .1) (disjunctions-end _ (omega arith) _))
 
-load-description-add-end : (t : ℕ) → load-description-lts.Need-add-end (
-  load-graph-reads.Asked,
-  load-graph-reads.Learnt,
-  load-disjunction-below t,
-  load-disjunction.Post,
-) (load-description-at t) load-description.Post load-description-Inv-loop load-description-μ-loop
+load-description-add-end : (t : ℕ) → load-description-lts.Need-add-end (description-claims t) (load-description-at t) load-description.Post load-description-Inv-loop load-description-μ-loop
 load-description-add-end t c = omega (arith, reach t c)
 
-load-description-cast-end : (t : ℕ) → load-description-lts.Need-cast-end (
-  load-graph-reads.Asked,
-  load-graph-reads.Learnt,
-  load-disjunction-below t,
-  load-disjunction.Post,
-) (load-description-at t) load-description.Post load-description-Inv-loop load-description-μ-loop
+load-description-cast-end : (t : ℕ) → load-description-lts.Need-cast-end (description-claims t) (load-description-at t) load-description.Post load-description-Inv-loop load-description-μ-loop
 load-description-cast-end t c = omega (arith, reach t c)
 
-load-description-mul-t : (t : ℕ) → load-description-lts.Need-mul-t (
-  load-graph-reads.Asked,
-  load-graph-reads.Learnt,
-  load-disjunction-below t,
-  load-disjunction.Post,
-) (load-description-at t) load-description.Post load-description-Inv-loop load-description-μ-loop
-load-description-mul-t t c = omega (arith, reach t c)
+load-description-tail-word-requires : (t : ℕ) → load-description-lts.Need-tail-word-requires (description-claims t) (load-description-at t) load-description.Post load-description-Inv-loop load-description-μ-loop
+load-description-tail-word-requires t c κs =
+    let room = c .before .before .before .before .before .before .before .before .before .pre .1 .0 in
+    (omega (arith, reach t c, room .few), omega (arith, reach t c, room .few, room .near))
 
-load-description-add-t : (t : ℕ) → load-description-lts.Need-add-t (
-  load-graph-reads.Asked,
-  load-graph-reads.Learnt,
-  load-disjunction-below t,
-  load-disjunction.Post,
-) (load-description-at t) load-description.Post load-description-Inv-loop load-description-μ-loop
-load-description-add-t t c = omega (arith, reach t c)
+load-description-mul-t : (t : ℕ) → load-description-lts.Need-mul-t (description-claims t) (load-description-at t) load-description.Post load-description-Inv-loop load-description-μ-loop
+load-description-mul-t t c = omega (arith, reach t (c .before))
 
-load-description-add-t-2 : (t : ℕ) → load-description-lts.Need-add-t-2 (
-  load-graph-reads.Asked,
-  load-graph-reads.Learnt,
-  load-disjunction-below t,
-  load-disjunction.Post,
-) (load-description-at t) load-description.Post load-description-Inv-loop load-description-μ-loop
-load-description-add-t-2 t c = omega (arith, reach t c)
+load-description-add-t : (t : ℕ) → load-description-lts.Need-add-t (description-claims t) (load-description-at t) load-description.Post load-description-Inv-loop load-description-μ-loop
+load-description-add-t t c = omega (arith, reach t (c .before))
 
-load-description-mul-t-2 : (t : ℕ) → load-description-lts.Need-mul-t-2 (
-  load-graph-reads.Asked,
-  load-graph-reads.Learnt,
-  load-disjunction-below t,
-  load-disjunction.Post,
-) (load-description-at t) load-description.Post load-description-Inv-loop load-description-μ-loop
-load-description-mul-t-2 t c = omega (arith, reach t c)
-
-load-description-slice-write-t : (t : ℕ) → load-description-lts.Need-slice-write-t (
-  load-graph-reads.Asked,
-  load-graph-reads.Learnt,
-  load-disjunction-below t,
-  load-disjunction.Post,
-) (load-description-at t) load-description.Post load-description-Inv-loop load-description-μ-loop
-load-description-slice-write-t t c =
-    omega (
-      arith,
-      reach t c,
-      loads-keeps a-graph _ _ _ _ _ _ _ _
-          (description-asks _ (c .before .before .before .before .before .before .before .before .before .pre .1 .0 .few) _ _ _
-          (c .before .before .before .before .before .before .before .before .before .pre .1 .1))
-          (c .before .before .before .before .before .load-graph .ensures),
-    )
-
-load-description-same-length : (t : ℕ) → load-description-lts.Need-same-length (
-  load-graph-reads.Asked,
-  load-graph-reads.Learnt,
-  load-disjunction-below t,
-  load-disjunction.Post,
-) (load-description-at t) load-description.Post load-description-Inv-loop load-description-μ-loop
-load-description-same-length t c =
-    simp length-set (c .before .loop .inv .0
-    ∙ loads-keeps a-graph _ _ _ _ _ _ _ _
+-- the graph is loaded, and the words are as many as they were
+graph-kept : (t : ℕ) (c : load-description-lts.After-loop (description-claims t) (load-description-at t) load-description.Post load-description-Inv-loop load-description-μ-loop) →
+    length (c .before .before .before .before .before .load-graph .last .0)
+    ≡ length (c .before .before .before .before .before .before .before .before .before .args .t .now)
+graph-kept t c = loads-keeps a-graph _ _ _ _ _ _ _ _
     (description-asks _ (c .before .before .before .before .before .before .before .before .before .pre .1 .0 .few) _ _ _
     (c .before .before .before .before .before .before .before .before .before .pre .1 .1))
-    (c .before .before .before .before .before .load-graph .ensures))
+    (c .before .before .before .before .before .load-graph .ensures)
 
-load-description-returns : (t : ℕ) → load-description-lts.Need-returns (
-  load-graph-reads.Asked,
-  load-graph-reads.Learnt,
-  load-disjunction-below t,
-  load-disjunction.Post,
-) (load-description-at t) load-description.Post load-description-Inv-loop load-description-μ-loop
-load-description-returns t c =
-    description-loads _ (c .before .before .before .before .before .before .before .before .before .pre .1 .0 .few) _ _ _ _ _ _ _ _
-    (c .before .before .before .before .before .load-graph .ensures) _ _ _ _
-    (c .before .before .before .before .before .before .before .before .before .pre .1 .0 .room)
+load-description-slice-write-t : (t : ℕ) → load-description-lts.Need-slice-write-t (description-claims t) (load-description-at t) load-description.Post load-description-Inv-loop load-description-μ-loop
+load-description-slice-write-t t c = omega (arith, reach t (c .before), graph-kept t (c .before))
+
+load-description-same-length : (t : ℕ) → load-description-lts.Need-same-length (description-claims t) (load-description-at t) load-description.Post load-description-Inv-loop load-description-μ-loop
+load-description-same-length t c = simp length-set (c .before .before .loop .inv .0 ∙ graph-kept t (c .before))
+
+load-description-returns : (t : ℕ) → load-description-lts.Need-returns (description-claims t) (load-description-at t) load-description.Post load-description-Inv-loop load-description-μ-loop
+load-description-returns t d =
+    let c = d .before in
+    let room = c .before .before .before .before .before .before .before .before .before .pre .1 .0 in
+    description-loads _ (room .few) _ _ _ _ _ _ _ _ (c .before .before .before .before .before .load-graph .ensures) _ _ _ _ (room .room)
     (finish _ _ _ _ (its-disjunctions _ _) (its-disjunctions _ _) _ _ _ _ (c .before .loop .inv .1) (disjunctions-end _ (omega arith) _))
-    refl
+    (d .tail-word .ensures)
 
 abbrev load-disjunction-Inv-loop : load-disjunction-lts.InvT-loop
 load-disjunction-Inv-loop t₀ ws p shift number left count₀ at₀ next₀ t count at next =
@@ -309,65 +223,38 @@ load-disjunction-Inv-loop t₀ ws p shift number left count₀ at₀ next₀ t c
 abbrev load-disjunction-μ-loop : load-disjunction-lts.MeasureT-loop
 load-disjunction-μ-loop t₀ ws p shift number left count₀ at₀ next₀ t count at next = count
 
-load-disjunction-mul-count : (t : ℕ) → load-disjunction-lts.Need-mul-count (
-  load-description-below t,
-  load-description.Post,
-) (load-disjunction-at t) load-disjunction.Post load-disjunction-Inv-loop load-disjunction-μ-loop
+load-disjunction-mul-count : (t : ℕ) → load-disjunction-lts.Need-mul-count (disjunction-claims t) (load-disjunction-at t) load-disjunction.Post load-disjunction-Inv-loop load-disjunction-μ-loop
 load-disjunction-mul-count t c = omega (arith, disjunction-there _ _ _ _ (c .before .before .pre .1 .1))
 
 load-disjunction-shared-slice-read-count :
-    (t : ℕ) → load-disjunction-lts.Need-shared-slice-read-count (
-      load-description-below t,
-      load-description.Post,
-    )
+    (t : ℕ) → load-disjunction-lts.Need-shared-slice-read-count (disjunction-claims t)
     (load-disjunction-at t)
     load-disjunction.Post
     load-disjunction-Inv-loop
     load-disjunction-μ-loop
 load-disjunction-shared-slice-read-count t c = omega (arith, disjunction-there _ _ _ _ (c .before .before .before .pre .1 .1))
 
-load-disjunction-add-t : (t : ℕ) → load-disjunction-lts.Need-add-t (
-  load-description-below t,
-  load-description.Post,
-) (load-disjunction-at t) load-disjunction.Post load-disjunction-Inv-loop load-disjunction-μ-loop
+load-disjunction-add-t : (t : ℕ) → load-disjunction-lts.Need-add-t (disjunction-claims t) (load-disjunction-at t) load-disjunction.Post load-disjunction-Inv-loop load-disjunction-μ-loop
 load-disjunction-add-t t c = omega (arith, disjunction-there _ _ _ _ (c .before .before .before .pre .1 .1))
 
-load-disjunction-mul-t : (t : ℕ) → load-disjunction-lts.Need-mul-t (
-  load-description-below t,
-  load-description.Post,
-) (load-disjunction-at t) load-disjunction.Post load-disjunction-Inv-loop load-disjunction-μ-loop
+load-disjunction-mul-t : (t : ℕ) → load-disjunction-lts.Need-mul-t (disjunction-claims t) (load-disjunction-at t) load-disjunction.Post load-disjunction-Inv-loop load-disjunction-μ-loop
 load-disjunction-mul-t t c = omega (arith, disjunction-there _ _ _ _ (c .before .before .before .pre .1 .1))
 
-load-disjunction-slice-write-t : (t : ℕ) → load-disjunction-lts.Need-slice-write-t (
-  load-description-below t,
-  load-description.Post,
-) (load-disjunction-at t) load-disjunction.Post load-disjunction-Inv-loop load-disjunction-μ-loop
+load-disjunction-slice-write-t : (t : ℕ) → load-disjunction-lts.Need-slice-write-t (disjunction-claims t) (load-disjunction-at t) load-disjunction.Post load-disjunction-Inv-loop load-disjunction-μ-loop
 load-disjunction-slice-write-t t c = omega (arith, disjunction-there _ _ _ _ (c .before .before .before .pre .1 .1))
 
-load-disjunction-add-at : (t : ℕ) → load-disjunction-lts.Need-add-at (
-  load-description-below t,
-  load-description.Post,
-) (load-disjunction-at t) load-disjunction.Post load-disjunction-Inv-loop load-disjunction-μ-loop
+load-disjunction-add-at : (t : ℕ) → load-disjunction-lts.Need-add-at (disjunction-claims t) (load-disjunction-at t) load-disjunction.Post load-disjunction-Inv-loop load-disjunction-μ-loop
 load-disjunction-add-at t c = omega (arith, disjunction-there _ _ _ _ (c .before .before .before .pre .1 .1))
 
-load-disjunction-loop-holds : (t : ℕ) → load-disjunction-lts.Need-loop-holds (
-  load-description-below t,
-  load-description.Post,
-) (load-disjunction-at t) load-disjunction.Post load-disjunction-Inv-loop load-disjunction-μ-loop
+load-disjunction-loop-holds : (t : ℕ) → load-disjunction-lts.Need-loop-holds (disjunction-claims t) (load-disjunction-at t) load-disjunction.Post load-disjunction-Inv-loop load-disjunction-μ-loop
 load-disjunction-loop-holds t c = (refl, begin _ _ _ _ (its-alternatives _ _) _)
 
-load-disjunction-sub-load-description : (t : ℕ) → load-disjunction-lts.Need-sub-load-description (
-  load-description-below t,
-  load-description.Post,
-) (load-disjunction-at t) load-disjunction.Post load-disjunction-Inv-loop load-disjunction-μ-loop
+load-disjunction-sub-load-description : (t : ℕ) → load-disjunction-lts.Need-sub-load-description (disjunction-claims t) (load-disjunction-at t) load-disjunction.Post load-disjunction-Inv-loop load-disjunction-μ-loop
 load-disjunction-sub-load-description t c =
     omega (arith, disjunction-there _ _ _ _ (c .before .before .before .before .before .before .pre .1 .1))
 
 load-disjunction-load-description-requires :
-    (t : ℕ) → load-disjunction-lts.Need-load-description-requires (
-      load-description-below t,
-      load-description.Post,
-    )
+    (t : ℕ) → load-disjunction-lts.Need-load-description-requires (disjunction-claims t)
     (load-disjunction-at t)
     load-disjunction.Post
     load-disjunction-Inv-loop
@@ -382,22 +269,13 @@ load-disjunction-load-description-requires t c κs = (
   ),
 )
 
-load-disjunction-sub-count : (t : ℕ) → load-disjunction-lts.Need-sub-count (
-  load-description-below t,
-  load-description.Post,
-) (load-disjunction-at t) load-disjunction.Post load-disjunction-Inv-loop load-disjunction-μ-loop
+load-disjunction-sub-count : (t : ℕ) → load-disjunction-lts.Need-sub-count (disjunction-claims t) (load-disjunction-at t) load-disjunction.Post load-disjunction-Inv-loop load-disjunction-μ-loop
 load-disjunction-sub-count t c = search needs
 
-load-disjunction-loop-less : (t : ℕ) → load-disjunction-lts.Need-loop-less (
-  load-description-below t,
-  load-description.Post,
-) (load-disjunction-at t) load-disjunction.Post load-disjunction-Inv-loop load-disjunction-μ-loop
+load-disjunction-loop-less : (t : ℕ) → load-disjunction-lts.Need-loop-less (disjunction-claims t) (load-disjunction-at t) load-disjunction.Post load-disjunction-Inv-loop load-disjunction-μ-loop
 load-disjunction-loop-less t c = search needs
 
-load-disjunction-loop-again : (t : ℕ) → load-disjunction-lts.Need-loop-again (
-  load-description-below t,
-  load-description.Post,
-) (load-disjunction-at t) load-disjunction.Post load-disjunction-Inv-loop load-disjunction-μ-loop
+load-disjunction-loop-again : (t : ℕ) → load-disjunction-lts.Need-loop-again (disjunction-claims t) (load-disjunction-at t) load-disjunction.Post load-disjunction-Inv-loop load-disjunction-μ-loop
 load-disjunction-loop-again t c = (
   loads-keeps (a-description _) _ _ _ _ _ _ _ _
       (asks-first (its-alternatives _ _) (a-description _) (its-alternatives _ _) _ _ _ (alternatives-step _ (omega arith) _)
@@ -409,28 +287,17 @@ load-disjunction-loop-again t c = (
       (a-description _) (its-alternatives _ _) _ _ _ (alternatives-step _ (omega arith) _) (c .before .before .load-description .ensures),
 )
 
-load-disjunction-same-length : (t : ℕ) → load-disjunction-lts.Need-same-length (
-  load-description-below t,
-  load-description.Post,
-) (load-disjunction-at t) load-disjunction.Post load-disjunction-Inv-loop load-disjunction-μ-loop
+load-disjunction-same-length : (t : ℕ) → load-disjunction-lts.Need-same-length (disjunction-claims t) (load-disjunction-at t) load-disjunction.Post load-disjunction-Inv-loop load-disjunction-μ-loop
 load-disjunction-same-length t c = c .before .loop .inv .0 ∙ simp length-set
 
-load-disjunction-returns : (t : ℕ) → load-disjunction-lts.Need-returns (
-  load-description-below t,
-  load-description.Post,
-) (load-disjunction-at t) load-disjunction.Post load-disjunction-Inv-loop load-disjunction-μ-loop
+load-disjunction-returns : (t : ℕ) → load-disjunction-lts.Need-returns (disjunction-claims t) (load-disjunction-at t) load-disjunction.Post load-disjunction-Inv-loop load-disjunction-μ-loop
 load-disjunction-returns t c =
     disjunction-loads _ _ _ _ _ (c .before .before .before .before .before .pre .1 .0 .room) _ _ _ _
     (finish _ _ _ _ (its-alternatives _ _) (its-alternatives _ _) _ _ _ _ (c .before .loop .inv .1) (alternatives-end _ (omega arith) _))
 
 pub +load-description+load-disjunction-spec : {M : Type 1} → statement M
 +load-description+load-disjunction-spec =
-    close μ-load-description μ-load-disjunction (λ t. load-description-lts.spec (
-      load-graph-reads.Asked,
-      load-graph-reads.Learnt,
-      load-disjunction-below t,
-      load-disjunction.Post,
-    )
+    close μ-load-description μ-load-disjunction (λ t. load-description-lts.spec (description-claims t)
     (load-description-at t)
     load-description.Post
     load-description-Inv-loop
@@ -446,10 +313,9 @@ pub +load-description+load-disjunction-spec : {M : Type 1} → statement M
     (load-description-loop-again t)
     (load-description-add-end t)
     (load-description-cast-end t)
-    (load-description-mul-t t)
+    (load-description-tail-word-requires t)
     (load-description-add-t t)
-    (load-description-add-t-2 t)
-    (load-description-mul-t-2 t)
+    (load-description-mul-t t)
     (load-description-slice-write-t t)
     (load-description-same-length t)
     (load-description-returns t))

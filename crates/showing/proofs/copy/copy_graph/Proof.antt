@@ -3,7 +3,7 @@
 use Prim.Native.Nat.{ℕ, _%_}
 use native.Mathlib.Omega.{arith}
 use mathlib.Core.Path.{ap, _∙_}
-use Rattle.loading.specs.Loaded.{number-step}
+use Rattle.packing.specs.Packed.{number-step}
 use Rattle.showing.proofs.Copying.{graph-here, graph-asks, graph-copied}
 use borrow.Author.Needs.{needs}
 use Rattle.showing.proofs.copy.copy_graph.Statement.{statement}

@@ -1,0 +1,2 @@
+-- `Packed` says that what is read of a packed word is what it was made of.
+pub mod Packed

@@ -1,0 +1,2 @@
+-- `Packed` says what the packed words hold.
+pub mod Packed
