@@ -151,7 +151,7 @@ module _ (w : List ℕ) (d e : Desc) (n : ℕ) (long : SIZE ≤ length w) (wd : 
   read j h = getD-region WORDS 2048 w j h
 
   pub lies : (x : Entry) → List·Memᴰ x (universe d e) → Lies w (x .at) (x .number) (x .graph)
-  unfolding weight header
+  unfolding weight
   lies x i =
       let p = placed x i in
       let parts = stands-cons t (header (x .number) (x .graph)) (located (x .number) (x .graph)) (x .at) (x .at + extent (x .graph)) .0
