@@ -26,6 +26,9 @@ use Rattle.marks.specs.Positions.{tail-at, disjunctions-at, alternatives-at}
 use Rattle.marks.specs.Marked.{marking}
 use Rattle.marks.specs.Readable.{Readable, Alternatives}
 use Rattle.marks.specs.Tallied.{Tallied}
+use Rattle.marks.specs.declared.tally.Left.{Left}
+use Rattle.marks.specs.declared.tally.Left.the-variants.{One}
+use Rattle.marks.proofs.Left.{kept-other}
 use Rattle.marks.proofs.Reading.{readable, reads, tail-of, disjunctions-of, alternatives-is}
 use Rattle.marks.proofs.Marks.{marking-frame}
 use Rattle.loading.specs.Nesting.{Nests, NestsAll, NestsAny}
@@ -302,25 +305,26 @@ module _ (n k : ℕ) (w : List ℕ) (g left : ℕ) (c : Entering n k w g left) w
               total = total-alone;
             }
 
-        module _ (kept first after : ℕ) (tally : (s : Alternatives w₁ (at + 1) count) → Tallied w₁ s kept first after) where
-          abbrev told : Tallied w₁ (counted n log w₁ (at + 1) count (left - 1) these) kept first after
+        module _ (which : Left) (after : ℕ) (tally : (s : Alternatives w₁ (at + 1) count) → Tallied w₁ s which after) where
+          abbrev told : Tallied w₁ (counted n log w₁ (at + 1) count (left - 1) these) which after
           told = tally (counted n log w₁ (at + 1) count (left - 1) these)
 
-          pub walk-skip : (kept ≡ 1 → ⊥) → Walking (more - 1) after log w₁
+          pub walk-skip : ((x : ℕ) → which ≡ One x → ⊥) → Walking (more - 1) after log w₁
           walk-skip z =
               let none = taken-none (c .s .t) (marking w) (next h .a) (at + 1) (v .from) (next h .q) (next h .m) (next h .any)
-              (λ f. z (told .kept-are ∙ ap (λ (u : Marking). kept-of u (next h .a)) marks₁ ∙ f)) in
+              (λ f. kept-other w₁ (counted n log w₁ (at + 1) count (left - 1) these) which after told z
+              (ap (λ (u : Marking). kept-of u (next h .a)) marks₁ ∙ f)) in
               subst (λ (p : ℕ). Walking (more - 1) p log w₁) (sym (told .after-is))
               (past log w₁ (subst (λ (l : List Entry). Holds n l log w₁)
               (sym (ap (λ (l : List Entry). v .es ++ l) none ∙ append-nil (v .es))) (v .holds)))
 
-          module _ (one : kept ≡ 1) where
+          module _ (first : ℕ) (one : which ≡ One first) where
             pub walk-inner : Entering n log w₁ first (left - 1)
-            walk-inner = inner n log w₁ (at + 1) count (left - 1) these kept first after told one
+            walk-inner = inner n log w₁ (at + 1) count (left - 1) these which after told first one
 
             walk-entered : entered walk-inner ≡ v .es ++ list
             unfolding walk-inner
-            walk-entered = inner-entered n log w₁ (at + 1) count (left - 1) these kept first after told one ∙ settled-is
+            walk-entered = inner-entered n log w₁ (at + 1) count (left - 1) these which after told first one ∙ settled-is
 
             module _ (o : Pushed) (w₂ : List ℕ) (u : Enters n log w₁ first (left - 1) o w₂) where
               pub walk-clash : o ≡ Clashed → Clash (graphs (entered c))
@@ -375,25 +379,25 @@ Onward n k g left more₀ at₀ log₀ w₀ more at log w = (v : List ℕ) (c : 
     Walking n k v g left c more₀ at₀ log₀ w₀ → Reached k v log w × Walking n k v g left c more at log w
 
 -- what a turn does: the alternative that stands alone is entered, or there is none
-pub data Turn (n log : ℕ) (w₁ : List ℕ) (first left kept i : ℕ) (w₂ : List ℕ) : Type 0 where
-  one : (o : Pushed) (j : ℕ) (w′ : List ℕ) → kept ≡ 1 → Enters n log w₁ first (left - 1) o w′ → o ≡ In j → w₂ ≡ w′ → i ≡ j →
-      Turn n log w₁ first left kept i w₂
-  none : (kept ≡ 1 → ⊥) → w₂ ≡ w₁ → i ≡ log → Turn n log w₁ first left kept i w₂
+pub data Turn (n log : ℕ) (w₁ : List ℕ) (left : ℕ) (which : Left) (i : ℕ) (w₂ : List ℕ) : Type 0 where
+  one : (first : ℕ) (o : Pushed) (j : ℕ) (w′ : List ℕ) → which ≡ One first → Enters n log w₁ first (left - 1) o w′ → o ≡ In j → w₂ ≡ w′ →
+      i ≡ j → Turn n log w₁ left which i w₂
+  none : ((x : ℕ) → which ≡ One x → ⊥) → w₂ ≡ w₁ → i ≡ log → Turn n log w₁ left which i w₂
 
 pub walk-on : (n k : ℕ) (w : List ℕ) (g left : ℕ) (c : Entering n k w g left) (log : ℕ) (w₁ : List ℕ) (r : Reached k w log w₁) (more at : ℕ)
-    (v : Walking n k w g left c more at log w₁) (h : 0 < more) (count : ℕ) → count ≡ alternatives-at w₁ at → (kept first after : ℕ) →
-    ((s : Alternatives w₁ (at + 1) count) → Tallied w₁ s kept first after) → (i : ℕ) (w₂ : List ℕ) → Turn n log w₁ first left kept i w₂ →
+    (v : Walking n k w g left c more at log w₁) (h : 0 < more) (count : ℕ) → count ≡ alternatives-at w₁ at → (which : Left) (after : ℕ) →
+    ((s : Alternatives w₁ (at + 1) count) → Tallied w₁ s which after) → (i : ℕ) (w₂ : List ℕ) → Turn n log w₁ left which i w₂ →
     Reached k w i w₂ × Walking n k w g left c (more - 1) after i w₂
-walk-on n k w g left c log w₁ r more at v h count e kept first after tally i w₂ (one o j w′ z u y f q) =
+walk-on n k w g left c log w₁ r more at v h count e which after tally i w₂ (one first o j w′ z u y f q) =
     subst (λ (x : List ℕ). Reached k w i x × Walking n k w g left c (more - 1) after i x) (sym f)
     (subst (λ (b : ℕ). Reached k w b w′ × Walking n k w g left c (more - 1) after b w′) (sym q) (
       reach-on k w log w₁ j w′ r (u .len) (u .rest) (u .pushed j y .0),
-      walk-in n k w g left c log w₁ r more at v h count e kept first after tally z o w′ u j y,
+      walk-in n k w g left c log w₁ r more at v h count e which after tally first z o w′ u j y,
     ))
-walk-on n k w g left c log w₁ r more at v h count e kept first after tally i w₂ (none z f q) =
+walk-on n k w g left c log w₁ r more at v h count e which after tally i w₂ (none z f q) =
     subst (λ (x : List ℕ). Reached k w i x × Walking n k w g left c (more - 1) after i x) (sym f)
     (subst (λ (b : ℕ). Reached k w b w₁ × Walking n k w g left c (more - 1) after b w₁) (sym q)
-    (r, walk-skip n k w g left c log w₁ r more at v h count e kept first after tally z))
+    (r, walk-skip n k w g left c log w₁ r more at v h count e which after tally z))
 
 -- all are in
 pub enters-all : (n k : ℕ) (w : List ℕ) (g left log : ℕ) (w₁ : List ℕ) → Reached k w log w₁ →

@@ -21,6 +21,9 @@ use Rattle.loading.specs.Lying.{Lying}
 use Rattle.marks.specs.Marked.{marking}
 use Rattle.marks.specs.Readable.{Alternatives}
 use Rattle.marks.specs.Tallied.{Tallied}
+use Rattle.marks.specs.declared.tally.Left.{Left}
+use Rattle.marks.specs.declared.tally.Left.the-variants.{Nothing, One, Several}
+use Rattle.marks.proofs.Left.{kept-none, kept-alone, kept-several}
 use Rattle.classes.specs.Holds.{Holds, Since}
 use Rattle.classes.specs.declared.push.Pushed.{Pushed}
 use Rattle.classes.specs.declared.push.Pushed.the-variants.{In, Clashed}
@@ -95,8 +98,8 @@ module _ (n k : ℕ) (w : List ℕ) (p count left : ℕ) where
     settled-inside = inside-append (c .s .U) (c .es) (taken-any-of (marking w) (c .lies)) (c .s .inside)
         (any-inside-of (marking w) (c .lies) (c .s .U) (c .among))
 
-  module _ (kept first after : ℕ) (tally : (s : Alternatives w p count) → Tallied w s kept first after) where
-    pub settles-none : Alternating n k w p count left → kept ≡ 0 → Settles n k w p count left Clashed w
+  module _ (which : Left) (after : ℕ) (tally : (s : Alternatives w p count) → Tallied w s which after) where
+    pub settles-none : Alternating n k w p count left → which ≡ Nothing → Settles n k w p count left Clashed w
     settles-none c₀ z = record {
       len = refl;
       rest = λ j h. refl;
@@ -105,13 +108,14 @@ module _ (n k : ℕ) (w : List ℕ) (p count left : ℕ) where
         since-refl n (c₀ .es) k w (c₀ .s .holds),
         λ c. (
           c .s .holds,
-          settle-none (graphs (c .es)) (marking w) (c .lies .a) (sym (tally (counted n k w p count left c) .kept-are) ∙ z),
+          let s = counted n k w p count left c in
+              settle-none (graphs (c .es)) (marking w) (c .lies .a) (kept-none w s which after (tally s) z),
         ),
       );
     }
 
-    pub settles-several : Alternating n k w p count left → 1 < kept → Settles n k w p count left (In k) w
-    settles-several c₀ z = record {
+    pub settles-several : Alternating n k w p count left → (many : ℕ) → which ≡ Several many → Settles n k w p count left (In k) w
+    settles-several c₀ many z = record {
       len = refl;
       rest = λ j h. refl;
       pushed = λ i y. let x : k ≡ i = cc in
@@ -125,32 +129,27 @@ module _ (n k : ℕ) (w : List ℕ) (p count left : ℕ) where
         several : (c : Alternating n k w p count left) →
             Holds n (settled c) k w × (settle-at (graphs (c .es)) (marking w) (c .lies .a) ≡ stands (graphs (settled c)) (marking w))
         several c =
-            let are = tally (counted n k w p count left c) .kept-are in
-            let none = none-of (marking w) (c .lies) (λ f. let g = are in omega arith) in
+            let s = counted n k w p count left c in
+            let more = kept-several w s which after (tally s) many z in
+            let none = none-of (marking w) (c .lies) (λ f. let g = more .1 in omega arith) in
             let same : settled c ≡ c .es = ap (λ (l : List Entry). c .es ++ l) none ∙ append-nil (c .es) in (
               subst (λ (l : List Entry). Holds n l k w) (sym same) (c .s .holds),
-              go (kept-of (marking w) (c .lies .a)) refl (sym are)
+              settle-several (graphs (c .es)) (marking w) (c .lies .a) (more .0) (more .1)
                   ∙ ap (λ (l : List Entry). stands (graphs l) (marking w)) (sym same),
             )
-          where
-            go : (b : ℕ) → kept-of (marking w) (c .lies .a) ≡ b → kept-of (marking w) (c .lies .a) ≡ kept →
-                settle-at (graphs (c .es)) (marking w) (c .lies .a) ≡ stands (graphs (c .es)) (marking w)
-            go zero e f = absurd (omega arith)
-            go (suc zero) e f = absurd (omega arith)
-            go (suc (suc l)) e f = settle-several (graphs (c .es)) (marking w) (c .lies .a) l e
 
-    module _ (one : kept ≡ 1) where
+    module _ (first : ℕ) (one : which ≡ One first) where
       -- the one that is kept
       pub asks-inner : Alternating n k w p count left → Entering n k w first left
-      asks-inner c = inner n k w p count left c kept first after (tally (counted n k w p count left c)) one
+      asks-inner c = inner n k w p count left c which after (tally (counted n k w p count left c)) first one
 
       same-entered : (c : Alternating n k w p count left) → entered (asks-inner c) ≡ settled c
       unfolding asks-inner
-      same-entered c = inner-entered n k w p count left c kept first after (tally (counted n k w p count left c)) one
+      same-entered c = inner-entered n k w p count left c which after (tally (counted n k w p count left c)) first one
 
       same-es : (c : Alternating n k w p count left) → asks-inner c .es ≡ c .es
       unfolding asks-inner
-      same-es c = inner-es n k w p count left c kept first after (tally (counted n k w p count left c)) one
+      same-es c = inner-es n k w p count left c which after (tally (counted n k w p count left c)) first one
 
       fine : (c : Alternating n k w p count left) → Fine (graphs (c .es) ++ certain-any (marking w) (c .lies .a))
       fine c =
@@ -192,4 +191,4 @@ module _ (n k : ℕ) (w : List ℕ) (p count left : ℕ) where
         }
           where
             kept-one : (c : Alternating n k w p count left) → kept-of (marking w) (c .lies .a) ≡ 1
-            kept-one c = sym (tally (counted n k w p count left c) .kept-are) ∙ one
+            kept-one c = let s = counted n k w p count left c in kept-alone w s which after (tally s) first one

@@ -1,6 +1,7 @@
 // A disjunction is settled once its alternatives were tried.
 use crate::enter::enter;
 use classes::push::Pushed;
+use marks::tally::Left;
 use marks::tally::count_kept;
 ghost use Rattle.entering.specs.Settled.{Alternating, Settles};
 
@@ -10,12 +11,10 @@ pub fn settle(w: &mut [u32], k: usize, n: usize, p: usize, count: usize, left: u
     ensures { λ r. ⌜ Settles n k (now (w .entry)) p count left r (now (w .exit)) ⌝ }
 {
     let tally = count_kept(w, p, count);
-    if tally.kept == 0 {
-        return Pushed::Clashed;
+    let which = tally.left;
+    match which {
+        Left::Nothing => Pushed::Clashed,
+        Left::One(first) => enter(w, k, n, first, left),
+        Left::Several(_) => Pushed::In(k),
     }
-    if tally.kept == 1 {
-        let first = tally.first;
-        return enter(w, k, n, first, left);
-    }
-    Pushed::In(k)
 }

@@ -1,6 +1,6 @@
--- How many alternatives of a disjunction are kept, and which is the first.
+-- What is left of a disjunction: how many of its alternatives are kept, and which is the first.
 -- Assumes nothing: these are definitions.
-use Prim.Native.Nat.{ℕ}
+use Prim.Native.Nat.{ℕ, zero, suc}
 use mathlib.Core.Path.{_≡_}
 use mathlib.Core.Bool.{true, false}
 use mathlib.Core.List.{List}
@@ -10,14 +10,23 @@ use Rattle.engine.specs.Marks.{Marking, kept-of}
 use Rattle.loading.specs.At.{AtAny}
 use Rattle.marks.specs.Marked.{marking}
 use Rattle.marks.specs.Readable.{Alternatives}
+use Rattle.marks.specs.declared.tally.Left.{Left}
+use Rattle.marks.specs.declared.tally.Left.the-variants.{Nothing, One, Several}
 
 -- the alternatives from the first kept one on
 abbrev pub from-kept : Marking → Options → Options
 from-kept m no-more = no-more
 from-kept m (option x d a) = elim (m x) [ true ↦ option x d a | false ↦ from-kept m a ]
 
--- of these alternatives as many are kept, those from the first kept one on stand at `first`, and all end at `after`
-pub record Tallied (w : List ℕ) {p count : ℕ} (s : Alternatives w p count) (kept first after : ℕ) : Type 0 where
-  pub kept-are : kept ≡ kept-of (marking w) (s .lies .a)
+-- what is left of a disjunction of which as many alternatives are kept, the first of them at `first`
+unfoldable pub left-of : (kept first : ℕ) → Left
+left-of zero first = Nothing
+left-of (suc zero) first = One first
+left-of (suc (suc k)) first = Several (suc (suc k))
+
+-- `left` is what is left of these alternatives, those from the first kept one on stand at `first`, and all end at `after`
+pub record Tallied (w : List ℕ) {p count : ℕ} (s : Alternatives w p count) (left : Left) (after : ℕ) : Type 0 where
+  pub first : ℕ
   pub first-is : (k : ℕ) × AtAny (words w) first k (from-kept (marking w) (s .lies .a)) (s .lies .end) (s .lies .to)
+  pub left-is : left ≡ left-of (kept-of (marking w) (s .lies .a)) first
   pub after-is : after ≡ s .lies .end

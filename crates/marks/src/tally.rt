@@ -1,21 +1,41 @@
-// How many alternatives of a disjunction are kept.
+// What is left of a disjunction: which of its alternatives are kept.
 use crate::marking::kept;
 use crate::positions::after_at;
 use crate::positions::number_at;
+ghost use mathlib.Core.Path.{_≡_};
 ghost use Rattle.marks.specs.Readable.{Alternatives};
-ghost use Rattle.marks.specs.Tallied.{Tallied};
+ghost use Rattle.marks.specs.Tallied.{left-of, Tallied};
 
-// Of some alternatives: how many are kept, the position of the first of these, or the end where there is none, and the end.
+// None of the alternatives is left, or one, by its position, or several, by their number.
+pub enum Left {
+    Nothing,
+    One(usize),
+    Several(usize),
+}
+
+// Of some alternatives: what is left of them, and where they end.
 pub struct Tally {
-    pub kept: usize,
-    pub first: usize,
+    pub left: Left,
     pub after: usize,
 }
 
-// Counts the kept ones of the `count` alternatives from p on.
+// What is left where `found` alternatives are kept, the first of them at `first`.
+fn left_of(found: usize, first: usize) -> Left
+    ensures { λ r. ⌜ r ≡ left-of found first ⌝ }
+{
+    if found == 0 {
+        return Left::Nothing;
+    }
+    if found == 1 {
+        return Left::One(first);
+    }
+    Left::Several(found)
+}
+
+// Tells what is left of the `count` alternatives from p on.
 pub fn count_kept(w: &[u32], p: usize, count: usize) -> Tally
     requires { ⌜ Alternatives (now w) p count ⌝ }
-    ensures { λ r. ⌜ ((s : Alternatives (now (w .entry)) p count) → Tallied (now (w .entry)) s (r .kept) (r .first) (r .after)) ⌝ }
+    ensures { λ r. ⌜ ((s : Alternatives (now (w .entry)) p count) → Tallied (now (w .entry)) s (r .left) (r .after)) ⌝ }
 {
     let mut left = count;
     let mut at = p;
@@ -31,9 +51,9 @@ pub fn count_kept(w: &[u32], p: usize, count: usize) -> Tally
         }
         left -= 1;
     }
+    let told = left_of(found, first);
     Tally {
-        kept: found,
-        first,
+        left: told,
         after: at,
     }
 }

@@ -1,6 +1,6 @@
 -- One disjunction is narrowed: engine's `any-at`, return by return.
 -- Assumes nothing.
-use Prim.Native.Nat.{ℕ, zero, suc, _<_}
+use Prim.Native.Nat.{ℕ, suc}
 use native.Mathlib.Omega.{arith}
 use mathlib.Core.Path.{_≡_, refl, sym, ap, subst, _∙_}
 use mathlib.Core.Logic.{inl, inr, ⊎-elim}
@@ -13,8 +13,11 @@ use Rattle.loading.proofs.Lying.{lying-more}
 use Rattle.marks.specs.Marked.{marking}
 use Rattle.marks.specs.Readable.{Alternatives}
 use Rattle.marks.specs.Tallied.{Tallied}
+use Rattle.marks.specs.declared.tally.Left.{Left}
+use Rattle.marks.specs.declared.tally.Left.the-variants.{Nothing, One, Several}
 use Rattle.marks.proofs.Reading.{alternatives}
 use Rattle.marks.proofs.Marks.{marking-frame}
+use Rattle.marks.proofs.Left.{kept-none, kept-alone, alone-at, kept-several}
 use Rattle.classes.specs.Holds.{Holds, Since}
 use Rattle.classes.specs.declared.push.Pushed.{Pushed}
 use Rattle.classes.specs.declared.push.Pushed.the-variants.{In, Clashed}
@@ -36,24 +39,29 @@ module _ (n k : ℕ) (w : List ℕ) (p count left : ℕ) where
   abbrev pub chosen : Choosing n k w p count left → Alternatives w p count
   chosen c = alternatives w (c .s .holds .long) (c .s .loaded) (c .s .ground .few) (c .lies)
 
-  module _ (kept first after : ℕ) (tally : (s : Alternatives w p count) → Tallied w s kept first after) where
-    kept-is : (c : Choosing n k w p count left) → kept-of (marking w) (c .lies .a) ≡ kept
-    kept-is c = sym (tally (chosen c) .kept-are)
-
-    pub chooses-none : Choosing n k w p count left → kept ≡ 0 → Chooses n k w p count left Fails w
+  module _ (which : Left) (after : ℕ) (tally : (s : Alternatives w p count) → Tallied w s which after) where
+    pub chooses-none : Choosing n k w p count left → which ≡ Nothing → Chooses n k w p count left Fails w
     chooses-none c₀ z = record {
       standing = λ j i y. let x : _≡_ {A = ℕ} 0 1 = cc in absurd (omega arith);
       failing = λ y. (
         record { len = refl; rest = λ j h. refl; since = since-refl n (c₀ .es) k w (c₀ .s .holds) },
         omega arith,
-        λ c. record { holds' = c .s .holds; off = λ y h. refl; is = any-none (graphs (c .es)) (marking w) (c .lies .a) (kept-is c ∙ z) },
+        λ c. record {
+          holds' = c .s .holds;
+          off = λ y h. refl;
+          is = any-none (graphs (c .es)) (marking w) (c .lies .a) (kept-none w (chosen c) which after (tally (chosen c)) z);
+        },
       );
     }
 
     -- ---- the one that stands alone
-    module _ (one : kept ≡ 1) where
+    module _ (first : ℕ) (one : which ≡ One first) where
+      kept-one : (c : Choosing n k w p count left) → kept-of (marking w) (c .lies .a) ≡ 1
+      kept-one c = kept-alone w (chosen c) which after (tally (chosen c)) first one
+
       lone : (c : Choosing n k w p count left) → LoneOf (marking w) (c .lies) (c .s .U) first
-      lone c = lone-alone (c .s .U) (words w) (marking w) (c .lies) (c .among) (kept-is c ∙ one) first (tally (chosen c) .first-is)
+      lone c = lone-alone (c .s .U) (words w) (marking w) (c .lies) (c .among) (kept-one c) first
+          (alone-at w (chosen c) which after (tally (chosen c)) first one)
 
       abbrev goes : Choosing n k w p count left → Narrowing n k w first left
       goes c = record {
@@ -62,7 +70,7 @@ module _ (n k : ℕ) (w : List ℕ) (p count left : ℕ) where
         lies = lying-more (c .lies .low) (lone c .lies);
         among = lone c .among;
         clear = lone c .opens (c .es) (subst
-            (λ (j : ℕ). ByCount j (ClearLoneOf (c .es) (marking w) (c .lies)) (FreeAnyOf (c .lies) (c .es))) (kept-is c ∙ one)
+            (λ (j : ℕ). ByCount j (ClearLoneOf (c .es) (marking w) (c .lies)) (FreeAnyOf (c .lies) (c .es))) (kept-one c)
             (c .clear));
       }
 
@@ -112,15 +120,13 @@ module _ (n k : ℕ) (w : List ℕ) (p count left : ℕ) where
       }
 
     -- ---- several
-    module _ (more : 1 < kept) where
+    module _ (many : ℕ) (several : which ≡ Several many) where
+      more : (c : Choosing n k w p count left) → (l : ℕ) × (kept-of (marking w) (c .lies .a) ≡ suc (suc l))
+      more c = kept-several w (chosen c) which after (tally (chosen c)) many several
+
       free : (c : Choosing n k w p count left) → FreeAnyOf (c .lies) (c .es)
-      free c = go (kept-of (marking w) (c .lies .a)) (kept-is c) (c .clear)
-        where
-          go : (j : ℕ) → j ≡ kept → ByCount j (ClearLoneOf (c .es) (marking w) (c .lies))
-              (FreeAnyOf (c .lies) (c .es)) → FreeAnyOf (c .lies) (c .es)
-          go zero e x = absurd (omega arith)
-          go (suc zero) e x = absurd (omega arith)
-          go (suc (suc l)) e x = x
+      free c = subst (λ (j : ℕ). ByCount j (ClearLoneOf (c .es) (marking w) (c .lies)) (FreeAnyOf (c .lies) (c .es))) (more c .1)
+          (c .clear)
 
       -- where the graphs are still those of c
       abbrev these : (c : Choosing n k w p count left) (v : List ℕ) → words v ≡ words w → Holds n (c .es) k v →
@@ -142,15 +148,8 @@ module _ (n k : ℕ) (w : List ℕ) (p count left : ℕ) where
 
         sifts : (c : Choosing n k w p count left) →
             any-at (graphs (c .es)) (marking w) (c .lies .a) ≡ settle-at (graphs (c .es)) (marking w₁) (c .lies .a)
-        sifts c = go (kept-of (marking w) (c .lies .a)) refl (kept-is c)
-          where
-            go : (j : ℕ) → kept-of (marking w) (c .lies .a) ≡ j → kept-of (marking w) (c .lies .a) ≡ kept →
-                any-at (graphs (c .es)) (marking w) (c .lies .a) ≡ settle-at (graphs (c .es)) (marking w₁) (c .lies .a)
-            go zero e f = absurd (omega arith)
-            go (suc zero) e f = absurd (omega arith)
-            go (suc (suc l)) e f = any-several (graphs (c .es)) (marking w) (c .lies .a)
-                (any-distinct-of (c .lies)) l e
-                ∙ ap (λ (m : Marking). settle-at (graphs (c .es)) m (c .lies .a)) (s .sifted (these c w refl (c .s .holds)) .is)
+        sifts c = any-several (graphs (c .es)) (marking w) (c .lies .a) (any-distinct-of (c .lies)) (more c .0) (more c .1)
+            ∙ ap (λ (m : Marking). settle-at (graphs (c .es)) m (c .lies .a)) (s .sifted (these c w refl (c .s .holds)) .is)
 
         -- nothing was dropped, and several stay
         pub chooses-still : drops ≡ 0 → Chooses n k w p count left (Stands k 0) w₁
@@ -179,15 +178,9 @@ module _ (n k : ℕ) (w : List ℕ) (p count left : ℕ) where
                   clear' = subst (λ (m : Marking). ClearAnyOf (c .es) m (c .lies)) (sym marks₁)
                       (c .clear);
                   off = told .off;
-                  is = sifts c ∙ go (kept-of (marking w₁) (c .lies .a)) refl (ap (λ (m : Marking). kept-of m (c .lies .a)) marks₁
-                      ∙ kept-is c);
+                  is = sifts c ∙ settle-several (graphs (c .es)) (marking w₁) (c .lies .a) (more c .0)
+                      (ap (λ (m : Marking). kept-of m (c .lies .a)) marks₁ ∙ more c .1);
                 }
-              where
-                go : (j : ℕ) → kept-of (marking w₁) (c .lies .a) ≡ j → kept-of (marking w₁) (c .lies .a) ≡ kept →
-                    settle-at (graphs (c .es)) (marking w₁) (c .lies .a) ≡ stands (graphs (c .es)) (marking w₁)
-                go zero e f = absurd (omega arith)
-                go (suc zero) e f = absurd (omega arith)
-                go (suc (suc l)) e f = settle-several (graphs (c .es)) (marking w₁) (c .lies .a) l e
 
         module _ (r : Pushed) (w₂ : List ℕ) (u : Settles n k w₁ p count left r w₂) where
           marks₂ : marking w₂ ≡ marking w₁

@@ -24,6 +24,7 @@ use Rattle.marks.specs.Positions.{tail-at, disjunctions-at, alternatives-at}
 use Rattle.marks.specs.Marked.{marking}
 use Rattle.marks.specs.Readable.{Readable, Alternatives}
 use Rattle.marks.specs.Tallied.{Tallied}
+use Rattle.marks.specs.declared.tally.Left.{Left}
 use Rattle.marks.proofs.Reading.{readable, reads, tail-of, disjunctions-of, alternatives-is}
 use Rattle.marks.proofs.Marks.{marking-frame}
 use Rattle.loading.specs.Nesting.{Nests, NestsAll}
@@ -224,9 +225,9 @@ module _ (n k : ℕ) (w : List ℕ) (g left : ℕ) where
             sieved-after t u e = sieved-since n log w₁ w₂ t (c .s .holds .below) (omega (arith, m .len, c .s .holds .long))
                 (subst (λ (i : ℕ). Since log w₁ i w₂) e (v .standing j i y .0 .since)) u
 
-            pub narrow-on : (kept first' after : ℕ) → ((a : Alternatives w₁ (at + 1) count) → Tallied w₁ a kept first' after) →
+            pub narrow-on : (which : Left) (after : ℕ) → ((a : Alternatives w₁ (at + 1) count) → Tallied w₁ a which after) →
                 Going c (more - 1) after j w₂
-            narrow-on kept first' after tally =
+            narrow-on which after tally =
                 let count' = next .later in
                 let above = s .above in
                 let near = first .2 in

@@ -12,6 +12,7 @@ use marks::positions::alternatives_at;
 use marks::positions::disjunctions_at;
 use marks::positions::number_at;
 use marks::positions::tail_at;
+use marks::tally::Left;
 use marks::tally::count_kept;
 use sieving::gather::gather;
 use sieving::gather::renew;
@@ -66,17 +67,8 @@ pub fn narrow(w: &mut [u32], k: usize, n: usize, g: usize, left: u32) -> Step
     while 0 < more {
         let count = alternatives_at(w, at);
         let tally = count_kept(w, at + 1, count);
-        let one = narrow_one(
-            w,
-            log,
-            n,
-            at + 1,
-            count,
-            tally.kept,
-            tally.first,
-            left - 1,
-            &t,
-        );
+        let which = tally.left;
+        let one = narrow_one(w, log, n, at + 1, count, which, left - 1, &t);
         let Step::Stands(j, i) = one else {
             back(w, log, k);
             return Step::Fails;
@@ -90,28 +82,30 @@ pub fn narrow(w: &mut [u32], k: usize, n: usize, g: usize, left: u32) -> Step
     Step::Stands(log, drops)
 }
 
-// Narrows one disjunction, whose `count` alternatives stand from p on. Of these `found` are kept, the first of them at `first`.
+// Narrows one disjunction, whose `count` alternatives stand from p on; `which` says what is left of them.
 fn narrow_one(
     w: &mut [u32],
     k: usize,
     n: usize,
     p: usize,
     count: usize,
-    found: usize,
-    first: usize,
+    which: Left,
     left: u32,
     t: &[u32],
 ) -> Step
     requires { ⌜ Choosing n k (now w) p count left ⌝ }
-    requires { ⌜ ((after : ℕ) × ((s : Alternatives (now w) p count) → Tallied (now w) s found first after)) ⌝ }
+    requires { ⌜ ((after : ℕ) × ((s : Alternatives (now w) p count) → Tallied (now w) s which after)) ⌝ }
     requires { ⌜ Sieved n (now w) (now t) ⌝ }
     ensures { λ r. ⌜ Chooses n k (now (w .entry)) p count left r (now (w .exit)) ⌝ }
 {
-    if found == 0 {
-        return Step::Fails;
-    }
-    if found == 1 {
-        return narrow(w, k, n, first, left);
+    match which {
+        Left::Nothing => {
+            return Step::Fails;
+        }
+        Left::One(first) => {
+            return narrow(w, k, n, first, left);
+        }
+        Left::Several(_) => {}
     }
     let drops = sift(w, k, n, p, count, left, t);
     if drops == 0 {

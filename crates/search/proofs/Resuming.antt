@@ -23,10 +23,14 @@ use Rattle.loading.specs.Lying.{LyingAll, LyingAny}
 use Rattle.loading.proofs.Walking.{all-bounds, any-bounds}
 use Rattle.loading.proofs.Lying.{lying-more, any-many}
 use Rattle.marks.specs.Positions.{tail-at, disjunctions-at, alternatives-at}
+use Rattle.marks.specs.Marked.{marking}
 use Rattle.marks.specs.Readable.{Alternatives}
 use Rattle.marks.specs.Tallied.{from-kept, Tallied}
+use Rattle.marks.specs.declared.tally.Left.{Left}
+use Rattle.marks.specs.declared.tally.Left.the-variants.{Nothing, One, Several}
 use Rattle.marks.proofs.Reading.{Read, readable, reads, alternatives, alternatives-is}
 use Rattle.marks.proofs.First.{first-kept}
+use Rattle.marks.proofs.Left.{kept-none, kept-alone, alone-at, kept-several}
 use Rattle.loading.specs.Nesting.{NestsAll}
 use Rattle.classes.proofs.Laws.{since-refl}
 use Rattle.entering.specs.Taken.{AmongAll, AmongAnyOf, FreeAnyOf}
@@ -203,9 +207,12 @@ module _ (n k : ℕ) (w : List ℕ) (a : Agenda) where
       pub resume-counts : Resuming n k w a → Alternatives w (a .at0 + 1) count
       resume-counts c = counted c
 
-      module _ (kept first after : ℕ) (tally : (s : Alternatives w (a .at0 + 1) count) → Tallied w s kept first after) where
-        kept-is : (c : Resuming n k w a) → kept-of (c .s .m) (lies c .a) ≡ kept
-        kept-is c = ap (λ (m : Marking). kept-of m (lies c .a)) (sym (c .s .marks)) ∙ sym (tally (counted c) .kept-are)
+      module _ (which : Left) (after : ℕ) (tally : (s : Alternatives w (a .at0 + 1) count) → Tallied w s which after) where
+        abbrev told : (c : Resuming n k w a) → Tallied w (counted c) which after
+        told c = tally (counted c)
+
+        kept-marks : (c : Resuming n k w a) → kept-of (c .s .m) (lies c .a) ≡ kept-of (marking w) (lies c .a)
+        kept-marks c = ap (λ (m : Marking). kept-of m (lies c .a)) (sym (c .s .marks))
 
         module _ (later : Agenda) (la : (s : Slot) (l : List Slot) → Lists a (s ∷ l) → Lists later l) where
           pub resume-room : Resuming n k w a → (a .more0 - 1 ≡ 0) ⊎ (later .frames < 5)
@@ -216,7 +223,7 @@ module _ (n k : ℕ) (w : List ℕ) (a : Agenda) where
             slots₂ c = onto (lies c .end) (a .more0 - 1) (next c .l)
 
             lists₂ : (c : Resuming n k w a) → Lists rest (slots₂ c)
-            lists₂ c = subst (λ (p : ℕ). Lists rest (onto p (a .more0 - 1) (next c .l))) (tally (counted c) .after-is)
+            lists₂ c = subst (λ (p : ℕ). Lists rest (onto p (a .more0 - 1) (next c .l))) (told c .after-is)
                 (lb (next c .l) (la (a .at0, a .more0) (next c .l) (next c .lists)))
 
             -- what is found of the rest of its frame, and then of those behind
@@ -243,20 +250,24 @@ module _ (n k : ℕ) (w : List ℕ) (a : Agenda) where
                 (sym (same-found (resume-at (c .s .m) (left-of c)) (resume-at (c .s .m) (behind c)) (frames₂ c .1)))
 
             -- none is kept
-            pub resumes-none : Resuming n k w a → kept ≡ 0 → Resumes n k w a 0 w
+            pub resumes-none : Resuming n k w a → which ≡ Nothing → Resumes n k w a 0 w
             resumes-none c₀ z = record {
               moved = stays c₀;
               found = λ c. finds-same n k w (c .es) [] (resumed c) 0 w (choice-is c
-                  ∙ choose-none (c .s .m) (graphs (c .es)) (lies c .a) (left-of c) (kept-is c ∙ z))
+                  ∙ choose-none (c .s .m) (graphs (c .es)) (lies c .a) (left-of c)
+                  (kept-marks c ∙ kept-none w (counted c) which after (told c) z))
                   (finds-none n k w (c .es) (c .s .holds));
             }
 
             -- one stands alone: it is pushed already
-            module _ (one : kept ≡ 1) where
+            module _ (first : ℕ) (one : which ≡ One first) where
+              kept-one : (c : Resuming n k w a) → kept-of (c .s .m) (lies c .a) ≡ 1
+              kept-one c = kept-marks c ∙ kept-alone w (counted c) which after (told c) first one
+
               lone : (c : Resuming n k w a) → LoneOf (c .s .m) (lies c) (c .s .U) first
               lone c =
-                  let stands = tally (counted c) .first-is in
-                  lone-alone (c .s .U) (words w) (c .s .m) (lies c) (next c .among) (kept-is c ∙ one) first (
+                  let stands = alone-at w (counted c) which after (told c) first one in
+                  lone-alone (c .s .U) (words w) (c .s .m) (lies c) (next c .among) (kept-one c) first (
                     stands .0,
                     subst (λ (m : Marking). AtAny (words w) first (stands .0) (from-kept m (lies c .a)) (lies c .end) (lies c .to))
                         (c .s .marks) (stands .1),
@@ -270,7 +281,7 @@ module _ (n k : ℕ) (w : List ℕ) (a : Agenda) where
                 among = lone c .among;
                 clear = lone c .opens (c .es)
                     (subst (λ (j : ℕ). ByCount j (ClearLoneOf (c .es) (c .s .m) (lies c)) (FreeAnyOf (lies c) (c .es)))
-                    (kept-is c ∙ one) (next c .clear));
+                    (kept-one c) (next c .clear));
                 here = lone c .far;
                 low = lone c .lies .low;
                 deep = deep c;
@@ -341,15 +352,13 @@ module _ (n k : ℕ) (w : List ℕ) (a : Agenda) where
                   }
 
             -- several are kept
-            module _ (more : 1 < kept) where
+            module _ (many : ℕ) (several : which ≡ Several many) where
+              more : (c : Resuming n k w a) → (j : ℕ) × (kept-of (c .s .m) (lies c .a) ≡ suc (suc j))
+              more c = let two = kept-several w (counted c) which after (told c) many several in (two .0, kept-marks c ∙ two .1)
+
               free : (c : Resuming n k w a) → FreeAnyOf (lies c) (c .es)
-              free c = go (kept-of (c .s .m) (lies c .a)) (kept-is c) (next c .clear)
-                where
-                  go : (j : ℕ) → j ≡ kept → ByCount j (ClearLoneOf (c .es) (c .s .m) (lies c)) (FreeAnyOf (lies c) (c .es)) →
-                      FreeAnyOf (lies c) (c .es)
-                  go zero e x = absurd (omega arith)
-                  go (suc zero) e x = absurd (omega arith)
-                  go (suc (suc i)) e x = x
+              free c = subst (λ (j : ℕ). ByCount j (ClearLoneOf (c .es) (c .s .m) (lies c)) (FreeAnyOf (lies c) (c .es))) (more c .1)
+                  (next c .clear)
 
               abbrev choosing₁ : Resuming n k w a → Branching n k w (a .at0 + 1) count rest
               choosing₁ c = record {
@@ -373,6 +382,6 @@ module _ (n k : ℕ) (w : List ℕ) (a : Agenda) where
               resumes-several r w' v = record {
                 moved = v .moved;
                 found = λ c. finds-same n k w (c .es) (chosen (choosing₁ c)) (resumed c) r w' (choice-is c
-                    ∙ choose-several (c .s .m) (graphs (c .es)) (lies c .a) (left-of c) (omega (arith, kept-is c)))
+                    ∙ choose-several (c .s .m) (graphs (c .es)) (lies c .a) (left-of c) (omega (arith, more c .1)))
                     (v .found (choosing₁ c));
               }

@@ -16,6 +16,7 @@ use marks::marking::light;
 use marks::positions::after_at;
 use marks::positions::alternatives_at;
 use marks::positions::number_at;
+use marks::tally::Left;
 use marks::tally::count_kept;
 use trying::told::Guess;
 ghost use Rattle.search.specs.Searched.{Noting, Notes, Resuming, Resumes, Taking, Takes, Branching, Branches, Searching, Searches};
@@ -48,17 +49,17 @@ fn resume(w: &mut [u32], k: usize, n: usize, a: Agenda) -> u32
     let tally = count_kept(w, at + 1, count);
     let later = after(a);
     let rest = before(tally.after, more - 1, later);
-    if tally.kept == 0 {
-        return 0;
+    let which = tally.left;
+    match which {
+        Left::Nothing => 0,
+        Left::One(first) => {
+            let inner = descend(w, first, rest);
+            let found = resume(w, k, n, inner);
+            note(w, first, found);
+            found
+        }
+        Left::Several(_) => choose(w, k, n, at + 1, count, rest),
     }
-    if tally.kept == 1 {
-        let first = tally.first;
-        let inner = descend(w, first, rest);
-        let found = resume(w, k, n, inner);
-        note(w, first, found);
-        return found;
-    }
-    choose(w, k, n, at + 1, count, rest)
 }
 
 // The same with one of the `count` alternatives from p on, which are several.

@@ -23,7 +23,10 @@ use Rattle.marks.specs.Positions.{tail-at, disjunctions-at, alternatives-at}
 use Rattle.marks.specs.Marked.{marking}
 use Rattle.marks.specs.Readable.{Readable, Alternatives}
 use Rattle.marks.specs.Tallied.{Tallied}
+use Rattle.marks.specs.declared.tally.Left.{Left}
+use Rattle.marks.specs.declared.tally.Left.the-variants.{One}
 use Rattle.marks.proofs.Reading.{reads, tail-of, disjunctions-of, alternatives-is}
+use Rattle.marks.proofs.Left.{kept-other}
 use Rattle.showing.specs.Putting.{left-all}
 
 -- none is certain where none or several are left
@@ -144,13 +147,14 @@ module _ (w : List ℕ) (g left : ℕ) (c : Readable w g left) where
           };
         }
 
-        pub look-on : (kept first after : ℕ) → ((s : Alternatives w (at + 1) of) → Tallied w s kept first after) → (kept ≡ 1 → ⊥) →
-            Going (more - 1) after
+        pub look-on : (which : Left) (after : ℕ) → ((s : Alternatives w (at + 1) of) → Tallied w s which after) →
+            ((x : ℕ) → which ≡ One x → ⊥) → Going (more - 1) after
         unfolding look-counts
-        look-on kept first after tally several =
+        look-on which after tally other =
             let told = tally look-counts in
             let k = next .many-later in
-            let none = several-sure (strip-any (keep-any m (next .a))) (λ e. several (told .kept-are ∙ kept-alts m (next .a) ∙ e)) in
+            let none = several-sure (strip-any (keep-any m (next .a))) (λ e. kept-other w look-counts which after told other
+            (kept-alts m (next .a) ∙ e)) in
             subst (λ (p : ℕ). Going (more - 1) p) (sym (told .after-is)) (record {
               ds = next .ds;
               from = next .l;

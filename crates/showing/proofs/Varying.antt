@@ -3,6 +3,7 @@
 use Prim.Native.Nat.{ℕ, suc, _+_, _≤_, _<_}
 use native.Mathlib.Omega.{arith}
 use mathlib.Core.Path.{_≡_, sym, ap, subst, _∙_}
+use mathlib.Core.Logic.{_⊎_, ⊎-elim}
 use mathlib.Core.Bool.{Bool, true, false}
 use mathlib.Core.List.{List, [], _∷_, append-nil}
 use lib.ListN.{length, set}
@@ -21,9 +22,13 @@ use Rattle.loading.specs.Numbered.{options}
 use Rattle.loading.specs.At.{AtAny}
 use Rattle.loading.proofs.Walking.{any-counts}
 use Rattle.loading.proofs.Lying.{lying-more, any-bounds-of}
+use Rattle.marks.specs.Marked.{marking}
 use Rattle.marks.specs.Readable.{Alternatives}
 use Rattle.marks.specs.Tallied.{from-kept, Tallied}
+use Rattle.marks.specs.declared.tally.Left.{Left}
+use Rattle.marks.specs.declared.tally.Left.the-variants.{Nothing, One, Several}
 use Rattle.marks.proofs.Reading.{alternatives}
+use Rattle.marks.proofs.Left.{kept-none, kept-alone, alone-at, kept-several, kept-many}
 use Rattle.entering.proofs.Certain.{LoneOf, lone-alone}
 use Rattle.showing.specs.Putting.{Written, left-all, Disjoining, Disjoins, folded, Varying, Offering, Offers}
 use Rattle.showing.proofs.Written.{written-append, written-word, based}
@@ -54,30 +59,20 @@ module _ (n : ℕ) (w : List ℕ) (p of left o : ℕ) (c : Varying n w p of left
   pub vary-counts : Alternatives w p of
   vary-counts = counted
 
-  module _ (kept first after : ℕ) (tally : (s : Alternatives w p of) → Tallied w s kept first after) where
-    told : Tallied w counted kept first after
+  module _ (which : Left) (after : ℕ) (tally : (s : Alternatives w p of) → Tallied w s which after) where
+    told : Tallied w counted which after
     told = tally counted
 
-    kept-is : kept ≡ kept-of m (c .lies .a)
-    kept-is = told .kept-are ∙ ap (λ (k : Marking). kept-of k (c .lies .a)) (c .base .marks)
-
-    pub vary-small : kept ≤ 2048
-    vary-small = omega (
-      arith,
-      kept-is,
-      kept-few m (c .lies .a),
-      any-counts t (c .lies .a) p (c .lies .from) (c .lies .end) (c .lies .to) (c .lies .within) (c .lies .at),
-      any-bounds-of (c .lies) .1,
-      words-many w (c .base .holds .long),
-      ap length (c .base .loaded),
-    )
+    kept-marks : kept-of m (c .lies .a) ≡ kept-of (marking w) (c .lies .a)
+    kept-marks = ap (λ (k : Marking). kept-of k (c .lies .a)) (sym (c .base .marks))
 
     -- ---- one stands alone
-    module _ (one : kept ≡ 1) where
+    module _ (first : ℕ) (one : which ≡ One first) where
       abbrev lone : LoneOf m (c .lies) (c .base .U) first
       lone =
-          let stands = told .first-is in
-          lone-alone (c .base .U) (words w) m (c .lies) (c .among) (sym kept-is ∙ one) first (
+          let stands = alone-at w counted which after told first one in
+          let kept-one = kept-marks ∙ kept-alone w counted which after told first one in
+          lone-alone (c .base .U) (words w) m (c .lies) (c .among) kept-one first (
             stands .0,
             subst (λ (k : Marking). AtAny (words w) first (stands .0) (from-kept k (c .lies .a)) (c .lies .end) (c .lies .to))
                 (c .base .marks) (stands .1),
@@ -102,8 +97,27 @@ module _ (n : ℕ) (w : List ℕ) (p of left o : ℕ) (c : Varying n w p of left
       vary-one r count w₁ u = let x = u vary-inner in
           (subst (λ (y : Disjs). Written n w o (disjs-words y) r w₁) (sym alone) (x .0), x .1 ∙ ap disjs (sym alone), told .after-is)
 
-    -- ---- none or several are kept
-    module _ (not-one : kept ≡ 1 → ⊥) where
+    -- ---- none or several are kept, as many as `kept`
+    module _ (kept : ℕ) (many : ((which ≡ Nothing) × (kept ≡ 0)) ⊎ ((x : ℕ) × (which ≡ Several x) × (kept ≡ x))) where
+      kept-is : kept ≡ kept-of m (c .lies .a)
+      kept-is = ⊎-elim (λ (none : (which ≡ Nothing) × (kept ≡ 0)). none .1 ∙ sym (kept-none w counted which after told (none .0)))
+          (λ more. more .2 ∙ sym (kept-many w counted which after told (more .0) (more .1))) many ∙ sym kept-marks
+
+      not-one : kept ≡ 1 → ⊥
+      not-one e = ⊎-elim (λ (none : (which ≡ Nothing) × (kept ≡ 0)). let z = none .1 in omega arith)
+          (λ more. let two = kept-several w counted which after told (more .0) (more .1) .1 in omega (arith, kept-is, kept-marks)) many
+
+      pub vary-small : kept ≤ 2048
+      vary-small = omega (
+        arith,
+        kept-is,
+        kept-few m (c .lies .a),
+        any-counts t (c .lies .a) p (c .lies .from) (c .lies .end) (c .lies .to) (c .lies .within) (c .lies .at),
+        any-bounds-of (c .lies) .1,
+        words-many w (c .base .holds .long),
+        ap length (c .base .loaded),
+      )
+
       several : folded m (c .lies .a) ≡ shown-any rest and end
       several = shown-several rest (λ e. not-one (kept-is ∙ kept-alts m (c .lies .a) ∙ e))
 

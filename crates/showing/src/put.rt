@@ -7,6 +7,7 @@ use marks::positions::alternatives_at;
 use marks::positions::disjunctions_at;
 use marks::positions::number_at;
 use marks::positions::tail_at;
+use marks::tally::Left;
 use marks::tally::count_kept;
 ghost use Rattle.showing.specs.Putting.{Describing, Describes, Disjoining, Disjoins, Varying, Varies, Offering, Offers};
 
@@ -65,17 +66,20 @@ fn put_one(w: &mut [u32], n: usize, p: usize, of: usize, left: u32, o: usize) ->
     ensures { λ r. ⌜ Varies n (now (w .entry)) p of left o (r .at) (r .count) (r .after) (now (w .exit)) ⌝ }
 {
     let tally = count_kept(w, p, of);
-    let many = tally.kept;
     let after = tally.after;
-    if many == 1 {
-        let first = tally.first;
-        let inner = put_disjunctions(w, n, first, left, o);
-        return One {
-            at: inner.at,
-            count: inner.count,
-            after: after,
-        };
-    }
+    let which = tally.left;
+    let many: usize = match which {
+        Left::Nothing => 0,
+        Left::One(first) => {
+            let inner = put_disjunctions(w, n, first, left, o);
+            return One {
+                at: inner.at,
+                count: inner.count,
+                after: after,
+            };
+        }
+        Left::Several(several) => several,
+    };
     w[RESULT + o] = many as u32;
     let at = put_alternatives(w, n, p, of, left, o + 1);
     One {

@@ -1,4 +1,4 @@
--- `quick::enter::enter`, which calls itself, meets its contract: what is left to push goes on to the whole, and the depth falls.
+-- `entering::enter::enter`, which calls itself, meets its contract: what is left to push goes on to the whole, and the depth falls.
 -- Assumes nothing.
 use Prim.Native.Nat.{ℕ, _+_, _<_}
 use native.Mathlib.Omega.{arith}
@@ -8,6 +8,7 @@ use borrow.Author.Needs.{needs}
 use borrow.Fn.Kinds.{In}
 use borrow.Fn.PlainCycle.{Measures, is, falls, and}
 use Rattle.classes.proofs.Laws.{since-trans}
+use Rattle.marks.proofs.Left.{not-one}
 use Rattle.entering.specs.Entered.{Entering}
 use Rattle.entering.proofs.Entering.{Reached, Walking, Onward, one, none, asks-own, starts, walk-start, walk-done, walk-here}
 use Rattle.entering.proofs.Entering.{walk-asks, walk-deep, walk-inner, walk-clash, walk-on, reach-own, enters-own, enters-all}
@@ -147,26 +148,29 @@ enter-count-kept-requires t c κs = let p =
     (begun t (c .before .before .before .before .before) p) in
     walk-asks _ _ _ _ _ p _ _ (v .0) _ _ (v .1) (omega arith) _ (c .before .alternatives-at .ensures)
 
+enter-enum-known-which : (t : ℕ) → enter-lts.Need-enum-known-which (claims t) (enter-at t) enter.Post enter-Inv-loop enter-μ-loop
+enter-enum-known-which t c = search needs
+
 enter-sub-enter : (t : ℕ) → enter-lts.Need-sub-enter (claims t) (enter-at t) enter.Post enter-Inv-loop enter-μ-loop
 enter-sub-enter t c = let p = c .before .before .before .before .before .before .before .before .before .before .before .before .before
-    .before .before .before .before .before .before .before .before .pre .1 in
-    let v = c .before .before .before .before .before .before .before .before .loop .inv _ p
-    (reached t (c .before .before .before .before .before .before .before .before .before))
-    (begun t (c .before .before .before .before .before .before .before .before .before) p) in
+    .before .before .before .before .before .before .before .before .before .pre .1 in
+    let v = c .before .before .before .before .before .before .before .before .before .loop .inv _ p
+    (reached t (c .before .before .before .before .before .before .before .before .before .before))
+    (begun t (c .before .before .before .before .before .before .before .before .before .before) p) in
     let h = walk-deep _ _ _ _ _ p _ _ (v .0) _ _ (v .1) (omega arith) in omega arith
 
 enter-enter-requires : (t : ℕ) → enter-lts.Need-enter-requires (claims t) (enter-at t) enter.Post enter-Inv-loop enter-μ-loop
 enter-enter-requires t c κs = let asked =
     c .before .before .before .before .before .before .before .before .before .before .before .before .before .before .before .before
-    .before .before .before .before .before .pre in
+    .before .before .before .before .before .before .pre in
     let p = asked .1 in
-    let v = c .before .before .before .before .before .before .before .before .loop .inv _ p
-    (reached t (c .before .before .before .before .before .before .before .before .before))
-    (begun t (c .before .before .before .before .before .before .before .before .before) p) in (
+    let v = c .before .before .before .before .before .before .before .before .before .loop .inv _ p
+    (reached t (c .before .before .before .before .before .before .before .before .before .before))
+    (begun t (c .before .before .before .before .before .before .before .before .before .before) p) in (
       omega (arith, asked .0, walk-deep _ _ _ _ _ p _ _ (v .0) _ _ (v .1) (omega arith)),
       walk-inner _ _ _ _ _ p _ _ (v .0) _ _ (v .1) (omega arith) _
-          (c .before .before .before .before .before .alternatives-at .ensures) _ _ _ (c .before .before .before .count-kept .ensures)
-          (omega arith),
+          (c .before .before .before .before .before .before .alternatives-at .ensures) _ _
+          (c .before .before .before .before .count-kept .ensures) _ (c .before .before .which .given .1),
     )
 
 enter-enum-known-inner : (t : ℕ) → enter-lts.Need-enum-known-inner (claims t) (enter-at t) enter.Post enter-Inv-loop enter-μ-loop
@@ -178,14 +182,14 @@ enter-enum-told-2 t c = search needs
 enter-back-requires : (t : ℕ) → enter-lts.Need-back-requires (claims t) (enter-at t) enter.Post enter-Inv-loop enter-μ-loop
 enter-back-requires t c κs = let p =
     c .before .before .before .before .before .before .before .before .before .before .before .before .before .before .before .before
-    .before .before .before .before .before .before .before .before .before .before .before .pre .1 in
-    let v = c .before .before .before .before .before .before .before .before .before .before .before .before .before .before .loop .inv _ p
-    (reached t (c .before .before .before .before .before .before .before .before .before .before .before .before .before .before .before))
-    (begun t (c .before .before .before .before .before .before .before .before .before .before .before .before .before .before .before)
-    p) in let u = c .before .before .before .before .before .enter .ensures in
+    .before .before .before .before .before .before .before .before .before .before .before .before .pre .1 in
+    let v = c .before .before .before .before .before .before .before .before .before .before .before .before .before .before .before .loop
+    .inv _ p (reached t (c .before .before .before .before .before .before .before .before .before .before .before .before .before .before
+    .before .before)) (begun t (c .before .before .before .before .before .before .before .before .before .before .before .before .before
+    .before .before .before) p) in let u = c .before .before .before .before .before .enter .ensures in
     record {
       w₀ = c .before .before .before .before .before .before .before .before .before .before .before .before .before .before .before
-          .before .before .before .before .before .before .before .before .before .before .before .before .args .w .now;
+          .before .before .before .before .before .before .before .before .before .before .before .before .before .args .w .now;
       since =
           since-trans _ _ _ _ _ _ (v .0 .since) (u .clashed (c .before .enum-told2 .given .1) .0);
     }
@@ -193,26 +197,25 @@ enter-back-requires t c κs = let p =
 enter-same-length-2 : (t : ℕ) → enter-lts.Need-same-length-2 (claims t) (enter-at t) enter.Post enter-Inv-loop enter-μ-loop
 enter-same-length-2 t c = let p =
     c .before .before .before .before .before .before .before .before .before .before .before .before .before .before .before .before
-    .before .before .before .before .before .before .before .before .before .before .before .before .before .before .pre .1 in
+    .before .before .before .before .before .before .before .before .before .before .before .before .before .before .before .pre .1 in
     let v = c .before .before .before .before .before .before .before .before .before .before .before .before .before .before .before
-    .before .before .loop .inv _ p
-    (reached t (c .before .before .before .before .before .before .before .before .before .before .before .before .before .before .before
-    .before .before .before)) (begun t
-    (c .before .before .before .before .before .before .before .before .before .before .before .before .before .before .before .before
-    .before .before) p) in c .before .before .back .ensures .len
+    .before .before .before .loop .inv _ p (reached t (c .before .before .before .before .before .before .before .before .before .before
+    .before .before .before .before .before .before .before .before .before))
+    (begun t (c .before .before .before .before .before .before .before .before .before .before .before .before .before .before .before
+    .before .before .before .before) p) in c .before .before .back .ensures .len
     ∙ c .before .before .before .before .before .before .before .before .enter .ensures .len ∙ v .0 .len
 
 enter-returns-2 : (t : ℕ) → enter-lts.Need-returns-2 (claims t) (enter-at t) enter.Post enter-Inv-loop enter-μ-loop
 enter-returns-2 t c = let q = c .before .before .before .before .before .before .before .before .before .before .before .before .before
-    .before .before .before .loop-test in let f = c .before .before .before .before .before .before .before .before .before .before .if1 in
+    .before .before .before .before .loop-test in
     let p = c .before .before .before .before .before .before .before .before .before .before .before .before .before .before .before
-    .before .before .before .before .before .before .before .before .before .before .before .before .before .before .before .pre .1 in
+    .before .before .before .before .before .before .before .before .before .before .before .before .before .before .before .before .pre .1
+    in
     let v = c .before .before .before .before .before .before .before .before .before .before .before .before .before .before .before
-    .before .before .loop .inv _ p
-    (reached t (c .before .before .before .before .before .before .before .before .before .before .before .before .before .before .before
-    .before .before .before)) (begun t
-    (c .before .before .before .before .before .before .before .before .before .before .before .before .before .before .before .before
-    .before .before) p) in let u = c .before .before .before .before .before .before .before .before .enter .ensures in
+    .before .before .before .loop .inv _ p (reached t (c .before .before .before .before .before .before .before .before .before .before
+    .before .before .before .before .before .before .before .before .before))
+    (begun t (c .before .before .before .before .before .before .before .before .before .before .before .before .before .before .before
+    .before .before .before .before) p) in let u = c .before .before .before .before .before .before .before .before .enter .ensures in
     let b = c .before .before .back .ensures in
     let s = since-trans _ _ _ _ _ _ (v .0 .since) (u .clashed (c .before .before .before .before .enum-told2 .given .1) .0) in
     record {
@@ -225,16 +228,17 @@ enter-returns-2 t c = let q = c .before .before .before .before .before .before 
           λ y. (
             b .since _ s,
             λ e. let z =
-                c .before .before .before .before .before .before .before .before .before .before .before .before .before .before .before .before
-                .before .loop .inv _ e (reached t
-                (c .before .before .before .before .before .before .before .before .before .before .before .before .before .before .before .before
-                .before .before)) (begun t
-                (c .before .before .before .before .before .before .before .before .before .before .before .before .before
+                c .before .before .before .before .before .before .before .before .before .before .before .before .before .before .before
+                .before .before .before .loop .inv _ e (reached t (c .before .before .before .before .before .before .before .before .before
+                .before .before .before .before .before .before .before .before .before .before))
+                (begun t (c .before .before .before .before .before .before .before .before .before .before .before .before .before .before
                 .before .before .before .before .before) e) in (
                   walk-clash _ _ _ _ _ e _ _ (z .0) _ _ (z .1) (omega arith) _
-                      (c .before .before .before .before .before .before .before .before .before .before .before .before .before .before .alternatives-at
-                      .ensures) _ _ _ (c .before .before .before .before .before .before .before .before .before .before .before .before .count-kept .ensures)
-                      (omega arith) _ _ u (c .before .before .before .before .enum-told2 .given .1),
+                      (c .before .before .before .before .before .before .before .before .before .before .before .before .before .before
+                      .before .alternatives-at .ensures) _ _ (c .before .before .before .before .before .before .before .before .before
+                      .before .before .before .before .count-kept .ensures) _
+                      (c .before .before .before .before .before .before .before .before .before .before .before .which .given .1) _ _ u
+                      (c .before .before .before .before .enum-told2 .given .1),
                   b .holds _ _ _ (e .s .holds) s,
                 ),
           );
@@ -247,11 +251,10 @@ enter-loop-less : (t : ℕ) → enter-lts.Need-loop-less (claims t) (enter-at t)
 enter-loop-less t c = omega arith
 
 enter-loop-again : (t : ℕ) → enter-lts.Need-loop-again (claims t) (enter-at t) enter.Post enter-Inv-loop enter-μ-loop
-enter-loop-again t c = λ w e r u. let v = c .before .before .before .before .before .before .before .loop .inv w e r u in
-    walk-on _ _ _ _ _ e _ _ (v .0) _ _ (v .1) (omega arith) _ (c .before .before .before .before .alternatives-at .ensures) _ _ _
-    (c .before .before .count-kept .ensures) _ _
-    (⊎-elim (λ x. one _ _ _ (let y = x .0 in omega arith) (x .2 .ensures) (x .6 .given .1) (x .8) (x .9))
-    (λ x. none (λ z. let y = x .0 in omega arith) (x .1) (x .2)) (c .if1 .came))
+enter-loop-again t c = λ w e r u. let v = c .before .before .before .before .before .before .loop .inv w e r u in
+    walk-on _ _ _ _ _ e _ _ (v .0) _ _ (v .1) (omega arith) _ (c .before .before .before .alternatives-at .ensures) _ _
+    (c .before .count-kept .ensures) _ _ (⊎-elim (λ x. one _ _ _ _ (x .1 .given .1) (x .4 .ensures) (x .8 .given .1) (x .10) (x .11))
+    (λ x. none (not-one _ (x .0 .keys2)) (x .1) (x .2)) (c .match2 .came))
 
 enter-same-length-3 : (t : ℕ) → enter-lts.Need-same-length-3 (claims t) (enter-at t) enter.Post enter-Inv-loop enter-μ-loop
 enter-same-length-3 t c = let p =
@@ -279,6 +282,7 @@ pub +enter-spec : {M : Type 1} → statement M
     (enter-alternatives-at-requires t)
     (enter-add-count-kept t)
     (enter-count-kept-requires t)
+    (enter-enum-known-which t)
     (enter-sub-enter t)
     (enter-enter-requires t)
     (enter-enum-known-inner t)

@@ -2,6 +2,7 @@
 use native.Mathlib.Omega.{arith}
 use mathlib.Core.Logic.{⊎-elim}
 use Prim.Native.Nat.{_+_, _≤_}
+use borrow.Author.Needs.{needs}
 use Rattle.marks.specs.Readable.{Alternatives}
 use Rattle.marks.proofs.Tallying.{Tallying, one, none, more, tally-none, tally-read, tally-step, tally-all}
 use Rattle.marks.proofs.tally.count_kept.Statement.{statement}
@@ -57,8 +58,11 @@ loop-again c = (
   ⊎-elim (λ u. omega arith) (λ v. ⊎-elim (λ u. omega arith) (λ u. omega arith) v) (c .if1 .came),
 )
 
+left-of-requires : tie.Need-left-of-requires Inv-loop μ-loop
+left-of-requires c κs = search needs
+
 returns : tie.Need-returns Inv-loop μ-loop
-returns c = λ s. tally-all _ _ _ s _ _ _ _ (c .before .loop .inv .0 s) (omega arith)
+returns c = λ s. tally-all _ _ _ s _ _ _ _ (c .before .before .loop .inv .0 s) (omega arith) _ (c .left-of .ensures)
 
 pub count-kept-spec : {M : Type 1} → statement M
 count-kept-spec =
@@ -74,4 +78,5 @@ count-kept-spec =
     sub-left
     loop-less
     loop-again
+    left-of-requires
     returns)

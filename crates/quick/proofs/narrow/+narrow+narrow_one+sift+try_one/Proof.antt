@@ -59,7 +59,7 @@ abbrev μ-narrow : Measures 1 narrow-kinds.ps ℕ
 μ-narrow κs a = 4 * a .1 .1 .1 .1 .0
 
 abbrev μ-narrow-one : Measures 2 narrow-one-kinds.ps ℕ
-μ-narrow-one κs a = 4 * a .1 .1 .1 .1 .1 .1 .1 .0 + 3
+μ-narrow-one κs a = 4 * a .1 .1 .1 .1 .1 .1 .0 + 3
 
 abbrev μ-sift : Measures 2 sift-kinds.ps ℕ
 μ-sift κs a = 4 * a .1 .1 .1 .1 .1 .0 + 2
@@ -285,8 +285,8 @@ narrow-renew-requires t c κs = let p =
       (
         rooted .1,
         sieved-after _ _ _ _ _ p _ _ _ _ (v .0) (v .2 p) (omega arith) _
-            (c .before .before .before .before .before .before .before .before .before .before .before .before .alternatives-at .ensures) _ _ one _
-            _ stands _ (v .4),
+            (c .before .before .before .before .before .before .before .before .before .before .before .before .alternatives-at .ensures) _
+            _ one _ _ stands _ (v .4),
       ),
     )
 
@@ -317,15 +317,15 @@ narrow-loop-again t c = let p =
     .before .loop .inv in let q = c .before .before .before .before .before .before .before .before .before .before .before .before .before
     .before .before .loop-test in (
       moved-on _ _ _ _ _ p _ _ _ _ (v .0) (v .2 p) (omega arith) _
-          (c .before .before .before .before .before .before .before .before .before .before .before .before .before .alternatives-at .ensures) _
-          _ (c .before .before .before .before .before .before .before .before .narrow-one .ensures) _ _
+          (c .before .before .before .before .before .before .before .before .before .before .before .before .before .alternatives-at
+          .ensures) _ _ (c .before .before .before .before .before .before .before .before .narrow-one .ensures) _ _
           (c .before .before .before .before .one .given .1),
       fewer-trans _ _ _ _ _ (v .1) (c .before .before .before .before .before .before .before .before .narrow-one .ensures .standing _ _
           (c .before .before .before .before .one .given .1) .1),
       λ d. narrow-on _ _ _ _ _ d _ _ _ _ (v .0) (v .2 d) (omega arith) _
-          (c .before .before .before .before .before .before .before .before .before .before .before .before .before .alternatives-at .ensures) _
-          _ (c .before .before .before .before .before .before .before .before .narrow-one .ensures) _ _
-          (c .before .before .before .before .one .given .1) _ _ _
+          (c .before .before .before .before .before .before .before .before .before .before .before .before .before .alternatives-at
+          .ensures) _ _ (c .before .before .before .before .before .before .before .before .narrow-one .ensures) _ _
+          (c .before .before .before .before .one .given .1) _ _
           (c .before .before .before .before .before .before .before .before .before .before .before .count-kept .ensures),
       c .renew .ensures .0,
       c .renew .ensures .1,
@@ -348,30 +348,39 @@ narrow-one-claims t = (
   settle-reads.Learnt,
 )
 
+narrow-one-enum-told : (t : ℕ) → narrow-one-lts.Need-enum-told (narrow-one-claims t) (narrow-one-at t) narrow-one.Post
+narrow-one-enum-told t c = search needs
+
 narrow-one-returns : (t : ℕ) → narrow-one-lts.Need-returns (narrow-one-claims t) (narrow-one-at t) narrow-one.Post
-narrow-one-returns t c = chooses-none _ _ _ _ _ _ _ _ _ (c .before .before .before .pre .1 .1 .0 .1) (c .before .before .before .pre .1 .0)
-    (omega arith)
+narrow-one-returns t c = chooses-none _ _ _ _ _ _ _ _ (c .before .before .before .before .pre .1 .1 .0 .1)
+    (c .before .before .before .before .pre .1 .0) (c .enum-told .given .1)
+
+narrow-one-enum-known-which : (t : ℕ) → narrow-one-lts.Need-enum-known-which (narrow-one-claims t) (narrow-one-at t) narrow-one.Post
+narrow-one-enum-known-which t c = search needs
 
 narrow-one-narrow-requires : (t : ℕ) → narrow-one-lts.Need-narrow-requires (narrow-one-claims t) (narrow-one-at t) narrow-one.Post
 narrow-one-narrow-requires t c κs = (
-  omega (arith, c .before .before .before .before .before .pre .0),
-  asks-alone _ _ _ _ _ _ _ _ _ (c .before .before .before .before .before .pre .1 .1 .0 .1) (omega arith)
-      (c .before .before .before .before .before .pre .1 .0),
+  omega (arith, c .before .before .before .before .before .before .pre .0),
+  asks-alone _ _ _ _ _ _ _ _ (c .before .before .before .before .before .before .pre .1 .1 .0 .1) _ (c .before .before .which .given .1)
+      (c .before .before .before .before .before .before .pre .1 .0),
 )
 
 narrow-one-same-length : (t : ℕ) → narrow-one-lts.Need-same-length (narrow-one-claims t) (narrow-one-at t) narrow-one.Post
 narrow-one-same-length t c = narrows-len _ _ _ _ _ _ _ (c .before .before .narrow .ensures)
 
 narrow-one-returns-2 : (t : ℕ) → narrow-one-lts.Need-returns-2 (narrow-one-claims t) (narrow-one-at t) narrow-one.Post
-narrow-one-returns-2 t c = chooses-one _ _ _ _ _ _ _ _ _
-    (c .before .before .before .before .before .before .before .before .pre .1 .1 .0 .1) (omega arith) _ _
-    (c .before .before .narrow .ensures)
+narrow-one-returns-2 t c = chooses-one _ _ _ _ _ _ _ _
+    (c .before .before .before .before .before .before .before .before .before .pre .1 .1 .0 .1) _
+    (c .before .before .before .before .before .which .given .1) _ _ (c .before .before .narrow .ensures)
+
+narrow-one-enum-told-2 : (t : ℕ) → narrow-one-lts.Need-enum-told-2 (narrow-one-claims t) (narrow-one-at t) narrow-one.Post
+narrow-one-enum-told-2 t c = search needs
 
 narrow-one-sift-requires : (t : ℕ) → narrow-one-lts.Need-sift-requires (narrow-one-claims t) (narrow-one-at t) narrow-one.Post
 narrow-one-sift-requires t c κs = (
   omega (arith, c .before .before .before .before .before .pre .0),
   (
-    asks-sift _ _ _ _ _ _ _ _ _ (c .before .before .before .before .before .pre .1 .1 .0 .1) (omega arith)
+    asks-sift _ _ _ _ _ _ _ _ (c .before .before .before .before .before .pre .1 .1 .0 .1) _ (c .before .enum-told2 .given .1)
         (c .before .before .before .before .before .pre .1 .0),
     c .before .before .before .before .before .pre .1 .1 .1,
   ),
@@ -381,44 +390,47 @@ narrow-one-same-length-2 : (t : ℕ) → narrow-one-lts.Need-same-length-2 (narr
 narrow-one-same-length-2 t c = c .before .before .before .sift .ensures .moved .len
 
 narrow-one-returns-3 : (t : ℕ) → narrow-one-lts.Need-returns-3 (narrow-one-claims t) (narrow-one-at t) narrow-one.Post
-narrow-one-returns-3 t c = chooses-still _ _ _ _ _ _ _ _ _
-    (c .before .before .before .before .before .before .before .before .before .pre .1 .1 .0 .1) (omega arith)
+narrow-one-returns-3 t c = chooses-still _ _ _ _ _ _ _ _
+    (c .before .before .before .before .before .before .before .before .before .pre .1 .1 .0 .1) _
+    (c .before .before .before .before .before .enum-told2 .given .1)
     (c .before .before .before .before .before .before .before .before .before .pre .1 .0) _ _ (c .before .before .before .sift .ensures)
     (omega arith)
 
 narrow-one-settle-requires : (t : ℕ) → narrow-one-lts.Need-settle-requires (narrow-one-claims t) (narrow-one-at t) narrow-one.Post
 narrow-one-settle-requires t c κs =
-    asks-settle _ _ _ _ _ _ _ _ _ (c .before .before .before .before .before .before .before .before .before .before .pre .1 .1 .0 .1)
-    (omega arith) (c .before .before .before .before .before .before .before .before .before .before .pre .1 .0) _ _
+    asks-settle _ _ _ _ _ _ _ _ (c .before .before .before .before .before .before .before .before .before .before .pre .1 .1 .0 .1) _
+    (c .before .before .before .before .before .before .enum-told2 .given .1)
+    (c .before .before .before .before .before .before .before .before .before .before .pre .1 .0) _ _
     (c .before .before .before .before .sift .ensures)
 
 narrow-one-enum-known-end : (t : ℕ) → narrow-one-lts.Need-enum-known-end (narrow-one-claims t) (narrow-one-at t) narrow-one.Post
 narrow-one-enum-known-end t c = search needs
 
-narrow-one-enum-told : (t : ℕ) → narrow-one-lts.Need-enum-told (narrow-one-claims t) (narrow-one-at t) narrow-one.Post
-narrow-one-enum-told t c = search needs
+narrow-one-enum-told-3 : (t : ℕ) → narrow-one-lts.Need-enum-told-3 (narrow-one-claims t) (narrow-one-at t) narrow-one.Post
+narrow-one-enum-told-3 t c = search needs
 
 narrow-one-same-length-3 : (t : ℕ) → narrow-one-lts.Need-same-length-3 (narrow-one-claims t) (narrow-one-at t) narrow-one.Post
 narrow-one-same-length-3 t c = c .before .before .before .before .settle .ensures .len
     ∙ c .before .before .before .before .before .before .before .before .before .sift .ensures .moved .len
 
 narrow-one-returns-4 : (t : ℕ) → narrow-one-lts.Need-returns-4 (narrow-one-claims t) (narrow-one-at t) narrow-one.Post
-narrow-one-returns-4 t c = chooses-fails _ _ _ _ _ _ _ _ _
+narrow-one-returns-4 t c = chooses-fails _ _ _ _ _ _ _ _
     (c .before .before .before .before .before .before .before .before .before .before .before .before .before .before .before .pre .1 .1 .0
-    .1) (omega arith) (c .before .before .before .before .before .before .before .before .before .before .before .before .before .before
-    .before .pre .1 .0) _ _ (c .before .before .before .before .before .before .before .before .before .sift .ensures) _ _
-    (c .before .before .before .before .settle .ensures) (c .enum-told .given .1)
+    .1) _ (c .before .before .before .before .before .before .before .before .before .before .before .enum-told2 .given .1)
+    (c .before .before .before .before .before .before .before .before .before .before .before .before .before .before .before .pre .1 .0) _
+    _ (c .before .before .before .before .before .before .before .before .before .sift .ensures) _ _
+    (c .before .before .before .before .settle .ensures) (c .enum-told3 .given .1)
 
 narrow-one-same-length-4 : (t : ℕ) → narrow-one-lts.Need-same-length-4 (narrow-one-claims t) (narrow-one-at t) narrow-one.Post
 narrow-one-same-length-4 t c = c .before .before .before .before .before .settle .ensures .len
     ∙ c .before .before .before .before .before .before .before .before .before .before .sift .ensures .moved .len
 
 narrow-one-returns-5 : (t : ℕ) → narrow-one-lts.Need-returns-5 (narrow-one-claims t) (narrow-one-at t) narrow-one.Post
-narrow-one-returns-5 t c = chooses-stands _ _ _ _ _ _ _ _ _
+narrow-one-returns-5 t c = chooses-stands _ _ _ _ _ _ _ _
     (c .before .before .before .before .before .before .before .before .before .before .before .before .before .before .before .before .pre
-    .1 .1 .0 .1) (omega arith) (c .before .before .before .before .before .before .before .before .before .before .before .before .before
-    .before .before .before .pre .1 .0) _ _
-    (c .before .before .before .before .before .before .before .before .before .before .sift .ensures) _ _
+    .1 .1 .0 .1) _ (c .before .before .before .before .before .before .before .before .before .before .before .before .enum-told2 .given .1)
+    (c .before .before .before .before .before .before .before .before .before .before .before .before .before .before .before .before .pre
+    .1 .0) _ _ (c .before .before .before .before .before .before .before .before .before .before .sift .ensures) _ _
     (c .before .before .before .before .before .settle .ensures) _ (c .before .end .given .1)
 
 abbrev sift-Inv-loop : sift-lts.InvT-loop
@@ -623,8 +635,8 @@ try-one-narrow-requires t c κs = (
         .pre .0,
   ),
   asks-narrow _ _ _ _ _ _ _ (c .before .before .before .before .before .before .enter .ensures)
-      (c .before .before .before .before .before .before .before .before .before .before .before .before .before .before .before .pre .1 .0) _
-      (c .before .before .pushed .given .1),
+      (c .before .before .before .before .before .before .before .before .before .before .before .before .before .before .before .pre .1 .0)
+      _ (c .before .before .pushed .given .1),
 )
 
 try-one-enum-known-step : (t : ℕ) → try-one-lts.Need-enum-known-step (try-one-claims t) (try-one-at t) try-one.Post
@@ -748,16 +760,19 @@ pub +narrow+narrow-one+sift+try-one-spec : {M : Type 1} → statement M
     )
     (narrow-one-at t)
     narrow-one.Post
+    (narrow-one-enum-told t)
     (narrow-one-returns t)
+    (narrow-one-enum-known-which t)
     (narrow-one-narrow-requires t)
     (narrow-one-same-length t)
     (narrow-one-returns-2 t)
+    (narrow-one-enum-told-2 t)
     (narrow-one-sift-requires t)
     (narrow-one-same-length-2 t)
     (narrow-one-returns-3 t)
     (narrow-one-settle-requires t)
     (narrow-one-enum-known-end t)
-    (narrow-one-enum-told t)
+    (narrow-one-enum-told-3 t)
     (narrow-one-same-length-3 t)
     (narrow-one-returns-4 t)
     (narrow-one-same-length-4 t)

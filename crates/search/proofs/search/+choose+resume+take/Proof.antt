@@ -213,7 +213,7 @@ resume-sub-before t c = resume-some _ _ _ _ (c .before .before .before .before .
 
 resume-before-requires : (t : ℕ) → resume-lts.Need-before-requires (resume-claims t) (resume-at t) resume.Post
 resume-before-requires t c κs =
-    resume-room _ _ _ _ (c .before .before .before .before .before .if1 .left) _ (c .before .before .before .alternatives-at .ensures) _ _ _
+    resume-room _ _ _ _ (c .before .before .before .before .before .if1 .left) _ (c .before .before .before .alternatives-at .ensures) _ _
     (c .before .count-kept .ensures) _ (c .after .ensures) (c .before .before .before .before .before .before .before .before .pre .1)
 
 resume-same-length : (t : ℕ) → resume-lts.Need-same-length (resume-claims t) (resume-at t) resume.Post
@@ -221,108 +221,112 @@ resume-same-length t c = search needs
 
 resume-returns-2 : (t : ℕ) → resume-lts.Need-returns-2 (resume-claims t) (resume-at t) resume.Post
 resume-returns-2 t c = resumes-none _ _ _ _ (c .before .before .before .before .before .before .before .before .if1 .left) _
-    (c .before .before .before .before .before .before .alternatives-at .ensures) _ _ _
+    (c .before .before .before .before .before .before .alternatives-at .ensures) _ _
     (c .before .before .before .before .count-kept .ensures) _ (c .before .before .before .after .ensures) _
-    (c .before .before .before2 .ensures)
-    (c .before .before .before .before .before .before .before .before .before .before .before .pre .1) (omega arith)
+    (c .before .before .before2 .ensures) (c .before .before .before .before .before .before .before .before .before .before .before .pre
+    .1) (c .enum-told .given .1)
+
+resume-enum-told : (t : ℕ) → resume-lts.Need-enum-told (resume-claims t) (resume-at t) resume.Post
+resume-enum-told t c = search needs
+
+resume-enum-known-which : (t : ℕ) → resume-lts.Need-enum-known-which (resume-claims t) (resume-at t) resume.Post
+resume-enum-known-which t c = search needs
 
 resume-descend-requires : (t : ℕ) → resume-lts.Need-descend-requires (resume-claims t) (resume-at t) resume.Post
 resume-descend-requires t c κs =
-    one-opens _ _ _ _ (c .before .before .before .before .before .before .before .before .before .before .before .if1 .left) _
-    (c .before .before .before .before .before .before .before .before .before .alternatives-at .ensures) _ _ _
-    (c .before .before .before .before .before .before .before .count-kept .ensures) _
-    (c .before .before .before .before .before .before .after .ensures) _ (c .before .before .before .before .before .before2 .ensures)
-    (omega arith) (c .before .before .before .before .before .before .before .before .before .before .before .before .before .before .pre
-    .1)
+    one-opens _ _ _ _ (c .before .before .before .before .before .before .before .before .before .before .if1 .left) _
+    (c .before .before .before .before .before .before .before .before .alternatives-at .ensures) _ _
+    (c .before .before .before .before .before .before .count-kept .ensures) _ (c .before .before .before .before .before .after .ensures) _
+    (c .before .before .before .before .before2 .ensures) _ (c .before .before .which .given .1)
+    (c .before .before .before .before .before .before .before .before .before .before .before .before .before .pre .1)
 
 resume-resume-requires : (t : ℕ) → resume-lts.Need-resume-requires (resume-claims t) (resume-at t) resume.Post
 resume-resume-requires t c κs = (
-  let h = one-falls _ _ _ _ (c .before .before .before .before .before .before .before .before .before .before .before .before .before
-      .if1 .left) _ (c .before .before .before .before .before .before .before .before .before .before .before .alternatives-at .ensures) _ _
-      _ (c .before .before .before .before .before .before .before .before .before .count-kept .ensures) _
-      (c .before .before .before .before .before .before .before .before .after .ensures) _
-      (c .before .before .before .before .before .before .before .before2 .ensures) (omega arith) _ (c .before .descend .ensures)
-      (c .before .before .before .before .before .before .before .before .before .before .before .before .before .before .before .before .pre
-      .1) in let b = resume-here _ _ _ _
-      (c .before .before .before .before .before .before .before .before .before .before .before .before .before .if1 .left)
-      (c .before .before .before .before .before .before .before .before .before .before .before .before .before .before .before .before .pre
-      .1) .0 in let r = resume-reach _ _ _ _
-      (c .before .before .before .before .before .before .before .before .before .before .before .before .before .if1 .left)
-      (c .before .before .before .before .before .before .before .before .before .before .before .before .before .before .before .before .pre
-      .1) in let e = c .before .before .before .before .before .before .before .before .before .before .before .before .before .before .before
+  let h = one-falls _ _ _ _ (c .before .before .before .before .before .before .before .before .before .before .before .before .if1 .left)
+      _ (c .before .before .before .before .before .before .before .before .before .before .alternatives-at .ensures) _ _
+      (c .before .before .before .before .before .before .before .before .count-kept .ensures) _
+      (c .before .before .before .before .before .before .before .after .ensures) _
+      (c .before .before .before .before .before .before .before2 .ensures) _ (c .before .before .before .before .which .given .1) _
+      (c .before .descend .ensures) (c .before .before .before .before .before .before .before .before .before .before .before .before
+      .before .before .before .pre .1) in let b = resume-here _ _ _ _
+      (c .before .before .before .before .before .before .before .before .before .before .before .before .if1 .left)
+      (c .before .before .before .before .before .before .before .before .before .before .before .before .before .before .before .pre .1) .0
+      in let r = resume-reach _ _ _ _ (c .before .before .before .before .before .before .before .before .before .before .before .before
+      .if1 .left) (c .before .before .before .before .before .before .before .before .before .before .before .before .before .before .before
+      .pre .1) in let e = c .before .before .before .before .before .before .before .before .before .before .before .before .before .before
       .before .pre .0 in omega arith,
-  one-asks _ _ _ _ (c .before .before .before .before .before .before .before .before .before .before .before .before .before .if1 .left)
-      _ (c .before .before .before .before .before .before .before .before .before .before .before .alternatives-at .ensures) _ _ _
-      (c .before .before .before .before .before .before .before .before .before .count-kept .ensures) _
-      (c .before .before .before .before .before .before .before .before .after .ensures) _
-      (c .before .before .before .before .before .before .before .before2 .ensures) (omega arith) _ (c .before .descend .ensures)
-      (c .before .before .before .before .before .before .before .before .before .before .before .before .before .before .before .before .pre
-      .1),
+  one-asks _ _ _ _ (c .before .before .before .before .before .before .before .before .before .before .before .before .if1 .left)
+      _ (c .before .before .before .before .before .before .before .before .before .before .alternatives-at .ensures) _ _
+      (c .before .before .before .before .before .before .before .before .count-kept .ensures) _
+      (c .before .before .before .before .before .before .before .after .ensures) _
+      (c .before .before .before .before .before .before .before2 .ensures) _ (c .before .before .before .before .which .given .1) _
+      (c .before .descend .ensures) (c .before .before .before .before .before .before .before .before .before .before .before .before
+      .before .before .before .pre .1),
 )
 
 resume-note-requires : (t : ℕ) → resume-lts.Need-note-requires (resume-claims t) (resume-at t) resume.Post
-resume-note-requires t c κs = one-notes _ _ _ _
-    (c .before .before .before .before .before .before .before .before .before .before .before .before .before .before .before .before
-    .before .if1 .left) _ (c .before .before .before .before .before .before .before .before .before .before .before .before .before .before
-    .before .alternatives-at .ensures) _ _ _
-    (c .before .before .before .before .before .before .before .before .before .before .before .before .before .count-kept .ensures) _
-    (c .before .before .before .before .before .before .before .before .before .before .before .before .after .ensures) _
-    (c .before .before .before .before .before .before .before .before .before .before .before .before2 .ensures) (omega arith) _
+resume-note-requires t c κs = one-notes _ _ _ _ (c .before .before .before .before .before .before .before .before .before .before .before
+    .before .before .before .before .before .if1 .left) _
+    (c .before .before .before .before .before .before .before .before .before .before .before .before .before .before .alternatives-at
+    .ensures) _ _ (c .before .before .before .before .before .before .before .before .before .before .before .before .count-kept .ensures) _
+    (c .before .before .before .before .before .before .before .before .before .before .before .after .ensures) _
+    (c .before .before .before .before .before .before .before .before .before .before .before2 .ensures) _
+    (c .before .before .before .before .before .before .before .before .which .given .1) _
     (c .before .before .before .before .before .descend .ensures) _ _ (c .before .before .before .resume .ensures)
     (c .before .before .before .before .before .before .before .before .before .before .before .before .before .before .before .before
-    .before .before .before .before .pre .1)
+    .before .before .before .pre .1)
 
 resume-same-length-2 : (t : ℕ) → resume-lts.Need-same-length-2 (resume-claims t) (resume-at t) resume.Post
 resume-same-length-2 t c = c .before .before .note .ensures .len
     ∙ c .before .before .before .before .before .before .resume .ensures .moved .len
 
 resume-returns-3 : (t : ℕ) → resume-lts.Need-returns-3 (resume-claims t) (resume-at t) resume.Post
-resume-returns-3 t c = resumes-one _ _ _ _
+resume-returns-3 t c = resumes-one _ _ _ _ (c .before .before .before .before .before .before .before .before .before .before .before
+    .before .before .before .before .before .before .before .before .if1 .left) _
     (c .before .before .before .before .before .before .before .before .before .before .before .before .before .before .before .before
-    .before .before .before .before .if1 .left) _
-    (c .before .before .before .before .before .before .before .before .before .before .before .before .before .before .before .before
-    .before .before .alternatives-at .ensures) _ _ _
-    (c .before .before .before .before .before .before .before .before .before .before .before .before .before .before .before .before
-    .count-kept .ensures) _ (c .before .before .before .before .before .before .before .before .before .before .before .before .before
-    .before .before .after .ensures) _
-    (c .before .before .before .before .before .before .before .before .before .before .before .before .before .before .before2 .ensures)
-    (omega arith) _ (c .before .before .before .before .before .before .before .before .descend .ensures) _ _
+    .before .alternatives-at .ensures) _ _ (c .before .before .before .before .before .before .before .before .before .before .before
+    .before .before .before .before .count-kept .ensures) _
+    (c .before .before .before .before .before .before .before .before .before .before .before .before .before .before .after .ensures) _
+    (c .before .before .before .before .before .before .before .before .before .before .before .before .before .before2 .ensures) _
+    (c .before .before .before .before .before .before .before .before .before .before .before .which .given .1) _
+    (c .before .before .before .before .before .before .before .before .descend .ensures) _ _
     (c .before .before .before .before .before .before .resume .ensures)
     (c .before .before .before .before .before .before .before .before .before .before .before .before .before .before .before .before
-    .before .before .before .before .before .before .before .pre .1) _ (c .before .before .note .ensures)
+    .before .before .before .before .before .before .pre .1) _ (c .before .before .note .ensures)
+
+resume-enum-told-2 : (t : ℕ) → resume-lts.Need-enum-told-2 (resume-claims t) (resume-at t) resume.Post
+resume-enum-told-2 t c = search needs
 
 resume-add-choose : (t : ℕ) → resume-lts.Need-add-choose (resume-claims t) (resume-at t) resume.Post
 resume-add-choose t c = let h =
-    resume-here _ _ _ _ (c .before .before .before .before .before .before .before .before .before .before .before .if1 .left)
-    (c .before .before .before .before .before .before .before .before .before .before .before .before .before .before .pre .1) .0 in
+    resume-here _ _ _ _ (c .before .before .before .before .before .before .before .before .before .if1 .left)
+    (c .before .before .before .before .before .before .before .before .before .before .before .before .pre .1) .0 in
     omega arith
 
 resume-choose-requires : (t : ℕ) → resume-lts.Need-choose-requires (resume-claims t) (resume-at t) resume.Post
 resume-choose-requires t c κs = (
-  let b = resume-here _ _ _ _ (c .before .before .before .before .before .before .before .before .before .before .before .if1 .left)
-      (c .before .before .before .before .before .before .before .before .before .before .before .before .before .before .pre .1) .0 in
-      let r = resume-reach _ _ _ _ (c .before .before .before .before .before .before .before .before .before .before .before .if1 .left)
-      (c .before .before .before .before .before .before .before .before .before .before .before .before .before .before .pre .1) in
-      let e = c .before .before .before .before .before .before .before .before .before .before .before .before .before .before .pre .0 in
+  let b = resume-here _ _ _ _ (c .before .before .before .before .before .before .before .before .before .if1 .left)
+      (c .before .before .before .before .before .before .before .before .before .before .before .before .pre .1) .0 in
+      let r = resume-reach _ _ _ _ (c .before .before .before .before .before .before .before .before .before .if1 .left)
+      (c .before .before .before .before .before .before .before .before .before .before .before .before .pre .1) in
+      let e = c .before .before .before .before .before .before .before .before .before .before .before .before .pre .0 in
       omega arith,
-  several-asks _ _ _ _ (c .before .before .before .before .before .before .before .before .before .before .before .if1 .left)
-      _ (c .before .before .before .before .before .before .before .before .before .alternatives-at .ensures) _ _ _
-      (c .before .before .before .before .before .before .before .count-kept .ensures) _
-      (c .before .before .before .before .before .before .after .ensures) _ (c .before .before .before .before .before .before2 .ensures)
-      (omega arith) (c .before .before .before .before .before .before .before .before .before .before .before .before .before .before .pre
-      .1),
+  several-asks _ _ _ _ (c .before .before .before .before .before .before .before .before .before .if1 .left)
+      _ (c .before .before .before .before .before .before .before .alternatives-at .ensures) _ _
+      (c .before .before .before .before .before .count-kept .ensures) _ (c .before .before .before .before .after .ensures) _
+      (c .before .before .before .before2 .ensures) _ (c .before .enum-told2 .given .1)
+      (c .before .before .before .before .before .before .before .before .before .before .before .before .pre .1),
 )
 
 resume-same-length-3 : (t : ℕ) → resume-lts.Need-same-length-3 (resume-claims t) (resume-at t) resume.Post
 resume-same-length-3 t c = c .before .before .choose .ensures .moved .len
 
 resume-returns-4 : (t : ℕ) → resume-lts.Need-returns-4 (resume-claims t) (resume-at t) resume.Post
-resume-returns-4 t c = resumes-several _ _ _ _
-    (c .before .before .before .before .before .before .before .before .before .before .before .before .before .before .if1 .left) _
-    (c .before .before .before .before .before .before .before .before .before .before .before .before .alternatives-at .ensures) _ _ _
-    (c .before .before .before .before .before .before .before .before .before .before .count-kept .ensures) _
-    (c .before .before .before .before .before .before .before .before .before .after .ensures) _
-    (c .before .before .before .before .before .before .before .before .before2 .ensures) (omega arith) _ _
+resume-returns-4 t c = resumes-several _ _ _ _ (c .before .before .before .before .before .before .before .before .before .before .before
+    .before .if1 .left) _ (c .before .before .before .before .before .before .before .before .before .before .alternatives-at .ensures) _ _
+    (c .before .before .before .before .before .before .before .before .count-kept .ensures) _
+    (c .before .before .before .before .before .before .before .after .ensures) _
+    (c .before .before .before .before .before .before .before2 .ensures) _ (c .before .before .before .before .enum-told2 .given .1) _ _
     (c .before .before .choose .ensures)
 
 abbrev take-claims : ℕ → take-lts.Claims
@@ -484,15 +488,18 @@ pub +choose+resume+take-spec : {M : Type 1} → statement M
     (resume-after-requires t)
     (resume-sub-before t)
     (resume-before-requires t)
-    (resume-same-length t)
-    (resume-returns-2 t)
+    (resume-enum-told t)
+    (resume-enum-known-which t)
     (resume-descend-requires t)
     (resume-resume-requires t)
     (resume-note-requires t)
-    (resume-same-length-2 t)
-    (resume-returns-3 t)
+    (resume-enum-told-2 t)
     (resume-add-choose t)
     (resume-choose-requires t)
+    (resume-same-length t)
+    (resume-returns-2 t)
+    (resume-same-length-2 t)
+    (resume-returns-3 t)
     (resume-same-length-3 t)
     (resume-returns-4 t))
     λ t. take-lts.spec (

@@ -3,7 +3,9 @@
 use native.Mathlib.Omega.{arith}
 use mathlib.Core.Path.{_≡_}
 use Prim.Native.Nat.{ℕ}
+use borrow.Author.Needs.{needs}
 use Rattle.marks.specs.Readable.{Readable}
+use Rattle.marks.proofs.Left.{not-one}
 use Rattle.showing.proofs.Looking.{Going, look-reads, look-start, look-done, look-here, look-counts, look-on}
 use Rattle.showing.proofs.lone.lone.Statement.{statement}
 use Rattle.showing.proofs.lone.lone.Tie as tie
@@ -43,19 +45,22 @@ count-kept-requires : tie.Need-count-kept-requires Inv-loop μ-loop
 count-kept-requires c κs = let p = c .before .before .before .before .before .before .pre .1 in let q = c .before .loop-test in
     look-counts _ _ _ p _ _ (c .before .before .loop .inv _ p) (omega arith) _ (c .alternatives-at .ensures)
 
+enum-told : tie.Need-enum-told Inv-loop μ-loop
+enum-told c = search needs
+
 returns : tie.Need-returns Inv-loop μ-loop
 returns c = λ left d e. let z : _≡_ {A = ℕ} 0 1 = cc in absurd (omega arith)
 
 sub-more : tie.Need-sub-more Inv-loop μ-loop
-sub-more c = let q = c .before .before .before .before .loop-test in omega arith
+sub-more c = let q = c .before .before .before .loop-test in omega arith
 
 loop-less : tie.Need-loop-less Inv-loop μ-loop
-loop-less c = let q = c .before .before .before .before .loop-test in omega arith
+loop-less c = let q = c .before .before .before .loop-test in omega arith
 
 loop-again : tie.Need-loop-again Inv-loop μ-loop
-loop-again c = let q = c .before .before .before .before .loop-test in
-    λ left d. look-on _ _ _ d _ _ (c .before .before .before .before .before .loop .inv left d) (omega arith) _
-    (c .before .before .before .alternatives-at .ensures) _ _ _ (c .before .before .count-kept .ensures) (λ z. omega arith)
+loop-again c = let q = c .before .before .before .loop-test in
+    λ left d. look-on _ _ _ d _ _ (c .before .before .before .before .loop .inv left d) (omega arith) _
+    (c .before .before .alternatives-at .ensures) _ _ (c .before .count-kept .ensures) (not-one _ (c .match .keys2))
 
 returns-2 : tie.Need-returns-2 Inv-loop μ-loop
 returns-2 c = λ left d e. look-done _ _ _ d _ _ (c .before .loop .inv left d) (omega arith)
@@ -73,6 +78,7 @@ lone-spec =
     alternatives-at-requires
     add-count-kept
     count-kept-requires
+    enum-told
     returns
     sub-more
     loop-less

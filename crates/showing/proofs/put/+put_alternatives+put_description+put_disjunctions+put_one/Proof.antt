@@ -3,7 +3,10 @@
 -- Assumes nothing.
 use Prim.Native.Nat.{ℕ, _+_, _*_, _<_}
 use native.Mathlib.Omega.{arith}
-use mathlib.Core.Logic.{⊎-elim}
+use mathlib.Core.Path.{_≡_}
+use mathlib.Core.Logic.{_⊎_, inl, inr, ⊎-elim}
+use borrow.Author.Needs.{needs}
+use Rattle.marks.specs.declared.tally.Left.the-variants.{Nothing, Several}
 use Rattle.showing.specs.Putting.{Disjoining, Offering}
 use Rattle.showing.proofs.Describing.{graph-end, asks-later, later-few, later-long, describes}
 use Rattle.showing.proofs.Disjoining as disjoining
@@ -387,58 +390,77 @@ put-one-claims t = (
 put-one-count-kept-requires : (t : ℕ) → put-one-lts.Need-count-kept-requires (put-one-claims t) (put-one-at t) put-one.Post
 put-one-count-kept-requires t c κs = vary-counts _ _ _ _ _ _ (c .before .before .pre .1)
 
+put-one-enum-told : (t : ℕ) → put-one-lts.Need-enum-told (put-one-claims t) (put-one-at t) put-one.Post
+put-one-enum-told t c = search needs
+
+put-one-enum-known-which : (t : ℕ) → put-one-lts.Need-enum-known-which (put-one-claims t) (put-one-at t) put-one.Post
+put-one-enum-known-which t c = search needs
+
 put-one-put-disjunctions-requires : (t : ℕ) → put-one-lts.Need-put-disjunctions-requires (put-one-claims t) (put-one-at t) put-one.Post
 put-one-put-disjunctions-requires t c κs = (
-  omega (arith, c .before .before .before .before .before .pre .0),
-  vary-inner _ _ _ _ _ _ (c .before .before .before .before .before .pre .1) _ _ _ (c .before .before .count-kept .ensures) (omega arith),
+  omega (arith, c .before .before .before .before .before .before .before .pre .0),
+  vary-inner _ _ _ _ _ _ (c .before .before .before .before .before .before .before .pre .1) _ _ (c .before .before .before .before
+      .count-kept .ensures) _ (c .before .before .which .given .1),
 )
 
 put-one-same-length : (t : ℕ) → put-one-lts.Need-same-length (put-one-claims t) (put-one-at t) put-one.Post
 put-one-same-length t c = c .before .before .put-disjunctions .ensures
-    (vary-inner _ _ _ _ _ _ (c .before .before .before .before .before .before .before .before .pre .1) _ _ _
-    (c .before .before .before .before .before .count-kept .ensures) (omega arith)) .0 .len
+    (vary-inner _ _ _ _ _ _ (c .before .before .before .before .before .before .before .before .before .before .pre .1) _ _
+    (c .before .before .before .before .before .before .before .count-kept .ensures) _
+    (c .before .before .before .before .before .which .given .1)) .0 .len
 
 put-one-returns : (t : ℕ) → put-one-lts.Need-returns (put-one-claims t) (put-one-at t) put-one.Post
-put-one-returns t c = λ d. vary-one _ _ _ _ _ _ d _ _ _ (c .before .before .before .before .before .count-kept .ensures) (omega arith) _ _ _
-    (c .before .before .put-disjunctions .ensures)
+put-one-returns t c = λ d. vary-one _ _ _ _ _ _ d _ _ (c .before .before .before .before .before .before .before .count-kept .ensures) _
+    (c .before .before .before .before .before .which .given .1) _ _ _ (c .before .before .put-disjunctions .ensures)
+
+put-one-enum-known-which-2 : (t : ℕ) → put-one-lts.Need-enum-known-which-2 (put-one-claims t) (put-one-at t) put-one.Post
+put-one-enum-known-which-2 t c = search needs
+
+put-one-many : (t : ℕ) (c : put-one-lts.At-match-came (put-one-claims t) (put-one-at t) put-one.Post) →
+    ((c .before .count-kept .result .left ≡ Nothing) × (c .match .many ≡ 0))
+    ⊎ ((x : ℕ) × (c .before .count-kept .result .left ≡ Several x) × (c .match .many ≡ x))
+put-one-many t c =
+    ⊎-elim (λ none. inl (none .1 .given .1, none .2)) (λ more. inr (more .1 .given .0 .0, more .1 .given .1, more .3)) (c .match .came)
 
 put-one-cast-w : (t : ℕ) → put-one-lts.Need-cast-w (put-one-claims t) (put-one-at t) put-one.Post
-put-one-cast-w t c = let h = vary-small _ _ _ _ _ _ (c .before .before .before .before .pre .1) _ _ _ (c .before .count-kept .ensures) in
+put-one-cast-w t c = let h = vary-small _ _ _ _ _ _ (c .before .before .before .before .before .pre .1) _ _
+    (c .before .before .count-kept .ensures) _ (put-one-many t (c .before)) in
     omega arith
 
 put-one-add-w : (t : ℕ) → put-one-lts.Need-add-w (put-one-claims t) (put-one-at t) put-one.Post
-put-one-add-w t c = let h = vary-room _ _ _ _ _ _ (c .before .before .before .before .pre .1) _ _ _ (c .before .count-kept .ensures)
-    (λ z. omega arith) .0 in omega arith
+put-one-add-w t c = let h = vary-room _ _ _ _ _ _ (c .before .before .before .before .before .pre .1) _ _
+    (c .before .before .count-kept .ensures) _ (put-one-many t (c .before)) .0 in omega arith
 
 put-one-mul-w : (t : ℕ) → put-one-lts.Need-mul-w (put-one-claims t) (put-one-at t) put-one.Post
-put-one-mul-w t c = let h = vary-room _ _ _ _ _ _ (c .before .before .before .before .pre .1) _ _ _ (c .before .count-kept .ensures)
-    (λ z. omega arith) .0 in omega arith
+put-one-mul-w t c = let h = vary-room _ _ _ _ _ _ (c .before .before .before .before .before .pre .1) _ _
+    (c .before .before .count-kept .ensures) _ (put-one-many t (c .before)) .0 in omega arith
 
 put-one-slice-write-w : (t : ℕ) → put-one-lts.Need-slice-write-w (put-one-claims t) (put-one-at t) put-one.Post
 put-one-slice-write-w t c = let h =
-    vary-room _ _ _ _ _ _ (c .before .before .before .before .pre .1) _ _ _ (c .before .count-kept .ensures) (λ z. omega arith) .1 in
+    vary-room _ _ _ _ _ _ (c .before .before .before .before .before .pre .1) _ _ (c .before .before .count-kept .ensures) _
+    (put-one-many t (c .before)) .1 in
     omega arith
 
 put-one-add-put-alternatives : (t : ℕ) → put-one-lts.Need-add-put-alternatives (put-one-claims t) (put-one-at t) put-one.Post
 put-one-add-put-alternatives t c = let h =
-    vary-room _ _ _ _ _ _ (c .before .before .before .before .before .pre .1) _ _ _ (c .before .before .count-kept .ensures)
-    (λ z. omega arith) .0 in omega arith
+    vary-room _ _ _ _ _ _ (c .before .before .before .before .before .before .pre .1) _ _ (c .before .before .before .count-kept .ensures) _
+    (put-one-many t (c .before .before)) .0 in omega arith
 
 put-one-put-alternatives-requires : (t : ℕ) → put-one-lts.Need-put-alternatives-requires (put-one-claims t) (put-one-at t) put-one.Post
 put-one-put-alternatives-requires t c κs = (
-  omega (arith, c .before .before .before .before .before .pre .0),
-  vary-offers _ _ _ _ _ _ (c .before .before .before .before .before .pre .1) _ _ _ (c .before .before .count-kept .ensures)
-      (λ z. omega arith),
+  omega (arith, c .before .before .before .before .before .before .pre .0),
+  vary-offers _ _ _ _ _ _ (c .before .before .before .before .before .before .pre .1) _ _ (c .before .before .before .count-kept .ensures)
+      _ (put-one-many t (c .before .before)),
 )
 
 put-one-same-length-2 : (t : ℕ) → put-one-lts.Need-same-length-2 (put-one-claims t) (put-one-at t) put-one.Post
-put-one-same-length-2 t c = vary-several _ _ _ _ _ _ (c .before .before .before .before .before .before .before .before .pre .1) _ _ _
-    (c .before .before .before .before .before .count-kept .ensures) (λ z. omega arith) _ _
-    (c .before .before .put-alternatives .ensures) .0 .len
+put-one-same-length-2 t c = vary-several _ _ _ _ _ _ (c .before .before .before .before .before .before .before .before .before .pre .1) _ _
+    (c .before .before .before .before .before .before .count-kept .ensures) _ (put-one-many t (c .before .before .before .before .before))
+    _ _ (c .before .before .put-alternatives .ensures) .0 .len
 
 put-one-returns-2 : (t : ℕ) → put-one-lts.Need-returns-2 (put-one-claims t) (put-one-at t) put-one.Post
-put-one-returns-2 t c = λ d. vary-several _ _ _ _ _ _ d _ _ _ (c .before .before .before .before .before .count-kept .ensures)
-    (λ z. omega arith) _ _ (c .before .before .put-alternatives .ensures)
+put-one-returns-2 t c = λ d. vary-several _ _ _ _ _ _ d _ _ (c .before .before .before .before .before .before .count-kept .ensures) _
+    (put-one-many t (c .before .before .before .before .before)) _ _ (c .before .before .put-alternatives .ensures)
 
 pub +put-alternatives+put-description+put-disjunctions+put-one-spec : {M : Type 1} → statement M
 +put-alternatives+put-description+put-disjunctions+put-one-spec =
@@ -523,9 +545,12 @@ pub +put-alternatives+put-description+put-disjunctions+put-one-spec : {M : Type 
     (put-one-at t)
     put-one.Post
     (put-one-count-kept-requires t)
+    (put-one-enum-told t)
+    (put-one-enum-known-which t)
     (put-one-put-disjunctions-requires t)
     (put-one-same-length t)
     (put-one-returns t)
+    (put-one-enum-known-which-2 t)
     (put-one-cast-w t)
     (put-one-add-w t)
     (put-one-mul-w t)
