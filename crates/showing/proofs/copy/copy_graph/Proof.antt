@@ -8,7 +8,7 @@ use Rattle.showing.proofs.Copying.{graph-here, graph-asks, graph-copied
 use borrow.Author.Needs.{needs}
 use Rattle.showing.proofs.copy.copy_graph.Statement.{statement}
 use Rattle.showing.proofs.copy.copy_graph.Tie as tie
-use Rattle.marks.proofs.fields.nodes_of.Reads as nodes-of-reads
+use Rattle.packing.proofs.nodes_of.Reads as nodes-of-reads
 use Rattle.marks.proofs.positions.number_at.Reads as number-at-reads
 use Rattle.marks.proofs.positions.word_at.Reads as word-at-reads
 use Rattle.showing.proofs.copy.copy_nodes.Reads as copy-nodes-reads
