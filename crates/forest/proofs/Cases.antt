@@ -14,9 +14,10 @@ use Rattle.area.specs.Map.{PARENT, NEXT, LOG, STACK, SIZE}
 use Rattle.area.specs.Region.{region}
 use Rattle.forest.proofs.Relabel.{relabelled}
 use Rattle.area.specs.Log.{Logged, Later, Put}
-use Rattle.forest.specs.declared.held.Held.the-variants.{Arcs, Atom}
+use Rattle.forest.specs.declared.held.Held.{Held}
+use Rattle.forest.specs.declared.held.Held.the-variants.{Nothing, Arcs, Atom}
 use Rattle.forest.specs.Forest.{tops}
-use Rattle.forest.specs.Held.{last-arc, ChainCode, AtomCode, held-by, Covers}
+use Rattle.forest.specs.Held.{last-arc, ChainCode, AtomCode, held-by, Covered}
 use Rattle.forest.specs.State.{Pile, Done, Same, Clashes, Chain, Seg, First, Near, Framed, Bears, State, Ready, Met, Grow, Last, Runs}
 use Rattle.forest.specs.State.{frames}
 use Rattle.area.proofs.Region.{length-region, region-ext}
@@ -76,7 +77,7 @@ module _ (n k s : ℕ) (w : List ℕ) (a b : ℕ) (lt : a < b) (hb : b < n) (hn 
         List·Memᴰ q (getD (u .C) c []) → q < 2048
     below u c q h m = let b = u .arcs q (u .known q (u .home c q h m .0)) .0 in omega arith
 
-    pub plain : Covers w a b → Met n k s w a b r s false w1
+    pub plain : Covered (held-by w b) (held-by w a) → Met n k s w a b r s false w1
     plain covers = record {
       later = p .later;
       new = [];
@@ -414,20 +415,23 @@ module _ (n k s : ℕ) (w : List ℕ) (a b : ℕ) (lt : a < b) (hb : b < n) (hn 
               Clashes.mixed (x .node) (λ e. na (sym (x .is) ∙ e)) (y .1 .0) (Same.on (node a (omega arith) ma x) (Same.on same (y .1 .1)))
           go (no p) (no q) = absurd (⊎-elim (λ l. p l) (λ l. q l) big)
 
-  pub arcs-atom : (x v : ℕ) → held-by w b ≡ Arcs x → held-by w a ≡ Atom v → Met n k s w a b k s true w
-  arcs-atom x v came there =
-      let at-b = told-arcs w b x came in let at-a = told-atom w a v there in
+  -- what comes is not covered, something is there, and not both are arcs
+  pub clash-met : (came there : Held) → came ≡ held-by w b → there ≡ held-by w a → (Covered came there → ⊥) → (there ≡ Nothing → ⊥) →
+      ((p q : ℕ) → came ≡ Arcs p → there ≡ Arcs q → ⊥) → Met n k s w a b k s true w
+  clash-met Nothing there eb ea new some mixed = absurd (new (inl refl))
+  clash-met (Arcs p) Nothing eb ea new some mixed = absurd (some refl)
+  clash-met (Arcs p) (Arcs q) eb ea new some mixed = absurd (mixed p q refl refl)
+  clash-met (Arcs p) (Atom v) eb ea new some mixed =
+      let at-b = told-arcs w b p (sym eb) in let at-a = told-atom w a v (sym ea) in
       clashed (λ e. omega (arith, at-b)) (λ e. omega (arith, at-a)) (λ e. omega (arith, at-b, at-a)) (inr (omega (arith, at-a)))
-
-  pub atom-arcs : (v y : ℕ) → held-by w b ≡ Atom v → held-by w a ≡ Arcs y → Met n k s w a b k s true w
-  atom-arcs v y came there =
-      let at-b = told-atom w b v came in let at-a = told-arcs w a y there in
+  clash-met (Atom u) Nothing eb ea new some mixed = absurd (some refl)
+  clash-met (Atom u) (Arcs q) eb ea new some mixed =
+      let at-b = told-atom w b u (sym eb) in let at-a = told-arcs w a q (sym ea) in
       clashed (λ e. omega (arith, at-b)) (λ e. omega (arith, at-a)) (λ e. omega (arith, at-b, at-a)) (inl (omega (arith, at-b)))
-
-  pub two-atoms : (u v : ℕ) → held-by w b ≡ Atom u → held-by w a ≡ Atom v → (u ≡ v → ⊥) → Met n k s w a b k s true w
-  two-atoms u v came there differ =
-      let at-b = told-atom w b u came in let at-a = told-atom w a v there in
-      clashed (λ e. omega (arith, at-b)) (λ e. omega (arith, at-a)) (λ e. differ (at-b .0 ∙ e ∙ sym (at-a .0))) (inl (omega (arith, at-b)))
+  clash-met (Atom u) (Atom v) eb ea new some mixed =
+      let at-b = told-atom w b u (sym eb) in let at-a = told-atom w a v (sym ea) in
+      clashed (λ e. omega (arith, at-b)) (λ e. omega (arith, at-a))
+      (λ e. new (inr (u, (refl, ap Atom (at-a .0 ∙ sym e ∙ sym (at-b .0)))))) (inl (omega (arith, at-b)))
 
   -- ---- a root's chain is short
   pub ready-runs : (c : ℕ) → c < n → getD (region PARENT n w) c 0 ≡ c → ChainCode (getD w c 0) → Runs w (getD w c 0)

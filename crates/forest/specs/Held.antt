@@ -31,6 +31,6 @@ held (suc j) = elim (ltb last-arc (suc j)) [ true ↦ Atom (suc j) | false ↦ A
 unfoldable pub held-by : List ℕ → ℕ → Held
 held-by w c = held (getD w (HELD + c) 0)
 
--- a holds what b holds: b holds nothing, or the same atom
-abbrev pub Covers : List ℕ → ℕ → ℕ → Type 0
-Covers w a b = (held-by w b ≡ Nothing) ⊎ ((v : ℕ) × ((held-by w b ≡ Atom v) × (held-by w a ≡ Atom v)))
+-- a class that holds `there` holds what comes: nothing comes, or the same atom
+abbrev pub Covered : Held → Held → Type 0
+Covered came there = (came ≡ Nothing) ⊎ ((v : ℕ) × ((came ≡ Atom v) × (there ≡ Atom v)))

@@ -17,8 +17,8 @@ ghost use Prim.Native.Nat.{_+_, _*_, _≤_, _<_};
 ghost use lib.ListN.{length, getD};
 ghost use Rattle.area.specs.Map.{PARENT, SIZE, NODES};
 ghost use Rattle.area.specs.Region.{region};
-ghost use Rattle.forest.specs.declared.held.Held.the-variants.{Nothing, Arcs};
-ghost use Rattle.forest.specs.Held.{held-by, Covers};
+ghost use Rattle.forest.specs.declared.held.Held.the-variants.{Arcs};
+ghost use Rattle.forest.specs.Held.{held-by, Covered};
 ghost use Rattle.forest.specs.State.{Ready, Met};
 
 // The log's entries and the frames on the stack after a step, and whether it met a clash.
@@ -28,37 +28,17 @@ pub struct Made {
     pub bad: bool,
 }
 
-// The class b goes under the class a, which keeps what it holds: b holds nothing, or the same atom.
-fn go_under(w: &mut [u32], k: usize, s: usize, n: usize, a: usize, b: usize) -> Made
-    requires { ⌜ (a < b) × ((b < n) × ((n ≤ NODES) × (SIZE ≤ length (now w)))) ⌝ }
-    requires { ⌜ (getD (region PARENT n (now w)) a 0 ≡ a) × (getD (region PARENT n (now w)) b 0 ≡ b) ⌝ }
-    requires { ⌜ Covers (now w) a b ⌝ }
-    requires { ⌜ Ready n k s (now w) ⌝ }
-    ensures { λ r. ⌜ Met n k s (now (w .entry)) a b (r .k) (r .s) (r .bad) (now (w .exit)) ⌝ }
+// Whether a class that holds `there` holds what comes: nothing comes, or the same atom.
+fn covered(came: Held, there: Held) -> bool
+    ensures { λ r. ⌜ (r ≡ true → Covered came there) × (r ≡ false → Covered came there → ⊥) ⌝ }
 {
-    let e = put(w, k, PARENT + b, a as u32);
-    Made {
-        k: e,
-        s: s,
-        bad: false,
-    }
-}
-
-// The class b goes under the class a, which holds nothing and takes over what b holds.
-fn take_over(w: &mut [u32], k: usize, s: usize, n: usize, a: usize, b: usize) -> Made
-    requires { ⌜ (a < b) × ((b < n) × ((n ≤ NODES) × (SIZE ≤ length (now w)))) ⌝ }
-    requires { ⌜ (getD (region PARENT n (now w)) a 0 ≡ a) × (getD (region PARENT n (now w)) b 0 ≡ b) ⌝ }
-    requires { ⌜ held-by (now w) a ≡ Nothing ⌝ }
-    requires { ⌜ Ready n k s (now w) ⌝ }
-    ensures { λ r. ⌜ Met n k s (now (w .entry)) a b (r .k) (r .s) (r .bad) (now (w .exit)) ⌝ }
-{
-    let h = w[HELD + b];
-    let e = put(w, k, PARENT + b, a as u32);
-    let d = put(w, e, HELD + a, h);
-    Made {
-        k: d,
-        s: s,
-        bad: false,
+    match came {
+        Held::Nothing => true,
+        Held::Arcs(_) => false,
+        Held::Atom(u) => match there {
+            Held::Nothing | Held::Arcs(_) => false,
+            Held::Atom(v) => u == v,
+        },
     }
 }
 
@@ -93,29 +73,39 @@ fn fuse(w: &mut [u32], k: usize, s: usize, n: usize, a: usize, b: usize) -> Made
 {
     let came = held_by(w, b);
     let there = held_by(w, a);
-    let clash = Made {
-        k: k,
-        s: s,
-        bad: true,
-    };
-    match came {
-        Held::Nothing => go_under(w, k, s, n, a, b),
-        Held::Arcs(p) => match there {
-            Held::Nothing => take_over(w, k, s, n, a, b),
-            Held::Arcs(q) => knit(w, k, s, n, a, b, p, q),
-            Held::Atom(_) => clash,
-        },
-        Held::Atom(u) => match there {
-            Held::Nothing => take_over(w, k, s, n, a, b),
-            Held::Arcs(_) => clash,
-            Held::Atom(v) => {
-                if u == v {
-                    return go_under(w, k, s, n, a, b);
-                }
-                clash
-            }
-        },
+    if covered(came, there) {
+        let e = put(w, k, PARENT + b, a as u32);
+        return Made {
+            k: e,
+            s: s,
+            bad: false,
+        };
     }
+    if let Held::Nothing = there {
+        let h = w[HELD + b];
+        let e = put(w, k, PARENT + b, a as u32);
+        let d = put(w, e, HELD + a, h);
+        return Made {
+            k: d,
+            s: s,
+            bad: false,
+        };
+    }
+    let Held::Arcs(p) = came else {
+        return Made {
+            k: k,
+            s: s,
+            bad: true,
+        };
+    };
+    let Held::Arcs(q) = there else {
+        return Made {
+            k: k,
+            s: s,
+            bad: true,
+        };
+    };
+    knit(w, k, s, n, a, b, p, q)
 }
 
 // The classes of x and y become one.

@@ -1,12 +1,30 @@
 -- `forest::merge::fuse` meets its contract. Assumes nothing.
-use mathlib.Core.Path.{sym, ap, _∙_}
-use mathlib.Core.Logic.{inl, inr}
+use Prim.Native.Nat.{ℕ, _+_}
+use mathlib.Core.Path.{_≡_, sym, ap, _∙_, subst}
+use mathlib.Core.Logic.{_⊎_, ⊎-elim}
 use native.Mathlib.Omega.{arith}
-use Rattle.forest.specs.declared.held.Held.the-variants.{Atom}
-use Rattle.forest.proofs.Cases.{arcs-atom, atom-arcs, two-atoms}
+use lib.ListN.{getD}
+use denote.Enum.Declared.{tagOf}
+use Rattle.area.specs.Map.{HELD}
+use Rattle.area.specs.Log.{Put}
+use Rattle.area.proofs.Region.{held-at}
+use Rattle.forest.specs.declared.held.Held.{Held}
+use Rattle.forest.specs.declared.held.Held.the-variants.{Nothing, Arcs}
+use Rattle.forest.proofs.held.Held.{the-type}
+use Rattle.forest.proofs.Contents.{told-nothing}
+use Rattle.forest.proofs.Cases.{room, plain, moved, clash-met}
 use borrow.Author.Needs.{needs}
 use Rattle.forest.proofs.merge.fuse.Statement.{statement}
 use Rattle.forest.proofs.merge.fuse.Tie as tie
+
+-- what a match has left
+some-held : (r : Held) → (tagOf the-type r ≡ 1) ⊎ (tagOf the-type r ≡ 2) → r ≡ Nothing → ⊥
+some-held r t e = ⊎-elim (λ i. let z : _≡_ {A = ℕ} 0 1 = (rw e at i) in omega arith)
+    (λ i. let z : _≡_ {A = ℕ} 0 2 = (rw e at i) in omega arith) t
+
+no-arcs : (r : Held) (x : ℕ) → (tagOf the-type r ≡ 0) ⊎ (tagOf the-type r ≡ 2) → r ≡ Arcs x → ⊥
+no-arcs r x t e = ⊎-elim (λ i. let z : _≡_ {A = ℕ} 1 0 = (rw e at i) in omega arith)
+    (λ i. let z : _≡_ {A = ℕ} 1 2 = (rw e at i) in omega arith) t
 
 held-by-requires : tie.Need-held-by-requires
 held-by-requires c κs = search needs
@@ -14,127 +32,142 @@ held-by-requires c κs = search needs
 held-by-requires-2 : tie.Need-held-by-requires-2
 held-by-requires-2 c κs = search needs
 
-enum-told : tie.Need-enum-told
-enum-told c = search needs
+covered-requires : tie.Need-covered-requires
+covered-requires c κs = search needs
 
-go-under-requires : tie.Need-go-under-requires
-go-under-requires c κs =
-    let p = c .before .before .before .before .before .before .before .before .pre in
-    let came = sym (c .before .before .before .before .before .held-by .ensures) ∙ c .before .enum-told .given .1 in
-    (p .0, (p .1 .0, (inl came, p .1 .1)))
+add-put : tie.Need-add-put
+add-put c = search needs
 
-enum-known-came : tie.Need-enum-known-came
-enum-known-came c = search needs
+cast-put : tie.Need-cast-put
+cast-put c = search needs
 
-enum-told-2 : tie.Need-enum-told-2
-enum-told-2 c = search needs
-
-take-over-requires : tie.Need-take-over-requires
-take-over-requires c κs =
-    let p = c .before .before .before .before .before .before .before .before .before .before .before .pre in
-    let there = sym (c .before .before .before .before .before .before .held-by2 .ensures) ∙ c .before .enum-told2 .given .1 in
-    (p .0, (p .1 .0, (there, p .1 .1)))
-
-enum-known-there : tie.Need-enum-known-there
-enum-known-there c = search needs
-
-knit-requires : tie.Need-knit-requires
-knit-requires c κs =
-    let p = c .before .before .before .before .before .before .before .before .before .before .before .before .pre in
-    let came = sym (c .before .before .before .before .before .before .before .before .before .held-by .ensures) ∙ c .before .before .before .before .before .came .given .1 in
-    let there = sym (c .before .before .before .before .before .before .before .held-by2 .ensures) ∙ c .before .before .there .given .1 in
-    (p .0, (p .1 .0, ((came, there), p .1 .1)))
-
-enum-told-3 : tie.Need-enum-told-3
-enum-told-3 c = search needs
-
-enum-known-came-2 : tie.Need-enum-known-came-2
-enum-known-came-2 c = search needs
-
-enum-told-4 : tie.Need-enum-told-4
-enum-told-4 c = search needs
-
-take-over-requires-2 : tie.Need-take-over-requires-2
-take-over-requires-2 c κs =
-    let p = c .before .before .before .before .before .before .before .before .before .before .before .pre in
-    let there = sym (c .before .before .before .before .before .before .held-by2 .ensures) ∙ c .before .enum-told4 .given .1 in
-    (p .0, (p .1 .0, (there, p .1 .1)))
-
-enum-told-5 : tie.Need-enum-told-5
-enum-told-5 c = search needs
-
-enum-known-there-2 : tie.Need-enum-known-there-2
-enum-known-there-2 c = search needs
-
-go-under-requires-2 : tie.Need-go-under-requires-2
-go-under-requires-2 c κs =
-    let p = c .before .before .before .before .before .before .before .before .before .before .before .before .before .pre in
-    let came = sym (c .before .before .before .before .before .before .before .before .before .before .held-by .ensures) ∙ c .before .before .before .before .before .before .came2 .given .1 in
-    let there = sym (c .before .before .before .before .before .before .before .before .held-by2 .ensures) ∙ c .before .before .before .there2 .given .1 ∙ ap Atom (sym (c .before .if1 .taken)) in
-    (p .0, (p .1 .0, (inr (_, (came, there)), p .1 .1)))
+put-requires : tie.Need-put-requires
+put-requires c κs =
+    let s = c .before .before .before .before .before .before .before .before in
+    let a = s .args in
+    let p = s .pre .1 in
+    let rm = room (a .n) (a .k) (a .s) (a .w .now) (a .a) (a .b) (omega arith) (omega arith) (omega arith) (omega arith) (p .0 .0)
+    (p .0 .1) (p .1) in
+    (p .1 .state .logged, (omega arith, (omega arith, omega arith)))
 
 same-length : tie.Need-same-length
 same-length c = search needs
 
 returns : tie.Need-returns
-returns c = search needs
+returns c =
+    let s = c .before .before .before .before .before .before .before .before .before .before .before in
+    let a = s .args in
+    let p = s .pre .1 in
+    let put = c .before .before .put in
+    let came = c .before .before .before .before .before .before .before .before .held-by .ensures in
+    let there = c .before .before .before .before .before .before .held-by2 .ensures in
+    let covers = c .before .before .before .before .before .covered .ensures .0 (c .before .before .before .before .if1 .taken) in
+    plain (a .n) (a .k) (a .s) (a .w .now) (a .a) (a .b) (omega arith) (omega arith) (omega arith) (omega arith) (p .0 .0)
+    (p .0 .1) (p .1) (put .result) (put .last .0) (put .ensures) (rw (← came, ← there) covers)
+
+enum-told : tie.Need-enum-told
+enum-told c = search needs
+
+add-h : tie.Need-add-h
+add-h c = search needs
+
+mul-h : tie.Need-mul-h
+mul-h c = search needs
+
+slice-read-h : tie.Need-slice-read-h
+slice-read-h c = search needs
+
+add-put-2 : tie.Need-add-put-2
+add-put-2 c = search needs
+
+cast-put-2 : tie.Need-cast-put-2
+cast-put-2 c = search needs
+
+put-requires-2 : tie.Need-put-requires-2
+put-requires-2 c κs =
+    let s = c .before .before .before .before .before .before .before .before .before .before .before in
+    let a = s .args in
+    let p = s .pre .1 in
+    let rm = room (a .n) (a .k) (a .s) (a .w .now) (a .a) (a .b) (omega arith) (omega arith) (omega arith) (omega arith) (p .0 .0)
+    (p .0 .1) (p .1) in
+    (p .1 .state .logged, (omega arith, (omega arith, omega arith)))
+
+add-put-3 : tie.Need-add-put-3
+add-put-3 c = search needs
+
+put-requires-3 : tie.Need-put-requires-3
+put-requires-3 c κs =
+    let s = c .before .before .before .before .before .before .before .before .before .before .before .before .before .before .before in
+    let a = s .args in
+    let p = s .pre .1 in
+    let put = c .before .before .before .put2 in
+    let rm = room (a .n) (a .k) (a .s) (a .w .now) (a .a) (a .b) (omega arith) (omega arith) (omega arith) (omega arith) (p .0 .0)
+    (p .0 .1) (p .1) in
+    let sm = p .1 .state .logged .small (HELD + a .b) (omega arith) in (
+      put .ensures .later .logged,
+      (omega arith, (omega (arith, put .ensures .next), (omega arith, omega (arith, put .ensures .later .len)))),
+    )
 
 same-length-2 : tie.Need-same-length-2
 same-length-2 c = search needs
 
 returns-2 : tie.Need-returns-2
-returns-2 c = search needs
+returns-2 c =
+    let s = c .before .before .before .before .before .before .before .before .before .before .before .before .before .before .before .before .before .before in
+    let a = s .args in
+    let p = s .pre .1 in
+    let put = c .before .before .before .before .before .before .put2 in
+    let put2 = c .before .before .put3 in
+    let h = getD (a .w .now) (HELD + a .b) 0 in
+    let none = sym (c .before .before .before .before .before .before .before .before .before .before .before .before .before .held-by2 .ensures) ∙ c .before .before .before .before .before .before .before .before .before .enum-told .given .1 in
+    moved (a .n) (a .k) (a .s) (a .w .now) (a .a) (a .b) (omega arith) (omega arith) (omega arith) (omega arith) (p .0 .0)
+    (p .0 .1) (p .1) (put .result) (put .last .0) (put .ensures) h (put2 .result) (put2 .last .0)
+    (ap (λ (i : ℕ). getD (a .w .now) i 0) (held-at (a .b)))
+    (subst (λ (i : ℕ). Put (put .result) (put .last .0) i h (put2 .result) (put2 .last .0)) (held-at (a .a)) (put2 .ensures))
+    (told-nothing (a .w .now) (a .a) none)
+
+enum-known-came : tie.Need-enum-known-came
+enum-known-came c = search needs
 
 same-length-3 : tie.Need-same-length-3
 same-length-3 c = search needs
 
 returns-3 : tie.Need-returns-3
-returns-3 c = search needs
+returns-3 c =
+    let s = c .before .before .before .before .before .before .before .before .before in
+    let a = s .args in
+    let p = s .pre .1 in
+    clash-met (a .n) (a .k) (a .s) (a .w .now) (a .a) (a .b) (omega arith) (omega arith) (omega arith) (omega arith) (p .0 .0)
+    (p .0 .1) (p .1) _ _ (c .before .before .before .before .before .before .held-by .ensures) (c .before .before .before .before .held-by2 .ensures) (c .before .before .before .covered .ensures .1 (c .before .before .if1 .left))
+    (some-held _ (c .before .match .keys2)) (λ x y e i. no-arcs _ x (c .match2 .keys2) e)
+
+enum-known-there : tie.Need-enum-known-there
+enum-known-there c = search needs
 
 same-length-4 : tie.Need-same-length-4
 same-length-4 c = search needs
 
 returns-4 : tie.Need-returns-4
-returns-4 c = search needs
+returns-4 c =
+    let s = c .before .before .before .before .before .before .before .before .before .before .before .before in
+    let a = s .args in
+    let p = s .pre .1 in
+    clash-met (a .n) (a .k) (a .s) (a .w .now) (a .a) (a .b) (omega arith) (omega arith) (omega arith) (omega arith) (p .0 .0)
+    (p .0 .1) (p .1) _ _ (c .before .before .before .before .before .before .before .before .before .held-by .ensures) (c .before .before .before .before .before .before .before .held-by2 .ensures) (c .before .before .before .before .before .before .covered .ensures .1 (c .before .before .before .before .before .if1 .left))
+    (some-held _ (c .before .before .before .before .match .keys2)) (λ x y e i. no-arcs _ y (c .match3 .keys2) i)
+
+knit-requires : tie.Need-knit-requires
+knit-requires c κs =
+    let p = c .before .before .before .before .before .before .before .before .before .before .before .before .before .before .before .pre in
+    let came = sym (c .before .before .before .before .before .before .before .before .before .before .before .before .held-by .ensures) ∙ c .before .before .before .before .before .came .given .1 in
+    let there = sym (c .before .before .before .before .before .before .before .before .before .before .held-by2 .ensures) ∙ c .before .before .there .given .1 in
+    (p .0, (p .1 .0, ((came, there), p .1 .1)))
 
 same-length-5 : tie.Need-same-length-5
 same-length-5 c = search needs
 
 returns-5 : tie.Need-returns-5
-returns-5 c =
-    let s = c .before .before .before .before .before .before .before .before .before .before in let a = s .args in let p = s .pre in
-    let came = sym (c .before .before .before .before .before .before .before .held-by .ensures) ∙ c .before .before .before .came .given .1 in
-    let there = sym (c .before .before .before .before .before .held-by2 .ensures) ∙ c .enum-told3 .given .1 in
-    arcs-atom (a .n) (a .k) (a .s) (a .w .now) (a .a) (a .b) (omega arith) (omega arith) (omega arith) (omega arith)
-    (p .1 .0 .0) (p .1 .0 .1) (p .1 .1) _ _ came there
-
-same-length-6 : tie.Need-same-length-6
-same-length-6 c = search needs
-
-returns-6 : tie.Need-returns-6
-returns-6 c = search needs
-
-same-length-7 : tie.Need-same-length-7
-same-length-7 c = search needs
-
-returns-7 : tie.Need-returns-7
-returns-7 c =
-    let s = c .before .before .before .before .before .before .before .before .before .before in let a = s .args in let p = s .pre in
-    let came = sym (c .before .before .before .before .before .before .before .held-by .ensures) ∙ c .before .before .before .came2 .given .1 in
-    let there = sym (c .before .before .before .before .before .held-by2 .ensures) ∙ c .enum-told5 .given .1 in
-    atom-arcs (a .n) (a .k) (a .s) (a .w .now) (a .a) (a .b) (omega arith) (omega arith) (omega arith) (omega arith)
-    (p .1 .0 .0) (p .1 .0 .1) (p .1 .1) _ _ came there
-
-same-length-8 : tie.Need-same-length-8
-same-length-8 c = search needs
-
-returns-8 : tie.Need-returns-8
-returns-8 c =
-    let s = c .before .before .before .before .before .before .before .before .before .before .before .before in let a = s .args in let p = s .pre in
-    let came = sym (c .before .before .before .before .before .before .before .before .before .held-by .ensures) ∙ c .before .before .before .before .before .came2 .given .1 in
-    let there = sym (c .before .before .before .before .before .before .before .held-by2 .ensures) ∙ c .before .before .there2 .given .1 in
-    two-atoms (a .n) (a .k) (a .s) (a .w .now) (a .a) (a .b) (omega arith) (omega arith) (omega arith) (omega arith)
-    (p .1 .0 .0) (p .1 .0 .1) (p .1 .1) _ _ came there (c .if1 .left)
+returns-5 c = search needs
 
 pub fuse-spec : {M : Type 1} → statement M
 fuse-spec =
@@ -142,33 +175,29 @@ fuse-spec =
     (tie.spec
     held-by-requires
     held-by-requires-2
-    enum-told
-    go-under-requires
-    enum-known-came
-    enum-told-2
-    take-over-requires
-    enum-known-there
-    knit-requires
-    enum-told-3
-    enum-known-came-2
-    enum-told-4
-    take-over-requires-2
-    enum-told-5
-    enum-known-there-2
-    go-under-requires-2
+    covered-requires
+    add-put
+    cast-put
+    put-requires
     same-length
     returns
+    enum-told
+    add-h
+    mul-h
+    slice-read-h
+    add-put-2
+    cast-put-2
+    put-requires-2
+    add-put-3
+    put-requires-3
     same-length-2
     returns-2
+    enum-known-came
     same-length-3
     returns-3
+    enum-known-there
     same-length-4
     returns-4
+    knit-requires
     same-length-5
-    returns-5
-    same-length-6
-    returns-6
-    same-length-7
-    returns-7
-    same-length-8
-    returns-8)
+    returns-5)
