@@ -1,14 +1,16 @@
 -- An arc, or an atom, meets its class. Assumes nothing.
 use mathlib.Core.Path.{_≡_, refl, sym, ap, _∙_, subst}
-use mathlib.Core.Bool.{Bool, true, false}
+use mathlib.Core.Bool.{Bool, true, false, not}
 use mathlib.Core.List.{List, [], _∷_, List·Memᴰ, List·Memᴰ·head, List·Memᴰ·tail, List·Memᴰ·not-nil, List·Memᴰ·cases-cons}
 use mathlib.Core.Logic.{_⊎_, inl, inr, ⊎-elim}
 use Prim.Native.Nat.{ℕ, suc, _+_, _-_, _≤_, _<_}
 use native.Mathlib.Numerals.{add-one}
 use native.Mathlib.Omega.{arith}
 use native.Mathlib.Decide.{ℕ-discrete, decLt}
+use lib.Dec.{eqb}
 use lib.ListN.{length, set, getD, length-set}
 use lib.Seq.{getD-set-same, getD-set-other}
+use borrow.Author.Tests.{eqb-true, eqb-false}
 use Rattle.area.specs.Map.{PARENT, NEXT, LOG, SIZE}
 use Rattle.area.specs.Region.{region}
 use Rattle.forest.specs.Labels.{Eq}
@@ -432,7 +434,7 @@ module _ (F T : List ℕ) (n k : ℕ) (w : List ℕ) (hn : n ≤ 1024) (hw : SIZ
             let q' : (G .A) x ≡ v = b .is in
             Clashes.mixed (b .node) (λ o. omega arith) (a .0) (a .1 .0)
 
-    pub mark-same : Logged k w → getD w c 0 ≡ v → Headed F T n k w x v k false w
+    mark-same : Logged k w → getD w c 0 ≡ v → Headed F T n k w x v k false w
     mark-same g e = record {
       later = later-refl k w g;
       fine = λ z G H u b.
@@ -465,6 +467,14 @@ module _ (F T : List ℕ) (n k : ℕ) (w : List ℕ) (hn : n ≤ 1024) (hw : SIZ
           };
       clash = λ z. let y : _≡_ {A = ℕ} 0 1 = cc in absurd (omega arith);
     }
+
+    -- an atom is there: it is the same, or there is a clash
+    pub mark-told : Logged k w → (h : ℕ) → h ≡ getD w c 0 → AtomCode h → Headed F T n k w x v k (not (eqb h v)) w
+    mark-told g h e l = go (eqb h v) refl
+      where
+        go : (t : Bool) → eqb h v ≡ t → Headed F T n k w x v k (not t) w
+        go true i = mark-same g (sym e ∙ eqb-true h v i)
+        go false i = mark-clash g (λ z. omega arith) (λ z. eqb-false h v i (e ∙ z))
 
     module _ (e0 : getD w c 0 ≡ 0) (hk : k + 1 ≤ 4096) (k1 : ℕ) (w1 : List ℕ) (p1 : Put k w c v k1 w1) where
       off1 : (j : ℕ) → (j ≡ c → ⊥) → j < LOG → getD w1 j 0 ≡ getD w j 0

@@ -144,32 +144,22 @@ fn mark(w: &mut [u32], k: usize, n: usize, x: usize, v: u32) -> Made
 {
     let c = find(w, n, x);
     let held = held_by(w, c);
-    let same = Made {
-        k: k,
-        s: 0,
-        bad: false,
-    };
-    let clash = Made {
-        k: k,
-        s: 0,
-        bad: true,
-    };
-    match held {
+    let bad = match held {
         Held::Nothing => {
             let e = put(w, k, HELD + c, v);
-            Made {
+            return Made {
                 k: e,
                 s: 0,
                 bad: false,
-            }
+            };
         }
-        Held::Arcs(_) => clash,
-        Held::Atom(h) => {
-            if h == v {
-                return same;
-            }
-            clash
-        }
+        Held::Arcs(_) => true,
+        Held::Atom(h) => h != v,
+    };
+    Made {
+        k: k,
+        s: 0,
+        bad: bad,
     }
 }
 

@@ -7,7 +7,7 @@ use Rattle.area.specs.Log.{Put}
 use Rattle.area.proofs.Region.{held-at}
 use Rattle.forest.specs.State.{targets}
 use Rattle.forest.proofs.Contents.{told-nothing, told-arcs, told-atom}
-use Rattle.classes.proofs.Visits.{mark-new, mark-same, mark-clash}
+use Rattle.classes.proofs.Visits.{mark-new, mark-clash, mark-told}
 use borrow.Author.Needs.{needs}
 use Rattle.classes.proofs.visit.mark.Statement.{statement}
 use Rattle.classes.proofs.visit.mark.Tie as tie
@@ -35,30 +35,11 @@ put-requires c κs =
     let l = c .before .before .before .before .before .find .ensures .low in
     (g .state .logged, (omega arith, (omega arith, (omega arith, omega arith))))
 
-enum-told-2 : tie.Need-enum-told-2
-enum-told-2 c = search needs
-
-enum-known-held : tie.Need-enum-known-held
-enum-known-held c = search needs
-
 same-length : tie.Need-same-length
 same-length c = search needs
 
 returns : tie.Need-returns
 returns c =
-    let find = c .before .before .before .before .before .before .find in
-    let s = c .before .before .before .before .before .before .before .before .before in
-    let a = s .args in
-    let wn = a .w .now in
-    let bears = told-atom _ _ _ (sym (c .before .before .before .before .held-by .ensures) ∙ c .before .before .held .given .1) in
-    mark-same (words wn) (targets wn) (a .n) (a .k) wn (omega arith) (omega arith) (a .x) (omega arith) (find .result) (find .ensures)
-    (a .v) (s .pre .1 .0 .0) (s .pre .1 .1 .state .logged) (sym (bears .0) ∙ c .if1 .taken)
-
-same-length-2 : tie.Need-same-length-2
-same-length-2 c = search needs
-
-returns-2 : tie.Need-returns-2
-returns-2 c =
     let put = c .before .before .put in
     let find = c .before .before .before .before .before .before .before .before .find in
     let s = c .before .before .before .before .before .before .before .before .before .before .before in
@@ -72,11 +53,17 @@ returns-2 c =
     (a .v) (s .pre .1 .0 .0) none (omega arith) (put .result) (put .last .0)
     (subst (λ (i : ℕ). Put (a .k) wn i (a .v) (put .result) (put .last .0)) (held-at (find .result)) (put .ensures))
 
-same-length-3 : tie.Need-same-length-3
-same-length-3 c = search needs
+enum-told-2 : tie.Need-enum-told-2
+enum-told-2 c = search needs
 
-returns-3 : tie.Need-returns-3
-returns-3 c =
+enum-known-held : tie.Need-enum-known-held
+enum-known-held c = search needs
+
+same-length-2 : tie.Need-same-length-2
+same-length-2 c = search needs
+
+returns-2 : tie.Need-returns-2
+returns-2 c =
     let find = c .before .before .before .before .find in
     let s = c .before .before .before .before .before .before .before in
     let a = s .args in
@@ -85,18 +72,18 @@ returns-3 c =
     mark-clash (words wn) (targets wn) (a .n) (a .k) wn (omega arith) (omega arith) (a .x) (omega arith) (find .result) (find .ensures)
     (a .v) (s .pre .1 .0 .0) (s .pre .1 .1 .state .logged) (λ e. omega (arith, chain)) (λ e. omega (arith, chain, s .pre .1 .0 .0))
 
-same-length-4 : tie.Need-same-length-4
-same-length-4 c = search needs
+same-length-3 : tie.Need-same-length-3
+same-length-3 c = search needs
 
-returns-4 : tie.Need-returns-4
-returns-4 c =
-    let find = c .before .before .before .before .before .before .find in
-    let s = c .before .before .before .before .before .before .before .before .before in
+returns-3 : tie.Need-returns-3
+returns-3 c =
+    let find = c .before .before .before .before .before .find in
+    let s = c .before .before .before .before .before .before .before .before in
     let a = s .args in
     let wn = a .w .now in
-    let bears = told-atom _ _ _ (sym (c .before .before .before .before .held-by .ensures) ∙ c .before .before .held .given .1) in
-    mark-clash (words wn) (targets wn) (a .n) (a .k) wn (omega arith) (omega arith) (a .x) (omega arith) (find .result) (find .ensures)
-    (a .v) (s .pre .1 .0 .0) (s .pre .1 .1 .state .logged) (λ e. omega (arith, bears)) (λ e. c .if1 .left (bears .0 ∙ e))
+    let bears = told-atom _ _ _ (sym (c .before .before .before .held-by .ensures) ∙ c .before .held .given .1) in
+    mark-told (words wn) (targets wn) (a .n) (a .k) wn (omega arith) (omega arith) (a .x) (omega arith) (find .result) (find .ensures)
+    (a .v) (s .pre .1 .0 .0) (s .pre .1 .1 .state .logged) _ (bears .0) (bears .1)
 
 pub mark-spec : {M : Type 1} → statement M
 mark-spec =
@@ -107,13 +94,11 @@ mark-spec =
     enum-told
     add-put
     put-requires
-    enum-told-2
-    enum-known-held
     same-length
     returns
+    enum-told-2
+    enum-known-held
     same-length-2
     returns-2
     same-length-3
-    returns-3
-    same-length-4
-    returns-4)
+    returns-3)
