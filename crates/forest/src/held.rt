@@ -23,11 +23,11 @@ pub fn held_by(w: &[u32], c: usize) -> Held
     ensures { λ r. ⌜ r ≡ held-by (now (w .entry)) c ⌝ }
 {
     let h = w[HELD + c];
-    if h == 0 {
-        return Held::Nothing;
-    }
     if h > LAST_ARC {
         return Held::Atom(h);
+    }
+    if h == 0 {
+        return Held::Nothing;
     }
     Held::Arcs(wide(h))
 }

@@ -72,8 +72,7 @@ fn fuse(w: &mut [u32], k: usize, s: usize, n: usize, a: usize, b: usize) -> Made
     ensures { λ r. ⌜ Met n k s (now (w .entry)) a b (r .k) (r .s) (r .bad) (now (w .exit)) ⌝ }
 {
     let came = held_by(w, b);
-    let there = held_by(w, a);
-    if covered(came, there) {
+    if let Held::Nothing = came {
         let e = put(w, k, PARENT + b, a as u32);
         return Made {
             k: e,
@@ -81,12 +80,21 @@ fn fuse(w: &mut [u32], k: usize, s: usize, n: usize, a: usize, b: usize) -> Made
             bad: false,
         };
     }
+    let there = held_by(w, a);
     if let Held::Nothing = there {
         let h = w[HELD + b];
         let e = put(w, k, PARENT + b, a as u32);
         let d = put(w, e, HELD + a, h);
         return Made {
             k: d,
+            s: s,
+            bad: false,
+        };
+    }
+    if covered(came, there) {
+        let e = put(w, k, PARENT + b, a as u32);
+        return Made {
+            k: e,
             s: s,
             bad: false,
         };

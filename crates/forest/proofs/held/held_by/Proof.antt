@@ -20,18 +20,18 @@ shared-slice-read-h c = search needs
 
 returns : tie.Need-returns
 unfolding held-by
-returns c = held-nothing _ (c .if1 .taken)
+returns c = held-atom _ (c .if1 .taken)
 
 returns-2 : tie.Need-returns-2
 unfolding held-by
-returns-2 c = held-atom _ (c .if2 .taken)
+returns-2 c = held-nothing _ (c .if2 .taken)
 
 wide-requires : tie.Need-wide-requires
 wide-requires c κs = search needs
 
 returns-3 : tie.Need-returns-3
 unfolding held-by
-returns-3 c = ap Arcs (c .wide .ensures) ∙ held-arcs _ (some _ (c .before .before .if1 .left)) (c .before .if2 .left)
+returns-3 c = ap Arcs (c .wide .ensures) ∙ held-arcs _ (some _ (c .before .if2 .left)) (c .before .before .if1 .left)
 
 pub held-by-spec : {M : Type 1} → statement M
 held-by-spec = tie.close (tie.spec add-h mul-h shared-slice-read-h returns returns-2 wide-requires returns-3)

@@ -1,7 +1,7 @@
 -- `forest::merge::fuse` meets its contract. Assumes nothing.
 use Prim.Native.Nat.{ℕ, _+_}
 use mathlib.Core.Path.{_≡_, sym, ap, _∙_, subst}
-use mathlib.Core.Logic.{_⊎_, ⊎-elim}
+use mathlib.Core.Logic.{_⊎_, inl, ⊎-elim}
 use native.Mathlib.Omega.{arith}
 use lib.ListN.{getD}
 use denote.Enum.Declared.{tagOf}
@@ -29,11 +29,8 @@ no-arcs r x t e = ⊎-elim (λ i. let z : _≡_ {A = ℕ} 1 0 = (rw e at i) in o
 held-by-requires : tie.Need-held-by-requires
 held-by-requires c κs = search needs
 
-held-by-requires-2 : tie.Need-held-by-requires-2
-held-by-requires-2 c κs = search needs
-
-covered-requires : tie.Need-covered-requires
-covered-requires c κs = search needs
+enum-told : tie.Need-enum-told
+enum-told c = search needs
 
 add-put : tie.Need-add-put
 add-put c = search needs
@@ -43,7 +40,7 @@ cast-put c = search needs
 
 put-requires : tie.Need-put-requires
 put-requires c κs =
-    let s = c .before .before .before .before .before .before .before .before in
+    let s = c .before .before .before .before .before .before in
     let a = s .args in
     let p = s .pre .1 in
     let rm = room (a .n) (a .k) (a .s) (a .w .now) (a .a) (a .b) (omega arith) (omega arith) (omega arith) (omega arith) (p .0 .0)
@@ -55,18 +52,19 @@ same-length c = search needs
 
 returns : tie.Need-returns
 returns c =
-    let s = c .before .before .before .before .before .before .before .before .before .before .before in
+    let s = c .before .before .before .before .before .before .before .before .before in
     let a = s .args in
     let p = s .pre .1 in
     let put = c .before .before .put in
-    let came = c .before .before .before .before .before .before .before .before .held-by .ensures in
-    let there = c .before .before .before .before .before .before .held-by2 .ensures in
-    let covers = c .before .before .before .before .before .covered .ensures .0 (c .before .before .before .before .if1 .taken) in
+    let none = sym (c .before .before .before .before .before .before .held-by .ensures) ∙ c .before .before .before .before .enum-told .given .1 in
     plain (a .n) (a .k) (a .s) (a .w .now) (a .a) (a .b) (omega arith) (omega arith) (omega arith) (omega arith) (p .0 .0)
-    (p .0 .1) (p .1) (put .result) (put .last .0) (put .ensures) (rw (← came, ← there) covers)
+    (p .0 .1) (p .1) (put .result) (put .last .0) (put .ensures) (inl none)
 
-enum-told : tie.Need-enum-told
-enum-told c = search needs
+held-by-requires-2 : tie.Need-held-by-requires-2
+held-by-requires-2 c κs = search needs
+
+enum-told-2 : tie.Need-enum-told-2
+enum-told-2 c = search needs
 
 add-h : tie.Need-add-h
 add-h c = search needs
@@ -85,7 +83,7 @@ cast-put-2 c = search needs
 
 put-requires-2 : tie.Need-put-requires-2
 put-requires-2 c κs =
-    let s = c .before .before .before .before .before .before .before .before .before .before .before in
+    let s = c .before .before .before .before .before .before .before .before .before .before in
     let a = s .args in
     let p = s .pre .1 in
     let rm = room (a .n) (a .k) (a .s) (a .w .now) (a .a) (a .b) (omega arith) (omega arith) (omega arith) (omega arith) (p .0 .0)
@@ -97,7 +95,7 @@ add-put-3 c = search needs
 
 put-requires-3 : tie.Need-put-requires-3
 put-requires-3 c κs =
-    let s = c .before .before .before .before .before .before .before .before .before .before .before .before .before .before .before in
+    let s = c .before .before .before .before .before .before .before .before .before .before .before .before .before .before in
     let a = s .args in
     let p = s .pre .1 in
     let put = c .before .before .before .put2 in
@@ -113,75 +111,108 @@ same-length-2 c = search needs
 
 returns-2 : tie.Need-returns-2
 returns-2 c =
-    let s = c .before .before .before .before .before .before .before .before .before .before .before .before .before .before .before .before .before .before in
+    let s = c .before .before .before .before .before .before .before .before .before .before .before .before .before .before .before .before .before in
     let a = s .args in
     let p = s .pre .1 in
     let put = c .before .before .before .before .before .before .put2 in
     let put2 = c .before .before .put3 in
     let h = getD (a .w .now) (HELD + a .b) 0 in
-    let none = sym (c .before .before .before .before .before .before .before .before .before .before .before .before .before .held-by2 .ensures) ∙ c .before .before .before .before .before .before .before .before .before .enum-told .given .1 in
+    let none = sym (c .before .before .before .before .before .before .before .before .before .before .before .held-by2 .ensures) ∙ c .before .before .before .before .before .before .before .before .before .enum-told2 .given .1 in
     moved (a .n) (a .k) (a .s) (a .w .now) (a .a) (a .b) (omega arith) (omega arith) (omega arith) (omega arith) (p .0 .0)
     (p .0 .1) (p .1) (put .result) (put .last .0) (put .ensures) h (put2 .result) (put2 .last .0)
     (ap (λ (i : ℕ). getD (a .w .now) i 0) (held-at (a .b)))
     (subst (λ (i : ℕ). Put (put .result) (put .last .0) i h (put2 .result) (put2 .last .0)) (held-at (a .a)) (put2 .ensures))
     (told-nothing (a .w .now) (a .a) none)
 
-enum-known-came : tie.Need-enum-known-came
-enum-known-came c = search needs
+covered-requires : tie.Need-covered-requires
+covered-requires c κs = search needs
+
+add-put-4 : tie.Need-add-put-4
+add-put-4 c = search needs
+
+cast-put-3 : tie.Need-cast-put-3
+cast-put-3 c = search needs
+
+put-requires-4 : tie.Need-put-requires-4
+put-requires-4 c κs =
+    let s = c .before .before .before .before .before .before .before .before .before .before in
+    let a = s .args in
+    let p = s .pre .1 in
+    let rm = room (a .n) (a .k) (a .s) (a .w .now) (a .a) (a .b) (omega arith) (omega arith) (omega arith) (omega arith) (p .0 .0)
+    (p .0 .1) (p .1) in
+    (p .1 .state .logged, (omega arith, (omega arith, omega arith)))
 
 same-length-3 : tie.Need-same-length-3
 same-length-3 c = search needs
 
 returns-3 : tie.Need-returns-3
 returns-3 c =
-    let s = c .before .before .before .before .before .before .before .before .before in
+    let s = c .before .before .before .before .before .before .before .before .before .before .before .before .before in
     let a = s .args in
     let p = s .pre .1 in
-    clash-met (a .n) (a .k) (a .s) (a .w .now) (a .a) (a .b) (omega arith) (omega arith) (omega arith) (omega arith) (p .0 .0)
-    (p .0 .1) (p .1) _ _ (c .before .before .before .before .before .before .held-by .ensures) (c .before .before .before .before .held-by2 .ensures) (c .before .before .before .covered .ensures .1 (c .before .before .if1 .left))
-    (some-held _ (c .before .match .keys2)) (λ x y e i. no-arcs _ x (c .match2 .keys2) e)
+    let put = c .before .before .put4 in
+    let came = c .before .before .before .before .before .before .before .before .before .before .held-by .ensures in
+    let there = c .before .before .before .before .before .before .before .held-by2 .ensures in
+    let covers = c .before .before .before .before .before .covered .ensures .0 (c .before .before .before .before .if1 .taken) in
+    plain (a .n) (a .k) (a .s) (a .w .now) (a .a) (a .b) (omega arith) (omega arith) (omega arith) (omega arith) (p .0 .0)
+    (p .0 .1) (p .1) (put .result) (put .last .0) (put .ensures) (rw (← came, ← there) covers)
 
-enum-known-there : tie.Need-enum-known-there
-enum-known-there c = search needs
+enum-known-came : tie.Need-enum-known-came
+enum-known-came c = search needs
 
 same-length-4 : tie.Need-same-length-4
 same-length-4 c = search needs
 
 returns-4 : tie.Need-returns-4
 returns-4 c =
-    let s = c .before .before .before .before .before .before .before .before .before .before .before .before in
+    let s = c .before .before .before .before .before .before .before .before .before .before in
     let a = s .args in
     let p = s .pre .1 in
     clash-met (a .n) (a .k) (a .s) (a .w .now) (a .a) (a .b) (omega arith) (omega arith) (omega arith) (omega arith) (p .0 .0)
-    (p .0 .1) (p .1) _ _ (c .before .before .before .before .before .before .before .before .before .held-by .ensures) (c .before .before .before .before .before .before .before .held-by2 .ensures) (c .before .before .before .before .before .before .covered .ensures .1 (c .before .before .before .before .before .if1 .left))
-    (some-held _ (c .before .before .before .before .match .keys2)) (λ x y e i. no-arcs _ y (c .match3 .keys2) i)
+    (p .0 .1) (p .1) _ _ (c .before .before .before .before .before .before .before .held-by .ensures) (c .before .before .before .before .held-by2 .ensures) (c .before .before .covered .ensures .1 (c .before .if1 .left))
+    (some-held _ (c .before .before .before .match2 .keys2)) (λ x y e i. no-arcs _ x (c .match3 .keys2) e)
 
-knit-requires : tie.Need-knit-requires
-knit-requires c κs =
-    let p = c .before .before .before .before .before .before .before .before .before .before .before .before .before .before .before .pre in
-    let came = sym (c .before .before .before .before .before .before .before .before .before .before .before .before .held-by .ensures) ∙ c .before .before .before .before .before .came .given .1 in
-    let there = sym (c .before .before .before .before .before .before .before .before .before .before .held-by2 .ensures) ∙ c .before .before .there .given .1 in
-    (p .0, (p .1 .0, ((came, there), p .1 .1)))
+enum-known-there : tie.Need-enum-known-there
+enum-known-there c = search needs
 
 same-length-5 : tie.Need-same-length-5
 same-length-5 c = search needs
 
 returns-5 : tie.Need-returns-5
-returns-5 c = search needs
+returns-5 c =
+    let s = c .before .before .before .before .before .before .before .before .before .before .before .before .before in
+    let a = s .args in
+    let p = s .pre .1 in
+    clash-met (a .n) (a .k) (a .s) (a .w .now) (a .a) (a .b) (omega arith) (omega arith) (omega arith) (omega arith) (p .0 .0)
+    (p .0 .1) (p .1) _ _ (c .before .before .before .before .before .before .before .before .before .before .held-by .ensures) (c .before .before .before .before .before .before .before .held-by2 .ensures) (c .before .before .before .before .before .covered .ensures .1 (c .before .before .before .before .if1 .left))
+    (some-held _ (c .before .before .before .before .before .before .match2 .keys2)) (λ x y e i. no-arcs _ y (c .match4 .keys2) i)
+
+knit-requires : tie.Need-knit-requires
+knit-requires c κs =
+    let p = c .before .before .before .before .before .before .before .before .before .before .before .before .before .before .before .before .pre in
+    let came = sym (c .before .before .before .before .before .before .before .before .before .before .before .before .before .held-by .ensures) ∙ c .before .before .before .before .before .came .given .1 in
+    let there = sym (c .before .before .before .before .before .before .before .before .before .before .held-by2 .ensures) ∙ c .before .before .there .given .1 in
+    (p .0, (p .1 .0, ((came, there), p .1 .1)))
+
+same-length-6 : tie.Need-same-length-6
+same-length-6 c = search needs
+
+returns-6 : tie.Need-returns-6
+returns-6 c = search needs
 
 pub fuse-spec : {M : Type 1} → statement M
 fuse-spec =
     tie.close
     (tie.spec
     held-by-requires
-    held-by-requires-2
-    covered-requires
+    enum-told
     add-put
     cast-put
     put-requires
     same-length
     returns
-    enum-told
+    held-by-requires-2
+    enum-told-2
     add-h
     mul-h
     slice-read-h
@@ -192,12 +223,18 @@ fuse-spec =
     put-requires-3
     same-length-2
     returns-2
-    enum-known-came
+    covered-requires
+    add-put-4
+    cast-put-3
+    put-requires-4
     same-length-3
     returns-3
-    enum-known-there
+    enum-known-came
     same-length-4
     returns-4
-    knit-requires
+    enum-known-there
     same-length-5
-    returns-5)
+    returns-5
+    knit-requires
+    same-length-6
+    returns-6)
