@@ -45,12 +45,16 @@ module _ {Graph : Type 0} (J : Joining Graph) where
   unfoldable pub joined : Desc Graph → Desc Graph → Option (Desc Graph)
   joined (desc g ds) (desc h es) = elim (join (g ∷ h ∷ [])) [ none ↦ none | some k ↦ some (desc k (ds then es)) ]
 
-  -- "A disjunction with none left fails the description. One with exactly one left is folded: its graph is joined to the definite
-  -- graph and its disjunctions take its place in the list."
+  -- "One with exactly one left is folded: its graph is joined to the definite graph and its disjunctions take its place in the list."
+  abbrev pub in-place : Alts Graph → Round Graph → Round Graph
+  in-place fail r = record { folded = r .folded; left = fail and r .left }
+  in-place (d or fail) r = elim d [ desc g ds ↦ record { folded = g ∷ r .folded; left = ds then r .left } ]
+  in-place (d or (e or a)) r = record { folded = r .folded; left = (d or e or a) and r .left }
+
+  -- "A disjunction with none left fails the description."
   abbrev pub after : Alts Graph → Round Graph → Option (Round Graph)
   after fail r = none
-  after (d or fail) r = elim d [ desc g ds ↦ some (record { folded = g ∷ r .folded; left = ds then r .left }) ]
-  after (d or (e or a)) r = some (record { folded = r .folded; left = (d or e or a) and r .left })
+  after (d or a) r = some (in-place (d or a) r)
 
   abbrev pub round : (Desc Graph → Option (Desc Graph)) → Disjs Graph → Option (Round Graph)
   round t end = some (record { folded = []; left = end })
@@ -94,17 +98,12 @@ module _ {Graph : Type 0} (J : Joining Graph) where
     prune-any others (d or a) = let r = prune-any others a in let e = prune others d in
         elim (some-agree (pairs others (choices d))) [ true ↦ e or r | false ↦ r ]
 
-  -- "Then fold all disjunctions with one alternative left, at every depth, in place."
-  abbrev pub in-place : Alts Graph → Round Graph → Round Graph
-  in-place fail r = record { folded = r .folded; left = fail and r .left }
-  in-place (d or fail) r = elim d [ desc g ds ↦ record { folded = g ∷ r .folded; left = ds then r .left } ]
-  in-place (d or (e or a)) r = record { folded = r .folded; left = (d or e or a) and r .left }
-
   -- a graph with those folded into it; one into which nothing is folded stays as it came
   abbrev pub glue : Graph → List Graph → Option Graph
   glue g [] = some g
   glue g (h ∷ hs) = join (g ∷ h ∷ hs)
 
+  -- "Then fold all disjunctions with one alternative left, at every depth, in place."
   unfoldable mutual
     pub fold : Desc Graph → Desc Graph
     fold (desc g ds) = let r = fold-all ds in folded-in g r (glue g (r .folded))

@@ -9,10 +9,10 @@ use Rattle.loading.proofs.Lying.{lying-more}
 use Rattle.marks.specs.Marked.{marking}
 use Rattle.marks.specs.Readable.{Alternatives}
 use Rattle.marks.specs.Tallied.{Tallied}
-use Rattle.marks.specs.declared.tally.Left.{Left}
-use Rattle.marks.specs.declared.tally.Left.the-variants.{One}
+use Rattle.marks.specs.declared.tally.Remnant.{Remnant}
+use Rattle.marks.specs.declared.tally.Remnant.the-variants.{One}
 use Rattle.marks.proofs.Reading.{alternatives}
-use Rattle.marks.proofs.Left.{kept-alone, alone-at}
+use Rattle.marks.proofs.Remnant.{kept-alone, alone-at}
 use Rattle.entering.specs.Entered.{Entering, entered}
 use Rattle.entering.specs.Settled.{Alternating, settled}
 use Rattle.entering.proofs.Certain.{free-narrow, LoneOf, lone-alone}
@@ -21,7 +21,7 @@ module _ (n k : ℕ) (w : List ℕ) (p count left : ℕ) (c : Alternating n k w 
   abbrev pub counted : Alternatives w p count
   counted = alternatives w (c .s .holds .long) (c .s .loaded) (c .s .ground .few) (c .lies)
 
-  module _ (which : Left) (after : ℕ) (tally : Tallied w counted which after) (first : ℕ) (one : which ≡ One first) where
+  module _ (which : Remnant) (after : ℕ) (tally : Tallied w counted which after) (first : ℕ) (one : which ≡ One first) where
     lone : LoneOf (marking w) (c .lies) (c .s .U) first
     lone = lone-alone (c .s .U) (words w) (marking w) (c .lies) (c .among) (kept-alone w counted which after tally first one) first
         (alone-at w counted which after tally first one)

@@ -7,6 +7,7 @@ use mathlib.Core.Logic.{_⊎_, inl, inr, ⊎-elim}
 use mathlib.Core.Bool.{Bool, true, false}
 use mathlib.Core.List.{List, [], _∷_, _++_, List·Memᴰ, List·Memᴰ·not-nil, List·Memᴰ·cases-cons, List·Memᴰ·append-cases}
 use lib.ListN.{length}
+use Rattle.descriptions.specs.Remnant.{remnant, nothing, alone, several}
 use Rattle.theory.specs.Net.{Graph}
 use Rattle.theory.specs.Descr.{Alts, fail, _or_, alts}
 use Rattle.engine.specs.Placed.{Placed, place, Places, stop, _also_, Options, no-more, option, strip, strip-all, strip-any}
@@ -25,16 +26,21 @@ use Rattle.classes.proofs.Comings.{graphs-append}
 use Rattle.engine.specs.Quickly.{any-at, inside-at}
 use Rattle.entering.specs.Clear.{ByMark, Clear, ClearLone, ClearOf}
 use Rattle.entering.proofs.Mirror.{any-dropped, any-alone, kept-alike}
-use Rattle.entering.specs.Taken.{taken, taken-all, taken-any, Among, AmongAll, AmongAny, taken-of, taken-any-of, AmongOf, AmongAnyOf, Inside, Free}
+use Rattle.entering.specs.Taken.{taken, taken-all, taken-any, Among, AmongAll, AmongAny, Inside, Free}
+use Rattle.entering.specs.Taken.{taken-of, taken-any-of, AmongOf, AmongAnyOf}
 
 -- fewer numbers are free too
 pub free-narrow : (n m n′ m′ : ℕ) (es : List Entry) → n ≤ n′ → m′ ≤ m → Free n m es → Free n′ m′ es
 free-narrow n m n′ m′ es h h′ a o i = ⊎-elim (λ b. inl (omega arith)) (λ b. inr (omega arith)) (a o i)
 
+-- what is taken of the first, which is kept, with c beside it
+abbrev pub sole : List Entry → ℕ → List Entry
+sole one c = elim (remnant (suc c)) [ nothing ↦ [] | alone ↦ one | several ↦ [] ]
+
 module _ (t : List ℕ) (k : Marking) where
   lone : (d : Placed) (a : Options) (b : Alts) (l : List Entry) → kept-of k a ≡ alts b → graphs l ≡ flat (strip (keep k d)) → (c : ℕ) →
       kept-of k a ≡ c →
-      graphs (elim c [ zero ↦ l | suc j ↦ [] ]) ≡ sure-any (strip (keep k d) or b)
+      graphs (sole l c) ≡ sure-any (strip (keep k d) or b)
   lone d a fail l e h zero f = h
   lone d a fail l e h (suc j) f = absurd (omega arith)
   lone d a (x or b) l e h zero f = absurd (omega arith)
@@ -63,14 +69,14 @@ module _ (t : List ℕ) (k : Marking) where
         rest = taken-any t k (at .0) (at .1) a q m (at .4)
 
         go : (b : Bool) → graphs one ≡ flat (strip (keep k d)) → graphs rest ≡ sure-any (strip-any (keep-any k a)) →
-            graphs (elim b [ true ↦ elim (kept-of k a) [ zero ↦ one | suc l ↦ [] ] | false ↦ rest ])
+            graphs (elim b [ true ↦ sole one (kept-of k a) | false ↦ rest ])
             ≡ sure-any (strip-any (elim b [ true ↦ option x (keep k d) (keep-any k a) | false ↦ keep-any k a ]))
         go true e f = lone d a (strip-any (keep-any k a)) one (kept-alts k a) e (kept-of k a) refl
         go false e f = f
 
   -- ---- where the graphs taken lie
   picked : (P : Type 0) (o : Entry) (one rest : List Entry) (b : Bool) (c : ℕ) → (List·Memᴰ o one → P) → (List·Memᴰ o rest → P) →
-      List·Memᴰ o (elim b [ true ↦ elim c [ zero ↦ one | suc l ↦ [] ] | false ↦ rest ]) → P
+      List·Memᴰ o (elim b [ true ↦ sole one c | false ↦ rest ]) → P
   picked P o one rest true zero f h i = f i
   picked P o one rest true (suc l) f h i = absurd (List·Memᴰ·not-nil i)
   picked P o one rest false c f h i = h i
@@ -199,9 +205,9 @@ module _ (U : List Entry) (t t′ : List ℕ) (k : Marking) (left : ℕ) where
         low = omega arith;
         among = u .0;
         same = ap (λ (b : Bool). elim b [
-          | true ↦ elim (kept-of k a) [ zero ↦ one | suc l ↦ [] ]
+          | true ↦ sole one (kept-of k a)
           | false ↦ taken-any t k (at .0) (at .1) a q m (at .4)
-        ]) e ∙ ap (λ (c : ℕ). elim c [ zero ↦ one | suc l ↦ [] ]) z;
+        ]) e ∙ ap (sole one) z;
         kept = ap k (sym (at .2)) ∙ e;
         alone = keep-true k x d a e ∙ ap (option x (keep k d)) (none-left k a z) ∙ ap (λ (y : ℕ). option y (keep k d) no-more) (at .2);
         any = λ S. any-alone S k x d a e z;
@@ -231,7 +237,7 @@ module _ (U : List Entry) (t t′ : List ℕ) (k : Marking) (left : ℕ) where
         low = omega arith;
         among = l .among;
         same = ap (λ (b : Bool). elim b [
-          | true ↦ elim (kept-of k a) [ zero ↦ taken t k p n d (at .0) (at .1) (at .3) | suc l ↦ [] ]
+          | true ↦ sole (taken t k p n d (at .0) (at .1) (at .3)) (kept-of k a)
           | false ↦ taken-any t k (at .0) (at .1) a q m (at .4)
         ]) e ∙ l .same;
         kept = l .kept;
@@ -275,7 +281,7 @@ taken-none t k (option x d a) p n q m at h = go (k x) refl (kept-of k a) refl (t
   where
     go : (b : Bool) → k x ≡ b → (c : ℕ) → kept-of k a ≡ c → ((kept-of k a ≡ 1 → ⊥) → taken-any t k (at .0) (at .1) a q m (at .4) ≡ []) →
         _≡_ {A = List Entry} (elim b [
-          | true ↦ elim c [ zero ↦ taken t k p n d (at .0) (at .1) (at .3) | suc l ↦ [] ]
+          | true ↦ sole (taken t k p n d (at .0) (at .1) (at .3)) c
           | false ↦ taken-any t k (at .0) (at .1) a q m (at .4)
         ]) []
     go true e zero f on = absurd (h (omega (arith, kept-true k x d a e)))

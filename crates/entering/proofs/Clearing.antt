@@ -7,6 +7,7 @@ use mathlib.Core.Logic.{_⊎_, inl, inr, ⊎-elim}
 use mathlib.Core.Bool.{Bool, true, false}
 use mathlib.Core.List.{List, [], _++_, List·Memᴰ, List·Memᴰ·not-nil, List·Memᴰ·cases-cons, List·Memᴰ·append-cases}
 use lib.ListN.{length}
+use Rattle.descriptions.specs.Remnant.{remnant}
 use Rattle.engine.specs.Placed.{Placed, place, Places, stop, _also_, Options, no-more, option}
 use Rattle.engine.specs.Marks.{Marking, kept-of}
 use Rattle.loading.specs.Entry.{Entry}
@@ -14,10 +15,11 @@ use Rattle.loading.specs.Loaded.{extent}
 use Rattle.loading.specs.At.{At, AtAll, AtAny}
 use Rattle.loading.specs.Lying.{Lying, LyingAll, LyingAny}
 use Rattle.loading.proofs.Walking.{at-bounds, all-bounds, any-bounds}
-use Rattle.entering.specs.Taken.{taken, taken-all, taken-any, taken-of, taken-any-of, Free}
-use Rattle.entering.specs.Clear.{Outside, ByCount, ByMark, Clear, ClearAll, ClearLone, ClearAny, ClearOf, ClearAllOf, ClearAnyOf}
+use Rattle.entering.specs.Taken.{taken, taken-all, taken-any, taken-of, taken-any-of, Free, FreeAnyOf}
+use Rattle.entering.specs.Clear.{Outside, ByRemnant, ByMark, Clear, ClearAll, ClearLone, ClearAny}
+use Rattle.entering.specs.Clear.{ClearOf, ClearAllOf, ClearLoneOf, ClearAnyOf}
 use Rattle.entering.proofs.Mirror.{Alike, kept-alike}
-use Rattle.entering.proofs.Certain.{taken-all-between, taken-any-between, taken-none}
+use Rattle.entering.proofs.Certain.{sole, taken-all-between, taken-any-between, taken-none}
 
 -- of the numbers from n up to m, E holds only what xs has
 abbrev pub Holding : ℕ → ℕ → List Entry → List Entry → Type 0
@@ -39,7 +41,7 @@ part′ n m xs ys E n′ m′ h h′ off hold o i =
 module _ (t : List ℕ) (k : Marking) (E : List Entry) where
   -- ---- where of these numbers only what is certain is on the stack
   lone-clear : (c : ℕ) (n m : ℕ) (C : Type 0) (xs : List Entry) → Holding n m xs E → ((c ≡ 1 → ⊥) → xs ≡ []) → (c ≡ 1 → C) →
-      ByCount c C (Free n m E)
+      ByRemnant (remnant c) C (Free n m E)
   lone-clear zero n m C xs hold none one = tt
   lone-clear (suc zero) n m C xs hold none one = one refl
   lone-clear (suc (suc l)) n m C xs hold none one =
@@ -49,7 +51,7 @@ module _ (t : List ℕ) (k : Marking) (E : List Entry) where
   lone-go : (p n x : ℕ) (d : Placed) (a : Options) (q m : ℕ) (at : AtAny t p n (option x d a) q m) → n < at .1 → at .1 ≤ m → (b : Bool) →
       _≡_ {A = ℕ} (elim b [ true ↦ suc (kept-of k a) | false ↦ kept-of k a ]) 1 →
       Holding n m (elim b [
-        | true ↦ elim (kept-of k a) [ zero ↦ taken t k p n d (at .0) (at .1) (at .3) | suc l ↦ [] ]
+        | true ↦ sole (taken t k p n d (at .0) (at .1) (at .3)) (kept-of k a)
         | false ↦ taken-any t k (at .0) (at .1) a q m (at .4)
       ]) E →
       (Holding n (at .1) (taken t k p n d (at .0) (at .1) (at .3)) E → Clear E t k p n d (at .0) (at .1) (at .3)) →
@@ -58,7 +60,7 @@ module _ (t : List ℕ) (k : Marking) (E : List Entry) where
       ByMark b (Clear E t k p n d (at .0) (at .1) (at .3)) (ClearLone E t k (at .0) (at .1) a q m (at .4))
   lone-go p n x d a q m at near far true one hold f h = f (go (kept-of k a) (omega arith) hold)
     where
-      go : (c : ℕ) → c ≡ 0 → Holding n m (elim c [ zero ↦ taken t k p n d (at .0) (at .1) (at .3) | suc l ↦ [] ]) E →
+      go : (c : ℕ) → c ≡ 0 → Holding n m (sole (taken t k p n d (at .0) (at .1) (at .3)) c) E →
           Holding n (at .1) (taken t k p n d (at .0) (at .1) (at .3)) E
       go zero e u = λ o i. ⊎-elim (⊎-elim (λ b. inl (inl b)) (λ b. inl (inr (omega arith)))) (λ j. inr j) (u o i)
       go (suc l) e u = absurd (omega arith)
@@ -125,11 +127,11 @@ module _ (t : List ℕ) (k k′ : Marking) where
     nothing-narrow : (n m n′ m′ : ℕ) → n ≤ n′ → m′ ≤ m → Nothing n m → Nothing n′ m′
     nothing-narrow n m n′ m′ h h′ u o i = ⊎-elim (λ j. inl j) (⊎-elim (λ b. inr (inl (omega arith))) (λ b. inr (inr (omega arith)))) (u o i)
 
-    by-count : (c c′ : ℕ) → c′ ≡ c → (n m : ℕ) (C C′ : Type 0) → Nothing n m → (C → C′) → ByCount c C (Free n m E) →
-        ByCount c′ C′ (Free n m E′)
-    by-count c c′ e n m C C′ u f x = subst (λ (z : ℕ). ByCount z C′ (Free n m E′)) (sym e) (go c x)
+    by-count : (c c′ : ℕ) → c′ ≡ c → (n m : ℕ) (C C′ : Type 0) → Nothing n m → (C → C′) → ByRemnant (remnant c) C (Free n m E) →
+        ByRemnant (remnant c′) C′ (Free n m E′)
+    by-count c c′ e n m C C′ u f x = subst (λ (z : ℕ). ByRemnant (remnant z) C′ (Free n m E′)) (sym e) (go c x)
       where
-        go : (c : ℕ) → ByCount c C (Free n m E) → ByCount c C′ (Free n m E′)
+        go : (c : ℕ) → ByRemnant (remnant c) C (Free n m E) → ByRemnant (remnant c) C′ (Free n m E′)
         go zero y = tt
         go (suc zero) y = f y
         go (suc (suc l)) y = λ o i. ⊎-elim (λ j. y o j) (λ b. b) (u o i)
@@ -197,6 +199,21 @@ module _ {n : ℕ} {t : List ℕ} {p left : ℕ} (k : Marking) (E : List Entry) 
 
   pub clear-any-of : {count : ℕ} (l : LyingAny n t p count left) → Holding (l .from) (l .to) (taken-any-of k l) E → ClearAnyOf E k l
   clear-any-of l = clear-any t k E p (l .from) (l .a) (l .end) (l .to) (l .within) (l .at)
+
+  -- ---- one that stands alone, or several
+  module _ {count : ℕ} (l : LyingAny n t p count left) where
+    -- by the number that is kept
+    abbrev ClearBy : ℕ → Type 0
+    ClearBy c = ByRemnant (remnant c) (ClearLoneOf E k l) (FreeAnyOf l E)
+
+    pub clear-alone : kept-of k (l .a) ≡ 1 → ClearAnyOf E k l → ClearLoneOf E k l
+    clear-alone e x = subst ClearBy e x
+
+    pub alone-clear : kept-of k (l .a) ≡ 1 → ClearLoneOf E k l → ClearAnyOf E k l
+    alone-clear e x = subst ClearBy (sym e) x
+
+    pub clear-several : (c : ℕ) → kept-of k (l .a) ≡ suc (suc c) → ClearAnyOf E k l → FreeAnyOf l E
+    clear-several c e x = subst ClearBy e x
 
 pub clear-alike-of : {n : ℕ} {t : List ℕ} {g left : ℕ} (k k′ : Marking) (E E′ : List Entry) (l : Lying n t g left) →
     Alike k k′ (l .from + 1) (l .to) → Nothing t k k′ E E′ (l .from) (l .to) → ClearOf E k l → ClearOf E′ k′ l

@@ -26,9 +26,9 @@ use Rattle.marks.specs.Positions.{tail-at, disjunctions-at, alternatives-at}
 use Rattle.marks.specs.Marked.{marking}
 use Rattle.marks.specs.Readable.{Readable, Alternatives}
 use Rattle.marks.specs.Tallied.{Tallied}
-use Rattle.marks.specs.declared.tally.Left.{Left}
-use Rattle.marks.specs.declared.tally.Left.the-variants.{One}
-use Rattle.marks.proofs.Left.{kept-other}
+use Rattle.marks.specs.declared.tally.Remnant.{Remnant}
+use Rattle.marks.specs.declared.tally.Remnant.the-variants.{One}
+use Rattle.marks.proofs.Remnant.{kept-other}
 use Rattle.marks.proofs.Reading.{readable, reads, tail-of, disjunctions-of, alternatives-is}
 use Rattle.marks.proofs.Marks.{marking-frame}
 use Rattle.loading.specs.Nesting.{Nests, NestsAll, NestsAny}
@@ -305,7 +305,7 @@ module _ (n k : ℕ) (w : List ℕ) (g left : ℕ) (c : Entering n k w g left) w
               total = total-alone;
             }
 
-        module _ (which : Left) (after : ℕ) (tally : (s : Alternatives w₁ (at + 1) count) → Tallied w₁ s which after) where
+        module _ (which : Remnant) (after : ℕ) (tally : (s : Alternatives w₁ (at + 1) count) → Tallied w₁ s which after) where
           abbrev told : Tallied w₁ (counted n log w₁ (at + 1) count (left - 1) these) which after
           told = tally (counted n log w₁ (at + 1) count (left - 1) these)
 
@@ -379,13 +379,13 @@ Onward n k g left more₀ at₀ log₀ w₀ more at log w = (v : List ℕ) (c : 
     Walking n k v g left c more₀ at₀ log₀ w₀ → Reached k v log w × Walking n k v g left c more at log w
 
 -- what a turn does: the alternative that stands alone is entered, or there is none
-pub data Turn (n log : ℕ) (w₁ : List ℕ) (left : ℕ) (which : Left) (i : ℕ) (w₂ : List ℕ) : Type 0 where
+pub data Turn (n log : ℕ) (w₁ : List ℕ) (left : ℕ) (which : Remnant) (i : ℕ) (w₂ : List ℕ) : Type 0 where
   one : (first : ℕ) (o : Pushed) (j : ℕ) (w′ : List ℕ) → which ≡ One first → Enters n log w₁ first (left - 1) o w′ → o ≡ In j → w₂ ≡ w′ →
       i ≡ j → Turn n log w₁ left which i w₂
   none : ((x : ℕ) → which ≡ One x → ⊥) → w₂ ≡ w₁ → i ≡ log → Turn n log w₁ left which i w₂
 
 pub walk-on : (n k : ℕ) (w : List ℕ) (g left : ℕ) (c : Entering n k w g left) (log : ℕ) (w₁ : List ℕ) (r : Reached k w log w₁) (more at : ℕ)
-    (v : Walking n k w g left c more at log w₁) (h : 0 < more) (count : ℕ) → count ≡ alternatives-at w₁ at → (which : Left) (after : ℕ) →
+    (v : Walking n k w g left c more at log w₁) (h : 0 < more) (count : ℕ) → count ≡ alternatives-at w₁ at → (which : Remnant) (after : ℕ) →
     ((s : Alternatives w₁ (at + 1) count) → Tallied w₁ s which after) → (i : ℕ) (w₂ : List ℕ) → Turn n log w₁ left which i w₂ →
     Reached k w i w₂ × Walking n k w g left c (more - 1) after i w₂
 walk-on n k w g left c log w₁ r more at v h count e which after tally i w₂ (one first o j w′ z u y f q) =

@@ -1,11 +1,12 @@
 -- Engine's step at one disjunction, by the number of alternatives that are kept. What stands loaded has distinct names.
 -- Assumes nothing.
-use Prim.Native.Nat.{ℕ, zero, suc, _+_, _≤_, _<_}
+use Prim.Native.Nat.{ℕ, suc, _+_, _≤_, _<_}
 use native.Mathlib.Omega.{arith}
 use mathlib.Core.Path.{_≡_, refl, sym, ap, ap₂, _∙_}
 use mathlib.Core.Bool.{Bool, true, false}
 use mathlib.Core.List.{List, _∷_, [], _++_, List·Memᴰ·head}
 use lib.ListN.{length}
+use Rattle.descriptions.specs.Remnant.{remnant, nothing, alone, several}
 use Rattle.theory.specs.Net.{Graph}
 use Rattle.theory.specs.Descr.{agree}
 use Rattle.engine.specs.Placed.{Placed, place, Places, stop, _also_, Options, no-more, option, strip-any}
@@ -57,25 +58,21 @@ module _ (t : List ℕ) where
 
 -- ---- one disjunction
 module _ (S : List Graph) (m : Marking) where
+  -- the first is kept, and c beside it
+  abbrev any-by : (x : ℕ) (d : Placed) (a : Options) → ℕ → Step
+  any-by x d a c = elim (remnant (suc c)) [
+    | nothing ↦ fails m
+    | alone ↦ inside-at S m d
+    | several ↦ settle-at S (sift-at S (tried x (try-at S m d)) a) (option x d a)
+  ]
+
   pub any-dropped : (x : ℕ) (d : Placed) (a : Options) → m x ≡ false → any-at S m (option x d a) ≡ any-at S m a
   unfolding Rattle.modes_by_marks.specs.Quickly.any-at
-  any-dropped x d a e = ap (λ (b : Bool). elim b [
-    | false ↦ any-at S m a
-    | true ↦ elim (kept-of m a) [ zero ↦ inside-at S m d | suc k ↦ settle-at S (sift-at S (tried x (try-at S m d)) a) (option x d a) ]
-  ])
-      e
+  any-dropped x d a e = ap (λ (b : Bool). elim b [ false ↦ any-at S m a | true ↦ any-by x d a (kept-of m a) ]) e
 
-  any-kept : (x : ℕ) (d : Placed) (a : Options) → m x ≡ true →
-      any-at S m (option x d a) ≡ elim (kept-of m a) [
-        | zero ↦ inside-at S m d
-        | suc k ↦ settle-at S (sift-at S (tried x (try-at S m d)) a) (option x d a)
-      ]
+  any-kept : (x : ℕ) (d : Placed) (a : Options) → m x ≡ true → any-at S m (option x d a) ≡ any-by x d a (kept-of m a)
   unfolding Rattle.modes_by_marks.specs.Quickly.any-at
-  any-kept x d a e = ap (λ (b : Bool). elim b [
-    | false ↦ any-at S m a
-    | true ↦ elim (kept-of m a) [ zero ↦ inside-at S m d | suc k ↦ settle-at S (sift-at S (tried x (try-at S m d)) a) (option x d a) ]
-  ])
-      e
+  any-kept x d a e = ap (λ (b : Bool). elim b [ false ↦ any-at S m a | true ↦ any-by x d a (kept-of m a) ]) e
 
   -- none is kept
   pub any-none : (a : Options) → kept-of m a ≡ 0 → any-at S m a ≡ fails m
@@ -89,8 +86,7 @@ module _ (S : List Graph) (m : Marking) where
 
   -- the one that stands alone
   pub any-alone : (x : ℕ) (d : Placed) (a : Options) → m x ≡ true → kept-of m a ≡ 0 → any-at S m (option x d a) ≡ inside-at S m d
-  any-alone x d a e z = any-kept x d a e
-      ∙ ap (λ (c : ℕ). elim c [ zero ↦ inside-at S m d | suc k ↦ settle-at S (sift-at S (tried x (try-at S m d)) a) (option x d a) ]) z
+  any-alone x d a e z = any-kept x d a e ∙ ap (any-by x d a) z
 
   pub sift-dropped : (x : ℕ) (d : Placed) (a : Options) → m x ≡ false → sift-at S m (option x d a) ≡ sift-at S m a
   unfolding Rattle.modes_by_marks.specs.Quickly.sift-at
@@ -107,9 +103,10 @@ settle-dropped S m x d a e = ap (settling S m) (kept-false m x d a e)
     ∙ ap (λ (l : List Graph). settled-by S m l (kept-of m a)) (ap (λ (o : Options). sure-any (strip-any o)) (keep-false m x d a e))
   where
     settled-by : List Graph → Marking → List Graph → ℕ → Step
-    settled-by S m l c = elim c [
-      | zero ↦ fails m
-      | suc k ↦ elim k [ zero ↦ elim (agree (S ++ l)) [ false ↦ fails m | true ↦ stands (S ++ l) m ] | suc j ↦ stands S m ]
+    settled-by S m l c = elim (remnant c) [
+      | nothing ↦ fails m
+      | alone ↦ elim (agree (S ++ l)) [ false ↦ fails m | true ↦ stands (S ++ l) m ]
+      | several ↦ stands S m
     ]
 
     settling : List Graph → Marking → ℕ → Step
@@ -125,10 +122,7 @@ any-several S m (option x d a) w l z = go (m x) refl (any-several S m a (w .1) l
         any-at S m (option x d a) ≡ settle-at S (sift-at S m (option x d a)) (option x d a)
     go true e on =
         let y : kept-of m a ≡ suc l = omega (arith, kept-true m x d a e) in
-        any-kept S m x d a e ∙ ap (λ (c : ℕ). elim c [
-          | zero ↦ inside-at S m d
-          | suc k ↦ settle-at S (sift-at S (tried x (try-at S m d)) a) (option x d a)
-        ]) y
+        any-kept S m x d a e ∙ ap (any-by S m x d a) y
         ∙ ap (λ (n : Marking). settle-at S n (option x d a)) (sym (sift-kept S m x d a e))
     go false e on =
         let still : sift-at S m a x ≡ false = sift-at-ok a (w .1) S m .1 x (λ i. w .3 x (List·Memᴰ·head refl) i) ∙ e in

@@ -1,11 +1,12 @@
 -- Settling a disjunction: engine's `settle-at`, return by return.
 -- Assumes nothing.
-use Prim.Native.Nat.{ℕ, zero, suc, _<_}
+use Prim.Native.Nat.{ℕ, suc, _<_}
 use native.Mathlib.Omega.{arith}
 use mathlib.Core.Path.{_≡_, refl, sym, ap, subst, _∙_}
 use mathlib.Core.Bool.{Bool, true, false}
 use mathlib.Core.List.{List, [], _∷_, _++_, append-nil}
 use lib.ListN.{length, length-append}
+use Rattle.descriptions.specs.Remnant.{remnant, nothing, alone, several}
 use Rattle.theory.specs.Net.{Graph, Clash, Agree}
 use Rattle.theory.specs.Descr.{agree}
 use Rattle.theory.proofs.Instance.{AllCanonical, join-none}
@@ -21,9 +22,9 @@ use Rattle.loading.specs.Lying.{Lying}
 use Rattle.marks.specs.Marked.{marking}
 use Rattle.marks.specs.Readable.{Alternatives}
 use Rattle.marks.specs.Tallied.{Tallied}
-use Rattle.marks.specs.declared.tally.Left.{Left}
-use Rattle.marks.specs.declared.tally.Left.the-variants.{Nothing, One, Several}
-use Rattle.marks.proofs.Left.{kept-none, kept-alone, kept-several}
+use Rattle.marks.specs.declared.tally.Remnant.{Remnant}
+use Rattle.marks.specs.declared.tally.Remnant.the-variants.{Nothing, One, Several}
+use Rattle.marks.proofs.Remnant.{kept-none, kept-alone, kept-several}
 use Rattle.classes.specs.Holds.{Holds, Since}
 use Rattle.classes.specs.declared.push.Pushed.{Pushed}
 use Rattle.classes.specs.declared.push.Pushed.the-variants.{In, Clashed}
@@ -41,9 +42,10 @@ use Rattle.theory.proofs.Live.{Agrees}
 
 -- ---- engine's settling, by the number that is kept
 settling : List Graph → Marking → Options → ℕ → Bool → Step
-settling S m a c b = elim c [
-  | zero ↦ fails m
-  | suc k ↦ elim k [ zero ↦ elim b [ false ↦ fails m | true ↦ stands (S ++ certain-any m a) m ] | suc l ↦ stands S m ]
+settling S m a c b = elim (remnant c) [
+  | nothing ↦ fails m
+  | alone ↦ elim b [ false ↦ fails m | true ↦ stands (S ++ certain-any m a) m ]
+  | several ↦ stands S m
 ]
 
 module _ (S : List Graph) (m : Marking) (a : Options) where
@@ -98,7 +100,7 @@ module _ (n k : ℕ) (w : List ℕ) (p count left : ℕ) where
     settled-inside = inside-append (c .s .U) (c .es) (taken-any-of (marking w) (c .lies)) (c .s .inside)
         (any-inside-of (marking w) (c .lies) (c .s .U) (c .among))
 
-  module _ (which : Left) (after : ℕ) (tally : (s : Alternatives w p count) → Tallied w s which after) where
+  module _ (which : Remnant) (after : ℕ) (tally : (s : Alternatives w p count) → Tallied w s which after) where
     pub settles-none : Alternating n k w p count left → which ≡ Nothing → Settles n k w p count left Clashed w
     settles-none c₀ z = record {
       len = refl;

@@ -1,13 +1,14 @@
 -- Which graphs are on the stack while disjunctions are narrowed: of an alternative that stands alone all that is certain, of one among
 -- several none.
 -- Assumes nothing: these are definitions.
-use Prim.Native.Nat.{ℕ, zero, suc, _+_, _≤_, _<_}
+use Prim.Native.Nat.{ℕ, _+_, _≤_, _<_}
 use mathlib.Core.Logic.{_⊎_}
 use mathlib.Core.Bool.{Bool, true, false}
 use mathlib.Core.List.{List}
 use lib.ListN.{length}
 use Rattle.engine.specs.Placed.{Placed, place, Places, stop, _also_, Options, no-more, option}
 use Rattle.engine.specs.Marks.{Marking, kept-of}
+use Rattle.descriptions.specs.Remnant.{Remnant, remnant, nothing, alone, several}
 use Rattle.loading.specs.Entry.{Entry}
 use Rattle.loading.specs.Loaded.{extent}
 use Rattle.loading.specs.At.{At, AtAll, AtAny}
@@ -18,11 +19,11 @@ use Rattle.entering.specs.Taken.{Free}
 abbrev pub Outside : ℕ → ℕ → ℕ → Type 0
 Outside n m y = (y < n) ⊎ (m ≤ y)
 
--- "none left", "exactly one left", or several
-abbrev pub ByCount : ℕ → Type 0 → Type 0 → Type 0
-ByCount zero one several = Unit {0}
-ByCount (suc zero) one several = one
-ByCount (suc (suc l)) one several = several
+-- what holds of a disjunction with one left, and with several
+abbrev pub ByRemnant : Remnant → Type 0 → Type 0 → Type 0
+ByRemnant nothing one more = Unit {0}
+ByRemnant alone one more = one
+ByRemnant several one more = more
 
 abbrev pub ByMark : Bool → Type 0 → Type 0 → Type 0
 ByMark true kept dropped = kept
@@ -36,7 +37,7 @@ abbrev mutual
   pub ClearAll : (es : List Entry) (t : List ℕ) (k : Marking) (p n : ℕ) (ds : Places) (q m : ℕ) → AtAll t p n ds q m → Type 0
   ClearAll es t k p n stop q m at = Unit {0}
   ClearAll es t k p n (a also ds) q m at =
-      ByCount (kept-of k a) (ClearLone es t k (p + 1) n a (at .0) (at .1) (at .4)) (Free n (at .1) es)
+      ByRemnant (remnant (kept-of k a)) (ClearLone es t k (p + 1) n a (at .0) (at .1) (at .4)) (Free n (at .1) es)
       × ClearAll es t k (at .0) (at .1) ds q m (at .5)
 
   pub ClearLone : (es : List Entry) (t : List ℕ) (k : Marking) (p n : ℕ) (a : Options) (q m : ℕ) → AtAny t p n a q m → Type 0
@@ -46,7 +47,7 @@ abbrev mutual
 
 -- one disjunction
 abbrev pub ClearAny : (es : List Entry) (t : List ℕ) (k : Marking) (p n : ℕ) (a : Options) (q m : ℕ) → AtAny t p n a q m → Type 0
-ClearAny es t k p n a q m at = ByCount (kept-of k a) (ClearLone es t k p n a q m at) (Free n m es)
+ClearAny es t k p n a q m at = ByRemnant (remnant (kept-of k a)) (ClearLone es t k p n a q m at) (Free n m es)
 
 -- by what stands loaded
 module _ {n : ℕ} {t : List ℕ} {p left : ℕ} (es : List Entry) (m : Marking) where

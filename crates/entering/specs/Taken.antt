@@ -1,12 +1,13 @@
 -- What is certain in a description that stands loaded: the same graphs as engine's `flat` and `sure`, with their positions and numbers.
 -- Assumes nothing: these are definitions.
-use Prim.Native.Nat.{ℕ, zero, suc, _+_, _≤_, _<_}
+use Prim.Native.Nat.{ℕ, suc, _+_, _≤_, _<_}
 use mathlib.Core.Bool.{true, false}
 use mathlib.Core.Logic.{_⊎_}
 use mathlib.Core.List.{List, [], _∷_, _++_, List·Memᴰ}
 use lib.ListN.{length}
 use Rattle.engine.specs.Placed.{Placed, place, Places, stop, _also_, Options, no-more, option}
 use Rattle.engine.specs.Marks.{Marking, kept-of}
+use Rattle.descriptions.specs.Remnant.{remnant, nothing, alone, several}
 use Rattle.loading.specs.Entry.{Entry}
 use Rattle.loading.specs.Loaded.{extent}
 use Rattle.loading.specs.At.{At, AtAll, AtAny}
@@ -27,7 +28,7 @@ abbrev mutual
   taken-any t k p n no-more q m at = []
   taken-any t k p n (option x d a) q m at =
       elim (k x) [
-        | true ↦ elim (kept-of k a) [ zero ↦ taken t k p n d (at .0) (at .1) (at .3) | suc l ↦ [] ]
+        | true ↦ elim (remnant (suc (kept-of k a))) [ nothing ↦ [] | alone ↦ taken t k p n d (at .0) (at .1) (at .3) | several ↦ [] ]
         | false ↦ taken-any t k (at .0) (at .1) a q m (at .4)
       ]
 

@@ -5,7 +5,7 @@ use classes::push::push;
 use marks::positions::alternatives_at;
 use marks::positions::disjunctions_at;
 use marks::positions::tail_at;
-use marks::tally::Left;
+use marks::tally::Remnant;
 use marks::tally::count_kept;
 ghost use Rattle.entering.specs.Entered.{Entering, Enters};
 
@@ -26,8 +26,8 @@ pub fn enter(w: &mut [u32], k: usize, n: usize, g: usize, left: u32) -> Pushed
     while 0 < more {
         let count = alternatives_at(w, at);
         let tally = count_kept(w, at + 1, count);
-        let which = tally.left;
-        if let Left::One(first) = which {
+        let which = tally.remnant;
+        if let Remnant::One(first) = which {
             let inner = enter(w, log, n, first, left - 1);
             let Pushed::In(i) = inner else {
                 back(w, log, k);

@@ -1,7 +1,7 @@
 // A disjunction is settled once its alternatives were tried.
 use crate::enter::enter;
 use classes::push::Pushed;
-use marks::tally::Left;
+use marks::tally::Remnant;
 use marks::tally::count_kept;
 ghost use Rattle.entering.specs.Settled.{Alternating, Settles};
 
@@ -11,10 +11,10 @@ pub fn settle(w: &mut [u32], k: usize, n: usize, p: usize, count: usize, left: u
     ensures { λ r. ⌜ Settles n k (now (w .entry)) p count left r (now (w .exit)) ⌝ }
 {
     let tally = count_kept(w, p, count);
-    let which = tally.left;
+    let which = tally.remnant;
     match which {
-        Left::Nothing => Pushed::Clashed,
-        Left::One(first) => enter(w, k, n, first, left),
-        Left::Several(_) => Pushed::In(k),
+        Remnant::Nothing => Pushed::Clashed,
+        Remnant::One(first) => enter(w, k, n, first, left),
+        Remnant::Several(_) => Pushed::In(k),
     }
 }

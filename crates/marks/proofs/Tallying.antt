@@ -15,8 +15,8 @@ use Rattle.loading.specs.At.{AtAny}
 use Rattle.marks.specs.Positions.{number-at, tail-at, after-at}
 use Rattle.marks.specs.Marked.{marking}
 use Rattle.marks.specs.Readable.{Alternatives}
-use Rattle.marks.specs.Tallied.{from-kept, left-of, Tallied}
-use Rattle.marks.specs.declared.tally.Left.{Left}
+use Rattle.marks.specs.Tallied.{from-kept, remnant-of, Tallied}
+use Rattle.marks.specs.declared.tally.Remnant.{Remnant}
 use Rattle.marks.proofs.Reading.{read-option, read-first}
 use Rattle.marks.proofs.First.{kept-true, kept-false, from-true, from-false}
 
@@ -109,7 +109,7 @@ module _ (w : List ℕ) (p count : ℕ) (s : Alternatives w p count) where
           marks (more f z g h) (inl b) = absurd (z (b .0))
           marks (more f z g h) (inr b) = let l = b .0 in inr (omega arith, rw g (b .1))
 
-  pub tally-all : (left at first found : ℕ) → Tallying left at first found → left ≤ 0 → (told : Left) → told ≡ left-of found first →
+  pub tally-all : (left at first found : ℕ) → Tallying left at first found → left ≤ 0 → (told : Remnant) → told ≡ remnant-of found first →
       Tallied w s told at
   tally-all left at first found t h told e = go (t .rest) (t .stand) (t .many) (t .total) (t .mark)
     where
@@ -119,8 +119,8 @@ module _ (w : List ℕ) (p count : ℕ) (s : Alternatives w p count) where
       go no-more o many total mark = record {
         first = first;
         first-is = ⊎-elim (λ b. (t .k, rw (b .2) (b .1 ∙ o .0, o .1))) (λ b. b .1) mark;
-        left-is = let all : found ≡ kept-of (marking w) (s .lies .a) = omega arith in
-            e ∙ ap (λ (k : ℕ). left-of k first) all;
+        remnant-is = let all : found ≡ kept-of (marking w) (s .lies .a) = omega arith in
+            e ∙ ap (λ (k : ℕ). remnant-of k first) all;
         after-is = o .0;
       }
       go (option x d a) o many total mark = absurd (omega arith)

@@ -4,10 +4,10 @@ use crate::positions::after_at;
 use crate::positions::number_at;
 ghost use mathlib.Core.Path.{_≡_};
 ghost use Rattle.marks.specs.Readable.{Alternatives};
-ghost use Rattle.marks.specs.Tallied.{left-of, Tallied};
+ghost use Rattle.marks.specs.Tallied.{remnant-of, Tallied};
 
 // None of the alternatives is left, or one, by its position, or several, by their number.
-pub enum Left {
+pub enum Remnant {
     Nothing,
     One(usize),
     Several(usize),
@@ -15,27 +15,27 @@ pub enum Left {
 
 // Of some alternatives: what is left of them, and where they end.
 pub struct Tally {
-    pub left: Left,
+    pub remnant: Remnant,
     pub after: usize,
 }
 
 // What is left where `found` alternatives are kept, the first of them at `first`.
-fn left_of(found: usize, first: usize) -> Left
-    ensures { λ r. ⌜ r ≡ left-of found first ⌝ }
+fn remnant_of(found: usize, first: usize) -> Remnant
+    ensures { λ r. ⌜ r ≡ remnant-of found first ⌝ }
 {
     if found == 0 {
-        return Left::Nothing;
+        return Remnant::Nothing;
     }
     if found == 1 {
-        return Left::One(first);
+        return Remnant::One(first);
     }
-    Left::Several(found)
+    Remnant::Several(found)
 }
 
 // Tells what is left of the `count` alternatives from p on.
 pub fn count_kept(w: &[u32], p: usize, count: usize) -> Tally
     requires { ⌜ Alternatives (now w) p count ⌝ }
-    ensures { λ r. ⌜ ((s : Alternatives (now (w .entry)) p count) → Tallied (now (w .entry)) s (r .left) (r .after)) ⌝ }
+    ensures { λ r. ⌜ ((s : Alternatives (now (w .entry)) p count) → Tallied (now (w .entry)) s (r .remnant) (r .after)) ⌝ }
 {
     let mut left = count;
     let mut at = p;
@@ -51,9 +51,9 @@ pub fn count_kept(w: &[u32], p: usize, count: usize) -> Tally
         }
         left -= 1;
     }
-    let told = left_of(found, first);
+    let told = remnant_of(found, first);
     Tally {
-        left: told,
+        remnant: told,
         after: at,
     }
 }

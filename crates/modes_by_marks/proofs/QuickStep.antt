@@ -9,6 +9,7 @@ use native.Mathlib.Omega.{arith}
 use lib.Dec.{eqb}
 use Rattle.descriptions.specs.Descr.{Alts, Desc, Disjs, _and_, _or_, agree, alts, desc, fail}
 use Rattle.descriptions.specs.Modes.{size}
+use Rattle.descriptions.specs.Remnant.{Remnant, remnant, nothing, alone, several}
 use Rattle.descriptions.proofs.Mean.{Can}
 use Rattle.modes_by_marks.specs.Placed.{Options, Placed, Places, _also_, no-more, option, place, stop, strip, strip-all, strip-any}
 use Rattle.modes_by_marks.specs.Marks.{Marking, all-kept, drop, keep, keep-all, keep-any, kept-of, left-by}
@@ -215,17 +216,12 @@ module _ {Graph : Type 0} (J : Joining Graph) where
         (ap (λ (z : Options Graph). sift J S (strip-any z)) (keep-true m x d a e) ∙ r .0, r .1)
 
   -- after the alternatives were tried
-  settle-by : (S : List Graph) (B : Alts Graph) →
-      settle J S B ≡ elim (alts B) [
-        | zero ↦ none
-        | suc k ↦ elim k [
-          | zero ↦ elim (agree J (S ++ sure-any B)) [
-            | false ↦ none
-            | true ↦ some (record { stack = S ++ sure-any B; left = B })
-          ]
-          | suc l ↦ some (record { stack = S; left = B })
-        ]
-      ]
+  abbrev settling : (S : List Graph) (B : Alts Graph) → Remnant → Option (Left Graph (Alts Graph))
+  settling S B nothing = none
+  settling S B alone = elim (agree J (S ++ sure-any B)) [ false ↦ none | true ↦ some (record { stack = S ++ sure-any B; left = B }) ]
+  settling S B several = some (record { stack = S; left = B })
+
+  settle-by : (S : List Graph) (B : Alts Graph) → settle J S B ≡ settling S B (remnant (alts B))
   settle-by S fail = refl
   settle-by S (d or fail) = refl
   settle-by S (d or (e or b)) = refl
@@ -241,32 +237,17 @@ module _ {Graph : Type 0} (J : Joining Graph) where
       B : Alts Graph
       B = strip-any (keep-any n a)
 
-      by : (k : ℕ) → k ≡ alts B → settle J S B
-          ≡ elim k [
-            | zero ↦ none
-            | suc k ↦
-                elim k [
-                  | zero ↦ elim (agree J (S ++ sure-any B)) [ false ↦ none | true ↦ some (record { stack = S ++ sure-any B; left = B }) ]
-                  | suc l ↦ some (record { stack = S; left = B })
-                ]
-          ]
-      by k e = settle-by S B ∙ ap (λ
-          (k : ℕ). elim k [
-            | zero ↦ none
-            | suc k ↦
-                elim k [
-                  | zero ↦ elim (agree J (S ++ sure-any B)) [ false ↦ none | true ↦ some (record { stack = S ++ sure-any B; left = B }) ]
-                  | suc l ↦ some (record { stack = S; left = B })
-                ]
-          ]) (sym e)
+      by : (k : ℕ) → k ≡ alts B → settle J S B ≡ settling S B (remnant k)
+      by k e = settle-by S B ∙ ap (λ (k : ℕ). settling S B (remnant k)) (sym e)
 
       ask : Bool → Option (Left Graph (Alts Graph))
       ask t = elim t [ false ↦ none | true ↦ some (record { stack = S ++ sure-any B; left = B }) ]
 
       go : (k : ℕ) → k ≡ alts B → (t : Bool) → agree J (S ++ sure-any B) ≡ t →
-          SettledAt S n a (elim k [
-            | zero ↦ fails n
-            | suc k ↦ elim k [ zero ↦ elim t [ false ↦ fails n | true ↦ stands (S ++ sure-any B) n ] | suc l ↦ stands S n ]
+          SettledAt S n a (elim (remnant k) [
+            | nothing ↦ fails n
+            | alone ↦ elim t [ false ↦ fails n | true ↦ stands (S ++ sure-any B) n ]
+            | several ↦ stands S n
           ])
       go zero e t h = (by zero e, refl)
       go (suc zero) e false h = (by (suc zero) e ∙ ap ask h, refl)
@@ -282,7 +263,10 @@ module _ {Graph : Type 0} (J : Joining Graph) where
   any-at-more : (S : List Graph) (x : ℕ) (d : Placed Graph) (a : Options Graph) → DistinctAny (option x d a) → (m : Marking) →
       (o : Step Graph) → TriedAt S m d o → (i : Step Graph) → InAt S m d i → (l : Step Graph) → AnyAt S m a l →
       (q : Marking → Marking) → ((n : Marking) → SiftedAt S n a (q n)) → (t : Bool) → m x ≡ t → (k : ℕ) → kept-of m a ≡ k →
-      AnyAt S m (option x d a) (elim t [ false ↦ l | true ↦ elim k [ zero ↦ i | suc k ↦ settle-at J S (q (tried x o)) (option x d a) ] ])
+      AnyAt S m (option x d a) (elim t [
+        | false ↦ l
+        | true ↦ elim (remnant (suc k)) [ nothing ↦ fails m | alone ↦ i | several ↦ settle-at J S (q (tried x o)) (option x d a) ]
+      ])
   unfolding try
   any-at-more S x d a w m o T i I l L q Q false e k h = go l L
     where

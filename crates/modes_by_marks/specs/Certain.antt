@@ -1,7 +1,9 @@
 -- What is certain: the graphs of a description that every choice of it takes because no other alternative is left beside them.
 -- Assumes nothing: these are definitions.
+use Prim.Native.Nat.{suc}
 use mathlib.Core.List.{List, [], _∷_, _++_}
-use Rattle.descriptions.specs.Descr.{Alts, Desc, Disjs, _and_, _or_, desc, end, fail}
+use Rattle.descriptions.specs.Descr.{Alts, Desc, Disjs, _and_, _or_, alts, desc, end, fail}
+use Rattle.descriptions.specs.Remnant.{remnant, nothing, alone, several}
 use Rattle.modes_by_marks.specs.Placed.{Options, Places, strip-all, strip-any}
 use Rattle.modes_by_marks.specs.Marks.{Marking, keep-all, keep-any}
 
@@ -18,7 +20,7 @@ module _ {Graph : Type 0} where
 
     pub sure-any : Alts Graph → List Graph
     sure-any fail = []
-    sure-any (d or a) = elim a [ fail ↦ flat d | e or b ↦ [] ]
+    sure-any (d or a) = elim (remnant (suc (alts a))) [ nothing ↦ [] | alone ↦ flat d | several ↦ [] ]
 
   -- by marks: what is pushed after the graph when a description is entered
   abbrev pub certain : Marking → Places Graph → List Graph

@@ -8,6 +8,7 @@ use mathlib.Core.List.{List, [], _∷_, _++_}
 use Prim.Native.Nat.{ℕ, zero, suc}
 use lib.Dec.{eqb}
 use Rattle.descriptions.specs.Descr.{agree}
+use Rattle.descriptions.specs.Remnant.{remnant, nothing, alone, several}
 use Rattle.descriptions.specs.Modes.{size}
 use Rattle.modes_by_marks.specs.Placed.{Options, Placed, Places, _also_, no-more, option, place, stop, strip}
 use Rattle.modes_by_marks.specs.Marks.{Marking, all-kept, drop, keep, kept-of, left-by}
@@ -33,12 +34,10 @@ module _ {Graph : Type 0} (J : Joining Graph) where
   -- after the alternatives of a disjunction were tried. "A disjunction with none left fails the description. One with exactly one left
   -- is folded": all that is certain in it is pushed, and a clash fails
   abbrev pub settle-at : List Graph → Marking → Options Graph → Step Graph
-  settle-at S m a = elim (kept-of m a) [
-    | zero ↦ fails m
-    | suc k ↦ elim k [
-      | zero ↦ elim (agree J (S ++ certain-any m a)) [ false ↦ fails m | true ↦ stands (S ++ certain-any m a) m ]
-      | suc l ↦ stands S m
-    ]
+  settle-at S m a = elim (remnant (kept-of m a)) [
+    | nothing ↦ fails m
+    | alone ↦ elim (agree J (S ++ certain-any m a)) [ false ↦ fails m | true ↦ stands (S ++ certain-any m a) m ]
+    | several ↦ stands S m
   ]
 
   unfoldable mutual
@@ -56,7 +55,11 @@ module _ {Graph : Type 0} (J : Joining Graph) where
     any-at S m no-more = fails m
     any-at S m (option x d a) = elim (m x) [
       | false ↦ any-at S m a
-      | true ↦ elim (kept-of m a) [ zero ↦ inside-at S m d | suc k ↦ settle-at S (sift-at S (tried x (try-at S m d)) a) (option x d a) ]
+      | true ↦ elim (remnant (suc (kept-of m a))) [
+        | nothing ↦ fails m
+        | alone ↦ inside-at S m d
+        | several ↦ settle-at S (sift-at S (tried x (try-at S m d)) a) (option x d a)
+      ]
     ]
 
     -- the disjunctions of the one that stands alone: they "take its place in the list"

@@ -6,8 +6,9 @@ use mathlib.Core.List.{List, [], _∷_, _++_}
 use Prim.Native.Nat.{ℕ, zero, suc}
 use lib.Dec.{eqb}
 use lib.ListN.{length}
-use Rattle.descriptions.specs.Descr.{Desc, agree}
-use Rattle.modes_by_marks.specs.Placed.{Options, Placed, Places, _also_, no-more, option, place, stop, strip, strip-all}
+use Rattle.descriptions.specs.Descr.{Desc, agree, alts}
+use Rattle.descriptions.specs.Remnant.{remnant, nothing, alone, several}
+use Rattle.modes_by_marks.specs.Placed.{Options, Placed, Places, _also_, no-more, option, place, stop, strip, strip-all, strip-any}
 use Rattle.modes_by_marks.specs.Marks.{Marking, keep}
 use Rattle.modes_by_marks.specs.Certain.{sure}
 use Rattle.descriptions.specs.Joining.{Joining}
@@ -47,7 +48,11 @@ module _ {Graph : Type 0} (J : Joining Graph) where
 
     pub dive-any : List Graph → Options Graph → (List Graph → Found) → Found
     dive-any S no-more k = []
-    dive-any S (option x d a) k = elim a [ no-more ↦ taking x (dive-in S d k) | option y e b ↦ taking x (dive S d k) ++ dive-each S a k ]
+    dive-any S (option x d a) k = elim (remnant (suc (alts (strip-any a)))) [
+      | nothing ↦ []
+      | alone ↦ taking x (dive-in S d k)
+      | several ↦ taking x (dive S d k) ++ dive-each S a k
+    ]
 
     pub dive-in : List Graph → Placed Graph → (List Graph → Found) → Found
     dive-in S (place g ds) k = dive-all S ds k

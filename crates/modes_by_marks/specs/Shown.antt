@@ -1,8 +1,10 @@
 -- What is left, as a writer puts it out: all that is certain is joined at once, and the disjunctions of an alternative that stands
 -- alone come in its place.
 -- Assumes nothing: these are definitions.
+use Prim.Native.Nat.{suc}
 use mathlib.Core.Option.{Option, none, some}
-use Rattle.descriptions.specs.Descr.{Alts, Desc, Disjs, _and_, _or_, _then_, desc, end, fail}
+use Rattle.descriptions.specs.Descr.{Alts, Desc, Disjs, _and_, _or_, _then_, alts, desc, end, fail}
+use Rattle.descriptions.specs.Remnant.{remnant, nothing, alone, several}
 use Rattle.descriptions.specs.Modes.{glue}
 use Rattle.modes_by_marks.specs.Certain.{sure}
 use Rattle.descriptions.specs.Joining.{Joining}
@@ -24,7 +26,11 @@ module _ {Graph : Type 0} (J : Joining Graph) where
 
     pub shown-then : Alts Graph → Disjs Graph → Disjs Graph
     shown-then fail l = fail and l
-    shown-then (d or a) l = elim a [ fail ↦ shown-in d then l | e or b ↦ (shown d or shown-any a) and l ]
+    shown-then (d or a) l = elim (remnant (suc (alts a))) [
+      | nothing ↦ l
+      | alone ↦ shown-in d then l
+      | several ↦ (shown d or shown-any a) and l
+    ]
 
     pub shown-in : Desc Graph → Disjs Graph
     shown-in (desc g ds) = shown-all ds

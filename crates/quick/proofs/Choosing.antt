@@ -13,11 +13,11 @@ use Rattle.loading.proofs.Lying.{lying-more}
 use Rattle.marks.specs.Marked.{marking}
 use Rattle.marks.specs.Readable.{Alternatives}
 use Rattle.marks.specs.Tallied.{Tallied}
-use Rattle.marks.specs.declared.tally.Left.{Left}
-use Rattle.marks.specs.declared.tally.Left.the-variants.{Nothing, One, Several}
+use Rattle.marks.specs.declared.tally.Remnant.{Remnant}
+use Rattle.marks.specs.declared.tally.Remnant.the-variants.{Nothing, One, Several}
 use Rattle.marks.proofs.Reading.{alternatives}
 use Rattle.marks.proofs.Marks.{marking-frame}
-use Rattle.marks.proofs.Left.{kept-none, kept-alone, alone-at, kept-several}
+use Rattle.marks.proofs.Remnant.{kept-none, kept-alone, alone-at, kept-several}
 use Rattle.classes.specs.Holds.{Holds, Since}
 use Rattle.classes.specs.declared.push.Pushed.{Pushed}
 use Rattle.classes.specs.declared.push.Pushed.the-variants.{In, Clashed}
@@ -26,11 +26,11 @@ use Rattle.quick.specs.declared.step.Step.{Step}
 use Rattle.quick.specs.declared.step.Step.the-variants.{Stands, Fails}
 use Rattle.entering.specs.Taken.{taken-any-of, FreeAnyOf}
 use Rattle.entering.specs.Settled.{Alternating, settled, Settles}
-use Rattle.entering.specs.Clear.{ByCount, ClearLoneOf, ClearAnyOf}
+use Rattle.entering.specs.Clear.{ClearAnyOf}
 use Rattle.quick.specs.Stepped.{total, Fewer, Off, Narrowing, Narrows, Choosing, ChooseStands, Chooses, Sifts}
 use Rattle.entering.specs.Moved.{Moved}
 use Rattle.entering.proofs.Certain.{any-between-of, LoneOf, lone-alone}
-use Rattle.entering.proofs.Clearing.{clear-any-of}
+use Rattle.entering.proofs.Clearing.{clear-any-of, clear-alone, alone-clear, clear-several}
 use Rattle.entering.proofs.Mirror.{any-distinct-of, any-none, any-several}
 use Rattle.entering.proofs.Settling.{settle-several, settled-inside}
 use Rattle.entering.proofs.Moves.{moved-trans, moved-words, footing-as}
@@ -39,7 +39,7 @@ module _ (n k : ℕ) (w : List ℕ) (p count left : ℕ) where
   abbrev pub chosen : Choosing n k w p count left → Alternatives w p count
   chosen c = alternatives w (c .s .holds .long) (c .s .loaded) (c .s .ground .few) (c .lies)
 
-  module _ (which : Left) (after : ℕ) (tally : (s : Alternatives w p count) → Tallied w s which after) where
+  module _ (which : Remnant) (after : ℕ) (tally : (s : Alternatives w p count) → Tallied w s which after) where
     pub chooses-none : Choosing n k w p count left → which ≡ Nothing → Chooses n k w p count left Fails w
     chooses-none c₀ z = record {
       standing = λ j i y. let x : _≡_ {A = ℕ} 0 1 = cc in absurd (omega arith);
@@ -69,9 +69,7 @@ module _ (n k : ℕ) (w : List ℕ) (p count left : ℕ) where
         s = c .s;
         lies = lying-more (c .lies .low) (lone c .lies);
         among = lone c .among;
-        clear = lone c .opens (c .es) (subst
-            (λ (j : ℕ). ByCount j (ClearLoneOf (c .es) (marking w) (c .lies)) (FreeAnyOf (c .lies) (c .es))) (kept-one c)
-            (c .clear));
+        clear = lone c .opens (c .es) (clear-alone (marking w) (c .es) (c .lies) (kept-one c) (c .clear));
       }
 
       pub asks-alone : Choosing n k w p count left → Narrowing n k w first left
@@ -98,8 +96,7 @@ module _ (n k : ℕ) (w : List ℕ) (p count left : ℕ) where
                       λ o i. ⊎-elim (λ a. inl a) (λ b. let u = b .0 in let x = b .1 in
                       inr (omega arith, omega arith)) (told .stood .fresh o i);
                 };
-                clear' = subst (λ (j : ℕ). ByCount j (ClearLoneOf (told .es') (marking w') (c .lies))
-                    (FreeAnyOf (c .lies) (told .es'))) (sym (back .0)) (back .1);
+                clear' = alone-clear (marking w') (told .es') (c .lies) (back .0) (back .1);
                 off = λ y h. told .off y (⊎-elim (λ u. inl (omega arith)) (λ u. inr (omega arith)) h);
                 is = lone c .any (graphs (c .es)) ∙ told .is;
               },
@@ -125,8 +122,7 @@ module _ (n k : ℕ) (w : List ℕ) (p count left : ℕ) where
       more c = kept-several w (chosen c) which after (tally (chosen c)) many several
 
       free : (c : Choosing n k w p count left) → FreeAnyOf (c .lies) (c .es)
-      free c = subst (λ (j : ℕ). ByCount j (ClearLoneOf (c .es) (marking w) (c .lies)) (FreeAnyOf (c .lies) (c .es))) (more c .1)
-          (c .clear)
+      free c = clear-several (marking w) (c .es) (c .lies) (more c .0) (more c .1) (c .clear)
 
       -- where the graphs are still those of c
       abbrev these : (c : Choosing n k w p count left) (v : List ℕ) → words v ≡ words w → Holds n (c .es) k v →

@@ -24,7 +24,7 @@ use Rattle.marks.specs.Positions.{tail-at, disjunctions-at, alternatives-at}
 use Rattle.marks.specs.Marked.{marking}
 use Rattle.marks.specs.Readable.{Readable, Alternatives}
 use Rattle.marks.specs.Tallied.{Tallied}
-use Rattle.marks.specs.declared.tally.Left.{Left}
+use Rattle.marks.specs.declared.tally.Remnant.{Remnant}
 use Rattle.marks.proofs.Reading.{readable, reads, tail-of, disjunctions-of, alternatives-is}
 use Rattle.marks.proofs.Marks.{marking-frame}
 use Rattle.loading.specs.Nesting.{Nests, NestsAll}
@@ -225,7 +225,7 @@ module _ (n k : ℕ) (w : List ℕ) (g left : ℕ) where
             sieved-after t u e = sieved-since n log w₁ w₂ t (c .s .holds .below) (omega (arith, m .len, c .s .holds .long))
                 (subst (λ (i : ℕ). Since log w₁ i w₂) e (v .standing j i y .0 .since)) u
 
-            pub narrow-on : (which : Left) (after : ℕ) → ((a : Alternatives w₁ (at + 1) count) → Tallied w₁ a which after) →
+            pub narrow-on : (which : Remnant) (after : ℕ) → ((a : Alternatives w₁ (at + 1) count) → Tallied w₁ a which after) →
                 Going c (more - 1) after j w₂
             narrow-on which after tally =
                 let count' = next .later in

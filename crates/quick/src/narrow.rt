@@ -12,7 +12,7 @@ use marks::positions::alternatives_at;
 use marks::positions::disjunctions_at;
 use marks::positions::number_at;
 use marks::positions::tail_at;
-use marks::tally::Left;
+use marks::tally::Remnant;
 use marks::tally::count_kept;
 use sieving::gather::gather;
 use sieving::gather::renew;
@@ -67,7 +67,7 @@ pub fn narrow(w: &mut [u32], k: usize, n: usize, g: usize, left: u32) -> Step
     while 0 < more {
         let count = alternatives_at(w, at);
         let tally = count_kept(w, at + 1, count);
-        let which = tally.left;
+        let which = tally.remnant;
         let one = narrow_one(w, log, n, at + 1, count, which, left - 1, &t);
         let Step::Stands(j, i) = one else {
             back(w, log, k);
@@ -89,7 +89,7 @@ fn narrow_one(
     n: usize,
     p: usize,
     count: usize,
-    which: Left,
+    which: Remnant,
     left: u32,
     t: &[u32],
 ) -> Step
@@ -99,13 +99,13 @@ fn narrow_one(
     ensures { λ r. ⌜ Chooses n k (now (w .entry)) p count left r (now (w .exit)) ⌝ }
 {
     match which {
-        Left::Nothing => {
+        Remnant::Nothing => {
             return Step::Fails;
         }
-        Left::One(first) => {
+        Remnant::One(first) => {
             return narrow(w, k, n, first, left);
         }
-        Left::Several(_) => {}
+        Remnant::Several(_) => {}
     }
     let drops = sift(w, k, n, p, count, left, t);
     if drops == 0 {

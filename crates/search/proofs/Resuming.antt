@@ -26,17 +26,18 @@ use Rattle.marks.specs.Positions.{tail-at, disjunctions-at, alternatives-at}
 use Rattle.marks.specs.Marked.{marking}
 use Rattle.marks.specs.Readable.{Alternatives}
 use Rattle.marks.specs.Tallied.{from-kept, Tallied}
-use Rattle.marks.specs.declared.tally.Left.{Left}
-use Rattle.marks.specs.declared.tally.Left.the-variants.{Nothing, One, Several}
+use Rattle.marks.specs.declared.tally.Remnant.{Remnant}
+use Rattle.marks.specs.declared.tally.Remnant.the-variants.{Nothing, One, Several}
 use Rattle.marks.proofs.Reading.{Read, readable, reads, alternatives, alternatives-is}
 use Rattle.marks.proofs.First.{first-kept}
-use Rattle.marks.proofs.Left.{kept-none, kept-alone, alone-at, kept-several}
+use Rattle.marks.proofs.Remnant.{kept-none, kept-alone, alone-at, kept-several}
 use Rattle.loading.specs.Nesting.{NestsAll}
 use Rattle.classes.proofs.Laws.{since-refl}
 use Rattle.entering.specs.Taken.{AmongAll, AmongAnyOf, FreeAnyOf}
-use Rattle.entering.specs.Clear.{ByCount, ClearAll, ClearLoneOf, ClearAnyOf}
+use Rattle.entering.specs.Clear.{ClearAll, ClearAnyOf}
 use Rattle.entering.specs.Moved.{Moved}
 use Rattle.entering.proofs.Certain.{LoneOf, lone-alone}
+use Rattle.entering.proofs.Clearing.{clear-alone, clear-several}
 use Rattle.entering.proofs.Moves.{moved-words}
 use Rattle.search.specs.declared.agenda.Agenda.{Agenda}
 use Rattle.search.specs.Frames.{Slot, slots, Lists, onto, Frame, FramesOn, plan-on}
@@ -207,7 +208,7 @@ module _ (n k : ℕ) (w : List ℕ) (a : Agenda) where
       pub resume-counts : Resuming n k w a → Alternatives w (a .at0 + 1) count
       resume-counts c = counted c
 
-      module _ (which : Left) (after : ℕ) (tally : (s : Alternatives w (a .at0 + 1) count) → Tallied w s which after) where
+      module _ (which : Remnant) (after : ℕ) (tally : (s : Alternatives w (a .at0 + 1) count) → Tallied w s which after) where
         abbrev told : (c : Resuming n k w a) → Tallied w (counted c) which after
         told c = tally (counted c)
 
@@ -279,9 +280,7 @@ module _ (n k : ℕ) (w : List ℕ) (a : Agenda) where
               before₁ c = record {
                 lies = lying-more (lies c .low) (lone c .lies);
                 among = lone c .among;
-                clear = lone c .opens (c .es)
-                    (subst (λ (j : ℕ). ByCount j (ClearLoneOf (c .es) (c .s .m) (lies c)) (FreeAnyOf (lies c) (c .es)))
-                    (kept-one c) (next c .clear));
+                clear = lone c .opens (c .es) (clear-alone (c .s .m) (c .es) (lies c) (kept-one c) (next c .clear));
                 here = lone c .far;
                 low = lone c .lies .low;
                 deep = deep c;
@@ -357,8 +356,7 @@ module _ (n k : ℕ) (w : List ℕ) (a : Agenda) where
               more c = let two = kept-several w (counted c) which after (told c) many several in (two .0, kept-marks c ∙ two .1)
 
               free : (c : Resuming n k w a) → FreeAnyOf (lies c) (c .es)
-              free c = subst (λ (j : ℕ). ByCount j (ClearLoneOf (c .es) (c .s .m) (lies c)) (FreeAnyOf (lies c) (c .es))) (more c .1)
-                  (next c .clear)
+              free c = clear-several (c .s .m) (c .es) (lies c) (more c .0) (more c .1) (next c .clear)
 
               abbrev choosing₁ : Resuming n k w a → Branching n k w (a .at0 + 1) count rest
               choosing₁ c = record {

@@ -16,7 +16,7 @@ use marks::marking::light;
 use marks::positions::after_at;
 use marks::positions::alternatives_at;
 use marks::positions::number_at;
-use marks::tally::Left;
+use marks::tally::Remnant;
 use marks::tally::count_kept;
 use trying::told::Guess;
 ghost use Rattle.search.specs.Searched.{Noting, Notes, Resuming, Resumes, Taking, Takes, Branching, Branches, Searching, Searches};
@@ -49,16 +49,16 @@ fn resume(w: &mut [u32], k: usize, n: usize, a: Agenda) -> u32
     let tally = count_kept(w, at + 1, count);
     let later = after(a);
     let rest = before(tally.after, more - 1, later);
-    let which = tally.left;
+    let which = tally.remnant;
     match which {
-        Left::Nothing => 0,
-        Left::One(first) => {
+        Remnant::Nothing => 0,
+        Remnant::One(first) => {
             let inner = descend(w, first, rest);
             let found = resume(w, k, n, inner);
             note(w, first, found);
             found
         }
-        Left::Several(_) => choose(w, k, n, at + 1, count, rest),
+        Remnant::Several(_) => choose(w, k, n, at + 1, count, rest),
     }
 }
 

@@ -23,10 +23,10 @@ use Rattle.marks.specs.Positions.{tail-at, disjunctions-at, alternatives-at}
 use Rattle.marks.specs.Marked.{marking}
 use Rattle.marks.specs.Readable.{Readable, Alternatives}
 use Rattle.marks.specs.Tallied.{Tallied}
-use Rattle.marks.specs.declared.tally.Left.{Left}
-use Rattle.marks.specs.declared.tally.Left.the-variants.{One}
+use Rattle.marks.specs.declared.tally.Remnant.{Remnant}
+use Rattle.marks.specs.declared.tally.Remnant.the-variants.{One}
 use Rattle.marks.proofs.Reading.{reads, tail-of, disjunctions-of, alternatives-is}
-use Rattle.marks.proofs.Left.{kept-other}
+use Rattle.marks.proofs.Remnant.{kept-other}
 use Rattle.showing.specs.Putting.{left-all}
 
 -- none is certain where none or several are left
@@ -147,7 +147,7 @@ module _ (w : List ℕ) (g left : ℕ) (c : Readable w g left) where
           };
         }
 
-        pub look-on : (which : Left) (after : ℕ) → ((s : Alternatives w (at + 1) of) → Tallied w s which after) →
+        pub look-on : (which : Remnant) (after : ℕ) → ((s : Alternatives w (at + 1) of) → Tallied w s which after) →
             ((x : ℕ) → which ≡ One x → ⊥) → Going (more - 1) after
         unfolding look-counts
         look-on which after tally other =

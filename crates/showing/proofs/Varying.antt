@@ -25,10 +25,10 @@ use Rattle.loading.proofs.Lying.{lying-more, any-bounds-of}
 use Rattle.marks.specs.Marked.{marking}
 use Rattle.marks.specs.Readable.{Alternatives}
 use Rattle.marks.specs.Tallied.{from-kept, Tallied}
-use Rattle.marks.specs.declared.tally.Left.{Left}
-use Rattle.marks.specs.declared.tally.Left.the-variants.{Nothing, One, Several}
+use Rattle.marks.specs.declared.tally.Remnant.{Remnant}
+use Rattle.marks.specs.declared.tally.Remnant.the-variants.{Nothing, One, Several}
 use Rattle.marks.proofs.Reading.{alternatives}
-use Rattle.marks.proofs.Left.{kept-none, kept-alone, alone-at, kept-several, kept-many}
+use Rattle.marks.proofs.Remnant.{kept-none, kept-alone, alone-at, kept-several, kept-many}
 use Rattle.entering.proofs.Certain.{LoneOf, lone-alone}
 use Rattle.showing.specs.Putting.{Written, left-all, Disjoining, Disjoins, folded, Varying, Offering, Offers}
 use Rattle.showing.proofs.Written.{written-append, written-word, based}
@@ -59,7 +59,7 @@ module _ (n : ℕ) (w : List ℕ) (p of left o : ℕ) (c : Varying n w p of left
   pub vary-counts : Alternatives w p of
   vary-counts = counted
 
-  module _ (which : Left) (after : ℕ) (tally : (s : Alternatives w p of) → Tallied w s which after) where
+  module _ (which : Remnant) (after : ℕ) (tally : (s : Alternatives w p of) → Tallied w s which after) where
     told : Tallied w counted which after
     told = tally counted
 

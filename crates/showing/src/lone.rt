@@ -2,7 +2,7 @@
 use marks::positions::alternatives_at;
 use marks::positions::disjunctions_at;
 use marks::positions::tail_at;
-use marks::tally::Left;
+use marks::tally::Remnant;
 use marks::tally::count_kept;
 ghost use Prim.Native.Nat.{ℕ};
 ghost use Rattle.marks.specs.Readable.{Readable};
@@ -19,8 +19,8 @@ pub fn lone(w: &[u32], g: usize) -> bool
     while 0 < more {
         let of = alternatives_at(w, at);
         let tally = count_kept(w, at + 1, of);
-        let which = tally.left;
-        if let Left::One(_) = which {
+        let which = tally.remnant;
+        if let Remnant::One(_) = which {
             return true;
         }
         at = tally.after;

@@ -7,7 +7,7 @@ use marks::positions::alternatives_at;
 use marks::positions::disjunctions_at;
 use marks::positions::number_at;
 use marks::positions::tail_at;
-use marks::tally::Left;
+use marks::tally::Remnant;
 use marks::tally::count_kept;
 ghost use Rattle.showing.specs.Putting.{Describing, Describes, Disjoining, Disjoins, Varying, Varies, Offering, Offers};
 
@@ -67,10 +67,10 @@ fn put_one(w: &mut [u32], n: usize, p: usize, of: usize, left: u32, o: usize) ->
 {
     let tally = count_kept(w, p, of);
     let after = tally.after;
-    let which = tally.left;
+    let which = tally.remnant;
     let many: usize = match which {
-        Left::Nothing => 0,
-        Left::One(first) => {
+        Remnant::Nothing => 0,
+        Remnant::One(first) => {
             let inner = put_disjunctions(w, n, first, left, o);
             return One {
                 at: inner.at,
@@ -78,7 +78,7 @@ fn put_one(w: &mut [u32], n: usize, p: usize, of: usize, left: u32, o: usize) ->
                 after: after,
             };
         }
-        Left::Several(several) => several,
+        Remnant::Several(several) => several,
     };
     w[RESULT + o] = many as u32;
     let at = put_alternatives(w, n, p, of, left, o + 1);

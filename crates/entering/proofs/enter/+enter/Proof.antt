@@ -8,7 +8,7 @@ use borrow.Author.Needs.{needs}
 use borrow.Fn.Kinds.{In}
 use borrow.Fn.PlainCycle.{Measures, is, falls, and}
 use Rattle.classes.proofs.Laws.{since-trans}
-use Rattle.marks.proofs.Left.{not-one}
+use Rattle.marks.proofs.Remnant.{not-one}
 use Rattle.entering.specs.Entered.{Entering}
 use Rattle.entering.proofs.Entering.{Reached, Walking, Onward, one, none, asks-own, starts, walk-start, walk-done, walk-here}
 use Rattle.entering.proofs.Entering.{walk-asks, walk-deep, walk-inner, walk-clash, walk-on, reach-own, enters-own, enters-all}

@@ -58,11 +58,11 @@ loop-again c = (
   ⊎-elim (λ u. omega arith) (λ v. ⊎-elim (λ u. omega arith) (λ u. omega arith) v) (c .if1 .came),
 )
 
-left-of-requires : tie.Need-left-of-requires Inv-loop μ-loop
-left-of-requires c κs = search needs
+remnant-of-requires : tie.Need-remnant-of-requires Inv-loop μ-loop
+remnant-of-requires c κs = search needs
 
 returns : tie.Need-returns Inv-loop μ-loop
-returns c = λ s. tally-all _ _ _ s _ _ _ _ (c .before .before .loop .inv .0 s) (omega arith) _ (c .left-of .ensures)
+returns c = λ s. tally-all _ _ _ s _ _ _ _ (c .before .before .loop .inv .0 s) (omega arith) _ (c .remnant-of .ensures)
 
 pub count-kept-spec : {M : Type 1} → statement M
 count-kept-spec =
@@ -78,5 +78,5 @@ count-kept-spec =
     sub-left
     loop-less
     loop-again
-    left-of-requires
+    remnant-of-requires
     returns)

@@ -5,7 +5,7 @@ use mathlib.Core.Path.{_≡_}
 use Prim.Native.Nat.{ℕ}
 use borrow.Author.Needs.{needs}
 use Rattle.marks.specs.Readable.{Readable}
-use Rattle.marks.proofs.Left.{not-one}
+use Rattle.marks.proofs.Remnant.{not-one}
 use Rattle.showing.proofs.Looking.{Going, look-reads, look-start, look-done, look-here, look-counts, look-on}
 use Rattle.showing.proofs.lone.lone.Statement.{statement}
 use Rattle.showing.proofs.lone.lone.Tie as tie

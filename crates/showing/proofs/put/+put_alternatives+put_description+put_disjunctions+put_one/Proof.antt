@@ -6,7 +6,7 @@ use native.Mathlib.Omega.{arith}
 use mathlib.Core.Path.{_≡_}
 use mathlib.Core.Logic.{_⊎_, inl, inr, ⊎-elim}
 use borrow.Author.Needs.{needs}
-use Rattle.marks.specs.declared.tally.Left.the-variants.{Nothing, Several}
+use Rattle.marks.specs.declared.tally.Remnant.the-variants.{Nothing, Several}
 use Rattle.showing.specs.Putting.{Disjoining, Offering}
 use Rattle.showing.proofs.Describing.{graph-end, asks-later, later-few, later-long, describes}
 use Rattle.showing.proofs.Disjoining as disjoining
@@ -417,8 +417,8 @@ put-one-enum-known-which-2 : (t : ℕ) → put-one-lts.Need-enum-known-which-2 (
 put-one-enum-known-which-2 t c = search needs
 
 put-one-many : (t : ℕ) (c : put-one-lts.At-match-came (put-one-claims t) (put-one-at t) put-one.Post) →
-    ((c .before .count-kept .result .left ≡ Nothing) × (c .match .many ≡ 0))
-    ⊎ ((x : ℕ) × (c .before .count-kept .result .left ≡ Several x) × (c .match .many ≡ x))
+    ((c .before .count-kept .result .remnant ≡ Nothing) × (c .match .many ≡ 0))
+    ⊎ ((x : ℕ) × (c .before .count-kept .result .remnant ≡ Several x) × (c .match .many ≡ x))
 put-one-many t c =
     ⊎-elim (λ none. inl (none .1 .given .1, none .2)) (λ more. inr (more .1 .given .0 .0, more .1 .given .1, more .3)) (c .match .came)
 
