@@ -8,6 +8,7 @@ use forest::chain::rises;
 use forest::chain::target;
 use forest::forest::find;
 use forest::held::Held;
+use forest::held::bears_atom;
 use forest::held::held_by;
 use forest::merge::Made;
 use forest::settle::unite;
@@ -93,8 +94,7 @@ fn visit(w: &mut [u32], k: usize, n: usize, x: usize, t: usize, at: usize) -> Ca
         (now (w .exit)) ⌝ }
 {
     let c = find(w, n, x);
-    let held = held_by(w, c);
-    if let Held::Atom(_) = held {
+    if bears_atom(w, c) {
         return Came {
             k: k,
             at: 0,

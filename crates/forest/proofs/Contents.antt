@@ -12,7 +12,7 @@ use denote.Enum.Declared.{tagOf}
 use borrow.Author.Tests.{lt-ltb, le-ltb}
 use Rattle.area.specs.Map.{HELD}
 use Rattle.area.proofs.Region.{held-at}
-use Rattle.forest.specs.Held.{last-arc, ChainCode, AtomCode, held, held-by}
+use Rattle.forest.specs.Held.{last-arc, ChainCode, AtomCode, held, held-by, bears}
 use Rattle.forest.specs.declared.held.Held.{Held}
 use Rattle.forest.specs.declared.held.Held.the-variants.{Nothing, Arcs, Atom}
 use Rattle.forest.proofs.held.Held.{the-type}
@@ -50,6 +50,15 @@ case-of x = go (ℕ-discrete x 0) (decLt last-arc x)
     go (no e) (yes l) = subst (Case x) (held-atom x l) (Case.atom l)
     go (no e) (no l) = let some : 0 < x = omega arith in subst (Case x) (held-arcs x some (omega arith)) (Case.chain some (omega arith))
 
+-- a code above the last arc is an atom's
+pub bears-code : (x : ℕ) → ltb last-arc x ≡ bears (held x)
+bears-code x = go (held x) (case-of x)
+  where
+    go : (r : Held) → Case x r → ltb last-arc x ≡ bears r
+    go Nothing (Case.empty e) = le-ltb last-arc x (omega arith)
+    go (Arcs y) (Case.chain some l) = le-ltb last-arc x l
+    go (Atom y) (Case.atom l) = lt-ltb last-arc x l
+
 case-at : (w : List ℕ) (c : ℕ) → Case (getD w c 0) (held-by w c)
 unfolding held-by
 case-at w c = subst (λ (i : ℕ). Case (getD w i 0) (held (getD w (HELD + c) 0))) (held-at c) (case-of (getD w (HELD + c) 0))
@@ -78,6 +87,23 @@ module _ (w : List ℕ) (c : ℕ) where
       go Nothing (Case.empty e) i = let z : _≡_ {A = ℕ} 0 1 = cc in absurd (omega arith)
       go (Arcs y) (Case.chain some l) i = let z : _≡_ {A = ℕ} 0 1 = cc in absurd (omega arith)
       go (Atom y) (Case.atom l) i = let e : getD w c 0 ≡ v = cc in (sym e, omega arith)
+
+  -- whether it is an atom
+  pub told-bears : (b : Bool) → b ≡ bears (held-by w c) → b ≡ true → AtomCode (getD w c 0)
+  told-bears b e t = go (held-by w c) (case-at w c) (sym e ∙ t)
+    where
+      go : (r : Held) → Case (getD w c 0) r → bears r ≡ true → AtomCode (getD w c 0)
+      go Nothing (Case.empty e) i = let z : _≡_ {A = ℕ} 0 1 = cc in absurd (omega arith)
+      go (Arcs y) (Case.chain some l) i = let z : _≡_ {A = ℕ} 0 1 = cc in absurd (omega arith)
+      go (Atom y) (Case.atom l) i = l
+
+  pub told-bare : (b : Bool) → b ≡ bears (held-by w c) → b ≡ false → ChainCode (getD w c 0)
+  told-bare b e t = go (held-by w c) (case-at w c) (sym e ∙ t)
+    where
+      go : (r : Held) → Case (getD w c 0) r → bears r ≡ false → ChainCode (getD w c 0)
+      go Nothing (Case.empty e) i = omega arith
+      go (Arcs y) (Case.chain some l) i = l
+      go (Atom y) (Case.atom l) i = let z : _≡_ {A = ℕ} 0 1 = cc in absurd (omega arith)
 
   -- the tag of an answer, as a match has it: 0 for nothing, 1 for arcs, 2 for an atom
   pub told-chain : (r : Held) → r ≡ held-by w c → (tagOf the-type r ≡ 0) ⊎ (tagOf the-type r ≡ 1) → ChainCode (getD w c 0)

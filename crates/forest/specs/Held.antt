@@ -1,7 +1,7 @@
 -- What a class holds, by its word in the area. Assumes nothing: these are definitions.
 use Prim.Native.Nat.{ℕ, zero, suc, _+_, _≤_, _<_}
 use mathlib.Core.Path.{_≡_}
-use mathlib.Core.Bool.{true, false}
+use mathlib.Core.Bool.{Bool, true, false}
 use mathlib.Core.Logic.{_⊎_}
 use mathlib.Core.List.{List}
 use lib.Dec.{ltb}
@@ -30,6 +30,12 @@ held (suc j) = elim (ltb last-arc (suc j)) [ true ↦ Atom (suc j) | false ↦ A
 -- what the class c holds
 unfoldable pub held-by : List ℕ → ℕ → Held
 held-by w c = held (getD w (HELD + c) 0)
+
+-- whether that is an atom
+abbrev pub bears : Held → Bool
+bears Nothing = false
+bears (Arcs x) = false
+bears (Atom v) = true
 
 -- a class that holds `there` holds what comes: nothing comes, or the same atom
 abbrev pub Covered : Held → Held → Type 0

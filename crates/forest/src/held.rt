@@ -5,7 +5,7 @@ ghost use mathlib.Core.Path.{_≡_};
 ghost use Prim.Native.Nat.{_≤_, _<_};
 ghost use lib.ListN.{length};
 ghost use Rattle.area.specs.Map.{NODES, SIZE};
-ghost use Rattle.forest.specs.Held.{held-by};
+ghost use Rattle.forest.specs.Held.{held-by, bears};
 
 // A chain by its first arc, counted from 1, or an atom by its head.
 pub enum Held {
@@ -30,4 +30,12 @@ pub fn held_by(w: &[u32], c: usize) -> Held
         return Held::Nothing;
     }
     Held::Arcs(wide(h))
+}
+
+// Whether the class c holds an atom.
+pub fn bears_atom(w: &[u32], c: usize) -> bool
+    requires { ⌜ (c < NODES) × (SIZE ≤ length (now w)) ⌝ }
+    ensures { λ r. ⌜ r ≡ bears (held-by (now (w .entry)) c) ⌝ }
+{
+    w[HELD + c] > LAST_ARC
 }

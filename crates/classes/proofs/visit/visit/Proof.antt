@@ -6,7 +6,7 @@ use lib.ListN.{getD}
 use Rattle.area.specs.Region.{words}
 use Rattle.forest.specs.State.{targets, Looked, withPair}
 use Rattle.forest.specs.Order.{Located}
-use Rattle.forest.proofs.Contents.{told-atom, told-chain}
+use Rattle.forest.proofs.Contents.{told-bears, told-bare}
 use Rattle.forest.proofs.Words.{words-later}
 use Rattle.forest.proofs.Walks.{some}
 use Rattle.classes.proofs.Visits.{ordered-none, hint-calm, class-runs, visit-clash, visit-hung, hung-ordered, visit-found, found-arc}
@@ -20,21 +20,18 @@ find-requires c κs =
     let s = c .before .before in
     ((omega arith, (omega arith, omega arith)), s .pre .1 .1 .0 .state .shape)
 
-held-by-requires : tie.Need-held-by-requires
-held-by-requires c κs = let l = c .before .find .ensures .low in (omega arith, omega arith)
-
-enum-told : tie.Need-enum-told
-enum-told c = search needs
+bears-atom-requires : tie.Need-bears-atom-requires
+bears-atom-requires c κs = let l = c .before .find .ensures .low in (omega arith, omega arith)
 
 same-length : tie.Need-same-length
 same-length c = search needs
 
 returns : tie.Need-returns
 returns c =
-    let s = c .before .before .before .before .before .before .before in
-    let find = c .before .before .before .before .find in
-    let held = c .before .before .held-by in
-    let bears = told-atom _ _ _ (sym (held .ensures) ∙ c .enum-told .given .1) in
+    let s = c .before .before .before .before .before .before in
+    let find = c .before .before .before .find in
+    let held = c .before .bears-atom in
+    let bears = told-bears _ _ _ (held .ensures) (c .if1 .taken) in
     let a = s .args in
     let wn = a .w .now in
     let g = s .pre .1 .1 .0 in
@@ -51,8 +48,8 @@ locate-requires : tie.Need-locate-requires
 locate-requires c κs =
     let s = c .before .before .before .before .before .before .before .before .before in
     let find = c .before .before .before .before .before .before .find in
-    let held = c .before .before .before .before .held-by in
-    let chained = told-chain _ _ _ (held .ensures) (c .before .before .before .match .keys2) in
+    let held = c .before .before .before .before .bears-atom in
+    let chained = told-bare _ _ _ (held .ensures) (c .before .before .before .if1 .left) in
     let a = s .args in
     let wn = a .w .now in
     let g = s .pre .1 .1 .0 in
@@ -123,12 +120,12 @@ returns-2 c =
     let s = c .before .before .before .before .before .before .before .before .before .before .before .before .before .before .before .before .before .before .before .before .before in
     let locate = c .before .before .before .before .before .before .before .before .before .before .before .locate in
     let loaded = c .before .before .before .before .before .before .before .before .before .before .before .before .before .loaded in
-    let if1 = c .before .before .before .before .before .before .before .before .before .before .if1 in
+    let if1 = c .before .before .before .before .before .before .before .before .before .before .if2 in
     let put = c .before .before .before .before .before .before .before .put in
     let put2 = c .before .before .before .put2 in
     let find = c .before .before .before .before .before .before .before .before .before .before .before .before .before .before .before .before .before .before .find in
-    let held = c .before .before .before .before .before .before .before .before .before .before .before .before .before .before .before .before .held-by in
-    let chained = told-chain _ _ _ (held .ensures) (c .before .before .before .before .before .before .before .before .before .before .before .before .before .before .before .match .keys2) in
+    let held = c .before .before .before .before .before .before .before .before .before .before .before .before .before .before .before .before .bears-atom in
+    let chained = told-bare _ _ _ (held .ensures) (c .before .before .before .before .before .before .before .before .before .before .before .before .before .before .before .if1 .left) in
     let bn = s .pre .0 in
     let bx = s .pre .1 .0 in
     let a = s .args in
@@ -164,13 +161,13 @@ returns-3 c =
     let s = c .before .before .before .before .before .before .before .before .before .before .before .before .before .before .before .before .before .before .before .before .before in
     let locate = c .before .before .before .before .before .before .before .before .before .before .before .locate in
     let loaded = c .before .before .before .before .before .before .before .before .before .before .before .before .before .loaded in
-    let if1 = c .before .before .before .before .before .before .before .before .before .before .if1 in
+    let if1 = c .before .before .before .before .before .before .before .before .before .before .if2 in
     let put = c .before .before .before .before .before .before .before .put in
     let put2 = c .before .before .before .put2 in
-    let if2 = c .if2 in
+    let if2 = c .if3 in
     let find = c .before .before .before .before .before .before .before .before .before .before .before .before .before .before .before .before .before .before .find in
-    let held = c .before .before .before .before .before .before .before .before .before .before .before .before .before .before .before .before .held-by in
-    let chained = told-chain _ _ _ (held .ensures) (c .before .before .before .before .before .before .before .before .before .before .before .before .before .before .before .match .keys2) in
+    let held = c .before .before .before .before .before .before .before .before .before .before .before .before .before .before .before .before .bears-atom in
+    let chained = told-bare _ _ _ (held .ensures) (c .before .before .before .before .before .before .before .before .before .before .before .before .before .before .before .if1 .left) in
     let bn = s .pre .0 in
     let bx = s .pre .1 .0 in
     let a = s .args in
@@ -211,7 +208,7 @@ target-requires c κs = search needs
 sub-target : tie.Need-sub-target
 sub-target c =
     let locate = c .before .before .before .before .locate in
-    let if1 = c .before .before .before .if1 in
+    let if1 = c .before .before .before .if2 in
     some (locate .result .arc) (if1 .left)
 
 target-requires-2 : tie.Need-target-requires-2
@@ -220,9 +217,9 @@ target-requires-2 c κs =
     let find = c .before .before .before .before .before .before .before .before .before .before .before .find in
     let locate = c .before .before .before .before .locate in
     let loaded = c .before .before .before .before .before .before .loaded in
-    let if1 = c .before .before .before .if1 in
-    let held = c .before .before .before .before .before .before .before .before .before .held-by in
-    let chained = told-chain _ _ _ (held .ensures) (c .before .before .before .before .before .before .before .before .match .keys2) in
+    let if1 = c .before .before .before .if2 in
+    let held = c .before .before .before .before .before .before .before .before .before .bears-atom in
+    let chained = told-bare _ _ _ (held .ensures) (c .before .before .before .before .before .before .before .before .if1 .left) in
     let bn = s .pre .0 in
     let bx = s .pre .1 .0 in
     let a = s .args in
@@ -251,11 +248,11 @@ unite-requires c κs =
     let find = c .before .before .before .before .before .before .before .before .before .before .before .before .before .find in
     let locate = c .before .before .before .before .before .before .locate in
     let loaded = c .before .before .before .before .before .before .before .before .loaded in
-    let if1 = c .before .before .before .before .before .if1 in
+    let if1 = c .before .before .before .before .before .if2 in
     let target = c .before .before .before .target in
     let target2 = c .before .target2 in
-    let held = c .before .before .before .before .before .before .before .before .before .before .before .held-by in
-    let chained = told-chain _ _ _ (held .ensures) (c .before .before .before .before .before .before .before .before .before .before .match .keys2) in
+    let held = c .before .before .before .before .before .before .before .before .before .before .before .bears-atom in
+    let chained = told-bare _ _ _ (held .ensures) (c .before .before .before .before .before .before .before .before .before .before .if1 .left) in
     let bn = s .pre
     .0 in
     let bx = s .pre
@@ -310,13 +307,13 @@ returns-4 c =
     let find = c .before .before .before .before .before .before .before .before .before .before .before .before .before .before .before .before .before .find in
     let locate = c .before .before .before .before .before .before .before .before .before .before .locate in
     let loaded = c .before .before .before .before .before .before .before .before .before .before .before .before .loaded in
-    let if1 = c .before .before .before .before .before .before .before .before .before .if1 in
+    let if1 = c .before .before .before .before .before .before .before .before .before .if2 in
     let target = c .before .before .before .before .before .before .before .target in
     let target2 = c .before .before .before .before .before .target2 in
-    let if3 = c .if3 in
+    let if3 = c .if4 in
     let unite = c .before .before .before .unite in
-    let held = c .before .before .before .before .before .before .before .before .before .before .before .before .before .before .before .held-by in
-    let chained = told-chain _ _ _ (held .ensures) (c .before .before .before .before .before .before .before .before .before .before .before .before .before .before .match .keys2) in
+    let held = c .before .before .before .before .before .before .before .before .before .before .before .before .before .before .before .bears-atom in
+    let chained = told-bare _ _ _ (held .ensures) (c .before .before .before .before .before .before .before .before .before .before .before .before .before .before .if1 .left) in
     let bn = s .pre .0 in
     let bx = s .pre .1 .0 in
     let a = s .args in
@@ -349,13 +346,13 @@ onward-requires c κs =
     let find = c .before .before .before .before .before .before .before .before .before .before .before .before .before .before .before .before .before .before .find in
     let locate = c .before .before .before .before .before .before .before .before .before .before .before .locate in
     let loaded = c .before .before .before .before .before .before .before .before .before .before .before .before .before .loaded in
-    let if1 = c .before .before .before .before .before .before .before .before .before .before .if1 in
+    let if1 = c .before .before .before .before .before .before .before .before .before .before .if2 in
     let target = c .before .before .before .before .before .before .before .before .target in
     let target2 = c .before .before .before .before .before .before .target2 in
-    let if3 = c .before .if3 in
+    let if3 = c .before .if4 in
     let unite = c .before .before .before .before .unite in
-    let held = c .before .before .before .before .before .before .before .before .before .before .before .before .before .before .before .before .held-by in
-    let chained = told-chain _ _ _ (held .ensures) (c .before .before .before .before .before .before .before .before .before .before .before .before .before .before .before .match .keys2) in
+    let held = c .before .before .before .before .before .before .before .before .before .before .before .before .before .before .before .before .bears-atom in
+    let chained = told-bare _ _ _ (held .ensures) (c .before .before .before .before .before .before .before .before .before .before .before .before .before .before .before .if1 .left) in
     let bn = s .pre .0 in
     let bx = s .pre .1 .0 in
     let a = s .args in
@@ -419,14 +416,14 @@ returns-5 c =
     let find = c .before .before .before .before .before .before .before .before .before .before .before .before .before .before .before .before .before .before .before .find in
     let locate = c .before .before .before .before .before .before .before .before .before .before .before .before .locate in
     let loaded = c .before .before .before .before .before .before .before .before .before .before .before .before .before .before .loaded in
-    let if1 = c .before .before .before .before .before .before .before .before .before .before .before .if1 in
-    let if3 = c .before .before .if3 in
+    let if1 = c .before .before .before .before .before .before .before .before .before .before .before .if2 in
+    let if3 = c .before .before .if4 in
     let target = c .before .before .before .before .before .before .before .before .before .target in
     let target2 = c .before .before .before .before .before .before .before .target2 in
     let onward = c .onward in
     let unite = c .before .before .before .before .before .unite in
-    let held = c .before .before .before .before .before .before .before .before .before .before .before .before .before .before .before .before .before .held-by in
-    let chained = told-chain _ _ _ (held .ensures) (c .before .before .before .before .before .before .before .before .before .before .before .before .before .before .before .before .match .keys2) in
+    let held = c .before .before .before .before .before .before .before .before .before .before .before .before .before .before .before .before .before .bears-atom in
+    let chained = told-bare _ _ _ (held .ensures) (c .before .before .before .before .before .before .before .before .before .before .before .before .before .before .before .before .if1 .left) in
     let bn = s .pre .0 in
     let bx = s .pre .1 .0 in
     let a = s .args in
@@ -461,8 +458,7 @@ visit-spec =
     tie.close
     (tie.spec
     find-requires
-    held-by-requires
-    enum-told
+    bears-atom-requires
     same-length
     returns
     loaded-requires
