@@ -215,6 +215,21 @@ module _ (n k : ℕ) (w : List ℕ) (a : Agenda) where
         kept-marks : (c : Resuming n k w a) → kept-of (c .s .m) (lies c .a) ≡ kept-of (marking w) (lies c .a)
         kept-marks c = ap (λ (m : Marking). kept-of m (lies c .a)) (sym (c .s .marks))
 
+        -- what is found of the rest of its frame, and then of those behind
+        abbrev behind : (c : Resuming n k w a) → List Places
+        behind c = next c .later .lies .ds
+            ∷ plan-on (c .s) (next c .l) (next c .later .lies .end) (next c .later .lies .to) (next c .rest)
+
+        -- none is kept
+        pub resumes-none : Resuming n k w a → which ≡ Nothing → Resumes n k w a 0 w
+        resumes-none c₀ z = record {
+          moved = stays c₀;
+          found = λ c. finds-same n k w (c .es) [] (resumed c) 0 w (next c .is
+              ∙ choose-none (c .s .m) (graphs (c .es)) (lies c .a) (behind c)
+              (kept-marks c ∙ kept-none w (counted c) which after (told c) z))
+              (finds-none n k w (c .es) (c .s .holds));
+        }
+
         module _ (later : Agenda) (la : (s : Slot) (l : List Slot) → Lists a (s ∷ l) → Lists later l) where
           pub resume-room : Resuming n k w a → (a .more0 - 1 ≡ 0) ⊎ (later .frames < 5)
           resume-room c = inr (omega (arith, lists-size later (next c .l) (la (a .at0, a .more0) (next c .l) (next c .lists)), four c))
@@ -226,11 +241,6 @@ module _ (n k : ℕ) (w : List ℕ) (a : Agenda) where
             lists₂ : (c : Resuming n k w a) → Lists rest (slots₂ c)
             lists₂ c = subst (λ (p : ℕ). Lists rest (onto p (a .more0 - 1) (next c .l))) (told c .after-is)
                 (lb (next c .l) (la (a .at0, a .more0) (next c .l) (next c .lists)))
-
-            -- what is found of the rest of its frame, and then of those behind
-            abbrev behind : (c : Resuming n k w a) → List Places
-            behind c = next c .later .lies .ds
-                ∷ plan-on (c .s) (next c .l) (next c .later .lies .end) (next c .later .lies .to) (next c .rest)
 
             abbrev frames₂ : (c : Resuming n k w a) →
                 (G : FramesOn (c .s) (slots₂ c) (lies c .end) (lies c .to))
@@ -249,16 +259,6 @@ module _ (n k : ℕ) (w : List ℕ) (a : Agenda) where
             choice-is : (c : Resuming n k w a) → resumed c ≡ choose-at (c .s .m) (graphs (c .es)) (lies c .a) (left-of c)
             choice-is c = next c .is ∙ ap (λ (f : List Graph → Found). dive-any (graphs (c .es)) (keep-any (c .s .m) (lies c .a)) f)
                 (sym (same-found (resume-at (c .s .m) (left-of c)) (resume-at (c .s .m) (behind c)) (frames₂ c .1)))
-
-            -- none is kept
-            pub resumes-none : Resuming n k w a → which ≡ Nothing → Resumes n k w a 0 w
-            resumes-none c₀ z = record {
-              moved = stays c₀;
-              found = λ c. finds-same n k w (c .es) [] (resumed c) 0 w (choice-is c
-                  ∙ choose-none (c .s .m) (graphs (c .es)) (lies c .a) (left-of c)
-                  (kept-marks c ∙ kept-none w (counted c) which after (told c) z))
-                  (finds-none n k w (c .es) (c .s .holds));
-            }
 
             -- one stands alone: it is pushed already
             module _ (first : ℕ) (one : which ≡ One first) where

@@ -47,18 +47,23 @@ fn resume(w: &mut [u32], k: usize, n: usize, a: Agenda) -> u32
     let more = a.more0;
     let count = alternatives_at(w, at);
     let tally = count_kept(w, at + 1, count);
-    let later = after(a);
-    let rest = before(tally.after, more - 1, later);
+    let end = tally.after;
     let which = tally.remnant;
     match which {
         Remnant::Nothing => 0,
         Remnant::One(first) => {
+            let later = after(a);
+            let rest = before(end, more - 1, later);
             let inner = descend(w, first, rest);
             let found = resume(w, k, n, inner);
             note(w, first, found);
             found
         }
-        Remnant::Several(_) => choose(w, k, n, at + 1, count, rest),
+        Remnant::Several(_) => {
+            let later = after(a);
+            let rest = before(end, more - 1, later);
+            choose(w, k, n, at + 1, count, rest)
+        }
     }
 }
 

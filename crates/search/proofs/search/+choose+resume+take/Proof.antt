@@ -204,30 +204,30 @@ resume-count-kept-requires t c κs =
 
 resume-after-requires : (t : ℕ) → resume-lts.Need-after-requires (resume-claims t) (resume-at t) resume.Post
 resume-after-requires t c κs =
-    resume-some _ _ _ _ (c .before .before .before .before .if1 .left) (c .before .before .before .before .before .before .before .pre .1)
-    .0
+    resume-some _ _ _ _ (c .before .before .before .before .before .before .before .if1 .left)
+    (c .before .before .before .before .before .before .before .before .before .before .pre .1) .0
 
 resume-sub-before : (t : ℕ) → resume-lts.Need-sub-before (resume-claims t) (resume-at t) resume.Post
-resume-sub-before t c = resume-some _ _ _ _ (c .before .before .before .before .before .if1 .left)
-    (c .before .before .before .before .before .before .before .before .pre .1) .1
+resume-sub-before t c = resume-some _ _ _ _ (c .before .before .before .before .before .before .before .before .if1 .left)
+    (c .before .before .before .before .before .before .before .before .before .before .before .pre .1) .1
 
 resume-before-requires : (t : ℕ) → resume-lts.Need-before-requires (resume-claims t) (resume-at t) resume.Post
 resume-before-requires t c κs =
-    resume-room _ _ _ _ (c .before .before .before .before .before .if1 .left) _ (c .before .before .before .alternatives-at .ensures) _ _
-    (c .before .count-kept .ensures) _ (c .after .ensures) (c .before .before .before .before .before .before .before .before .pre .1)
+    resume-room _ _ _ _ (c .before .before .before .before .before .before .before .before .if1 .left) _
+    (c .before .before .before .before .before .before .alternatives-at .ensures) _ _
+    (c .before .before .before .before .count-kept .ensures) _ (c .after .ensures)
+    (c .before .before .before .before .before .before .before .before .before .before .before .pre .1)
+
+resume-enum-told : (t : ℕ) → resume-lts.Need-enum-told (resume-claims t) (resume-at t) resume.Post
+resume-enum-told t c = search needs
 
 resume-same-length : (t : ℕ) → resume-lts.Need-same-length (resume-claims t) (resume-at t) resume.Post
 resume-same-length t c = search needs
 
 resume-returns-2 : (t : ℕ) → resume-lts.Need-returns-2 (resume-claims t) (resume-at t) resume.Post
-resume-returns-2 t c = resumes-none _ _ _ _ (c .before .before .before .before .before .before .before .before .if1 .left) _
-    (c .before .before .before .before .before .before .alternatives-at .ensures) _ _
-    (c .before .before .before .before .count-kept .ensures) _ (c .before .before .before .after .ensures) _
-    (c .before .before .before2 .ensures) (c .before .before .before .before .before .before .before .before .before .before .before .pre
-    .1) (c .enum-told .given .1)
-
-resume-enum-told : (t : ℕ) → resume-lts.Need-enum-told (resume-claims t) (resume-at t) resume.Post
-resume-enum-told t c = search needs
+resume-returns-2 t c = resumes-none _ _ _ _ (c .before .before .before .before .before .before .if1 .left) _
+    (c .before .before .before .before .alternatives-at .ensures) _ _ (c .before .before .count-kept .ensures)
+    (c .before .before .before .before .before .before .before .before .before .pre .1) (c .enum-told .given .1)
 
 resume-enum-known-which : (t : ℕ) → resume-lts.Need-enum-known-which (resume-claims t) (resume-at t) resume.Post
 resume-enum-known-which t c = search needs
@@ -236,8 +236,8 @@ resume-descend-requires : (t : ℕ) → resume-lts.Need-descend-requires (resume
 resume-descend-requires t c κs =
     one-opens _ _ _ _ (c .before .before .before .before .before .before .before .before .before .before .if1 .left) _
     (c .before .before .before .before .before .before .before .before .alternatives-at .ensures) _ _
-    (c .before .before .before .before .before .before .count-kept .ensures) _ (c .before .before .before .before .before .after .ensures) _
-    (c .before .before .before .before .before2 .ensures) _ (c .before .before .which .given .1)
+    (c .before .before .before .before .before .before .count-kept .ensures) _ (c .before .before .after .ensures) _
+    (c .before .before2 .ensures) _ (c .before .before .before .before .which .given .1)
     (c .before .before .before .before .before .before .before .before .before .before .before .before .before .pre .1)
 
 resume-resume-requires : (t : ℕ) → resume-lts.Need-resume-requires (resume-claims t) (resume-at t) resume.Post
@@ -245,23 +245,21 @@ resume-resume-requires t c κs = (
   let h = one-falls _ _ _ _ (c .before .before .before .before .before .before .before .before .before .before .before .before .if1 .left)
       _ (c .before .before .before .before .before .before .before .before .before .before .alternatives-at .ensures) _ _
       (c .before .before .before .before .before .before .before .before .count-kept .ensures) _
-      (c .before .before .before .before .before .before .before .after .ensures) _
-      (c .before .before .before .before .before .before .before2 .ensures) _ (c .before .before .before .before .which .given .1) _
-      (c .before .descend .ensures) (c .before .before .before .before .before .before .before .before .before .before .before .before
-      .before .before .before .pre .1) in let b = resume-here _ _ _ _
-      (c .before .before .before .before .before .before .before .before .before .before .before .before .if1 .left)
-      (c .before .before .before .before .before .before .before .before .before .before .before .before .before .before .before .pre .1) .0
-      in let r = resume-reach _ _ _ _ (c .before .before .before .before .before .before .before .before .before .before .before .before
-      .if1 .left) (c .before .before .before .before .before .before .before .before .before .before .before .before .before .before .before
-      .pre .1) in let e = c .before .before .before .before .before .before .before .before .before .before .before .before .before .before
-      .before .pre .0 in omega arith,
+      (c .before .before .before .before .after .ensures) _ (c .before .before .before .before2 .ensures) _
+      (c .before .before .before .before .before .before .which .given .1) _ (c .before .descend .ensures)
+      (c .before .before .before .before .before .before .before .before .before .before .before .before .before .before .before .pre .1) in
+      let b = resume-here _ _ _ _ (c .before .before .before .before .before .before .before .before .before .before .before .before .if1
+      .left) (c .before .before .before .before .before .before .before .before .before .before .before .before .before .before .before .pre
+      .1) .0 in let r = resume-reach _ _ _ _ (c .before .before .before .before .before .before .before .before .before .before .before
+      .before .if1 .left) (c .before .before .before .before .before .before .before .before .before .before .before .before .before .before
+      .before .pre .1) in let e = c .before .before .before .before .before .before .before .before .before .before .before .before .before
+      .before .before .pre .0 in omega arith,
   one-asks _ _ _ _ (c .before .before .before .before .before .before .before .before .before .before .before .before .if1 .left)
       _ (c .before .before .before .before .before .before .before .before .before .before .alternatives-at .ensures) _ _
       (c .before .before .before .before .before .before .before .before .count-kept .ensures) _
-      (c .before .before .before .before .before .before .before .after .ensures) _
-      (c .before .before .before .before .before .before .before2 .ensures) _ (c .before .before .before .before .which .given .1) _
-      (c .before .descend .ensures) (c .before .before .before .before .before .before .before .before .before .before .before .before
-      .before .before .before .pre .1),
+      (c .before .before .before .before .after .ensures) _ (c .before .before .before .before2 .ensures) _
+      (c .before .before .before .before .before .before .which .given .1) _ (c .before .descend .ensures)
+      (c .before .before .before .before .before .before .before .before .before .before .before .before .before .before .before .pre .1),
 )
 
 resume-note-requires : (t : ℕ) → resume-lts.Need-note-requires (resume-claims t) (resume-at t) resume.Post
@@ -269,9 +267,9 @@ resume-note-requires t c κs = one-notes _ _ _ _ (c .before .before .before .bef
     .before .before .before .before .before .if1 .left) _
     (c .before .before .before .before .before .before .before .before .before .before .before .before .before .before .alternatives-at
     .ensures) _ _ (c .before .before .before .before .before .before .before .before .before .before .before .before .count-kept .ensures) _
-    (c .before .before .before .before .before .before .before .before .before .before .before .after .ensures) _
-    (c .before .before .before .before .before .before .before .before .before .before .before2 .ensures) _
-    (c .before .before .before .before .before .before .before .before .which .given .1) _
+    (c .before .before .before .before .before .before .before .before .after .ensures) _
+    (c .before .before .before .before .before .before .before .before2 .ensures) _
+    (c .before .before .before .before .before .before .before .before .before .before .which .given .1) _
     (c .before .before .before .before .before .descend .ensures) _ _ (c .before .before .before .resume .ensures)
     (c .before .before .before .before .before .before .before .before .before .before .before .before .before .before .before .before
     .before .before .before .pre .1)
@@ -286,9 +284,9 @@ resume-returns-3 t c = resumes-one _ _ _ _ (c .before .before .before .before .b
     (c .before .before .before .before .before .before .before .before .before .before .before .before .before .before .before .before
     .before .alternatives-at .ensures) _ _ (c .before .before .before .before .before .before .before .before .before .before .before
     .before .before .before .before .count-kept .ensures) _
-    (c .before .before .before .before .before .before .before .before .before .before .before .before .before .before .after .ensures) _
-    (c .before .before .before .before .before .before .before .before .before .before .before .before .before .before2 .ensures) _
-    (c .before .before .before .before .before .before .before .before .before .before .before .which .given .1) _
+    (c .before .before .before .before .before .before .before .before .before .before .before .after .ensures) _
+    (c .before .before .before .before .before .before .before .before .before .before .before2 .ensures) _
+    (c .before .before .before .before .before .before .before .before .before .before .before .before .before .which .given .1) _
     (c .before .before .before .before .before .before .before .before .descend .ensures) _ _
     (c .before .before .before .before .before .before .resume .ensures)
     (c .before .before .before .before .before .before .before .before .before .before .before .before .before .before .before .before
@@ -296,6 +294,21 @@ resume-returns-3 t c = resumes-one _ _ _ _ (c .before .before .before .before .b
 
 resume-enum-told-2 : (t : ℕ) → resume-lts.Need-enum-told-2 (resume-claims t) (resume-at t) resume.Post
 resume-enum-told-2 t c = search needs
+
+resume-after-requires-2 : (t : ℕ) → resume-lts.Need-after-requires-2 (resume-claims t) (resume-at t) resume.Post
+resume-after-requires-2 t c κs =
+    resume-some _ _ _ _ (c .before .before .before .before .before .before .if1 .left)
+    (c .before .before .before .before .before .before .before .before .before .pre .1) .0
+
+resume-sub-before-2 : (t : ℕ) → resume-lts.Need-sub-before-2 (resume-claims t) (resume-at t) resume.Post
+resume-sub-before-2 t c = resume-some _ _ _ _ (c .before .before .before .before .before .before .before .if1 .left)
+    (c .before .before .before .before .before .before .before .before .before .before .pre .1) .1
+
+resume-before-requires-2 : (t : ℕ) → resume-lts.Need-before-requires-2 (resume-claims t) (resume-at t) resume.Post
+resume-before-requires-2 t c κs =
+    resume-room _ _ _ _ (c .before .before .before .before .before .before .before .if1 .left) _
+    (c .before .before .before .before .before .alternatives-at .ensures) _ _ (c .before .before .before .count-kept .ensures) _
+    (c .after2 .ensures) (c .before .before .before .before .before .before .before .before .before .before .pre .1)
 
 resume-add-choose : (t : ℕ) → resume-lts.Need-add-choose (resume-claims t) (resume-at t) resume.Post
 resume-add-choose t c = let h =
@@ -313,8 +326,8 @@ resume-choose-requires t c κs = (
       omega arith,
   several-asks _ _ _ _ (c .before .before .before .before .before .before .before .before .before .if1 .left)
       _ (c .before .before .before .before .before .before .before .alternatives-at .ensures) _ _
-      (c .before .before .before .before .before .count-kept .ensures) _ (c .before .before .before .before .after .ensures) _
-      (c .before .before .before .before2 .ensures) _ (c .before .enum-told2 .given .1)
+      (c .before .before .before .before .before .count-kept .ensures) _ (c .before .before .after2 .ensures) _
+      (c .before .before3 .ensures) _ (c .before .before .before .enum-told2 .given .1)
       (c .before .before .before .before .before .before .before .before .before .before .before .before .pre .1),
 )
 
@@ -325,9 +338,8 @@ resume-returns-4 : (t : ℕ) → resume-lts.Need-returns-4 (resume-claims t) (re
 resume-returns-4 t c = resumes-several _ _ _ _ (c .before .before .before .before .before .before .before .before .before .before .before
     .before .if1 .left) _ (c .before .before .before .before .before .before .before .before .before .before .alternatives-at .ensures) _ _
     (c .before .before .before .before .before .before .before .before .count-kept .ensures) _
-    (c .before .before .before .before .before .before .before .after .ensures) _
-    (c .before .before .before .before .before .before .before2 .ensures) _ (c .before .before .before .before .enum-told2 .given .1) _ _
-    (c .before .before .choose .ensures)
+    (c .before .before .before .before .before .after2 .ensures) _ (c .before .before .before .before .before3 .ensures) _
+    (c .before .before .before .before .before .before .enum-told2 .given .1) _ _ (c .before .before .choose .ensures)
 
 abbrev take-claims : ℕ → take-lts.Claims
 take-claims t = (
@@ -485,15 +497,18 @@ pub +choose+resume+take-spec : {M : Type 1} → statement M
     (resume-alternatives-at-requires t)
     (resume-add-count-kept t)
     (resume-count-kept-requires t)
+    (resume-enum-told t)
+    (resume-enum-known-which t)
     (resume-after-requires t)
     (resume-sub-before t)
     (resume-before-requires t)
-    (resume-enum-told t)
-    (resume-enum-known-which t)
     (resume-descend-requires t)
     (resume-resume-requires t)
     (resume-note-requires t)
     (resume-enum-told-2 t)
+    (resume-after-requires-2 t)
+    (resume-sub-before-2 t)
+    (resume-before-requires-2 t)
     (resume-add-choose t)
     (resume-choose-requires t)
     (resume-same-length t)
