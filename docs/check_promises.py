@@ -6,7 +6,7 @@ A citation stands between backquotes and has one of these forms:
   theory:Rules           the file is there, in specs/ or else in proofs/
   unify:fn unify, told   the crate's code declares these functions
   unify:proof of unify   a file Proof.antt of the crate is of this function; several names as above
-  unify!nothing_written  the edit must-fail/nothing_written.edit of the crate
+  unify!nothing_written  the edit nothing_written.edit of the crate, under must-fail/ or edits/
 Every citation of every document has to be found, and every path that is named has to be there; in a path NAME stands
 for a crate and NN for a number.
 - PROMISES has a block a promise: the promise, then `stated:`, `proved:` and two times `rules out: … (shown by …)`. The
@@ -24,6 +24,8 @@ import re
 import sys
 
 TOP = pathlib.Path(__file__).resolve().parent.parent
+# where wrong edits stand: those that the gate tries, and those that mutation/edits tries
+EDITS = ("must-fail", "edits")
 READ = ["descriptions", "theory", "answering", "unify", "fit", "call_text", "answer_text", "reply"]
 DOCS = sorted(TOP.glob("*.md")) + sorted(TOP.glob("docs/**/*.md"))
 CITED = re.compile(r"`(\w+)(?:(!)(\w+)|:(fn|proof of) ([\w, ]+)|:([A-Z]\w*)(?:\.([^`\s]+))?)`")
@@ -78,7 +80,7 @@ def found(cited):
     """Whether a citation, as CITED finds it, is of something that is there."""
     crate, edit, edited, kind, names, stem, name = cited
     if edit:
-        return (TOP / "crates" / crate / "must-fail" / f"{edited}.edit").is_file()
+        return any((TOP / "crates" / crate / folder / f"{edited}.edit").is_file() for folder in EDITS)
     if kind == "fn":
         return all(re.search(rf"\bfn {each}\b", code(crate)) for each in names.split(", "))
     if kind:
@@ -195,7 +197,7 @@ def check_promises(path):
         for names, crate in HEAD.findall(head):
             named.update((crate, name) for name in re.findall(r"`(\w+)`", names))
     cited = {(each[0], each[2]) for each in citations(text) if each[1]}
-    for edit in sorted(TOP.glob("crates/*/must-fail/*.edit")):
+    for edit in sorted(found for folder in EDITS for found in TOP.glob(f"crates/*/{folder}/*.edit")):
         if (edit.parts[-3], edit.stem) not in cited:
             says(doc, f"no block cites `{edit.parts[-3]}!{edit.stem}`")
     for root in sorted(TOP.glob("crates/*/src/lib.rt")):
