@@ -6,11 +6,11 @@
 //    4,096  4,096  LOG: the undo log, a word an entry: address + 4,096 * old value
 //    8,192  1,024  STACK: pending comparisons, a word each: from + 4,096 * to
 //    9,216  2,048  WORDS: both inputs as loaded
-//   11,264  1,024  MARKS
+//   11,264  1,024  MARKS: a word for each alternative, those of a disjunction together
 //   12,288  2,048  RESULT
 //   14,336  2,048  unused
 //
-// The tables go by the numbers of nodes, which are below NODES.
+// The tables go by the numbers of nodes, and MARKS by those of marks, which are below NODES.
 pub const NODES: usize = 1024;
 
 // An entry of the log is address + ENTRY_STEP * old value, a pending comparison from + FRAME_STEP * to.

@@ -19,7 +19,7 @@ use Rattle.loading.specs.Numbered.{places, options}
 use Rattle.loading.specs.At.{AtAll, AtAny}
 use Rattle.loading.specs.Lying.{Here}
 use Rattle.loading.proofs.Walking.{any-bounds, all-bounds}
-use Rattle.marks.specs.Positions.{number-at, tail-at, disjunctions-at, alternatives-at, after-at}
+use Rattle.marks.specs.Positions.{tail-at, mark-at, disjunctions-at, alternatives-at, after-at}
 use Rattle.marks.specs.Readable.{Readable}
 use Rattle.marks.specs.Marked.{marking}
 use Rattle.marks.proofs.Reading.{reads, tail-of, disjunctions-of, alternatives-is, read-option, read-first}
@@ -76,8 +76,8 @@ module _ (w : List ℕ) (p left : ℕ) (c : Readable w p left) where
 
   -- what a turn at `at` does to the sum
   pub data Turn (at sum sum' : ℕ) : Type 0 where
-    one : (k : ℕ) → marking w (number-at w at) ≡ true → Counted w at (left - 1) k → sum' ≡ min (sum + k) choice-stop → Turn at sum sum'
-    none : marking w (number-at w at) ≡ false → sum' ≡ sum → Turn at sum sum'
+    one : (k : ℕ) → marking w (mark-at w at) ≡ true → Counted w at (left - 1) k → sum' ≡ min (sum + k) choice-stop → Turn at sum sum'
+    none : marking w (mark-at w at) ≡ false → sum' ≡ sum → Turn at sum sum'
 
   -- the graph and its closing word
   pub starts : (p < 2048) × (tail-at w p < 2048)
@@ -157,7 +157,7 @@ module _ (w : List ℕ) (p left : ℕ) (c : Readable w p left) where
 
   module _ (more product at rest sum : ℕ) (t : Summing more product at rest sum) where
     -- the next alternative
-    pub sum-here : 0 < rest → (at < 2048) × (number-at w at < 1024) × (tail-at w at < 2048)
+    pub sum-here : 0 < rest → (at < 2048) × (tail-at w at < 2048)
     sum-here h = read-first w (c .room) (t .a) at (t .n) (t .r) (t .l) rest (t .stand) (t .low) (t .many) h
 
     asks-one : (x : ℕ) (d : Placed) (a : Options) → AtAny (words w) at (t .n) (option x d a) (t .r) (t .l) → Nests d (left - 1) →
@@ -206,8 +206,8 @@ module _ (w : List ℕ) (p left : ℕ) (c : Readable w p left) where
                   (sum' + count-any-at choice-stop (marking w) a) product (count-all-at choice-stop (marking w) (t .ds)) (sums turn);
             }
           where
-            own : (b : Bool) → marking w (number-at w at) ≡ b → marking w x ≡ b
-            own b f = ap (marking w) (sym (read-option w (c .room) x d a at (t .n) (t .r) (t .l) o (t .low) .0 .number)) ∙ f
+            own : (b : Bool) → marking w (mark-at w at) ≡ b → marking w x ≡ b
+            own b f = ap (marking w) (sym (read-option w (c .room) x d a at (t .n) (t .r) (t .l) o (t .low) .0 .mark)) ∙ f
 
             sums : Turn at sum sum' → min (sum + count-any-at choice-stop (marking w) (option x d a)) choice-stop
                 ≡ min (sum' + count-any-at choice-stop (marking w) a) choice-stop

@@ -5,7 +5,7 @@ use marks::marking::kept;
 use marks::positions::after_at;
 use marks::positions::alternatives_at;
 use marks::positions::disjunctions_at;
-use marks::positions::number_at;
+use marks::positions::mark_at;
 use marks::positions::tail_at;
 ghost use mathlib.Core.Path.{_≡_};
 ghost use Prim.Native.Nat.{min};
@@ -36,7 +36,7 @@ pub fn count_choices(w: &[u32], p: usize, left: u32) -> u32
         at += 1;
         let mut sum: u32 = 0;
         while 0 < rest {
-            if kept(w, number_at(w, at)) {
+            if kept(w, mark_at(w, at)) {
                 let one = count_choices(w, at, left - 1);
                 sum = capped(sum + one);
             }

@@ -3,9 +3,10 @@
 use Prim.Native.Nat.{ℕ, zero, suc, _+_, _≤_, _<_}
 use native.Mathlib.Omega.{arith}
 use mathlib.Core.Path.{_≡_, refl, sym, ap, ap₂, subst, _∙_}
-use mathlib.Core.Logic.{_⊎_, inl, inr, ⊎-elim}
+use mathlib.Core.Logic.{inl, inr, ⊎-elim}
 use mathlib.Core.Bool.{Bool, true, false}
-use mathlib.Core.List.{List, [], _∷_, _++_, List·Memᴰ, List·Memᴰ·not-nil, List·Memᴰ·cases-cons, List·Memᴰ·append-cases}
+use mathlib.Core.List.{List, [], _∷_, _++_, List·Memᴰ, List·Memᴰ·head, List·Memᴰ·tail, List·Memᴰ·not-nil, List·Memᴰ·cases-cons}
+use mathlib.Core.List.{List·Memᴰ·append-cases, Memᴰ·append-left, Memᴰ·append-right}
 use lib.ListN.{length}
 use Rattle.descriptions.specs.Remnant.{remnant, nothing, alone, several}
 use Rattle.theory.specs.Net.{Graph}
@@ -13,11 +14,13 @@ use Rattle.theory.specs.Descr.{Alts, fail, _or_, alts}
 use Rattle.engine.specs.Placed.{Placed, place, Places, stop, _also_, Options, no-more, option, strip, strip-all, strip-any}
 use Rattle.engine.specs.Marks.{Marking, kept-of, keep, keep-all, keep-any}
 use Rattle.engine.specs.Certain.{flat, sure, sure-any}
+use Rattle.modes_by_marks.proofs.Names.{names, names-any}
 use Rattle.modes_by_marks.proofs.Marks.{kept-alts, keep-true, keep-false}
+use Rattle.modes_by_marks.proofs.QuickStep.{Only}
 use Rattle.loading.specs.Entry.{Entry, graphs}
 use Rattle.loading.specs.Loaded.{extent}
 use Rattle.loading.specs.At.{At, AtAll, AtAny}
-use Rattle.loading.specs.Lying.{Lying, LyingAny}
+use Rattle.loading.specs.Lying.{Lying, LyingAny, mark-of}
 use Rattle.loading.proofs.Walking.{at-bounds, all-bounds, any-bounds}
 use Rattle.marks.specs.Tallied.{from-kept}
 use Rattle.marks.proofs.First.{kept-true, kept-false, from-true, from-false}
@@ -182,12 +185,13 @@ pub record Lone (U : List Entry) (t : List ℕ) (k : Marking) (left p n : ℕ) (
   pub low : n ≤ lies .from
   pub among : AmongOf U lies
   pub same : taken-any t k p n a q m at ≡ taken-of k lies
-  pub kept : k (lies .from) ≡ true
-  pub alone : keep-any k a ≡ option (lies .from) (keep k (lies .d)) no-more
+  pub inner : (y : ℕ) → List·Memᴰ y (names (lies .d)) → List·Memᴰ y (names-any a)
+  pub kept : k (mark-of lies) ≡ true
+  pub alone : keep-any k a ≡ option (mark-of lies) (keep k (lies .d)) no-more
   pub any : (S : List Graph) → any-at S k a ≡ inside-at S k (lies .d)
   pub opens : (E : List Entry) → ClearLone E t k p n a q m at → ClearOf E k lies
-  pub closes : (E : List Entry) (k′ : Marking) → ((y : ℕ) → n ≤ y → y < m → (y ≤ lies .from) ⊎ (lies .to ≤ y) → k′ y ≡ k y) →
-      ClearOf E k′ lies → (kept-of k′ a ≡ 1) × ClearLone E t k′ p n a q m at
+  pub closes : (E : List Entry) (k′ : Marking) → Only (names (lies .d)) k k′ → ClearOf E k′ lies →
+      (kept-of k′ a ≡ 1) × ClearLone E t k′ p n a q m at
 
 module _ (U : List Entry) (t t′ : List ℕ) (k : Marking) (left : ℕ) where
   lone-here : (x : ℕ) (d : Placed) (a : Options) (p n q m : ℕ) → p ≤ length t → (at : AtAny t p n (option x d a) q m) →
@@ -208,16 +212,16 @@ module _ (U : List Entry) (t t′ : List ℕ) (k : Marking) (left : ℕ) where
           | true ↦ sole one (kept-of k a)
           | false ↦ taken-any t k (at .0) (at .1) a q m (at .4)
         ]) e ∙ ap (sole one) z;
-        kept = ap k (sym (at .2)) ∙ e;
-        alone = keep-true k x d a e ∙ ap (option x (keep k d)) (none-left k a z) ∙ ap (λ (y : ℕ). option y (keep k d) no-more) (at .2);
+        inner = λ y i. List·Memᴰ·tail (Memᴰ·append-left (names-any a) i);
+        kept = ap k (at .2) ∙ e;
+        alone = keep-true k x d a e ∙ ap (option x (keep k d)) (none-left k a z)
+            ∙ ap (λ (y : ℕ). option y (keep k d) no-more) (sym (at .2));
         any = λ S. any-alone S k x d a e z;
         opens = λ E y. subst (λ (b : Bool). ByMark b (Clear E t k p n d (at .0) (at .1) (at .3))
             (ClearLone E t k (at .0) (at .1) a q m (at .4))) e y;
         closes = λ E k′ off y.
-            let own = at .2 in
-            let near = first .2 in
-            let f : k′ x ≡ true = off x (omega arith) (omega arith) (inl (omega arith)) ∙ e in
-            let c = kept-alike t k k′ a (at .0) (at .1) q m (first .1) (at .4) (λ y l u. off y (omega arith) u (inr l)) in (
+            let f : k′ x ≡ true = off x (λ i. at .5 x (List·Memᴰ·head refl) i) ∙ e in
+            let c = kept-alike k k′ a (λ y i. off y (λ j. at .7 y j i)) in (
               omega (arith, kept-true k′ x d a f),
               subst (λ (b : Bool). ByMark b (Clear E t k′ p n d (at .0) (at .1) (at .3)) (ClearLone E t k′ (at .0) (at .1) a q m (at .4)))
                   (sym f) y,
@@ -240,16 +244,15 @@ module _ (U : List Entry) (t t′ : List ℕ) (k : Marking) (left : ℕ) where
           | true ↦ sole (taken t k p n d (at .0) (at .1) (at .3)) (kept-of k a)
           | false ↦ taken-any t k (at .0) (at .1) a q m (at .4)
         ]) e ∙ l .same;
+        inner = λ y i. List·Memᴰ·tail (Memᴰ·append-right (names d) (l .inner y i));
         kept = l .kept;
         alone = keep-false k x d a e ∙ l .alone;
         any = λ S. any-dropped S k x d a e ∙ l .any S;
         opens = λ E y. l .opens E (subst
             (λ (b : Bool). ByMark b (Clear E t k p n d (at .0) (at .1) (at .3)) (ClearLone E t k (at .0) (at .1) a q m (at .4))) e y);
         closes = λ E k′ off y.
-            let own = at .2 in
-            let far = any-bounds t a (at .0) (at .1) q m (at-bounds t d p n (at .0) (at .1) (at .3) .1) (at .4) .2 in
-            let f : k′ x ≡ false = off x (omega arith) (omega arith) (inl (omega arith)) ∙ e in
-            let c = l .closes E k′ (λ y b u s. off y (omega arith) u s) y in (
+            let f : k′ x ≡ false = off x (λ i. at .6 x (List·Memᴰ·head refl) (l .inner x i)) ∙ e in
+            let c = l .closes E k′ off y in (
               kept-false k′ x d a f ∙ c .0,
               subst (λ (b : Bool). ByMark b (Clear E t k′ p n d (at .0) (at .1) (at .3)) (ClearLone E t k′ (at .0) (at .1) a q m (at .4)))
                   (sym f) (c .1),

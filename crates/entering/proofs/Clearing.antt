@@ -1,15 +1,17 @@
--- Which graphs are on the stack: it is so where all that is certain was pushed, and stays so where only other numbers change.
+-- Which graphs are on the stack: it is so where all that is certain was pushed, and stays so where only other numbers and marks change.
 -- Assumes nothing.
 use Prim.Native.Nat.{ℕ, zero, suc, _+_, _≤_, _<_}
 use native.Mathlib.Omega.{arith}
 use mathlib.Core.Path.{_≡_, refl, sym, ap, subst}
 use mathlib.Core.Logic.{_⊎_, inl, inr, ⊎-elim}
 use mathlib.Core.Bool.{Bool, true, false}
-use mathlib.Core.List.{List, [], _++_, List·Memᴰ, List·Memᴰ·not-nil, List·Memᴰ·cases-cons, List·Memᴰ·append-cases}
+use mathlib.Core.List.{List, [], _++_, List·Memᴰ, List·Memᴰ·head, List·Memᴰ·tail, List·Memᴰ·not-nil, List·Memᴰ·cases-cons}
+use mathlib.Core.List.{List·Memᴰ·append-cases, Memᴰ·append-left, Memᴰ·append-right}
 use lib.ListN.{length}
 use Rattle.descriptions.specs.Remnant.{remnant}
 use Rattle.engine.specs.Placed.{Placed, place, Places, stop, _also_, Options, no-more, option}
 use Rattle.engine.specs.Marks.{Marking, kept-of}
+use Rattle.modes_by_marks.proofs.Names.{names, names-all, names-any}
 use Rattle.loading.specs.Entry.{Entry}
 use Rattle.loading.specs.Loaded.{extent}
 use Rattle.loading.specs.At.{At, AtAll, AtAny}
@@ -144,52 +146,52 @@ module _ (t : List ℕ) (k k′ : Marking) where
         go false y = g y
 
     mutual
-      pub clear-alike : (p n : ℕ) (d : Placed) (q m : ℕ) (at : At t p n d q m) → Alike k k′ (n + 1) m → Nothing n m →
+      pub clear-alike : (p n : ℕ) (d : Placed) (q m : ℕ) (at : At t p n d q m) → Alike k k′ (names d) → Nothing n m →
           Clear E t k p n d q m at → Clear E′ t k′ p n d q m at
       clear-alike p n (place g ds) q m at s u x =
           let some = at .0 in
           let room = at .4 in
-          all-alike (p + extent g + 1) (n + length g) ds q m (omega arith) (at .6) (λ y l h. s y (omega arith) h)
+          all-alike (p + extent g + 1) (n + length g) ds q m (omega arith) (at .6) s
           (nothing-narrow n m (n + length g) m (omega arith) (omega arith) u) x
 
-      pub all-alike : (p n : ℕ) (ds : Places) (q m : ℕ) → p ≤ length t → (at : AtAll t p n ds q m) → Alike k k′ n m → Nothing n m →
-          ClearAll E t k p n ds q m at → ClearAll E′ t k′ p n ds q m at
+      pub all-alike : (p n : ℕ) (ds : Places) (q m : ℕ) → p ≤ length t → (at : AtAll t p n ds q m) → Alike k k′ (names-all ds) →
+          Nothing n m → ClearAll E t k p n ds q m at → ClearAll E′ t k′ p n ds q m at
       all-alike p n stop q m h at s u x = tt
       all-alike p n (a also ds) q m h at s u x =
           let there = at .2 in
           let first = any-bounds t a (p + 1) n (at .0) (at .1) (omega arith) (at .4) in
           let low = first .2 in
           let high = all-bounds t ds (at .0) (at .1) q m (first .1) (at .5) .2 in
-          let near : Alike k k′ n (at .1) = λ y l h. s y l (omega arith) in
+          let near : Alike k k′ (names-any a) = λ y i. s y (Memᴰ·append-left (names-all ds) i) in
           let here : Nothing n (at .1) = nothing-narrow n m n (at .1) (omega arith) (omega arith) u in (
-            by-count (kept-of k a) (kept-of k′ a) (kept-alike t k k′ a (p + 1) n (at .0) (at .1) (omega arith) (at .4) near) n (at .1)
+            by-count (kept-of k a) (kept-of k′ a) (kept-alike k k′ a near) n (at .1)
                 (ClearLone E t k (p + 1) n a (at .0) (at .1) (at .4)) (ClearLone E′ t k′ (p + 1) n a (at .0) (at .1) (at .4)) here
                 (λ y. lone-alike (p + 1) n a (at .0) (at .1) (omega arith) (at .4) near here y) (x .0),
-            all-alike (at .0) (at .1) ds q m (first .1) (at .5) (λ y l h. s y (omega arith) h)
+            all-alike (at .0) (at .1) ds q m (first .1) (at .5) (λ y i. s y (Memᴰ·append-right (names-any a) i))
                 (nothing-narrow n m (at .1) m (omega arith) (omega arith) u) (x .1),
           )
 
-      lone-alike : (p n : ℕ) (a : Options) (q m : ℕ) → p ≤ length t → (at : AtAny t p n a q m) → Alike k k′ n m → Nothing n m →
+      lone-alike : (p n : ℕ) (a : Options) (q m : ℕ) → p ≤ length t → (at : AtAny t p n a q m) → Alike k k′ (names-any a) → Nothing n m →
           ClearLone E t k p n a q m at → ClearLone E′ t k′ p n a q m at
       lone-alike p n no-more q m h at s u x = tt
       lone-alike p n (option x d a) q m h at s u y =
-          let own = at .2 in
           let first = at-bounds t d p n (at .0) (at .1) (at .3) in
           let near = first .2 in
           let far = any-bounds t a (at .0) (at .1) q m (first .1) (at .4) .2 in
-          by-mark (k x) (k′ x) (s x (omega arith) (omega arith)) (Clear E t k p n d (at .0) (at .1) (at .3))
+          by-mark (k x) (k′ x) (s x (List·Memᴰ·head refl)) (Clear E t k p n d (at .0) (at .1) (at .3))
           (Clear E′ t k′ p n d (at .0) (at .1) (at .3)) (ClearLone E t k (at .0) (at .1) a q m (at .4))
           (ClearLone E′ t k′ (at .0) (at .1) a q m (at .4))
-          (λ z. clear-alike p n d (at .0) (at .1) (at .3) (λ y l h. s y (omega arith) (omega arith))
+          (λ z. clear-alike p n d (at .0) (at .1) (at .3) (λ y i. s y (List·Memᴰ·tail (Memᴰ·append-left (names-any a) i)))
           (nothing-narrow n m n (at .1) (omega arith) (omega arith) u) z)
-          (λ z. lone-alike (at .0) (at .1) a q m (first .1) (at .4) (λ y l h. s y (omega arith) h)
+          (λ z. lone-alike (at .0) (at .1) a q m (first .1) (at .4) (λ y i. s y (List·Memᴰ·tail (Memᴰ·append-right (names d) i)))
           (nothing-narrow n m (at .1) m (omega arith) (omega arith) u) z) y
 
 -- one disjunction
 pub any-alike : (t : List ℕ) (k k′ : Marking) (E E′ : List Entry) (p n : ℕ) (a : Options) (q m : ℕ) → p ≤ length t →
-    (at : AtAny t p n a q m) → Alike k k′ n m → Nothing t k k′ E E′ n m → ClearAny E t k p n a q m at → ClearAny E′ t k′ p n a q m at
+    (at : AtAny t p n a q m) → Alike k k′ (names-any a) → Nothing t k k′ E E′ n m → ClearAny E t k p n a q m at →
+    ClearAny E′ t k′ p n a q m at
 any-alike t k k′ E E′ p n a q m h at s u x =
-    by-count t k k′ E E′ (kept-of k a) (kept-of k′ a) (kept-alike t k k′ a p n q m h at s) n m (ClearLone E t k p n a q m at)
+    by-count t k k′ E E′ (kept-of k a) (kept-of k′ a) (kept-alike k k′ a s) n m (ClearLone E t k p n a q m at)
     (ClearLone E′ t k′ p n a q m at) u (λ y. lone-alike t k k′ E E′ p n a q m h at s u y) x
 
 -- ---- by what stands loaded
@@ -216,9 +218,9 @@ module _ {n : ℕ} {t : List ℕ} {p left : ℕ} (k : Marking) (E : List Entry) 
     clear-several c e x = subst ClearBy e x
 
 pub clear-alike-of : {n : ℕ} {t : List ℕ} {g left : ℕ} (k k′ : Marking) (E E′ : List Entry) (l : Lying n t g left) →
-    Alike k k′ (l .from + 1) (l .to) → Nothing t k k′ E E′ (l .from) (l .to) → ClearOf E k l → ClearOf E′ k′ l
+    Alike k k′ (names (l .d)) → Nothing t k k′ E E′ (l .from) (l .to) → ClearOf E k l → ClearOf E′ k′ l
 clear-alike-of {n} {t} {g} {left} k k′ E E′ l = clear-alike t k k′ E E′ g (l .from) (l .d) (l .end) (l .to) (l .at)
 
 pub all-alike-of : {n : ℕ} {t : List ℕ} {p more left : ℕ} (k k′ : Marking) (E E′ : List Entry) (l : LyingAll n t p more left) →
-    Alike k k′ (l .from) (l .to) → Nothing t k k′ E E′ (l .from) (l .to) → ClearAllOf E k l → ClearAllOf E′ k′ l
+    Alike k k′ (names-all (l .ds)) → Nothing t k k′ E E′ (l .from) (l .to) → ClearAllOf E k l → ClearAllOf E′ k′ l
 all-alike-of {n} {t} {p} {more} {left} k k′ E E′ l = all-alike t k k′ E E′ p (l .from) (l .ds) (l .end) (l .to) (l .within) (l .at)

@@ -1,60 +1,23 @@
--- Engine's step at one disjunction, by the number of alternatives that are kept. What stands loaded has distinct names.
+-- Engine's step at one disjunction, by the number of alternatives that are kept.
 -- Assumes nothing.
-use Prim.Native.Nat.{ℕ, suc, _+_, _≤_, _<_}
+use Prim.Native.Nat.{ℕ, suc}
 use native.Mathlib.Omega.{arith}
-use mathlib.Core.Path.{_≡_, refl, sym, ap, ap₂, _∙_}
+use mathlib.Core.Path.{_≡_, refl, sym, ap, _∙_}
 use mathlib.Core.Bool.{Bool, true, false}
-use mathlib.Core.List.{List, _∷_, [], _++_, List·Memᴰ·head}
-use lib.ListN.{length}
+use mathlib.Core.List.{List, _++_, List·Memᴰ, List·Memᴰ·head}
 use Rattle.descriptions.specs.Remnant.{remnant, nothing, alone, several}
 use Rattle.theory.specs.Net.{Graph}
-use Rattle.theory.specs.Descr.{agree}
-use Rattle.engine.specs.Placed.{Placed, place, Places, stop, _also_, Options, no-more, option, strip-any}
+use Rattle.theory.specs.Descr.{agree, alts}
+use Rattle.engine.specs.Placed.{Placed, Options, no-more, option, strip-any}
 use Rattle.engine.specs.Marks.{Marking, kept-of}
 use Rattle.engine.specs.Certain.{sure-any, certain-any}
 use Rattle.engine.specs.Quickly.{Step, fails, stands, tried, settle-at, try-at, any-at, inside-at, sift-at}
-use Rattle.modes_by_marks.proofs.Names.{Distinct, DistinctAll, DistinctAny}
-use Rattle.modes_by_marks.proofs.Marks.{keep-false}
+use Rattle.modes_by_marks.proofs.Names.{Distinct, DistinctAny, names, names-any}
+use Rattle.modes_by_marks.proofs.Marks.{keep-false, keep-any-same, kept-alts}
+use Rattle.modes_by_marks.proofs.QuickStep.{Only, try-at-ok, inside-at-ok, any-at-ok}
+use Rattle.theory.specs.JoiningOne.{joining-one}
 use Rattle.engine.proofs.QuickStep.{sift-at-ok}
-use Rattle.loading.specs.Loaded.{extent}
-use Rattle.loading.specs.At.{At, AtAll, AtAny}
-use Rattle.loading.specs.Lying.{Lying, LyingAny}
-use Rattle.loading.proofs.Names.{Between, between-one, between-apart, between-wide}
-use Rattle.loading.proofs.Walking.{at-bounds, any-bounds, at-names, all-names, any-names}
 use Rattle.marks.proofs.First.{kept-true, kept-false}
-
--- ---- distinct names
-module _ (t : List ℕ) where
-  mutual
-    pub at-distinct : (d : Placed) (p n q m : ℕ) → At t p n d q m → Distinct d
-    at-distinct (place g ds) p n q m at = let room = at .4 in all-distinct ds (p + extent g + 1) (n + length g) q m (omega arith) (at .6)
-
-    all-distinct : (ds : Places) (p n q m : ℕ) → p ≤ length t → AtAll t p n ds q m → DistinctAll ds
-    all-distinct stop p n q m h at = tt
-    all-distinct (a also ds) p n q m h at =
-        let there = at .2 in
-        let first = any-bounds t a (p + 1) n (at .0) (at .1) (omega arith) (at .4) in (
-          any-distinct a (p + 1) n (at .0) (at .1) (omega arith) (at .4),
-          all-distinct ds (at .0) (at .1) q m (first .1) (at .5),
-          between-apart n (at .1) m _ _ (any-names t a (p + 1) n (at .0) (at .1) (omega arith) (at .4))
-              (all-names t ds (at .0) (at .1) q m (first .1) (at .5)),
-        )
-
-    pub any-distinct : (a : Options) (p n q m : ℕ) → p ≤ length t → AtAny t p n a q m → DistinctAny a
-    any-distinct no-more p n q m h at = tt
-    any-distinct (option x d a) p n q m h at =
-        let e = at .2 in
-        let first = at-bounds t d p n (at .0) (at .1) (at .3) in
-        let near = first .2 in
-        let own : Between n (n + 1) (x ∷ []) = rw e (between-one n (n + 1) (omega arith)) in
-        let inner = at-names t d p n (at .0) (at .1) (at .3) in
-        let later = any-names t a (at .0) (at .1) q m (first .1) (at .4) in (
-          at-distinct d p n (at .0) (at .1) (at .3),
-          any-distinct a (at .0) (at .1) q m (first .1) (at .4),
-          between-apart n (n + 1) (at .1) (x ∷ []) _ own inner,
-          between-apart n (at .1) m (x ∷ []) _ (between-wide n n (n + 1) (at .1) (x ∷ []) (omega arith) (omega arith) own) later,
-          between-apart (n + 1) (at .1) m _ _ inner later,
-        )
 
 -- ---- one disjunction
 module _ (S : List Graph) (m : Marking) where
@@ -129,24 +92,21 @@ any-several S m (option x d a) w l z = go (m x) refl (any-several S m a (w .1) l
         any-dropped S m x d a e ∙ on (sym (kept-false m x d a e) ∙ z) ∙ sym (settle-dropped S (sift-at S m a) x d a still)
         ∙ ap (λ (n : Marking). settle-at S n (option x d a)) (sym (sift-dropped S m x d a e))
 
--- ---- marks from n up to m are the same
-abbrev pub Alike : Marking → Marking → ℕ → ℕ → Type 0
-Alike k k′ n m = (y : ℕ) → n ≤ y → y < m → k′ y ≡ k y
+-- ---- the marks of these names are the same
+abbrev pub Alike : Marking → Marking → List ℕ → Type 0
+Alike k k′ l = (y : ℕ) → List·Memᴰ y l → k′ y ≡ k y
 
-pub kept-alike : (t : List ℕ) (k k′ : Marking) (a : Options) (p n q m : ℕ) → p ≤ length t → AtAny t p n a q m → Alike k k′ n m →
-    kept-of k′ a ≡ kept-of k a
-kept-alike t k k′ no-more p n q m h at s = refl
-kept-alike t k k′ (option x d a) p n q m h at s =
-    let own = at .2 in
-    let first = at-bounds t d p n (at .0) (at .1) (at .3) in
-    let near = first .2 in
-    let far = any-bounds t a (at .0) (at .1) q m (first .1) (at .4) .2 in
-    ap₂ {C = ℕ} (λ (b : Bool) (c : ℕ). elim b [ true ↦ suc c | false ↦ c ]) (s x (omega arith) (omega arith))
-    (kept-alike t k k′ a (at .0) (at .1) q m (first .1) (at .4) (λ y l u. s y (omega arith) u))
+pub kept-alike : (k k′ : Marking) (a : Options) → Alike k k′ (names-any a) → kept-of k′ a ≡ kept-of k a
+kept-alike k k′ a s = kept-alts k′ a ∙ ap (λ (o : Options). alts (strip-any o)) (keep-any-same a k′ k s) ∙ sym (kept-alts k a)
 
--- by what stands loaded
-pub distinct-of : {n : ℕ} {t : List ℕ} {g left : ℕ} (l : Lying n t g left) → Distinct (l .d)
-distinct-of {n} {t} {g} {left} l = at-distinct t (l .d) g (l .from) (l .end) (l .to) (l .at)
+-- ---- a step changes only marks of what it goes through
+module _ (S : List Graph) (m n : Marking) where
+  pub try-only : (d : Placed) → Distinct d → try-at S m d ≡ fails n → Only (names d) m n
+  try-only d w e = (rw e at (try-at-ok joining-one d w S m)) .1
 
-pub any-distinct-of : {n : ℕ} {t : List ℕ} {p count left : ℕ} (l : LyingAny n t p count left) → DistinctAny (l .a)
-any-distinct-of {n} {t} {p} {count} {left} l = any-distinct t (l .a) p (l .from) (l .end) (l .to) (l .within) (l .at)
+  module _ (T : List Graph) where
+    pub inside-only : (d : Placed) → Distinct d → inside-at S m d ≡ stands T n → Only (names d) m n
+    inside-only d w e = (rw e at (inside-at-ok joining-one d w S m)) .1
+
+    pub any-only : (a : Options) → DistinctAny a → any-at S m a ≡ stands T n → Only (names-any a) m n
+    any-only a w e = (rw e at (any-at-ok joining-one a w S m)) .1

@@ -16,17 +16,21 @@ use Rattle.modes_by_marks.proofs.Proper.{Proper}
 use Rattle.engine.proofs.Beside.{joined-strip, joined-distinct}
 use Rattle.modes_by_marks.proofs.Beside.{strip-some, SomeDistinct}
 use Rattle.loading.specs.Loaded.{nodes-in}
-use Rattle.loading.proofs.Names.{numbered-strip, between-apart, between-wide}
-use Rattle.loading.proofs.Lying.{names-of}
+use Rattle.loading.proofs.Names.{numbered-strip}
+use Rattle.loading.proofs.Lying.{distinct-of}
+use Rattle.entering.specs.Inputs.{Inputs}
 use Rattle.entering.specs.Stage.{Pair}
-use Rattle.entering.proofs.Mirror.{distinct-of}
+
+-- the inputs have no mark in common
+pub inputs-apart : {n : ℕ} {t : List ℕ} (i : Inputs n t) → Apart (names (i .first .d)) (names (i .second .d))
+inputs-apart i y a b = omega (arith, i .marks-first y a .1, i .marks-second y b .0, i .apart)
 
 module _ (n : ℕ) (t : List ℕ) (p : Pair n t) where
   pub strip-first : strip (p .inputs .first .d) ≡ p .d
-  strip-first = ap strip (p .first-is) ∙ numbered-strip 0 (p .d)
+  strip-first = ap strip (p .first-is) ∙ numbered-strip 1 (p .d)
 
   pub strip-second : strip (p .inputs .second .d) ≡ p .e
-  strip-second = ap strip (p .second-is) ∙ numbered-strip (nodes-in (p .d)) (p .e)
+  strip-second = ap strip (p .second-is) ∙ numbered-strip (nodes-in (p .d) + 1) (p .e)
 
   pub first-can : Can (strip (p .inputs .first .d))
   first-can = subst Can (sym strip-first) (well-can (p .d) (p .first-well))
@@ -47,13 +51,7 @@ module _ (n : ℕ) (t : List ℕ) (p : Pair n t) where
   second-distinct = distinct-of (p .inputs .second)
 
   pub both-apart : Apart (names (p .inputs .first .d)) (names (p .inputs .second .d))
-  both-apart =
-      let a = p .inputs .first in
-      let b = p .inputs .second in
-      between-apart (a .from + 1) (a .to) (b .to) (names (a .d)) (names (b .d))
-      (names-of a)
-      (between-wide (b .from + 1) (a .to) (b .to) (b .to) (names (b .d)) (omega (arith, p .inputs .apart)) (omega arith)
-      (names-of b))
+  both-apart = inputs-apart (p .inputs)
 
   -- mode 0, without the numbers
   pub joined-is : joined (strip (p .inputs .first .d)) (strip (p .inputs .second .d)) ≡ some (strip (p .j))

@@ -31,10 +31,10 @@ use Rattle.engine.proofs.Stack.{Same}
 use Rattle.engine.proofs.Joined.{joined-same}
 use Rattle.loading.specs.Entry.{Entry, graphs}
 use Rattle.loading.specs.Loaded.{nodes-in}
-use Rattle.loading.specs.Numbered.{numbered}
+use Rattle.loading.specs.Numbered.{numbered, input-numbered}
 use Rattle.loading.specs.At.{At}
-use Rattle.loading.proofs.Names.{nodes-some}
-use Rattle.loading.proofs.Loads.{loaded-at}
+use Rattle.loading.proofs.Names.{alts-few, input-between}
+use Rattle.loading.proofs.Loads.{input-at}
 use Rattle.loading.proofs.Entries.{entries}
 use Rattle.marks.specs.Marked.{marking}
 use Rattle.counting.specs.Counted.{beside}
@@ -54,19 +54,19 @@ use Rattle.entering.proofs.Pairs.{whole-comes}
 use Rattle.entering.proofs.Settling.{agree-joins}
 
 -- ---- definite graphs
-definite-taken : (t : List ℕ) (k : Marking) (d : Desc) (p n q m : ℕ) (at : At t p n (numbered n d) q m) →
-    List·Memᴰ (definite p n d) (taken t k p n (numbered n d) q m at)
-definite-taken t k (desc g ds) p n q m at = List·Memᴰ·head refl
+definite-taken : (t : List ℕ) (k : Marking) (d : Desc) (p n y q m : ℕ) (at : At t p n (numbered y d) q m) →
+    List·Memᴰ (definite p n d) (taken t k p n (numbered y d) q m at)
+definite-taken t k (desc g ds) p n y q m at = List·Memᴰ·head refl
 
 both-fine : (d e : Desc) (p q m n left : ℕ) → WellFormed d left → WellFormed e left → Fine (graphs (definite p m d ∷ definite q n e ∷ []))
 both-fine (desc g ds) (desc h es) p q m n left a b = fine-cons g (h ∷ []) (a .0) (b .0, tt)
 
-both-joined : (d e : Desc) (p q m n : ℕ) (G : Graph) → join (graphs (definite p m d ∷ definite q n e ∷ [])) ≡ some G →
-    joined-placed (numbered m d) (numbered n e) ≡ some (place G (beside (numbered m d) (numbered n e)))
-both-joined (desc g ds) (desc h es) p q m n G z =
+both-joined : (d e : Desc) (p q m n x y : ℕ) (G : Graph) → join (graphs (definite p m d ∷ definite q n e ∷ [])) ≡ some G →
+    joined-placed (numbered x d) (numbered y e) ≡ some (place G (beside (numbered x d) (numbered y e)))
+both-joined (desc g ds) (desc h es) p q m n x y G z =
     ap {B = Option Placed} (λ (o : Option Graph). elim o [
       | none ↦ none
-      | some k ↦ some (place k (beside (numbered m (desc g ds)) (numbered n (desc h es))))
+      | some k ↦ some (place k (beside (numbered x (desc g ds)) (numbered y (desc h es))))
     ]) z
 
 both-same : (d e : Desc) (p q m n left : ℕ) → WellFormed d left → WellFormed e left → (G : Graph) →
@@ -91,10 +91,10 @@ module _ (w : List ℕ) (d e : Desc) (n : ℕ) (long : SIZE ≤ length w) (wd : 
   half = nodes-in d
 
   abbrev a : Placed
-  a = numbered 0 d
+  a = input-numbered 0 d
 
   abbrev b : Placed
-  b = numbered half e
+  b = input-numbered half e
 
   abbrev end-a : ℕ
   end-a = length (layout.words d)
@@ -102,12 +102,16 @@ module _ (w : List ℕ) (d e : Desc) (n : ℕ) (long : SIZE ≤ length w) (wd : 
   abbrev end-b : ℕ
   end-b = SECOND + length (layout.words e)
 
+  few : half + nodes-in e ≤ input-limit
+  few = omega (arith, ground w d e n long wd we fd fe s .few, s .count)
+
   at-a : At t 0 0 a end-a half
   at-a = let z : 0 + half ≡ half = omega arith in
-      subst (λ (m : ℕ). At t 0 0 a end-a m) z (loaded-at t d 0 0 end-a (well-can d wd) (s .first))
+      subst (λ (m : ℕ). At t 0 0 a end-a m) z (input-at t d 0 0 end-a (well-can d wd) fd (omega (arith, few)) (s .first))
 
   at-b : At t SECOND half b end-b n
-  at-b = subst (λ (m : ℕ). At t SECOND half b end-b m) (sym (s .count)) (loaded-at t e SECOND half end-b (well-can e we) (s .second))
+  at-b = subst (λ (m : ℕ). At t SECOND half b end-b m) (sym (s .count))
+      (input-at t e SECOND half end-b (well-can e we) fe (omega (arith, few)) (s .second))
 
   abbrev inputs : Inputs n t
   inputs = record {
@@ -120,7 +124,7 @@ module _ (w : List ℕ) (d e : Desc) (n : ℕ) (long : SIZE ≤ length w) (wd : 
       to = half;
       at = at-a;
       low = omega (arith, s .count);
-      nests = well-nests d 0 depth-limit wd;
+      nests = well-nests d 1 depth-limit wd;
     };
     second = record {
       d = b;
@@ -129,12 +133,15 @@ module _ (w : List ℕ) (d e : Desc) (n : ℕ) (long : SIZE ≤ length w) (wd : 
       to = n;
       at = at-b;
       low = omega arith;
-      nests = well-nests e half depth-limit we;
+      nests = well-nests e (half + 1) depth-limit we;
     };
     before = omega (arith, fd);
     apart = omega arith;
-    among-first = numbered-among t (universe d e) d 0 0 0 end-a half refl at-a (λ x i. Memᴰ·append-left (entries SECOND half e) i);
-    among-second = numbered-among t (universe d e) e SECOND half half end-b n refl at-b (λ x i. Memᴰ·append-right (entries 0 0 d) i);
+    marks-first = λ y i. let u = input-between 0 d (well-can d wd) y i in let v = u .1 in (u .0, omega arith);
+    marks-second = λ y i. let u = input-between half e (well-can e we) y i in let v = u .1 in (u .0, omega (arith, s .count));
+    among-first = numbered-among t (universe d e) d 0 0 0 1 end-a half refl at-a (λ x i. Memᴰ·append-left (entries SECOND half e) i);
+    among-second = numbered-among t (universe d e) e SECOND half half (half + 1) end-b n refl at-b
+        (λ x i. Memᴰ·append-right (entries 0 0 d) i);
   }
 
   abbrev both : List Entry
@@ -148,12 +155,12 @@ module _ (w : List ℕ) (d e : Desc) (n : ℕ) (long : SIZE ≤ length w) (wd : 
       inside = two-cases (λ o. List·Memᴰ o (universe d e)) (definite 0 0 d) (definite SECOND half e) (in-one d e) (in-two d e);
       clear-first = clear-taken t (marking w) both 0 0 a end-a half at-a
           (two-cases (λ o. Outside 0 half (o .number) ⊎ List·Memᴰ o (taken t (marking w) 0 0 a end-a half at-a)) (definite 0 0 d)
-          (definite SECOND half e) (inr (definite-taken t (marking w) d 0 0 end-a half at-a)) (let z = number-definite SECOND half e in
+          (definite SECOND half e) (inr (definite-taken t (marking w) d 0 0 1 end-a half at-a)) (let z = number-definite SECOND half e in
           inl (inr (omega arith))));
       clear-second = clear-taken t (marking w) both SECOND half b end-b n at-b
           (two-cases (λ o. Outside half n (o .number) ⊎ List·Memᴰ o (taken t (marking w) SECOND half b end-b n at-b)) (definite 0 0 d)
-          (definite SECOND half e) (let z = number-definite 0 0 d in let m = nodes-some d (well-can d wd) in
-          inl (inl (omega arith))) (inr (definite-taken t (marking w) e SECOND half end-b n at-b)));
+          (definite SECOND half e) (let z = number-definite 0 0 d in let m = alts-few d (well-can d wd) in
+          inl (inl (omega arith))) (inr (definite-taken t (marking w) e SECOND half (half + 1) end-b n at-b)));
     }
 
     joins : Agrees (graphs both)
@@ -171,7 +178,7 @@ module _ (w : List ℕ) (d e : Desc) (n : ℕ) (long : SIZE ≤ length w) (wd : 
       first-is = refl;
       second-is = refl;
       j = place (joins .0) (beside a b);
-      joined = both-joined d e 0 SECOND 0 half (joins .0) (joins .1);
+      joined = both-joined d e 0 SECOND 0 half 1 (half + 1) (joins .0) (joins .1);
     }
 
     same : marking w ≡ all-kept → Same (graphs both) (flat (strip (keep (marking w) (pair .j))))

@@ -1,20 +1,22 @@
 -- Both inputs stand loaded, and what is certain in them is pushed.
 -- Assumes nothing: these are definitions.
-use Prim.Native.Nat.{ℕ, _≤_}
+use Prim.Native.Nat.{ℕ, _+_, _≤_}
 use mathlib.Core.Path.{_≡_}
 use mathlib.Core.List.{List}
 use Rattle.theory.specs.Limits.{depth-limit}
+use Rattle.modes_by_marks.proofs.Names.{names}
 use Rattle.area.specs.Map.{SECOND}
 use Rattle.area.specs.Region.{words}
 use Rattle.loading.specs.Entry.{Entry}
 use Rattle.loading.specs.Lying.{Lying}
+use Rattle.loading.proofs.Names.{Between}
 use Rattle.marks.specs.Marked.{marking}
 use Rattle.classes.specs.Holds.{Holds}
 use Rattle.entering.specs.Taken.{AmongOf, Inside}
 use Rattle.entering.specs.Ground.{Ground}
 use Rattle.entering.specs.Clear.{ClearOf}
 
--- both inputs stand loaded, the first before the second
+-- both inputs stand loaded, the first before the second, and the marks of each are numbers of its nodes
 pub record Inputs (n : ℕ) (t : List ℕ) : Type 0 where
   pub U : List Entry
   pub ground : Ground n t U
@@ -22,6 +24,8 @@ pub record Inputs (n : ℕ) (t : List ℕ) : Type 0 where
   pub second : Lying n t SECOND depth-limit
   pub before : first .end ≤ SECOND
   pub apart : first .to ≤ second .from
+  pub marks-first : Between (first .from + 1) (first .to) (names (first .d))
+  pub marks-second : Between (second .from + 1) (second .to) (names (second .d))
   pub among-first : AmongOf U first
   pub among-second : AmongOf U second
 

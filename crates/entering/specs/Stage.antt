@@ -16,7 +16,7 @@ use Rattle.engine.specs.Beside.{joined-placed}
 use Rattle.engine.proofs.Stack.{Same}
 use Rattle.loading.specs.Entry.{Entry, graphs}
 use Rattle.loading.specs.Loaded.{nodes-in}
-use Rattle.loading.specs.Numbered.{numbered}
+use Rattle.loading.specs.Numbered.{input-numbered}
 use Rattle.marks.specs.Marked.{marking}
 use Rattle.classes.specs.Holds.{Undoable}
 use Rattle.entering.specs.Inputs.{Inputs, Ready}
@@ -30,8 +30,8 @@ pub record Pair (n : ℕ) (t : List ℕ) : Type 0 where
   pub first-few : length (words d) ≤ input-limit
   pub second-few : length (words e) ≤ input-limit
   pub inputs : Inputs n t
-  pub first-is : inputs .first .d ≡ numbered 0 d
-  pub second-is : inputs .second .d ≡ numbered (nodes-in d) e
+  pub first-is : inputs .first .d ≡ input-numbered 0 d
+  pub second-is : inputs .second .d ≡ input-numbered (nodes-in d) e
   pub j : Placed
   pub joined : joined-placed (inputs .first .d) (inputs .second .d) ≡ some j
 

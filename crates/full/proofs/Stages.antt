@@ -27,7 +27,6 @@ use Rattle.modes_by_marks.proofs.Marks.{keep-same}
 use Rattle.engine.proofs.Joined.{keep-can, joined-is, joined-same}
 use Rattle.modes_by_marks.proofs.Joined.{certain-next, keep-next}
 use Rattle.loading.specs.Entry.{Entry, graphs}
-use Rattle.loading.proofs.Lying.{names-of}
 use Rattle.marks.specs.Marked.{marking}
 use Rattle.classes.specs.Holds.{Holds, Undoable}
 use Rattle.classes.proofs.Comings.{graphs-append}
@@ -76,9 +75,9 @@ module _ (n : ℕ) (t : List ℕ) (p : Pair n t) where
   pub pair-keeps : (m m′ : Marking) → ((y : ℕ) → y < n → m y ≡ m′ y) → keep m (p .j) ≡ keep m′ (p .j)
   pair-keeps m m′ h = keep-both (p .inputs .first .d) (p .inputs .second .d) (p .j) (p .joined) m m′
       (keep-same (p .inputs .first .d) m m′
-      (λ y i. h y (omega (arith, names-of (p .inputs .first) y i .1, p .inputs .first .low))))
+      (λ y i. h y (omega (arith, p .inputs .marks-first y i .1, p .inputs .first .low))))
       (keep-same (p .inputs .second .d) m m′
-      (λ y i. h y (omega (arith, names-of (p .inputs .second) y i .1, p .inputs .second .low))))
+      (λ y i. h y (omega (arith, p .inputs .marks-second y i .1, p .inputs .second .low))))
 
   module _ (m : Marking) where
     abbrev both : List Entry

@@ -15,7 +15,8 @@ use Rattle.layout.specs.Standing.{Stands}
 use Rattle.layout.proofs.Standing.{stands-append, stands-cons, stands-length}
 use Rattle.loading.specs.Entry.{Entry}
 use Rattle.packing.specs.Packed.{tail-word}
-use Rattle.loading.specs.Loaded.{extent, header, located, nodes-in, nodes-all, nodes-any, loaded, loaded-all, loaded-any}
+use Rattle.loading.specs.Loaded.{extent, header, located, nodes-in, nodes-all, nodes-any, alts-in, alts-any, loaded, loaded-all}
+use Rattle.loading.specs.Loaded.{loaded-any}
 use Rattle.loading.proofs.Sizes.{located-length, loaded-length, any-length}
 
 abbrev pub entry : ℕ → ℕ → Graph → Entry
@@ -141,10 +142,10 @@ module _ (t : List ℕ) where
   lie-append xs ys a b e i = ⊎-elim (a e) (b e) (List·Memᴰ·append-cases xs i)
 
   mutual
-    pub entries-lie : (p n q : ℕ) (d : Desc) → Stands t p (loaded p n d) q → Lie (entries p n d)
-    entries-lie p n q (desc g ds) s =
-        let word = tail-word (disjs ds) (p + length (words (desc g ds))) in
-        let inner = loaded-all (p + extent g + 1) (n + length g) ds in
+    pub entries-lie : (p n x y q : ℕ) (d : Desc) → Stands t p (loaded p n x y d) q → Lie (entries p n d)
+    entries-lie p n x y q (desc g ds) s =
+        let word = tail-word (disjs ds) x (p + length (words (desc g ds))) in
+        let inner = loaded-all (p + extent g + 1) (n + length g) y ds in
         let parts = stands-append t (header n g ∷ located n g) (word ∷ inner) p q .0 s in
         let far : parts .0 ≡ p + extent g = stands-length t (header n g ∷ located n g) p (parts .0) (parts .1)
         ∙ ap (λ (k : ℕ). p + suc k) (located-length n g) in
@@ -152,26 +153,28 @@ module _ (t : List ℕ) where
         let own : Lies t (entry p n g) = subst (λ (k : ℕ). Stands t p (header n g ∷ located n g) k) far (parts .1) in
         lie-append (entry p n g ∷ []) _
         (λ e i. ⊎-elim (λ h. subst (λ (f : Entry). Lies t f) (sym h) own) (λ j. absurd (List·Memᴰ·not-nil j)) (List·Memᴰ·cases-cons i))
-        (all-lie (p + extent g + 1) (n + length g) q ds (rest .2))
+        (all-lie (p + extent g + 1) (n + length g) y q ds (rest .2))
 
-    all-lie : (p n q : ℕ) (ds : Disjs) → Stands t p (loaded-all p n ds) q → Lie (entries-all p n ds)
-    all-lie p n q end s = λ e i. absurd (List·Memᴰ·not-nil i)
-    all-lie p n q (a and ds) s =
+    all-lie : (p n y q : ℕ) (ds : Disjs) → Stands t p (loaded-all p n y ds) q → Lie (entries-all p n ds)
+    all-lie p n y q end s = λ e i. absurd (List·Memᴰ·not-nil i)
+    all-lie p n y q (a and ds) s =
         let r = p + suc (length (alts-words a)) in
-        let inner = loaded-all r (n + nodes-any a) ds in
-        let parts = stands-append t (alts a ∷ loaded-any (p + 1) n a) inner p q .0 s in
-        let far : parts .0 ≡ r = stands-length t (alts a ∷ loaded-any (p + 1) n a) p (parts .0) (parts .1)
-        ∙ ap (λ (k : ℕ). p + suc k) (any-length (p + 1) n a) in
+        let first = loaded-any (p + 1) n y (y + alts a) a in
+        let inner = loaded-all r (n + nodes-any a) (y + (alts a + alts-any a)) ds in
+        let parts = stands-append t (alts a ∷ first) inner p q .0 s in
+        let far : parts .0 ≡ r = stands-length t (alts a ∷ first) p (parts .0) (parts .1)
+        ∙ ap (λ (k : ℕ). p + suc k) (any-length (p + 1) n y (y + alts a) a) in
         lie-append (entries-any (p + 1) n a) _
-        (any-lie (p + 1) n (parts .0) a (stands-cons t (alts a) (loaded-any (p + 1) n a) p (parts .0) .0 (parts .1) .2))
-        (all-lie r (n + nodes-any a) q ds (subst (λ (k : ℕ). Stands t k inner q) far (parts .2)))
+        (any-lie (p + 1) n y (y + alts a) (parts .0) a (stands-cons t (alts a) first p (parts .0) .0 (parts .1) .2))
+        (all-lie r (n + nodes-any a) _ q ds (subst (λ (k : ℕ). Stands t k inner q) far (parts .2)))
 
-    any-lie : (p n q : ℕ) (a : Alts) → Stands t p (loaded-any p n a) q → Lie (entries-any p n a)
-    any-lie p n q fail s = λ e i. absurd (List·Memᴰ·not-nil i)
-    any-lie p n q (d or a) s =
+    any-lie : (p n x y q : ℕ) (a : Alts) → Stands t p (loaded-any p n x y a) q → Lie (entries-any p n a)
+    any-lie p n x y q fail s = λ e i. absurd (List·Memᴰ·not-nil i)
+    any-lie p n x y q (d or a) s =
         let r = p + length (words d) in
-        let inner = loaded-any r (n + nodes-in d) a in
-        let parts = stands-append t (loaded p n d) inner p q .0 s in
-        let far : parts .0 ≡ r = stands-length t (loaded p n d) p (parts .0) (parts .1) ∙ ap (λ (k : ℕ). p + k) (loaded-length p n d) in
-        lie-append (entries p n d) _ (entries-lie p n (parts .0) d (parts .1))
-        (any-lie r (n + nodes-in d) q a (subst (λ (k : ℕ). Stands t k inner q) far (parts .2)))
+        let inner = loaded-any r (n + nodes-in d) (x + 1) (y + alts-in d) a in
+        let parts = stands-append t (loaded p n x y d) inner p q .0 s in
+        let far : parts .0 ≡ r = stands-length t (loaded p n x y d) p (parts .0) (parts .1)
+        ∙ ap (λ (k : ℕ). p + k) (loaded-length p n x y d) in
+        lie-append (entries p n d) _ (entries-lie p n x y (parts .0) d (parts .1))
+        (any-lie r (n + nodes-in d) _ _ q a (subst (λ (k : ℕ). Stands t k inner q) far (parts .2)))

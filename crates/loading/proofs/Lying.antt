@@ -1,14 +1,13 @@
--- The bounds of what stands loaded, and where its names lie.
+-- The bounds of what stands loaded, and its distinct names.
 -- Assumes nothing.
-use Prim.Native.Nat.{ℕ, _+_, _≤_, _<_}
+use Prim.Native.Nat.{ℕ, _≤_, _<_}
 use native.Mathlib.Omega.{arith}
 use mathlib.Core.Path.{_≡_, _∙_}
 use mathlib.Core.List.{List}
 use lib.ListN.{length}
-use Rattle.modes_by_marks.proofs.Names.{names}
+use Rattle.modes_by_marks.proofs.Names.{Distinct, DistinctAny}
 use Rattle.loading.specs.Lying.{Lying, LyingAll, LyingAny}
-use Rattle.loading.proofs.Names.{Between}
-use Rattle.loading.proofs.Walking.{at-bounds, all-bounds, any-bounds, at-names}
+use Rattle.loading.proofs.Walking.{at-bounds, all-bounds, any-bounds, at-distinct, any-distinct}
 
 -- what stands below a number stands below a greater one
 abbrev pub lying-more : {m n : ℕ} {t : List ℕ} {g left : ℕ} → m ≤ n → Lying m t g left → Lying n t g left
@@ -46,6 +45,9 @@ module _ {n : ℕ} {t : List ℕ} {p left : ℕ} where
   pub any-bounds-of : {count : ℕ} (l : LyingAny n t p count left) → (p ≤ l .end) × (l .end ≤ length t) × (l .from ≤ l .to)
   any-bounds-of l = any-bounds t (l .a) p (l .from) (l .end) (l .to) (l .within) (l .at)
 
-  -- where its names lie
-  pub names-of : (l : Lying n t p left) → Between (l .from + 1) (l .to) (names (l .d))
-  names-of l = at-names t (l .d) p (l .from) (l .end) (l .to) (l .at)
+  -- no two names are the same
+  pub distinct-of : (l : Lying n t p left) → Distinct (l .d)
+  distinct-of l = at-distinct t (l .d) p (l .from) (l .end) (l .to) (l .at)
+
+  pub any-distinct-of : {count : ℕ} (l : LyingAny n t p count left) → DistinctAny (l .a)
+  any-distinct-of l = any-distinct t (l .a) p (l .from) (l .end) (l .to) (l .at)

@@ -3,7 +3,7 @@
 use Prim.Native.Nat.{ℕ, _+_, _-_, _*_, _≤_, _<_}
 use native.Mathlib.Omega.{arith}
 use native.Mathlib.Nat.{add-zero, add-assoc}
-use mathlib.Core.Path.{_≡_, sym, subst, ap, ap₂, _∙_}
+use mathlib.Core.Path.{_≡_, refl, sym, subst, ap, ap₂, _∙_}
 use mathlib.Core.List.{List, [], _∷_, _++_}
 use lib.ListN.{length, getD, set, length-set}
 use Rattle.theory.specs.Limits.{code-limit, input-limit, depth-limit}
@@ -15,12 +15,12 @@ use Rattle.layout.specs.Standing.{Stands, graph-words}
 use Rattle.layout.proofs.Standing.{stands-nil, stands-length, stands-order, stands-within, stands-whole, stands-atom, stands-node}
 use Rattle.layout.proofs.Standing.{stands-arc, stands-graph, stands-disjunction, stands-description}
 use Rattle.packing.specs.Packed.{graph-word, tail-word}
-use Rattle.loading.specs.Loaded.{extent, header, moved-arcs, located, loaded, loaded-all}
-use Rattle.loading.specs.Loaded.{loaded-any}
+use Rattle.loading.specs.Loaded.{extent, header, moved-arcs, located, nodes-in, loaded-all, loaded-any, input-loaded}
 use Rattle.loading.specs.Loading.{Put, Kind, AllLow, its-arcs, a-node, its-nodes, a-graph, a-disjunction, a-description, Room, Asked}
-use Rattle.loading.specs.Loading.{Loads, Loadable, LoadedAt}
-use Rattle.loading.proofs.Sequels.{an-arc, its-disjunctions, its-alternatives}
+use Rattle.loading.specs.Loading.{Coming, coming, node-coming, Loads, Loadable, LoadedAt}
+use Rattle.loading.proofs.Sequels.{coming-same, an-arc, its-disjunctions, its-alternatives}
 use Rattle.loading.proofs.Sizes.{moved-length, graph-extent, numbered-low, nodes-few, weights-fit-all}
+use Rattle.loading.proofs.Names.{alts-few}
 use Rattle.loading.proofs.Putting.{put-append, put-one, put-before, put-then}
 
 -- a position after another, moved by a shift
@@ -30,10 +30,12 @@ shifted shift p = sym (add-assoc shift p 1)
 pub room-keeps : (t u ws : List ℕ) (shift : ℕ) → length u ≡ length t → Room t ws shift → Room u ws shift
 room-keeps t u ws shift e r = record { few = r .few; near = r .near; room = (let h = r .room in omega arith) }
 
-pub loads-keeps : (K : Kind) (t u ws : List ℕ) (shift p n r m : ℕ) → Asked K ws p n → Loads K ws p shift n t u r m → length u ≡ length t
+pub loads-keeps : (K : Kind) (t u ws : List ℕ) (shift p : ℕ) (n : Coming) (r : ℕ) (m : Coming) →
+    Asked K ws p n → Loads K ws p shift n t u r m → length u ≡ length t
 loads-keeps K t u ws shift p n r m a loads = loads (a .0) (a .1) (a .2) (a .3) .2 .same
 
-pub loads-reach : (K : Kind) (t u ws : List ℕ) (shift p n r m : ℕ) → p ≤ length ws → Asked K ws p n → Loads K ws p shift n t u r m →
+pub loads-reach : (K : Kind) (t u ws : List ℕ) (shift p : ℕ) (n : Coming) (r : ℕ) (m : Coming) →
+    p ≤ length ws → Asked K ws p n → Loads K ws p shift n t u r m →
     (p ≤ r) × (r ≤ length ws)
 loads-reach K t u ws shift p n r m h a loads =
     let e = loads (a .0) (a .1) (a .2) (a .3) .0 in
@@ -42,37 +44,46 @@ loads-reach K t u ws shift p n r m h a loads =
     (omega arith, omega arith)
 
 module _ (ws : List ℕ) (p n : ℕ) where
-  pub arc-there : Asked an-arc ws p n → (p + 1 < length ws) × (getD ws (p + 1) 0 < input-limit) × (n ≤ input-limit)
-  arc-there a = let s = stands-arc ws (a .0) [] p (a .1) .0 (a .3) in let low = a .2 in let e = s .3 in let room = a .4 in
+  pub arc-there : Asked an-arc ws p (node-coming n) → (p + 1 < length ws) × (getD ws (p + 1) 0 < input-limit) × (n ≤ input-limit)
+  arc-there a = let s = stands-arc ws (a .0) [] p (a .1) .0 (a .3) in let low = a .2 in let e = s .3 in let room = a .4 .0 in
       (s .2, omega arith, omega arith)
 
-  pub node-there : Asked a-node ws p n → p < length ws
+  pub node-there : Asked a-node ws p (node-coming n) → p < length ws
   node-there (atom a, q, f, s, h) = stands-atom ws a p q .0 s .0
   node-there (arcs l, q, f, s, h) = stands-node ws l p q .0 s .0
 
-  pub node-asks : Asked a-node ws p n → getD ws p 0 < code-limit → Asked (its-arcs (getD ws p 0)) ws (p + 1) n
+  pub node-asks : Asked a-node ws p (node-coming n) → getD ws p 0 < code-limit → Asked (its-arcs (getD ws p 0)) ws (p + 1) (node-coming n)
   node-asks (atom a, q, f, s, h) k = let e = stands-atom ws a p q .0 s .1 in absurd (omega arith)
   node-asks (arcs l, q, f, s, h) k = let parts = stands-node ws l p q .0 s in (l, q, (sym (parts .1), f .1), parts .2, h)
 
-  pub graph-there : Asked a-graph ws p n → (p < length ws) × (n + getD ws p 0 ≤ input-limit)
-  graph-there a = let parts = stands-graph ws (a .0) p (a .1) .0 (a .3) in let e = parts .1 in let room = a .4 in (parts .0, omega arith)
+  pub graph-there : Asked a-graph ws p (node-coming n) → (p < length ws) × (n + getD ws p 0 ≤ input-limit)
+  graph-there a = let parts = stands-graph ws (a .0) p (a .1) .0 (a .3) in let e = parts .1 in let room = a .4 .0 in (parts .0, omega arith)
 
-  pub graph-asks : Asked a-graph ws p n → Asked (its-nodes (getD ws p 0)) ws (p + 1) n
+  pub graph-asks : Asked a-graph ws p (node-coming n) → Asked (its-nodes (getD ws p 0)) ws (p + 1) (node-coming n)
   graph-asks a =
       let parts = stands-graph ws (a .0) p (a .1) .0 (a .3) in
-      let room = a .4 in
-      (a .0, a .1, (sym (parts .1), a .2 .0, a .2 .1), parts .2, omega arith)
+      let room = a .4 .0 in
+      (a .0, a .1, (sym (parts .1), a .2 .0, a .2 .1), parts .2, (omega arith, omega arith, omega arith))
 
-  pub disjunction-there : (left : ℕ) → Asked (a-disjunction left) ws p n → (p < length ws) × (0 < left)
-  disjunction-there left a = (stands-disjunction ws (a .0) p (a .1) .0 (a .3) .0, a .2 .0)
-
-  pub disjunction-asks : (left : ℕ) → Asked (a-disjunction left) ws p n → Asked (its-alternatives (left - 1) (getD ws p 0)) ws (p + 1) n
-  disjunction-asks left a =
+  pub disjunction-there : (y left : ℕ) → Asked (a-disjunction left) ws p (coming n 0 y) →
+      (p < length ws) × (0 < left) × (y + getD ws p 0 ≤ input-limit)
+  disjunction-there y left a =
       let parts = stands-disjunction ws (a .0) p (a .1) .0 (a .3) in
-      (a .0, a .1, (sym (parts .1), a .2 .1), parts .2, a .4)
+      let e = parts .1 in
+      let free = a .4 .2 in
+      (parts .0, a .2 .0, omega arith)
+
+  pub disjunction-asks : (y left : ℕ) → Asked (a-disjunction left) ws p (coming n 0 y) →
+      Asked (its-alternatives (left - 1) (getD ws p 0)) ws (p + 1) (coming n y (y + getD ws p 0))
+  disjunction-asks y left a =
+      let parts = stands-disjunction ws (a .0) p (a .1) .0 (a .3) in
+      let e = parts .1 in
+      let free = a .4 .2 in
+      (a .0, a .1, (sym (parts .1), a .2 .1), parts .2, (a .4 .0, omega arith, omega arith))
 
 module _ (t ws : List ℕ) (shift p n : ℕ) (room : shift + length ws ≤ length t) where
-  pub arc-loads : Loads an-arc ws p shift n t (set (set t (shift + p) (getD ws p 0)) (shift + p + 1) (getD ws (p + 1) 0 + n)) (p + 2) n
+  pub arc-loads : Loads an-arc ws p shift (node-coming n) t
+      (set (set t (shift + p) (getD ws p 0)) (shift + p + 1) (getD ws (p + 1) 0 + n)) (p + 2) (node-coming n)
   arc-loads e q f s =
       let parts = stands-arc ws e [] p q .0 s in
       let here = parts .0 in
@@ -89,7 +100,7 @@ module _ (t ws : List ℕ) (shift p n : ℕ) (room : shift + length ws ≤ lengt
       put-then t (set u (shift + p + 1) y) x (y ∷ []) (shift + p) (shift + p + 1 + 1) (omega arith)
       (put-one u y (shift + p + 1) (omega arith)) in (
         last,
-        omega arith,
+        refl,
         subst (λ (xs : List ℕ). Put t (set u (shift + p + 1) y) (shift + p) xs (shift + q))
             (ap₂ (λ (a b : ℕ). a ∷ b ∷ []) (parts .1) value)
             (subst (λ (k : ℕ). Put t (set u (shift + p + 1) y) (shift + p) (x ∷ y ∷ []) k) far two),
@@ -103,7 +114,8 @@ module _ (t ws : List ℕ) (shift p n : ℕ) (room : shift + length ws ≤ lengt
       (put-then t u (getD ws p 0) xs (shift + p) q (omega arith)
       (subst (λ (k : ℕ). Put (set t (shift + p) (getD ws p 0)) u k xs q) (shifted shift p) a))
 
-  pub atom-loads : code-limit ≤ getD ws p 0 → Loads a-node ws p shift n t (set t (shift + p) (getD ws p 0)) (p + 1) n
+  pub atom-loads : code-limit ≤ getD ws p 0 →
+      Loads a-node ws p shift (node-coming n) t (set t (shift + p) (getD ws p 0)) (p + 1) (node-coming n)
   atom-loads k (atom a) q f s =
       let parts = stands-atom ws a p q .0 s in
       let there = parts .0 in
@@ -111,14 +123,15 @@ module _ (t ws : List ℕ) (shift p n : ℕ) (room : shift + length ws ≤ lengt
       let x = getD ws p 0 in
       let one = put-one t x (shift + p) (omega arith) in (
         parts .2,
-        omega arith,
+        refl,
         subst (λ (y : ℕ). Put t (set t (shift + p) x) (shift + p) (y ∷ []) (shift + q)) (parts .1)
             (subst (λ (j : ℕ). Put t (set t (shift + p) x) (shift + p) (x ∷ []) j) far one),
       )
   atom-loads k (arcs l) q f s = let e = stands-node ws l p q .0 s .1 in let few = f .0 .0 in absurd (omega arith)
 
   pub node-loads : (u : List ℕ) (r : ℕ) → getD ws p 0 < code-limit →
-      Loads (its-arcs (getD ws p 0)) ws (p + 1) shift n (set t (shift + p) (getD ws p 0)) u r n → Loads a-node ws p shift n t u r n
+      Loads (its-arcs (getD ws p 0)) ws (p + 1) shift (node-coming n) (set t (shift + p) (getD ws p 0)) u r (node-coming n) →
+      Loads a-node ws p shift (node-coming n) t u r (node-coming n)
   node-loads u r k loads (atom a) q f s = let e = stands-atom ws a p q .0 s .1 in absurd (omega arith)
   node-loads u r k loads (arcs l) q f s =
       let parts = stands-node ws l p q .0 s in
@@ -129,8 +142,9 @@ module _ (t ws : List ℕ) (shift p n : ℕ) (room : shift + length ws ≤ lengt
             ∙ sym (moved-length n l)) (done .2),
       )
 
-  pub graph-loads : (u : List ℕ) (r w : ℕ) → Loads (its-nodes (getD ws p 0)) ws (p + 1) shift n t u r n →
-      w ≡ graph-word (getD ws p 0) n (r - p) → Loads a-graph ws p shift n t (set u (shift + p) w) r (n + getD ws p 0)
+  pub graph-loads : (u : List ℕ) (r w : ℕ) → Loads (its-nodes (getD ws p 0)) ws (p + 1) shift (node-coming n) t u r (node-coming n) →
+      w ≡ graph-word (getD ws p 0) n (r - p) →
+      Loads a-graph ws p shift (node-coming n) t (set u (shift + p) w) r (node-coming (n + getD ws p 0))
   graph-loads u r w loads e g q f s =
       let parts = stands-graph ws g p q .0 s in
       let there = parts .0 in
@@ -141,22 +155,27 @@ module _ (t ws : List ℕ) (shift p n : ℕ) (room : shift + length ws ≤ lengt
       let size : r - p ≡ extent g = omega arith in
       let value : w ≡ header n g = e ∙ ap₂ (λ (c x : ℕ). graph-word c n x) count size in (
         here,
-        omega arith,
+        ap (λ (k : ℕ). node-coming (n + k)) count,
         subst (λ (y : ℕ). Put t (set u (shift + p) w) (shift + p) (y ∷ located n g) (shift + q)) value
             (put-before t u w (located n g) (shift + p) (shift + q) (omega arith)
             (subst (λ (k : ℕ). Put t u k (located n g) (shift + q)) (shifted shift p) (done .2))),
       )
 
-  pub disjunction-loads : (left : ℕ) (u : List ℕ) (r m : ℕ) →
-      Loads (its-alternatives (left - 1) (getD ws p 0)) ws (p + 1) shift n (set t (shift + p) (getD ws p 0)) u r m →
-      Loads (a-disjunction left) ws p shift n t u r m
-  disjunction-loads left u r m loads a q f s =
+  pub disjunction-loads : (y left : ℕ) (u : List ℕ) (r k m o : ℕ) →
+      Loads (its-alternatives (left - 1) (getD ws p 0)) ws (p + 1) shift (coming n y (y + getD ws p 0))
+      (set t (shift + p) (getD ws p 0)) u r (coming k o m) → Loads (a-disjunction left) ws p shift (coming n 0 y) t u r (coming k 0 m)
+  disjunction-loads y left u r k m o loads a q f s =
       let parts = stands-disjunction ws a p q .0 s in
-      let done = loads a q (sym (parts .1), f .1) (parts .2) in (
+      let done = loads a q (sym (parts .1), f .1) (parts .2) in
+      let number = ap (λ (c : Coming). c .number) (done .1) in
+      let free = ap (λ (c : Coming). c .free) (done .1) in
+      let some = parts .1 in (
         done .0,
-        done .1,
-        subst (λ (k : ℕ). Put t u (shift + p) (alts a ∷ loaded-any k n a) (shift + q)) (shifted shift p)
-            (word-then u (alts a) (loaded-any (shift + (p + 1)) n a) (shift + q) (parts .0) (parts .1) (done .2)),
+        coming-same (omega arith) refl (omega arith),
+        subst (λ (k : ℕ). Put t u (shift + p) (alts a ∷ loaded-any k n y (y + alts a) a) (shift + q)) (shifted shift p)
+            (word-then u (alts a) (loaded-any (shift + (p + 1)) n y (y + alts a) a) (shift + q) (parts .0) (parts .1)
+            (subst (λ (k : ℕ). Put (set t (shift + p) (getD ws p 0)) u (shift + (p + 1)) (loaded-any (shift + (p + 1)) n y (y + k) a)
+            (shift + q)) (parts .1) (done .2))),
       )
 
 module _ (ws : List ℕ) (few : length ws ≤ input-limit) where
@@ -165,95 +184,109 @@ module _ (ws : List ℕ) (few : length ws ≤ input-limit) where
   low g p q c h s = numbered-low 0 1 g c
       (omega (arith, graph-extent g, stands-length ws (graph-words g) p q s, stands-within ws (graph-words g) p q (omega arith) s))
 
-  pub description-asks : (left p n : ℕ) → Asked (a-description left) ws p n → Asked a-graph ws p n
-  description-asks left p n (desc g ds, q, f, s, h) =
+  pub description-asks : (left p n x y : ℕ) → Asked (a-description left) ws p (coming n x y) → Asked a-graph ws p (node-coming n)
+  description-asks left p n x y (desc g ds, q, f, s, h) =
       let parts = stands-description ws g ds p q .0 s in
       let there = stands-graph ws g p (parts .0) .0 (parts .1) .0 in
-      (g, parts .0, (f .1, low g p (parts .0) (f .0) there (parts .1)), parts .1, omega arith)
+      let numbers = h .0 in
+      (g, parts .0, (f .1, low g p (parts .0) (f .0) there (parts .1)), parts .1, (omega arith, omega arith, omega arith))
 
-  module _ (t u : List ℕ) (shift left p n r k : ℕ) (graph : Loads a-graph ws p shift n t u r k) where
-    pub description-goes : Asked (a-description left) ws p n → (r < length ws) × Asked (its-disjunctions left (getD ws r 0)) ws (r + 1) k
+  module _ (t u : List ℕ) (shift left p n x y r k : ℕ) (graph : Loads a-graph ws p shift (node-coming n) t u r (node-coming k)) where
+    pub description-goes : Asked (a-description left) ws p (coming n x y) →
+        (r < length ws) × (x < input-limit) × Asked (its-disjunctions left (getD ws r 0)) ws (r + 1) (coming k 0 y)
     description-goes (desc g ds, q, f, s, h) =
         let parts = stands-description ws g ds p q .0 s in
         let there = stands-graph ws g p (parts .0) .0 (parts .1) .0 in
         let done = graph g (parts .0) (f .1, low g p (parts .0) (f .0) there (parts .1)) (parts .1) in
         let here = done .0 in
-        let next = done .1 in
+        let next = ap (λ (c : Coming). c .number) (done .1) in
+        let numbers = h .0 in
+        let own = h .1 in
         let far = parts .2 in (
+          omega arith,
           omega arith,
           (
             ds,
             q,
             (rw here (sym (parts .3)), f .2),
             subst (λ (j : ℕ). Stands ws (j + 1) (disjs-words ds) q) (sym here) (parts .4),
-            omega arith,
+            (omega arith, omega arith, h .2),
           ),
         )
 
-    -- the disjunctions end within the words, and are no more than these
-    pub description-ends : (v : List ℕ) (e m : ℕ) → Asked (a-description left) ws p n →
-        Loads (its-disjunctions left (getD ws r 0)) ws (r + 1) shift k u v e m →
-        (e ≤ length ws) × (getD ws r 0 ≤ length ws) × (r < length ws)
+    -- the disjunctions end within the words, and are fewer than these
+    pub description-ends : (v : List ℕ) (e : ℕ) (m : Coming) → Asked (a-description left) ws p (coming n x y) →
+        Loads (its-disjunctions left (getD ws r 0)) ws (r + 1) shift (coming k 0 y) u v e m →
+        (e ≤ length ws) × (getD ws r 0 < length ws) × (r < length ws) × (x < input-limit)
     description-ends v e m a loads =
         let goes = description-goes a in
         let there = goes .0 in
-        let ask = goes .1 in
+        let ask = goes .2 in
         let ds = ask .0 in
         let count = ask .2 .0 in
-        let reach = loads-reach (its-disjunctions left (getD ws r 0)) u v ws shift (r + 1) k e m (omega arith) ask loads in
+        let reach = loads-reach (its-disjunctions left (getD ws r 0)) u v ws shift (r + 1) _ e m (omega arith) ask loads in
         let same = loads ds (ask .1) (ask .2) (ask .3) .0 in
         let far = reach .1 in
-        (far, omega (arith, weights-fit-all ds, stands-length ws (disjs-words ds) (r + 1) (ask .1) (ask .3)), there)
+        (far, omega (arith, weights-fit-all ds, stands-length ws (disjs-words ds) (r + 1) (ask .1) (ask .3)), there, goes .1)
 
-    pub description-loads : (v : List ℕ) (e m w : ℕ) → shift + length ws ≤ length t →
-        Loads (its-disjunctions left (getD ws r 0)) ws (r + 1) shift k u v e m → w ≡ tail-word (getD ws r 0) (shift + e) →
-        Loads (a-description left) ws p shift n t (set v (shift + r) w) e m
-    description-loads v e m w room others value (desc g ds) q f s =
+    pub description-loads : (v : List ℕ) (e m o w : ℕ) → shift + length ws ≤ length t →
+        Loads (its-disjunctions left (getD ws r 0)) ws (r + 1) shift (coming k 0 y) u v e (coming m 0 o) →
+        w ≡ tail-word (getD ws r 0) x (shift + e) →
+        Loads (a-description left) ws p shift (coming n x y) t (set v (shift + r) w) e (coming m (x + 1) o)
+    description-loads v e m o w room others value (desc g ds) q f s =
         let parts = stands-description ws g ds p q .0 s in
         let there = stands-graph ws g p (parts .0) .0 (parts .1) .0 in
         let done = graph g (parts .0) (f .1, low g p (parts .0) (f .0) there (parts .1)) (parts .1) in
         let here = done .0 in
-        let next = done .1 in
+        let next = ap (λ (c : Coming). c .number) (done .1) in
         let inside = parts .2 in
         let count : getD ws r 0 ≡ disjs ds = rw here (parts .3) in
         let rest = others ds q (sym count, f .2) (subst (λ (j : ℕ). Stands ws (j + 1) (disjs-words ds) q) (sym here) (parts .4)) in
         let end = rest .0 in
-        let last = rest .1 in
+        let last = ap (λ (c : Coming). c .number) (rest .1) in
+        let free = ap (λ (c : Coming). c .free) (rest .1) in
         let same = done .2 .same in
         let far = stands-length ws (graph-words g) p (parts .0) (parts .1) in
         let whole = stands-length ws (words (desc g ds)) p q s in
         let place : shift + (r + 1) ≡ shift + p + extent g + 1 = omega arith in
-        let inner = loaded-all (shift + p + extent g + 1) (n + length g) ds in
+        let inner = loaded-all (shift + p + extent g + 1) (n + length g) y ds in
         let ends : shift + e ≡ shift + p + length (words (desc g ds)) = omega arith in
-        let word : w ≡ tail-word (disjs ds) (shift + p + length (words (desc g ds))) = value ∙ ap₂ tail-word count ends in
-        let x = set v (shift + r) w in
+        let word : w ≡ tail-word (disjs ds) x (shift + p + length (words (desc g ds))) =
+        value ∙ ap₂ (λ (c e : ℕ). tail-word c x e) count ends in
+        let z = set v (shift + r) w in
         let others′ : Put u v (shift + r + 1) inner (shift + q) =
         subst (λ (j : ℕ). Put u v j inner (shift + q)) (shifted shift r)
-        (subst (λ (xs : List ℕ). Put u v (shift + (r + 1)) xs (shift + q)) (ap₂ (λ (a b : ℕ). loaded-all a b ds) place next) (rest .2))
+        (subst (λ (xs : List ℕ). Put u v (shift + (r + 1)) xs (shift + q)) (ap₂ (λ (a b : ℕ). loaded-all a b y ds) place next) (rest .2))
         in
-        let closed : Put u x (shift + parts .0) (w ∷ inner) (shift + q) =
-        subst (λ (j : ℕ). Put u x (shift + j) (w ∷ inner) (shift + q)) here
+        let closed : Put u z (shift + parts .0) (w ∷ inner) (shift + q) =
+        subst (λ (j : ℕ). Put u z (shift + j) (w ∷ inner) (shift + q)) here
         (put-before u v w inner (shift + r) (shift + q) (omega arith) others′) in (
           end,
-          omega arith,
-          subst (λ (y : ℕ). Put t x (shift + p) ((header n g ∷ located n g) ++ y ∷ inner) (shift + q)) word
-              (put-append t u x (header n g ∷ located n g) (w ∷ inner) (shift + p) (shift + parts .0) (shift + q) (done .2) closed),
+          coming-same (omega arith) refl (omega arith),
+          subst (λ (y : ℕ). Put t z (shift + p) ((header n g ∷ located n g) ++ y ∷ inner) (shift + q)) word
+              (put-append t u z (header n g ∷ located n g) (w ∷ inner) (shift + p) (shift + parts .0) (shift + q) (done .2) closed),
         )
 
 module _ (t ws : List ℕ) (shift n : ℕ) where
   pub load-room : Loadable t ws shift n → Room t ws shift
   load-room l = record { few = l .few; near = l .near; room = (let a = l .few in let b = l .near in let c = l .room in omega arith) }
 
-  pub load-asks : Loadable t ws shift n → Asked (a-description depth-limit) ws 0 n
+  pub load-asks : Loadable t ws shift n → Asked (a-description depth-limit) ws 0 (coming n n (n + 1))
   load-asks l =
       let image = l .image in
       let d = image .0 in
       let few = l .few in
       let numbers = l .numbers in
       let size = ap length (image .2) in
-      (d, length ws, image .1, stands-whole ws (words d) .0 (image .2), omega (arith, nodes-few d (well-can d (image .1))))
+      let can = well-can d (image .1) in
+      let fits : n + nodes-in d ≤ input-limit = omega (arith, nodes-few d can) in
+      let marks = alts-few d can in
+      (d, length ws, image .1, stands-whole ws (words d) .0 (image .2), (fits, omega arith, omega arith))
 
-  pub load-loads : (u : List ℕ) (r m : ℕ) → Loads (a-description depth-limit) ws 0 shift n t u r m → LoadedAt ws shift n t u m
-  load-loads u r m loads d f e =
-      let done = loads d (length ws) f (stands-whole ws (words d) .0 e) in
-      (done .1, subst (λ (j : ℕ). Put t u j (loaded j n d) (shift + length ws)) (add-zero shift) (done .2))
+  pub load-loads : (u : List ℕ) (r m x y : ℕ) → Loads (a-description depth-limit) ws 0 shift (coming n n (n + 1)) t u r (coming m x y) →
+      LoadedAt ws shift n t u m
+  load-loads u r m x y loads d f e =
+      let done = loads d (length ws) f (stands-whole ws (words d) .0 e) in (
+        ap (λ (c : Coming). c .number) (done .1),
+        subst (λ (j : ℕ). Put t u j (input-loaded j n d) (shift + length ws)) (add-zero shift) (done .2),
+      )

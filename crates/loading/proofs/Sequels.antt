@@ -2,16 +2,18 @@
 -- Assumes nothing.
 use Prim.Native.Nat.{ℕ, zero, suc, _+_, _-_, _≤_, _<_}
 use native.Mathlib.Omega.{arith}
-use native.Mathlib.Nat.{add-zero}
 use native.Mathlib.Numerals.{sub-one}
 use mathlib.Core.Path.{_≡_, refl}
 use mathlib.Core.List.{[], _∷_}
 use Rattle.theory.specs.Limits.{input-limit}
 use Rattle.theory.specs.Descr.{Disjs, end, _and_, Alts, fail, _or_, disjs, alts}
 use Rattle.theory.specs.Layout.{disjs-words, alts-words, WellAll, WellAny}
-use Rattle.loading.specs.Loaded.{nodes-all, nodes-any, loaded-all, loaded-any}
-use Rattle.loading.specs.Loading.{Kind, its-arcs, a-node, its-nodes, a-disjunction, a-description}
+use Rattle.loading.specs.Loaded.{nodes-all, nodes-any, alts-all, alts-any, loaded-all, loaded-any}
+use Rattle.loading.specs.Loading.{coming, Kind, its-arcs, a-node, its-nodes, a-disjunction, a-description}
 use Rattle.loading.proofs.Series.{Steps, Ends}
+
+pub coming-same : {n n′ x x′ y y′ : ℕ} → n ≡ n′ → x ≡ x′ → y ≡ y′ → coming n x y ≡ coming n′ x′ y′
+coming-same e f g = rw (e, f, g) refl
 
 -- an arc
 abbrev pub an-arc : Kind
@@ -19,8 +21,8 @@ an-arc = record {
   Thing = ℕ × ℕ;
   Fine = λ e. e .1 < input-limit;
   text = λ e. e .0 ∷ e .1 ∷ [];
-  image = λ p n e. e .0 ∷ (n + e .1) ∷ [];
-  nodes = λ e. 0;
+  image = λ p c e. e .0 ∷ (c .number + e .1) ∷ [];
+  after = λ c e. c;
 }
 
 -- k disjunctions under which alternatives nest at most `left` deep
@@ -29,8 +31,8 @@ its-disjunctions left k = record {
   Thing = Disjs;
   Fine = λ ds. (disjs ds ≡ k) × WellAll ds left;
   text = disjs-words;
-  image = loaded-all;
-  nodes = nodes-all;
+  image = λ p c. loaded-all p (c .number) (c .free);
+  after = λ c ds. coming (c .number + nodes-all ds) (c .own) (c .free + alts-all ds);
 }
 
 -- k alternatives
@@ -39,9 +41,8 @@ its-alternatives left k = record {
   Thing = Alts;
   Fine = λ a. (alts a ≡ k) × WellAny a left;
   text = alts-words;
-  image = loaded-any;
-  nodes =
-      nodes-any;
+  image = λ p c. loaded-any p (c .number) (c .own) (c .free);
+  after = λ c a. coming (c .number + nodes-any a) (c .own + alts a) (c .free + alts-any a);
 }
 
 module _ (k : ℕ) (some : 0 < k) where
@@ -54,8 +55,9 @@ module _ (k : ℕ) (some : 0 < k) where
         fine = f .1 .0;
         well = (omega arith, f .1 .1);
         text-is = refl;
-        image-is = λ p n. rw add-zero;
-        nodes-is = refl;
+        image-is = λ p c. refl;
+        after-is = λ c. refl;
+        few = λ c h. h;
       }
 
   pub nodes-step : Steps (its-nodes k) a-node (its-nodes (k - 1))
@@ -68,8 +70,9 @@ module _ (k : ℕ) (some : 0 < k) where
         well = (omega arith, f .1 .1, f .2 .1);
         text-is = refl;
         image-is =
-            λ p n. rw add-zero;
-        nodes-is = refl;
+            λ p c. refl;
+        after-is = λ c. refl;
+        few = λ c h. h;
       }
 
   pub disjunctions-step : (left : ℕ) → Steps (its-disjunctions left k) (a-disjunction left) (its-disjunctions left (k - 1))
@@ -83,8 +86,9 @@ module _ (k : ℕ) (some : 0 < k) where
         well = (omega arith, f .1 .2);
         text-is = refl;
         image-is =
-            λ p n. refl;
-        nodes-is = refl;
+            λ p c. refl;
+        after-is = λ c. coming-same (omega arith) refl (omega arith);
+        few = λ c h. let x = h .0 in let y = h .2 in (omega arith, h .1, omega arith);
       }
 
   pub alternatives-step : (left : ℕ) → Steps (its-alternatives left k) (a-description left) (its-alternatives left (k - 1))
@@ -96,24 +100,32 @@ module _ (k : ℕ) (some : 0 < k) where
         fine = f .1 .0;
         well = (omega arith, f .1 .1);
         text-is = refl;
-        image-is = λ p n. refl;
-        nodes-is =
-            refl;
+        image-is = λ p c. refl;
+        after-is = λ c. coming-same (omega arith) (omega arith) (omega arith);
+        few = λ c h. let x = h .0 in let y = h .1 in let z = h .2 in (omega arith, omega arith, omega arith);
       }
 
 module _ (k : ℕ) (none : k ≤ 0) where
   pub arcs-end : Ends (its-arcs k)
-  arcs-end [] f = record { text-is = refl; image-is = λ p n. refl; nodes-is = refl }
+  arcs-end [] f = record { text-is = refl; image-is = λ p c. refl; after-is = λ c. refl }
   arcs-end (e ∷ l) f = let n = f .0 in absurd (omega arith)
 
   pub nodes-end : Ends (its-nodes k)
-  nodes-end [] f = record { text-is = refl; image-is = λ p n. refl; nodes-is = refl }
+  nodes-end [] f = record { text-is = refl; image-is = λ p c. refl; after-is = λ c. refl }
   nodes-end (v ∷ vs) f = let n = f .0 in absurd (omega arith)
 
   pub disjunctions-end : (left : ℕ) → Ends (its-disjunctions left k)
-  disjunctions-end left end f = record { text-is = refl; image-is = λ p n. refl; nodes-is = refl }
+  disjunctions-end left end f = record {
+    text-is = refl;
+    image-is = λ p c. refl;
+    after-is = λ c. coming-same (omega arith) (omega arith) (omega arith);
+  }
   disjunctions-end left (a and ds) f = let n = f .0 in absurd (omega arith)
 
   pub alternatives-end : (left : ℕ) → Ends (its-alternatives left k)
-  alternatives-end left fail f = record { text-is = refl; image-is = λ p n. refl; nodes-is = refl }
+  alternatives-end left fail f = record {
+    text-is = refl;
+    image-is = λ p c. refl;
+    after-is = λ c. coming-same (omega arith) (omega arith) (omega arith);
+  }
   alternatives-end left (d or a) f = let n = f .0 in absurd (omega arith)

@@ -7,13 +7,13 @@ use mathlib.Core.List.{List, [], _∷_, _++_}
 use lib.ListN.{length, length-append}
 use Rattle.theory.specs.Limits.{input-limit}
 use Rattle.theory.specs.Net.{Node, atom, arcs, Graph, arcsOf, met, Numbered}
-use Rattle.theory.specs.Descr.{Desc, desc, Disjs, end, _and_, Alts, fail, _or_, disjs}
+use Rattle.theory.specs.Descr.{Desc, desc, Disjs, end, _and_, Alts, fail, _or_, disjs, alts}
 use Rattle.theory.specs.Layout.{arc-words, node-words, nodes-words, words, disjs-words, alts-words}
 use Rattle.theory.proofs.Mean.{Can, CanAll, CanAny}
 use Rattle.theory.proofs.Weight.{weight, weights, weights-append}
 use Rattle.theory.proofs.Instance.{met-ge, met-few, numbered-ge}
 use Rattle.loading.specs.Loaded.{extent, moved-arcs, moved-node, located, nodes-in, nodes-all, nodes-any, loaded, loaded-all}
-use Rattle.loading.specs.Loaded.{loaded-any}
+use Rattle.loading.specs.Loaded.{alts-in, alts-any, loaded-any}
 use Rattle.loading.specs.Loading.{Low, AllLow}
 
 -- lists as long as each other, one after the other
@@ -42,21 +42,21 @@ located-length n (v ∷ vs) = both-length (node-words (moved-node n v)) (node-wo
     (located-length n vs)
 
 mutual
-  pub loaded-length : (p n : ℕ) (d : Desc) → length (loaded p n d) ≡ length (words d)
-  loaded-length p n (desc g ds) =
+  pub loaded-length : (p n x y : ℕ) (d : Desc) → length (loaded p n x y d) ≡ length (words d)
+  loaded-length p n x y (desc g ds) =
       ap suc (both-length (located n g) (nodes-words g) _ (disjs ds ∷ disjs-words ds) (located-length n g)
-      (ap suc (all-length (p + extent g + 1) (n + length g) ds)))
+      (ap suc (all-length (p + extent g + 1) (n + length g) y ds)))
 
-  pub all-length : (p n : ℕ) (ds : Disjs) → length (loaded-all p n ds) ≡ length (disjs-words ds)
-  all-length p n end = refl
-  all-length p n (a and ds) = ap suc
-      (both-length (loaded-any (p + 1) n a) (alts-words a) _ (disjs-words ds) (any-length (p + 1) n a)
-      (all-length (p + suc (length (alts-words a))) (n + nodes-any a) ds))
+  all-length : (p n y : ℕ) (ds : Disjs) → length (loaded-all p n y ds) ≡ length (disjs-words ds)
+  all-length p n y end = refl
+  all-length p n y (a and ds) = ap suc
+      (both-length (loaded-any (p + 1) n y (y + alts a) a) (alts-words a) _ (disjs-words ds) (any-length (p + 1) n y (y + alts a) a)
+      (all-length (p + suc (length (alts-words a))) (n + nodes-any a) (y + (alts a + alts-any a)) ds))
 
-  pub any-length : (p n : ℕ) (a : Alts) → length (loaded-any p n a) ≡ length (alts-words a)
-  any-length p n fail = refl
-  any-length p n (d or a) = both-length (loaded p n d) (words d) _ (alts-words a) (loaded-length p n d)
-      (any-length (p + length (words d)) (n + nodes-in d) a)
+  pub any-length : (p n x y : ℕ) (a : Alts) → length (loaded-any p n x y a) ≡ length (alts-words a)
+  any-length p n x y fail = refl
+  any-length p n x y (d or a) = both-length (loaded p n x y d) (words d) _ (alts-words a) (loaded-length p n x y d)
+      (any-length (p + length (words d)) (n + nodes-in d) (x + 1) (y + alts-in d) a)
 
 -- each node has a word at least
 pub graph-extent : (g : Graph) → length g < extent g

@@ -1,20 +1,19 @@
--- What follows from a placed description's standing loaded: the order of positions and numbers, and where its names lie.
+-- What follows from a placed description's standing loaded: the order of positions and numbers, and that no two of its names are the same.
 -- Assumes nothing.
-use Prim.Native.Nat.{ℕ, _+_, _≤_, _<_, _/_, _%_}
+use Prim.Native.Nat.{ℕ, _+_, _≤_, _<_}
 use native.Mathlib.Omega.{arith}
 use mathlib.Core.Path.{_≡_}
-use mathlib.Core.List.{List, [], _∷_, _++_}
+use mathlib.Core.List.{List}
 use lib.ListN.{length, getD}
 use Rattle.theory.specs.Net.{Graph}
 use Rattle.engine.specs.Placed.{Placed, place, Places, stop, _also_, Options, no-more, option}
-use Rattle.modes_by_marks.proofs.Names.{names, names-all, names-any}
-use Rattle.packing.specs.Packed.{number-step, end-step, word-nodes, word-number, word-extent, word-disjunctions, word-end}
+use Rattle.modes_by_marks.proofs.Names.{Distinct, DistinctAll, DistinctAny}
+use Rattle.packing.specs.Packed.{number-step, word-nodes, word-number, word-extent}
 use Rattle.loading.specs.Loaded.{extent}
 use Rattle.loading.specs.Numbered.{places, options}
 use Rattle.loading.specs.At.{At, AtAll, AtAny}
-use Rattle.packing.proofs.Packed.{nodes-back, number-back, extent-back, count-back, end-back}
+use Rattle.packing.proofs.Packed.{nodes-back, number-back, extent-back}
 use Rattle.loading.proofs.Sizes.{graph-extent}
-use Rattle.loading.proofs.Names.{Between, between-append, between-wide, between-none, between-one}
 
 module _ (t : List ℕ) where
   mutual
@@ -51,34 +50,18 @@ module _ (t : List ℕ) where
         (omega arith, rest .1, omega arith)
 
   mutual
-    -- the names of alternatives are numbers of their nodes
-    pub at-names : (d : Placed) (p n q m : ℕ) → At t p n d q m → Between (n + 1) m (names d)
-    at-names (place g ds) p n q m w =
-        let some = w .0 in
-        between-wide (n + length g) (n + 1) m m (names-all ds) (omega arith) (omega arith)
-        (all-names ds (p + extent g + 1) (n + length g) q m (let room = w .4 in omega arith) (w .6))
+    -- no two alternatives have one mark
+    pub at-distinct : (d : Placed) (p n q m : ℕ) → At t p n d q m → Distinct d
+    at-distinct (place g ds) p n q m w = all-distinct ds (p + extent g + 1) (n + length g) q m (w .6)
 
-    pub all-names : (ds : Places) (p n q m : ℕ) → p ≤ length t → AtAll t p n ds q m → Between n m (names-all ds)
-    all-names stop p n q m h w = between-none n m
-    all-names (a also ds) p n q m h w =
-        let there = w .2 in
-        let first = any-bounds a (p + 1) n (w .0) (w .1) (omega arith) (w .4) in
-        let rest = all-bounds ds (w .0) (w .1) q m (first .1) (w .5) in
-        between-append n (w .1) m (names-any a) (names-all ds) (first .2) (rest .2)
-        (any-names a (p + 1) n (w .0) (w .1) (omega arith) (w .4)) (all-names ds (w .0) (w .1) q m (first .1) (w .5))
+    pub all-distinct : (ds : Places) (p n q m : ℕ) → AtAll t p n ds q m → DistinctAll ds
+    all-distinct stop p n q m w = tt
+    all-distinct (a also ds) p n q m w = (any-distinct a (p + 1) n (w .0) (w .1) (w .4), all-distinct ds (w .0) (w .1) q m (w .5), w .6)
 
-    pub any-names : (a : Options) (p n q m : ℕ) → p ≤ length t → AtAny t p n a q m → Between n m (names-any a)
-    any-names no-more p n q m h w = between-none n m
-    any-names (option k d a) p n q m h w =
-        let own = w .2 in
-        let first = at-bounds d p n (w .0) (w .1) (w .3) in
-        let rest = any-bounds a (w .0) (w .1) q m (first .1) (w .4) in
-        let more = first .2 in
-        let last = rest .2 in
-        between-append n (n + 1) m (k ∷ []) (names d ++ names-any a) (omega arith) (omega arith)
-        (rw own (between-one n (n + 1) (omega arith)))
-        (between-append (n + 1) (w .1) m (names d) (names-any a) (omega arith) (omega arith) (at-names d p n (w .0) (w .1) (w .3))
-        (any-names a (w .0) (w .1) q m (first .1) (w .4)))
+    pub any-distinct : (a : Options) (p n q m : ℕ) → AtAny t p n a q m → DistinctAny a
+    any-distinct no-more p n q m w = tt
+    any-distinct (option x d a) p n q m w =
+        (at-distinct d p n (w .0) (w .1) (w .3), any-distinct a (w .0) (w .1) q m (w .4), w .5, w .6, w .7)
 
   pub all-counts : (ds : Places) (p n q m : ℕ) → p ≤ length t → AtAll t p n ds q m → p + places ds ≤ q
   all-counts stop p n q m h w = let e = w .0 in omega arith
@@ -112,10 +95,3 @@ module _ (t : List ℕ) where
           rw e (number-back (length g) n (extent g) few low),
           rw e (extent-back (length g) n (extent g) few low),
         )
-
-    -- and after it
-    pub at-closing : q < end-step → (word-disjunctions (getD t (p + extent g) 0) ≡ places ds) × (word-end (getD t (p + extent g) 0) ≡ q)
-    at-closing h =
-        let few : places ds < end-step = omega (arith, at-counts .1) in
-        let e = at .5 in
-        (rw e (count-back (places ds) q few), rw e (end-back (places ds) q few))

@@ -48,16 +48,35 @@ abbrev mutual
   nodes-any fail = 0
   nodes-any (d or a) = nodes-in d + nodes-any a
 
--- a description loaded at position p, its nodes numbered from n on in the order of the words
+-- how many alternatives there are, at every depth: those of some disjunctions, and those inside of some alternatives
 abbrev mutual
-  pub loaded : ℕ → ℕ → Desc → List ℕ
-  loaded p n (desc g ds) = (header n g ∷ located n g) ++ tail-word (disjs ds) (p + length (words (desc g ds)))
-      ∷ loaded-all (p + extent g + 1) (n + length g) ds
+  pub alts-in : Desc → ℕ
+  alts-in (desc g ds) = alts-all ds
 
-  pub loaded-all : ℕ → ℕ → Disjs → List ℕ
-  loaded-all p n end = []
-  loaded-all p n (a and ds) = (alts a ∷ loaded-any (p + 1) n a) ++ loaded-all (p + suc (length (alts-words a))) (n + nodes-any a) ds
+  pub alts-all : Disjs → ℕ
+  alts-all end = 0
+  alts-all (a and ds) = alts a + alts-any a + alts-all ds
 
-  pub loaded-any : ℕ → ℕ → Alts → List ℕ
-  loaded-any p n fail = []
-  loaded-any p n (d or a) = loaded p n d ++ loaded-any (p + length (words d)) (n + nodes-in d) a
+  pub alts-any : Alts → ℕ
+  alts-any fail = 0
+  alts-any (d or a) = alts-in d + alts-any a
+
+-- a description with the mark x loaded at position p, its nodes numbered from n on in the order of the words, and the marks of its
+-- alternatives from y on: those of a disjunction stand together, and then come those inside of its alternatives
+abbrev mutual
+  pub loaded : ℕ → ℕ → ℕ → ℕ → Desc → List ℕ
+  loaded p n x y (desc g ds) = (header n g ∷ located n g) ++ tail-word (disjs ds) x (p + length (words (desc g ds)))
+      ∷ loaded-all (p + extent g + 1) (n + length g) y ds
+
+  pub loaded-all : ℕ → ℕ → ℕ → Disjs → List ℕ
+  loaded-all p n y end = []
+  loaded-all p n y (a and ds) = (alts a ∷ loaded-any (p + 1) n y (y + alts a) a)
+      ++ loaded-all (p + suc (length (alts-words a))) (n + nodes-any a) (y + (alts a + alts-any a)) ds
+
+  pub loaded-any : ℕ → ℕ → ℕ → ℕ → Alts → List ℕ
+  loaded-any p n x y fail = []
+  loaded-any p n x y (d or a) = loaded p n x y d ++ loaded-any (p + length (words d)) (n + nodes-in d) (x + 1) (y + alts-in d) a
+
+-- an input, its nodes numbered from n on: its own mark, which nothing reads, is n, and those of its alternatives come after it
+abbrev pub input-loaded : ℕ → ℕ → Desc → List ℕ
+input-loaded p n d = loaded p n n (n + 1) d

@@ -11,7 +11,8 @@ use Rattle.theory.specs.Descr.{Desc, Alts, alts}
 use Rattle.theory.specs.Layout.{arc-words, node-words, nodes-words, words, NodeFits, GraphFits, WellFormed, WellAny}
 use Rattle.theory.specs.LayoutOne.{Image}
 use Rattle.layout.specs.Standing.{Stands, graph-words, disjunction-words}
-use Rattle.loading.specs.Loaded.{header, moved-arcs, moved-node, located, nodes-in, nodes-any, loaded, loaded-any}
+use Rattle.loading.specs.Loaded.{header, moved-arcs, moved-node, located, nodes-in, nodes-any, alts-in, alts-any, loaded}
+use Rattle.loading.specs.Loaded.{loaded-any, input-loaded}
 
 -- t′ is t with the words xs put from p up to q, and no other word changed
 pub record Put (t t′ : List ℕ) (p : ℕ) (xs : List ℕ) (q : ℕ) : Type 0 where
@@ -19,13 +20,30 @@ pub record Put (t t′ : List ℕ) (p : ℕ) (xs : List ℕ) (q : ℕ) : Type 0 
   pub stands : Stands t′ p xs q
   pub rest : (j : ℕ) → (j < p) ⊎ (q ≤ j) → getD t′ j 0 ≡ getD t j 0
 
--- a kind of thing: when it may come, its words, what they are loaded as at a position and from a number on, and how many nodes it has
+-- what comes next: the number of a node, the mark of an alternative, and the first mark that is free
+pub record Coming : Type 0 where
+  pub number : ℕ
+  pub own : ℕ
+  pub free : ℕ
+
+abbrev pub coming : ℕ → ℕ → ℕ → Coming
+coming n x y = record { number = n; own = x; free = y }
+
+-- where no alternatives come
+abbrev pub node-coming : ℕ → Coming
+node-coming n = coming n 0 0
+
+-- a number and marks that an input may have
+abbrev pub Few : Coming → Type 0
+Few c = (c .number ≤ input-limit) × (c .own ≤ input-limit) × (c .free ≤ input-limit)
+
+-- a kind of thing: when it may come, its words, what they are loaded as at a position, with what comes there, and what comes after it
 pub record Kind : Type 1 where
   pub Thing : Type 0
   pub Fine : Thing → Type 0
   pub text : Thing → List ℕ
-  pub image : ℕ → ℕ → Thing → List ℕ
-  pub nodes : Thing → ℕ
+  pub image : ℕ → Coming → Thing → List ℕ
+  pub after : Coming → Thing → Coming
 
 -- targets are below the node count, which words of an input keep below this
 abbrev pub Low : List (ℕ × ℕ) → Type 0
@@ -43,8 +61,8 @@ its-arcs k = record {
   Fine = λ l. (length l ≡ k) × Low l;
   text = arc-words;
   image =
-      λ p n l. arc-words (moved-arcs n l);
-  nodes = λ l. 0;
+      λ p c l. arc-words (moved-arcs (c .number) l);
+  after = λ c l. c;
 }
 
 abbrev pub a-node : Kind
@@ -52,8 +70,8 @@ a-node = record {
   Thing = Node;
   Fine = λ v. NodeFits v × Low (arcsOf v);
   text = node-words;
-  image = λ p n v. node-words (moved-node n v);
-  nodes = λ v. 0;
+  image = λ p c v. node-words (moved-node (c .number) v);
+  after = λ c v. c;
 }
 
 -- k nodes
@@ -62,9 +80,9 @@ its-nodes k = record {
   Thing = Graph;
   Fine = λ g. (length g ≡ k) × GraphFits g × AllLow g;
   text = nodes-words;
-  image = λ p. located;
-  nodes =
-      λ g. 0;
+  image = λ p c. located (c .number);
+  after =
+      λ c g. c;
 }
 
 abbrev pub a-graph : Kind
@@ -72,9 +90,9 @@ a-graph = record {
   Thing = Graph;
   Fine = λ g. GraphFits g × AllLow g;
   text = graph-words;
-  image = λ p n g. header n g ∷ located n g;
-  nodes =
-      length;
+  image = λ p c g. header (c .number) g ∷ located (c .number) g;
+  after =
+      λ c g. coming (c .number + length g) (c .own) (c .free);
 }
 
 -- a disjunction whose own alternatives are one of the `left` levels
@@ -84,13 +102,19 @@ a-disjunction left = record {
   Fine = λ a. (0 < left) × WellAny a (left - 1);
   text = disjunction-words;
   image =
-      λ p n a. alts a ∷ loaded-any (p + 1) n a;
-  nodes = nodes-any;
+      λ p c a. alts a ∷ loaded-any (p + 1) (c .number) (c .free) (c .free + alts a) a;
+  after = λ c a. coming (c .number + nodes-any a) (c .own) (c .free + (alts a + alts-any a));
 }
 
 -- a description under which alternatives nest at most `left` deep
 abbrev pub a-description : ℕ → Kind
-a-description left = record { Thing = Desc; Fine = λ d. WellFormed d left; text = words; image = loaded; nodes = nodes-in }
+a-description left = record {
+  Thing = Desc;
+  Fine = λ d. WellFormed d left;
+  text = words;
+  image = λ p c. loaded p (c .number) (c .own) (c .free);
+  after = λ c d. coming (c .number + nodes-in d) (c .own + 1) (c .free + alts-in d);
+}
 
 -- the words have room at the shift, and are no more than an input may have
 pub record Room (t ws : List ℕ) (shift : ℕ) : Type 0 where
@@ -98,15 +122,15 @@ pub record Room (t ws : List ℕ) (shift : ℕ) : Type 0 where
   pub near : shift ≤ input-limit
   pub room : shift + length ws ≤ length t
 
--- a thing of the kind stands at p, and its nodes have numbers from n on
-abbrev pub Asked : Kind → List ℕ → ℕ → ℕ → Type 0
-Asked K ws p n = (x : K .Thing) × (q : ℕ) × K .Fine x × Stands ws p (K .text x) q × (n + K .nodes x ≤ input-limit)
+-- a thing of the kind stands at p, and what comes after it is few
+abbrev pub Asked : Kind → List ℕ → ℕ → Coming → Type 0
+Asked K ws p c = (x : K .Thing) × (q : ℕ) × K .Fine x × Stands ws p (K .text x) q × Few (K .after c x)
 
--- whatever thing of the kind stands at p: it ends at r, the next number is m, and it is loaded
-abbrev pub Loads : Kind → List ℕ → ℕ → ℕ → ℕ → List ℕ → List ℕ → ℕ → ℕ → Type 0
-Loads K ws p shift n t t′ r m =
+-- whatever thing of the kind stands at p: it ends at r, after it comes e, and it is loaded
+abbrev pub Loads : Kind → List ℕ → ℕ → ℕ → Coming → List ℕ → List ℕ → ℕ → Coming → Type 0
+Loads K ws p shift c t t′ r e =
     (x : K .Thing) (q : ℕ) → K .Fine x → Stands ws p (K .text x) q →
-    (r ≡ q) × (m ≡ n + K .nodes x) × Put t t′ (shift + p) (K .image (shift + p) n x) (shift + q)
+    (r ≡ q) × (e ≡ K .after c x) × Put t t′ (shift + p) (K .image (shift + p) c x) (shift + q)
 
 -- what loading an input asks: it is the image of a description, and there is room for its words and its numbers
 pub record Loadable (t ws : List ℕ) (shift n : ℕ) : Type 0 where
@@ -119,4 +143,4 @@ pub record Loadable (t ws : List ℕ) (shift n : ℕ) : Type 0 where
 -- and what it promises: the description is loaded at the shift with numbers from n up to m, and no other word has changed
 abbrev pub LoadedAt : List ℕ → ℕ → ℕ → List ℕ → List ℕ → ℕ → Type 0
 LoadedAt ws shift n t t′ m = (d : Desc) → WellFormed d depth-limit → ws ≡ words d →
-    (m ≡ n + nodes-in d) × Put t t′ shift (loaded shift n d) (shift + length ws)
+    (m ≡ n + nodes-in d) × Put t t′ shift (input-loaded shift n d) (shift + length ws)

@@ -7,7 +7,7 @@ use mathlib.Core.List.{List}
 use lib.ListN.{length}
 use Rattle.engine.specs.Placed.{Placed, Places, Options}
 use Rattle.loading.specs.Numbered.{places, options}
-use Rattle.loading.specs.At.{At, AtAll, AtAny}
+use Rattle.loading.specs.At.{marked, At, AtAll, AtAny}
 use Rattle.loading.specs.Nesting.{Nests, NestsAll, NestsAny}
 
 -- the description d stands loaded at g of the words t and up to `end`, its nodes are numbered from `from` up to `to`, all below n, and
@@ -44,6 +44,10 @@ pub record LyingAny (n : ℕ) (t : List ℕ) (p count left : ℕ) : Type 0 where
   pub low : to ≤ n
   pub many : options a ≡ count
   pub nests : NestsAny a left
+
+-- the mark of what stands loaded, as its words have it
+abbrev pub mark-of : {n : ℕ} {t : List ℕ} {g left : ℕ} → Lying n t g left → ℕ
+mark-of {n} {t} {g} {left} l = marked t g (l .d)
 
 -- another description in the place of l, and disjunctions from a later place and number on up to its end
 module _ {n : ℕ} {t : List ℕ} {p left : ℕ} (l : Lying n t p left) where

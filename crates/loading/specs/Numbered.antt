@@ -1,23 +1,27 @@
--- The placed description that a loaded one is: the name of an alternative is the number of its node 0.
+-- The placed description that a loaded one is: the name of an alternative is the number of its mark.
 -- Assumes nothing: these are definitions.
 use Prim.Native.Nat.{ℕ, suc, _+_}
-use lib.ListN.{length}
-use Rattle.theory.specs.Descr.{Desc, desc, Disjs, end, _and_, Alts, fail, _or_}
+use Rattle.theory.specs.Descr.{Desc, desc, Disjs, end, _and_, Alts, fail, _or_, alts}
 use Rattle.engine.specs.Placed.{Placed, place, Places, stop, _also_, Options, no-more, option}
-use Rattle.loading.specs.Loaded.{nodes-in, nodes-any}
+use Rattle.loading.specs.Loaded.{alts-in, alts-any}
 
--- "Put the nodes of all graphs side by side.": numbered from n on
+-- the marks of the alternatives are numbered from y on: those of a disjunction stand together, and then come those inside of its
+-- alternatives; of some alternatives the first has the mark x
 abbrev mutual
   pub numbered : ℕ → Desc → Placed
-  numbered n (desc g ds) = place g (numbered-all (n + length g) ds)
+  numbered y (desc g ds) = place g (numbered-all y ds)
 
   pub numbered-all : ℕ → Disjs → Places
-  numbered-all n end = stop
-  numbered-all n (a and ds) = numbered-any n a also numbered-all (n + nodes-any a) ds
+  numbered-all y end = stop
+  numbered-all y (a and ds) = numbered-any y (y + alts a) a also numbered-all (y + (alts a + alts-any a)) ds
 
-  pub numbered-any : ℕ → Alts → Options
-  numbered-any n fail = no-more
-  numbered-any n (d or a) = option n (numbered n d) (numbered-any (n + nodes-in d) a)
+  pub numbered-any : ℕ → ℕ → Alts → Options
+  numbered-any x y fail = no-more
+  numbered-any x y (d or a) = option x (numbered y d) (numbered-any (x + 1) (y + alts-in d) a)
+
+-- an input, its nodes numbered from n on
+abbrev pub input-numbered : ℕ → Desc → Placed
+input-numbered n d = numbered (n + 1) d
 
 -- "the number of disjunctions"
 abbrev pub places : Places → ℕ

@@ -4,26 +4,25 @@ use Prim.Native.Nat.{ℕ, _+_, _≤_, _<_}
 use native.Mathlib.Omega.{arith}
 use mathlib.Core.Path.{_≡_, ap, sym, subst, _∙_}
 use mathlib.Core.List.{List}
-use lib.ListN.{length}
+use lib.ListN.{length, getD}
 use Rattle.theory.specs.Net.{Graph}
 use Rattle.area.specs.Map.{SIZE}
 use Rattle.area.specs.Region.{words}
 use Rattle.area.proofs.Region.{words-many}
 use Rattle.engine.specs.Placed.{Placed, place, Places, _also_, Options, no-more, option}
-use Rattle.packing.specs.Packed.{number-step}
+use Rattle.packing.specs.Packed.{number-step, word-mark}
 use Rattle.loading.specs.Loaded.{extent}
 use Rattle.loading.specs.Numbered.{places, options}
-use Rattle.loading.specs.At.{At, AtAll, AtAny}
-use Rattle.loading.specs.Lying.{Lying, LyingAny, Here}
-use Rattle.loading.proofs.Walking.{at-bounds, any-bounds, at-counts, at-header, at-closing}
-use Rattle.marks.specs.Positions.{number-at, tail-at, disjunctions-at, end-at, alternatives-at, after-at}
+use Rattle.loading.specs.At.{marked, At, AtAll, AtAny}
+use Rattle.loading.specs.Lying.{Lying, LyingAny, mark-of, Here}
+use Rattle.loading.proofs.Walking.{at-bounds, any-bounds, at-counts, at-header}
+use Rattle.marks.specs.Positions.{number-at, tail-at, mark-at, disjunctions-at, end-at, alternatives-at, after-at}
 use Rattle.marks.specs.Readable.{Readable, Alternatives}
 
--- at p stands a description with this number, which ends at q
-pub record Read (w : List ℕ) (p n q : ℕ) : Type 0 where
+-- at p stands a description with this mark, which ends at q
+pub record Read (w : List ℕ) (p x q : ℕ) : Type 0 where
   pub here : p < 2048
-  pub low : n < number-step
-  pub number : number-at w p ≡ n
+  pub mark : mark-at w p ≡ x
   pub inside : tail-at w p < 2048
   pub after : after-at w p ≡ q
   pub on : p < q
@@ -39,6 +38,10 @@ module _ (w : List ℕ) (room : 16384 ≤ length w) where
     unfolding tail-at
     tail-is = ap (λ (k : ℕ). p + k) (at-header (words w) g ds p n q m at low .2)
 
+    mark-is : mark-at w p ≡ marked (words w) p (place g ds)
+    unfolding mark-at
+    mark-is = ap (λ (k : ℕ). word-mark (getD (words w) k 0)) tail-is
+
     -- the description is within the loaded words
     pub within : (p + extent g < 2048) × (p + extent g < q) × (q ≤ 2048)
     within =
@@ -50,26 +53,24 @@ module _ (w : List ℕ) (room : 16384 ≤ length w) where
 
     pub disjunctions-is : disjunctions-at w (p + extent g) ≡ places ds
     unfolding disjunctions-at
-    disjunctions-is = let far = within .2 in at-closing (words w) g ds p n q m at (omega arith) .0
+    disjunctions-is = at .5 .0
 
     pub end-is : end-at w (p + extent g) ≡ q
     unfolding end-at
-    end-is = let far = within .2 in at-closing (words w) g ds p n q m at (omega arith) .1
+    end-is = at .5 .1
 
     pub after-is : after-at w p ≡ q
     unfolding after-at
     after-is = ap (end-at w) tail-is ∙ end-is
 
-    pub read-place : Read w p n q
+    pub read-place : Read w p (marked (words w) p (place g ds)) q
     read-place =
-        let few = at-counts (words w) g ds p n q m at .2 in
         let e = tail-is in
         let there = within .0 in
         let tail = within .1 in
         record {
           here = omega arith;
-          low = omega arith;
-          number = number-is;
+          mark = mark-is;
           inside = omega arith;
           after = after-is;
           on = omega arith;
@@ -77,7 +78,7 @@ module _ (w : List ℕ) (room : 16384 ≤ length w) where
               within .2;
         }
 
-  pub read-at : (d : Placed) (p n q m : ℕ) → At (words w) p n d q m → m < number-step → Read w p n q
+  pub read-at : (d : Placed) (p n q m : ℕ) → At (words w) p n d q m → m < number-step → Read w p (marked (words w) p d) q
   read-at (place g ds) p n q m at low = read-place g ds p n q m at low
 
   -- at an alternative; numbers stay low in it
@@ -87,17 +88,15 @@ module _ (w : List ℕ) (room : 16384 ≤ length w) where
       let bounds = at-bounds (words w) d p n (o .0) (o .1) (o .3) in
       let more = any-bounds (words w) a (o .0) (o .1) q m (bounds .1) (o .4) .2 in
       let small : o .1 < number-step = omega arith in
-      (rw (o .2) (read-at d p n (o .0) (o .1) (o .3) small), small)
+      (subst (λ (y : ℕ). Read w p y (o .0)) (o .2) (read-at d p n (o .0) (o .1) (o .3) small), small)
 
   -- the first of some alternatives
   pub read-first : (a : Options) (p n q m k : ℕ) → AtAny (words w) p n a q m → m < number-step → options a ≡ k → 0 < k →
-      (p < 2048) × (number-at w p < 1024) × (tail-at w p < 2048)
+      (p < 2048) × (tail-at w p < 2048)
   read-first no-more p n q m k o low many h = absurd (omega arith)
   read-first (option x d a) p n q m k o low many h =
       let r = read-option x d a p n q m o low .0 in
-      let l = r .low in
-      let e = r .number in
-      (r .here, omega arith, r .inside)
+      (r .here, r .inside)
 
 pub alternatives-is : (w : List ℕ) (a : Options) (ds : Places) (p n q m : ℕ) → AtAll (words w) p n (a also ds) q m →
     alternatives-at w p ≡ options a
@@ -146,7 +145,7 @@ module _ {w : List ℕ} {g left : ℕ} (r : Readable w g left) where
   small : r .lies .to < number-step
   small = omega (arith, r .lies .low, r .few)
 
-  pub reads : Read w g (r .lies .from) (r .lies .end)
+  pub reads : Read w g (mark-of (r .lies)) (r .lies .end)
   reads = read-at w (r .room) (r .lies .d) g (r .lies .from) (r .lies .end) (r .lies .to) (r .lies .at) small
 
   -- its graph and its disjunctions
@@ -156,3 +155,9 @@ module _ {w : List ℕ} {g left : ℕ} (r : Readable w g left) where
 
     pub disjunctions-of : disjunctions-at w (g + extent K) ≡ places ds
     disjunctions-of = disjunctions-is w (r .room) K ds g (r .lies .from) (r .lies .end) (r .lies .to) here small
+
+-- what stands loaded in words that an area has, by its mark there
+pub reads-lying : {n : ℕ} {t : List ℕ} (w : List ℕ) → SIZE ≤ length w → words w ≡ t → n < number-step → {g left : ℕ}
+    (l : Lying n t g left) → Read w g (mark-of l) (l .end)
+reads-lying {n} {t} w room loaded few {g} {left} l =
+    subst (λ (s : List ℕ). Read w g (marked s g (l .d)) (l .end)) loaded (reads (readable w room loaded few l))

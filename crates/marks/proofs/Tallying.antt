@@ -12,7 +12,7 @@ use Rattle.engine.specs.Marks.{Marking, kept-of}
 use Rattle.packing.specs.Packed.{number-step}
 use Rattle.loading.specs.Numbered.{options}
 use Rattle.loading.specs.At.{AtAny}
-use Rattle.marks.specs.Positions.{number-at, tail-at, after-at}
+use Rattle.marks.specs.Positions.{mark-at, tail-at, after-at}
 use Rattle.marks.specs.Marked.{marking}
 use Rattle.marks.specs.Readable.{Alternatives}
 use Rattle.marks.specs.Tallied.{from-kept, remnant-of, Tallied}
@@ -42,9 +42,9 @@ module _ (w : List ℕ) (p count : ℕ) (s : Alternatives w p count) where
 
   -- what a turn at `at` does to what was found, where the next alternative stands at `next`
   pub data Turn (at next first found first' found' : ℕ) : Type 0 where
-    one : marking w (number-at w at) ≡ true → first' ≡ first → found' ≡ found + 1 → Turn at next first found first' found'
-    none : marking w (number-at w at) ≡ false → found ≡ 0 → first' ≡ next → found' ≡ found → Turn at next first found first' found'
-    more : marking w (number-at w at) ≡ false → (found ≡ 0 → ⊥) → first' ≡ first → found' ≡ found → Turn at next first found first' found'
+    one : marking w (mark-at w at) ≡ true → first' ≡ first → found' ≡ found + 1 → Turn at next first found first' found'
+    none : marking w (mark-at w at) ≡ false → found ≡ 0 → first' ≡ next → found' ≡ found → Turn at next first found first' found'
+    more : marking w (mark-at w at) ≡ false → (found ≡ 0 → ⊥) → first' ≡ first → found' ≡ found → Turn at next first found first' found'
 
   pub tally-none : Tallying count p p 0
   tally-none = record {
@@ -57,7 +57,7 @@ module _ (w : List ℕ) (p count : ℕ) (s : Alternatives w p count) where
   }
 
   pub tally-read : (left at first found : ℕ) → Tallying left at first found → 0 < left →
-      (at < 2048) × (number-at w at < 1024) × (tail-at w at < 2048)
+      (at < 2048) × (tail-at w at < 2048)
   tally-read left at first found t h = read-first w (s .room) (t .rest) at (t .k) (s .lies .end) (s .lies .to) left (t .stand) small
       (t .many) h
 
@@ -84,8 +84,8 @@ module _ (w : List ℕ) (p count : ℕ) (s : Alternatives w p count) where
             mark = marks turn mark;
           }
         where
-          own : (b : Bool) → m (number-at w at) ≡ b → m x ≡ b
-          own b f = ap m (sym (read-option w (s .room) x d a at (t .k) (s .lies .end) (s .lies .to) o small .0 .number)) ∙ f
+          own : (b : Bool) → m (mark-at w at) ≡ b → m x ≡ b
+          own b f = ap m (sym (read-option w (s .room) x d a at (t .k) (s .lies .end) (s .lies .to) o small .0 .mark)) ∙ f
 
           totals : Turn at next first found first' found' → kept-of m (s .lies .a) ≡ found' + kept-of m a
           totals (one f g h) = omega (arith, kept-true m x d a (own true f))

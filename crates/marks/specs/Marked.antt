@@ -1,4 +1,4 @@
--- The marks in the working area: which alternatives are kept, by the number of their node 0.
+-- The marks in the working area: which alternatives are kept, by the numbers that loading gave them.
 -- Assumes nothing: these are definitions.
 use Prim.Native.Nat.{ℕ, _+_, _≤_, _<_}
 use mathlib.Core.Path.{_≡_}

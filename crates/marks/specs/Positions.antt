@@ -4,7 +4,7 @@ use Prim.Native.Nat.{ℕ, _+_}
 use mathlib.Core.List.{List}
 use lib.ListN.{getD}
 use Rattle.area.specs.Region.{words}
-use Rattle.packing.specs.Packed.{word-number, word-extent, word-disjunctions, word-end}
+use Rattle.packing.specs.Packed.{word-number, word-extent, word-disjunctions, word-mark, word-end}
 
 -- the number of node 0 of the graph at p
 unfoldable pub number-at : List ℕ → ℕ → ℕ
@@ -13,6 +13,10 @@ number-at w p = word-number (getD (words w) p 0)
 -- where it ends: the position of its closing word
 unfoldable pub tail-at : List ℕ → ℕ → ℕ
 tail-at w p = p + word-extent (getD (words w) p 0)
+
+-- the mark of the description at p
+unfoldable pub mark-at : List ℕ → ℕ → ℕ
+mark-at w p = word-mark (getD (words w) (tail-at w p) 0)
 
 -- "the number of disjunctions" after the graph that ends at e
 unfoldable pub disjunctions-at : List ℕ → ℕ → ℕ

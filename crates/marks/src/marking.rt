@@ -1,5 +1,5 @@
-// The marks, a word for each alternative under the number of its node 0: 1 where it is dropped, 0 or 2 where it is kept, 2 where it
-// was found to stand in a consistent choice.
+// The marks, a word for each alternative under the number that loading gave it, those of a disjunction together: 1 where it is dropped,
+// 0 or 2 where it is kept, 2 where it was found to stand in a consistent choice.
 use area::map::MARKS;
 use area::map::NODES;
 ghost use mathlib.Core.Path.{_≡_};

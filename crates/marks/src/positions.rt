@@ -4,13 +4,14 @@ use limits::wide;
 use packing::disjunctions_of;
 use packing::end_of;
 use packing::extent_of;
+use packing::mark_of;
 use packing::number_of;
 ghost use mathlib.Core.Path.{_≡_};
 ghost use Prim.Native.Nat.{_≤_, _<_};
 ghost use lib.ListN.{length, getD};
-ghost use Rattle.area.specs.Map.{SIZE, LOADED};
+ghost use Rattle.area.specs.Map.{SIZE, LOADED, NODES};
 ghost use Rattle.area.specs.Region.{words};
-ghost use Rattle.marks.specs.Positions.{number-at, tail-at, disjunctions-at, end-at, alternatives-at, after-at};
+ghost use Rattle.marks.specs.Positions.{number-at, tail-at, mark-at, disjunctions-at, end-at, alternatives-at, after-at};
 
 // The loaded word at p.
 pub fn word_at(w: &[u32], p: usize) -> u32
@@ -34,6 +35,15 @@ pub fn tail_at(w: &[u32], p: usize) -> usize
     ensures { λ r. ⌜ r ≡ tail-at (now (w .entry)) p ⌝ }
 {
     p + extent_of(word_at(w, p))
+}
+
+// The mark of the description at p.
+pub fn mark_at(w: &[u32], p: usize) -> usize
+    requires { ⌜ (p < LOADED) × (SIZE ≤ length (now w)) ⌝ }
+    requires { ⌜ tail-at (now w) p < LOADED ⌝ }
+    ensures { λ r. ⌜ (r ≡ mark-at (now (w .entry)) p) × (r < NODES) ⌝ }
+{
+    mark_of(word_at(w, tail_at(w, p)))
 }
 
 // The number of disjunctions after the graph that ends at e.

@@ -1,7 +1,7 @@
 // What is left of a disjunction: which of its alternatives are kept.
 use crate::marking::kept;
 use crate::positions::after_at;
-use crate::positions::number_at;
+use crate::positions::mark_at;
 ghost use mathlib.Core.Path.{_≡_};
 ghost use Rattle.marks.specs.Readable.{Alternatives};
 ghost use Rattle.marks.specs.Tallied.{remnant-of, Tallied};
@@ -42,7 +42,7 @@ pub fn count_kept(w: &[u32], p: usize, count: usize) -> Tally
     let mut first = p;
     let mut found: usize = 0;
     while 0 < left {
-        let here = kept(w, number_at(w, at));
+        let here = kept(w, mark_at(w, at));
         at = after_at(w, at);
         if here {
             found += 1;

@@ -15,7 +15,7 @@ use Rattle.theory.proofs.Reading.{well-can}
 use Rattle.theory.proofs.Sets.{clash-within}
 use Rattle.loading.specs.Entry.{Entry}
 use Rattle.loading.specs.Loaded.{nodes-in}
-use Rattle.loading.proofs.Names.{nodes-some}
+use Rattle.loading.proofs.Names.{alts-few}
 use Rattle.area.specs.Map.{WORDS, MARKS, SIZE, SECOND}
 use Rattle.area.specs.Region.{region}
 use Rattle.area.proofs.Region.{region-ext}
@@ -152,7 +152,7 @@ module _ (w a b t : List ℕ) (o : Opening w a b) (n : ℕ) (p : Paired (take 20
       only-one x i = ⊎-elim (λ q. q) (λ j. absurd (List·Memᴰ·not-nil j)) (List·Memᴰ·cases-cons i)
 
       apart : two .number ≡ one .number → ⊥
-      apart q = let m = nodes-some d (well-can d (r .first-well)) in
+      apart q = let m = alts-few d (well-can d (r .first-well)) in
           omega (arith, sym (number-definite SECOND (nodes-in d) e) ∙ q ∙ number-definite 0 0 d)
 
       second-comes : Comes n (one ∷ []) two w₃

@@ -11,7 +11,7 @@ use Rattle.theory.specs.Descr.{Desc}
 use Rattle.theory.specs.Layout.{words}
 use Rattle.theory.proofs.Reading.{well-can}
 use Rattle.layout.specs.Standing.{Stands}
-use Rattle.loading.specs.Loaded.{nodes-in, loaded}
+use Rattle.loading.specs.Loaded.{nodes-in, input-loaded}
 use Rattle.loading.specs.Loading.{Put, Loadable, LoadedAt}
 use Rattle.loading.proofs.Sizes.{nodes-few}
 use Rattle.loading.proofs.Putting.{stands-frame}
@@ -25,7 +25,7 @@ module _ (t a b t₁ : List ℕ) (m : ℕ) (p : Pairing t a b) (l : LoadedAt a 0
   abbrev d₀ : Desc
   d₀ = p .inputs .first .0
 
-  abbrev loaded₁ : (m ≡ 0 + nodes-in d₀) × Put t t₁ 0 (loaded 0 0 d₀) (0 + length a)
+  abbrev loaded₁ : (m ≡ 0 + nodes-in d₀) × Put t t₁ 0 (input-loaded 0 0 d₀) (0 + length a)
   loaded₁ = l d₀ (p .inputs .first .1) (p .inputs .first .2)
 
   same₁ : length t₁ ≡ length t
@@ -47,7 +47,7 @@ module _ (t a b t₁ : List ℕ) (m : ℕ) (p : Pairing t a b) (l : LoadedAt a 0
   }
 
   module _ (t₂ : List ℕ) (n : ℕ) (k : LoadedAt b SECOND m t₁ t₂ n) where
-    put₂ : Put t₁ t₂ SECOND (loaded SECOND m (p .inputs .second .0)) (SECOND + length b)
+    put₂ : Put t₁ t₂ SECOND (input-loaded SECOND m (p .inputs .second .0)) (SECOND + length b)
     put₂ = k (p .inputs .second .0) (p .inputs .second .1) (p .inputs .second .2) .1
 
     pub paired : Paired t a b n t₂
@@ -62,9 +62,9 @@ module _ (t a b t₁ : List ℕ) (m : ℕ) (p : Pairing t a b) (l : LoadedAt a 0
             let lb : SECOND + length b ≡ SECOND + length (words e) = ap (λ (x : List ℕ). SECOND + length x) (r .second-is) in
             record {
               count = s .0 ∙ ap (λ (x : ℕ). x + nodes-in e) z;
-              first = subst (λ (q : ℕ). Stands t₂ 0 (loaded 0 0 d) q) la
-                  (stands-frame t₁ t₂ (loaded 0 0 d) 0 (0 + length a)
+              first = subst (λ (q : ℕ). Stands t₂ 0 (input-loaded 0 0 d) q) la
+                  (stands-frame t₁ t₂ (input-loaded 0 0 d) 0 (0 + length a)
                   (λ j h i u. (omega (arith, put₂ .same), put₂ .rest j (inl (omega (arith, p .inputs .first-few))))) (f .1 .stands));
-              second = subst (λ (q : ℕ). Stands t₂ SECOND (loaded SECOND (nodes-in d) e) q) lb
-                  (subst (λ (x : ℕ). Stands t₂ SECOND (loaded SECOND x e) (SECOND + length b)) z (s .1 .stands));
+              second = subst (λ (q : ℕ). Stands t₂ SECOND (input-loaded SECOND (nodes-in d) e) q) lb
+                  (subst (λ (x : ℕ). Stands t₂ SECOND (input-loaded SECOND x e) (SECOND + length b)) z (s .1 .stands));
             }

@@ -137,10 +137,10 @@ module _ (w : List ℕ) (d e : Desc) (n : ℕ) (long : SIZE ≤ length w) (wd : 
   placed : (x : Entry) → List·Memᴰ x (universe d e) → Placed x
   placed x i = ⊎-elim
       (λ j. let b = first-inside x j in let c = b .1 in let u = b .3 in
-      record { stands = entries-lie t 0 0 (length (words d)) d (s .first) x j; small = omega arith; within = omega (arith, s .count) })
+      record { stands = entries-lie t 0 0 _ _ (length (words d)) d (s .first) x j; small = omega arith; within = omega (arith, s .count) })
       (λ j. let b = second-inside x j in let c = b .0 in let u = b .1 in
       record {
-        stands = entries-lie t SECOND (nodes-in d) (SECOND + length (words e)) e (s .second) x j;
+        stands = entries-lie t SECOND (nodes-in d) _ _ (SECOND + length (words e)) e (s .second) x j;
         small = omega arith;
         within =
             b .3;

@@ -11,7 +11,7 @@ use Rattle.theory.specs.Layout.{words, WellFormed}
 use Rattle.theory.specs.LayoutOne.{Image}
 use Rattle.layout.specs.Standing.{Stands}
 use Rattle.loading.specs.Entry.{Entry}
-use Rattle.loading.specs.Loaded.{nodes-in, loaded}
+use Rattle.loading.specs.Loaded.{nodes-in, input-loaded}
 use Rattle.area.specs.Map.{SECOND, WORDS, MARKS, SIZE, LOADED}
 use Rattle.area.specs.Region.{region}
 use Rattle.classes.specs.Holds.{Holds, Undoable}
@@ -40,8 +40,8 @@ pub record Read (a b : List ℕ) (d e : Desc) : Type 0 where
 -- the descriptions d and e stand loaded in the words t, and have n nodes together
 pub record Stand (t : List ℕ) (d e : Desc) (n : ℕ) : Type 0 where
   pub count : n ≡ nodes-in d + nodes-in e
-  pub first : Stands t 0 (loaded 0 0 d) (length (words d))
-  pub second : Stands t SECOND (loaded SECOND (nodes-in d) e) (SECOND + length (words e))
+  pub first : Stands t 0 (input-loaded 0 0 d) (length (words d))
+  pub second : Stands t SECOND (input-loaded SECOND (nodes-in d) e) (SECOND + length (words e))
 
 pub record Paired (t a b : List ℕ) (n : ℕ) (t′ : List ℕ) : Type 0 where
   pub len : length t′ ≡ length t

@@ -3,8 +3,8 @@
 use Prim.Native.Nat.{ℕ, _<_}
 use native.Mathlib.Omega.{arith}
 use mathlib.Core.Path.{_≡_}
-use Rattle.packing.specs.Packed.{number-step, end-step, graph-word, word-nodes, word-number, word-extent}
-use Rattle.packing.specs.Packed.{tail-word, word-disjunctions, word-end}
+use Rattle.packing.specs.Packed.{number-step, mark-step, graph-word, word-nodes, word-number, word-extent}
+use Rattle.packing.specs.Packed.{tail-word, word-disjunctions, word-mark, word-end}
 
 module _ (nodes number extent : ℕ) (few : nodes < number-step) where
   pub nodes-back : word-nodes (graph-word nodes number extent) ≡ nodes
@@ -19,11 +19,18 @@ module _ (nodes number extent : ℕ) (few : nodes < number-step) where
   unfolding graph-word
   extent-back h = omega arith
 
-module _ (count end : ℕ) (few : count < end-step) where
-  pub count-back : word-disjunctions (tail-word count end) ≡ count
+module _ (count mark end : ℕ) (few : count < mark-step) where
+  pub count-back : word-disjunctions (tail-word count mark end) ≡ count
   unfolding tail-word
   count-back = omega arith
 
-  pub end-back : word-end (tail-word count end) ≡ end
+  pub mark-back : mark < mark-step → word-mark (tail-word count mark end) ≡ mark
   unfolding tail-word
-  end-back = omega arith
+  mark-back h = omega arith
+
+  pub end-back : mark < mark-step → word-end (tail-word count mark end) ≡ end
+  unfolding tail-word
+  end-back h = omega arith
+
+pub mark-low : (x : ℕ) → word-mark x < mark-step
+mark-low x = omega arith

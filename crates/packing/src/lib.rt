@@ -2,8 +2,8 @@
 use limits::wide;
 ghost use mathlib.Core.Path.{_≡_};
 ghost use Prim.Native.Nat.{_≤_, _<_};
-ghost use Rattle.packing.specs.Packed.{number-step, extent-step, end-step, graph-word, word-nodes, word-number, word-extent};
-ghost use Rattle.packing.specs.Packed.{tail-word, word-disjunctions, word-end};
+ghost use Rattle.packing.specs.Packed.{number-step, mark-step, end-limit, graph-word, word-nodes, word-number, word-extent};
+ghost use Rattle.packing.specs.Packed.{tail-word, word-disjunctions, word-mark, word-end};
 
 // A graph's first word: its node count, the number of its node 0 times this,
 const NUMBER_STEP: u32 = 1024;
@@ -11,8 +11,11 @@ const NUMBER_STEP: u32 = 1024;
 // and its extent times this.
 const EXTENT_STEP: u32 = 1048576;
 
-// The word after a graph: the number of disjunctions, and the position where the description ends times this.
-const END_STEP: u32 = 4096;
+// The word after a graph: the number of disjunctions, the number of the description's mark times this,
+const MARK_STEP: u32 = 1024;
+
+// and the position where the description ends times this.
+const END_STEP: u32 = 1048576;
 
 // The first word of a graph.
 pub fn graph_word(nodes: u32, number: u32, extent: u32) -> u32
@@ -44,18 +47,25 @@ pub fn extent_of(x: u32) -> usize
 }
 
 // The word after a graph.
-pub fn tail_word(count: u32, end: u32) -> u32
-    requires { ⌜ (count < end-step) × (end < extent-step) ⌝ }
-    ensures { λ r. ⌜ r ≡ tail-word count end ⌝ }
+pub fn tail_word(count: u32, mark: u32, end: u32) -> u32
+    requires { ⌜ (count < mark-step) × ((mark < mark-step) × (end < end-limit)) ⌝ }
+    ensures { λ r. ⌜ r ≡ tail-word count mark end ⌝ }
 {
-    count + END_STEP * end
+    count + MARK_STEP * mark + END_STEP * end
 }
 
 // The number of disjunctions, of the word after a graph.
 pub fn disjunctions_of(x: u32) -> usize
     ensures { λ r. ⌜ r ≡ word-disjunctions x ⌝ }
 {
-    wide(x % END_STEP)
+    wide(x % MARK_STEP)
+}
+
+// The number of the description's mark, of the word after its graph.
+pub fn mark_of(x: u32) -> usize
+    ensures { λ r. ⌜ r ≡ word-mark x ⌝ }
+{
+    wide(x / MARK_STEP % MARK_STEP)
 }
 
 // Where the description ends, of the word after its graph.

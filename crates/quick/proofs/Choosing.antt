@@ -9,7 +9,7 @@ use Rattle.area.specs.Region.{words}
 use Rattle.engine.specs.Marks.{Marking, kept-of}
 use Rattle.engine.specs.Quickly.{fails, stands, any-at, settle-at}
 use Rattle.loading.specs.Entry.{graphs}
-use Rattle.loading.proofs.Lying.{lying-more}
+use Rattle.loading.proofs.Lying.{lying-more, distinct-of, any-distinct-of}
 use Rattle.marks.specs.Marked.{marking}
 use Rattle.marks.specs.Readable.{Alternatives}
 use Rattle.marks.specs.Tallied.{Tallied}
@@ -27,11 +27,11 @@ use Rattle.quick.specs.declared.step.Step.the-variants.{Stands, Fails}
 use Rattle.entering.specs.Taken.{taken-any-of, FreeAnyOf}
 use Rattle.entering.specs.Settled.{Alternating, settled, Settles}
 use Rattle.entering.specs.Clear.{ClearAnyOf}
-use Rattle.quick.specs.Stepped.{total, Fewer, Off, Narrowing, Narrows, Choosing, ChooseStands, Chooses, Sifts}
+use Rattle.quick.specs.Stepped.{total, Fewer, Narrowing, Narrows, Choosing, ChooseStands, Chooses, Sifts}
 use Rattle.entering.specs.Moved.{Moved}
 use Rattle.entering.proofs.Certain.{any-between-of, LoneOf, lone-alone}
 use Rattle.entering.proofs.Clearing.{clear-any-of, clear-alone, alone-clear, clear-several}
-use Rattle.entering.proofs.Mirror.{any-distinct-of, any-none, any-several}
+use Rattle.entering.proofs.Mirror.{any-none, any-several, inside-only}
 use Rattle.entering.proofs.Settling.{settle-several, settled-inside}
 use Rattle.entering.proofs.Moves.{moved-trans, moved-words, footing-as}
 
@@ -48,7 +48,6 @@ module _ (n k : ℕ) (w : List ℕ) (p count left : ℕ) where
         omega arith,
         λ c. record {
           holds' = c .s .holds;
-          off = λ y h. refl;
           is = any-none (graphs (c .es)) (marking w) (c .lies .a) (kept-none w (chosen c) which after (tally (chosen c)) z);
         },
       );
@@ -84,8 +83,8 @@ module _ (n k : ℕ) (w : List ℕ) (p count left : ℕ) where
               let told = f .2 (goes c) in
               let low = lone c .low in
               let high = lone c .lies .low in
-              let back = lone c .closes (told .es') (marking w') (λ y a b s. told .off y (⊎-elim (λ u. inl (omega arith)) (λ u. inr u) s))
-              (told .clear') in
+              let back = lone c .closes (told .es') (marking w') (inside-only (graphs (c .es)) (marking w) (marking w') (graphs (told .es'))
+              (lone c .lies .d) (distinct-of (lone c .lies)) (told .is)) (told .clear') in
               record {
                 es' = told .es';
                 stood = record {
@@ -97,7 +96,6 @@ module _ (n k : ℕ) (w : List ℕ) (p count left : ℕ) where
                       inr (omega arith, omega arith)) (told .stood .fresh o i);
                 };
                 clear' = alone-clear (marking w') (told .es') (c .lies) (back .0) (back .1);
-                off = λ y h. told .off y (⊎-elim (λ u. inl (omega arith)) (λ u. inr (omega arith)) h);
                 is = lone c .any (graphs (c .es)) ∙ told .is;
               },
         );
@@ -106,11 +104,8 @@ module _ (n k : ℕ) (w : List ℕ) (p count left : ℕ) where
           f .1,
           λ c.
               let told = f .2 (goes c) in
-              let low = lone c .low in
-              let high = lone c .lies .low in
               record {
                 holds' = told .holds';
-                off = λ y h. told .off y (⊎-elim (λ u. inl (omega arith)) (λ u. inr (omega arith)) h);
                 is = lone c .any (graphs (c .es)) ∙ told .is;
               },
         );
@@ -173,7 +168,6 @@ module _ (n k : ℕ) (w : List ℕ) (p count left : ℕ) where
                   stood = record { holds = told .holds'; inside = c .s .inside; old = λ o i. i; fresh = λ o i. inl i };
                   clear' = subst (λ (m : Marking). ClearAnyOf (c .es) m (c .lies)) (sym marks₁)
                       (c .clear);
-                  off = told .off;
                   is = sifts c ∙ settle-several (graphs (c .es)) (marking w₁) (c .lies .a) (more c .0)
                       (ap (λ (m : Marking). kept-of m (c .lies .a)) marks₁ ∙ more c .1);
                 }
@@ -185,9 +179,6 @@ module _ (n k : ℕ) (w : List ℕ) (p count left : ℕ) where
           moved₂ : (j : ℕ) → Since k w₁ j w₂ → Moved k w j w₂
           moved₂ j x = moved-trans k w k w₁ j w₂ (s .moved) (record { len = u .len; rest = λ i h. u .rest i (omega arith); since = x })
 
-          off₂ : (c : Choosing n k w p count left) → Off (c .lies .from) (c .lies .to) (marking w) (marking w₂)
-          off₂ c y h = ap (λ (m : Marking). m y) marks₂ ∙ s .sifted (these c w refl (c .s .holds)) .off y h
-
           pub chooses-fails : r ≡ Clashed → Chooses n k w p count left Fails w₂
           chooses-fails z =
               let f = u .clashed z in
@@ -197,7 +188,7 @@ module _ (n k : ℕ) (w : List ℕ) (p count left : ℕ) where
                   moved₂ k (f .0),
                   (let e : total (marking w₂) ≡ total (marking w₁) = ap total marks₂ in let x = s .fewer .fewer in omega arith),
                   λ c. let told = f .1 (after-sift c) in
-                      record { holds' = told .0; off = off₂ c; is = sifts c ∙ told .1 ∙ ap fails (sym marks₂) },
+                      record { holds' = told .0; is = sifts c ∙ told .1 ∙ ap fails (sym marks₂) },
                 );
               }
 
@@ -233,6 +224,5 @@ module _ (n k : ℕ) (w : List ℕ) (p count left : ℕ) where
                     clear' = subst (λ (m : Marking). ClearAnyOf (settled (after-sift c)) m (c .lies))
                         (sym marks₂) (clear-any-of (marking w₁) (settled (after-sift c)) (c .lies)
                         (λ o i. ⊎-elim (λ a. inl (free c o a)) (λ b. inr b) (List·Memᴰ·append-cases (c .es) i)));
-                    off = off₂ c;
                     is = sifts c ∙ told .1 ∙ ap (λ (m : Marking). stands (graphs (settled (after-sift c))) m) (sym marks₂);
                   }

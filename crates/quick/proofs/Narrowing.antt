@@ -4,13 +4,15 @@ use Prim.Native.Nat.{ℕ, _+_, _-_, _≤_, _<_}
 use native.Mathlib.Omega.{arith}
 use mathlib.Core.Path.{_≡_, refl, sym, ap, subst, _∙_}
 use mathlib.Core.Logic.{_⊎_, inl, inr, ⊎-elim}
-use mathlib.Core.List.{List, List·Memᴰ}
+use mathlib.Core.List.{List, _++_, List·Memᴰ, Memᴰ·append-left, Memᴰ·append-right}
 use lib.ListN.{length}
 use Rattle.theory.specs.Net.{Graph}
 use Rattle.area.specs.Region.{words}
 use Rattle.area.proofs.Region.{words-many}
 use Rattle.engine.specs.Placed.{Placed, place, Places, stop, _also_, Options}
 use Rattle.engine.specs.Marks.{Marking}
+use Rattle.modes_by_marks.proofs.Names.{names-any, names-all}
+use Rattle.modes_by_marks.proofs.QuickStep.{Only}
 use Rattle.engine.specs.Quickly as quickly
 use Rattle.engine.specs.Quickly.{fails, stands, narrow-at, inside-at, any-at}
 use Rattle.loading.specs.Entry.{Entry, graphs}
@@ -19,7 +21,7 @@ use Rattle.loading.specs.Numbered.{places}
 use Rattle.loading.specs.At.{AtAll}
 use Rattle.loading.specs.Lying.{Here, Rest}
 use Rattle.loading.proofs.Walking.{all-bounds, any-bounds}
-use Rattle.loading.proofs.Lying.{bounds-of}
+use Rattle.loading.proofs.Lying.{bounds-of, any-distinct-of}
 use Rattle.marks.specs.Positions.{tail-at, disjunctions-at, alternatives-at}
 use Rattle.marks.specs.Marked.{marking}
 use Rattle.marks.specs.Readable.{Readable, Alternatives}
@@ -36,10 +38,10 @@ use Rattle.quick.specs.declared.step.Step.{Step}
 use Rattle.quick.specs.declared.step.Step.the-variants.{Stands, Fails}
 use Rattle.entering.specs.Taken.{AmongHere, AmongRest}
 use Rattle.entering.specs.Clear.{Outside, ClearHere, ClearRest, ClearOf}
-use Rattle.quick.specs.Stepped.{total, Fewer, Off, Stood, Narrowing, NarrowStands, NarrowFails, Narrows, Choosing, ChooseStands}
+use Rattle.quick.specs.Stepped.{total, Fewer, Stood, Narrowing, NarrowStands, NarrowFails, Narrows, Choosing, ChooseStands}
 use Rattle.quick.specs.Stepped.{Chooses}
 use Rattle.entering.specs.Moved.{Moved}
-use Rattle.entering.proofs.Mirror.{Alike}
+use Rattle.entering.proofs.Mirror.{any-only}
 use Rattle.entering.proofs.Clearing.{all-alike, any-alike}
 use Rattle.quick.proofs.Choosing.{chosen}
 use Rattle.entering.proofs.Moves.{moved-trans, moved-words}
@@ -62,10 +64,9 @@ module _ (n k : ℕ) (w : List ℕ) (g left : ℕ) where
     pub es₁ : List Entry
     pub stood : Stood n (c .s .U) (c .es) (c .lies .from + 1) (c .lies .to) log w₁ es₁
     pub ahead : ClearRest es₁ (marking w₁) (c .lies) at l ds stand
-    pub behind : (E : List Entry) (K : Marking) → Alike (marking w₁) K (c .lies .from + 1) l →
+    pub behind : (E : List Entry) (K : Marking) → Only (names-all ds) (marking w₁) K →
         ((o : Entry) → List·Memᴰ o E → List·Memᴰ o es₁ ⊎ Outside (c .lies .from + 1) l (o .number)) →
         ClearRest E K (c .lies) at l ds stand → ClearOf E K (c .lies)
-    pub off : Off (c .lies .from + 1) (c .lies .to) (marking w) (marking w₁)
     pub is : inside-at (graphs (c .es)) (marking w) (c .lies .d) ≡ narrow-at (graphs es₁) (marking w₁) ds
 
   module _ (c : Narrowing n k w g left) where
@@ -110,7 +111,6 @@ module _ (n k : ℕ) (w : List ℕ) (g left : ℕ) where
               stood = record { holds = c .s .holds; inside = c .s .inside; old = λ o i. i; fresh = λ o i. inl i };
               ahead = clear;
               behind = λ E K a b x. whole E K x;
-              off = λ y h. refl;
               is = same;
             })
 
@@ -121,8 +121,7 @@ module _ (n k : ℕ) (w : List ℕ) (g left : ℕ) where
       es' = s .es₁;
       stood = s .stood;
       clear' =
-          s .behind (s .es₁) (marking w₁) (λ y a b. refl) (λ o i. inl i) (s .ahead);
-      off = s .off;
+          s .behind (s .es₁) (marking w₁) (λ y h. refl) (λ o i. inl i) (s .ahead);
       is = go (s .ds) (s .many) (s .is);
     }
       where
@@ -146,7 +145,7 @@ module _ (n k : ℕ) (w : List ℕ) (g left : ℕ) where
         later : places ds + 1 ≡ more
         clear : ClearRest (s .es₁) (marking w₁) (c .lies) at (s .l) (a also ds) o
         whole : inside-at (graphs (c .es)) (marking w) (c .lies .d) ≡ narrow-at (graphs (s .es₁)) (marking w₁) (a also ds)
-        before : (E : List Entry) (K : Marking) → Alike (marking w₁) K (c .lies .from + 1) (s .l) →
+        before : (E : List Entry) (K : Marking) → Only (names-any a ++ names-all ds) (marking w₁) K →
             ((o : Entry) → List·Memᴰ o E → List·Memᴰ o (s .es₁) ⊎ Outside (c .lies .from + 1) (s .l) (o .number)) →
             ClearRest E K (c .lies) at (s .l) (a also ds) o → ClearOf E K (c .lies)
 
@@ -157,7 +156,7 @@ module _ (n k : ℕ) (w : List ℕ) (g left : ℕ) where
               AmongRest (c .s .U) (c .lies) at (s .l) ds o →
               ClearRest (s .es₁) (marking w₁) (c .lies) at (s .l) ds o →
               inside-at (graphs (c .es)) (marking w) (c .lies .d) ≡ narrow-at (graphs (s .es₁)) (marking w₁) ds →
-              ((E : List Entry) (K : Marking) → Alike (marking w₁) K (c .lies .from + 1) (s .l) →
+              ((E : List Entry) (K : Marking) → Only (names-all ds) (marking w₁) K →
               ((o : Entry) → List·Memᴰ o E → List·Memᴰ o (s .es₁) ⊎ Outside (c .lies .from + 1) (s .l) (o .number)) →
               ClearRest E K (c .lies) at (s .l) ds o → ClearOf E K (c .lies)) → Next
           go stop o e f u x q b = absurd (omega arith)
@@ -228,6 +227,8 @@ module _ (n k : ℕ) (w : List ℕ) (g left : ℕ) where
             pub narrow-on : (which : Remnant) (after : ℕ) → ((a : Alternatives w₁ (at + 1) count) → Tallied w₁ a which after) →
                 Going c (more - 1) after j w₂
             narrow-on which after tally =
+                let only = any-only (graphs (s .es₁)) (marking w₁) (marking w₂) (graphs (told .es')) (next .a)
+                (any-distinct-of (asks .lies)) (told .is) in
                 let count' = next .later in
                 let above = s .above in
                 let near = first .2 in
@@ -252,19 +253,19 @@ module _ (n k : ℕ) (w : List ℕ) (g left : ℕ) where
                   };
                   ahead = all-alike (c .s .t) (marking w₁) (marking w₂) (s .es₁) (told .es') (next .o .0) (next .o .1) (next .ds)
                       (c .lies .end)
-                      (c .lies .to) (first .1) (next .o .5) (λ y a b. told .off y (inr a))
+                      (c .lies .to) (first .1) (next .o .5) (λ y a. only y (λ b. next .o .6 y b a))
                       (λ o i. ⊎-elim (λ b. inl b) (λ b. let u = b .1 in inr (inl u)) (told .stood .fresh o i)) (next .clear .1);
-                  behind = λ E K alike new x. next .before E K
-                      (λ y a b. alike y a (omega arith) ∙ told .off y (inl b))
+                  behind = λ E K rest new x. next .before E K
+                      (λ y h. rest y (λ i. h (Memᴰ·append-right (names-any (next .a)) i))
+                      ∙ only y (λ i. h (Memᴰ·append-left (names-all (next .ds)) i)))
                       (λ o i. ⊎-elim (λ b. ⊎-elim (λ d. inl d) (λ d. inr (inr (d .0))) (told .stood .fresh o b))
                       (λ b. inr (⊎-elim (λ d. inl d) (λ d. inr (omega arith)) b)) (new o i)) (
                         any-alike (c .s .t) (marking w₂) K (told .es') E (at + 1) (s .l) (next .a) (next .o .0) (next .o .1) (omega arith)
-                            (next .o .4) (λ y a b. alike y (omega arith) b)
+                            (next .o .4) (λ y i. rest y (λ j. next .o .6 y i j))
                             (λ o i. ⊎-elim (λ b. inl b) (λ b. inr (⊎-elim (λ d. inl (omega arith)) (λ d. inr d) b)) (new o i))
                             (told .clear'),
                         x,
                       );
-                  off = λ y h. told .off y (⊎-elim (λ b. inl (omega arith)) (λ b. inr (omega arith)) h) ∙ s .off y h;
                   is = next .whole ∙ narrow-more (graphs (s .es₁)) (marking w₁) (next .a) (next .ds)
                       (stands (graphs (told .es')) (marking w₂)) (told .is);
                 })
@@ -279,12 +280,8 @@ module _ (n k : ℕ) (w : List ℕ) (g left : ℕ) where
             narrow-fails =
                 let f = v .failing y in
                 let told = f .2 asks in
-                let above = s .above in
-                let far = last in
                 record {
                   holds' = b .holds n (c .es) w (c .s .holds) (since-trans k w log w₁ log w₂ (m .since) (f .0 .since));
-                  off = λ y h. ap (λ (k : Marking). k y) marks₃ ∙ told .off y (⊎-elim (λ b. inl (omega arith)) (λ b. inr (omega arith)) h)
-                      ∙ s .off y h;
                   is = next .whole ∙ narrow-more (graphs (s .es₁)) (marking w₁) (next .a) (next .ds) (fails (marking w₂)) (told .is)
                       ∙ ap fails (sym marks₃);
                 }

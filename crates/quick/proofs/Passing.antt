@@ -14,6 +14,7 @@ use Rattle.engine.specs.Beside.{_next_}
 use Rattle.engine.specs.Quickly as quickly
 use Rattle.engine.specs.Quickly.{fails, stands, any-at, narrow-at, inside-at}
 use Rattle.loading.specs.Entry.{graphs}
+use Rattle.loading.proofs.Lying.{distinct-of}
 use Rattle.marks.specs.Marked.{marking}
 use Rattle.counting.specs.Counted.{beside}
 use Rattle.classes.specs.Holds.{Since, Backs, Remembers}
@@ -23,7 +24,9 @@ use Rattle.quick.specs.declared.step.Step.the-variants.{Stands, Fails}
 use Rattle.quick.specs.Stepped.{Fewer, Narrowing, NarrowStands, Narrows}
 use Rattle.entering.specs.Moved.{Moved}
 use Rattle.quick.specs.Passed.{Passing, PassStands, Passes}
+use Rattle.entering.proofs.Mirror.{inside-only}
 use Rattle.entering.proofs.Clearing.{clear-alike-of}
+use Rattle.entering.proofs.Pairs.{inputs-apart}
 use Rattle.quick.proofs.Sifting.{fewer-trans}
 use Rattle.entering.proofs.Moves.{moved-trans, moved-words, stands-on}
 
@@ -96,7 +99,8 @@ module _ (n k : ℕ) (w : List ℕ) where
         lies = c .inputs .second;
         among = c .inputs .among-second;
         clear = clear-alike-of (marking w) (marking w₁) (c .es) (told c .es') (c .inputs .second)
-            (λ y a b. told c .off y (inr (omega (arith, c .inputs .apart))))
+            (λ y a. inside-only (graphs (c .es)) (marking w) (marking w₁) (graphs (told c .es')) (c .inputs .first .d)
+            (distinct-of (c .inputs .first)) (told c .is) y (λ b. inputs-apart (c .inputs) y b a))
             (λ o i. ⊎-elim (λ a. inl a) (λ a. let b = a .1 in inr (inl (omega (arith, c .inputs .apart)))) (told c .stood .fresh o i))
             (c .ready .clear-second);
       }
@@ -160,7 +164,8 @@ module _ (n k : ℕ) (w : List ℕ) where
                     holds = s .stood .holds;
                     inside = s .stood .inside;
                     clear-first = clear-alike-of (marking w₁) (marking w₂) (told c .es') (s .es') (c .inputs .first)
-                        (λ y a b. s .off y (inl (omega (arith, c .inputs .apart))))
+                        (λ y a. inside-only (graphs (told c .es')) (marking w₁) (marking w₂) (graphs (s .es')) (c .inputs .second .d)
+                        (distinct-of (c .inputs .second)) (s .is) y (λ b. inputs-apart (c .inputs) y a b))
                         (λ o i. ⊎-elim (λ a. inl a) (λ a. let b = a .0 in
                         inr (inr (omega (arith, c .inputs .apart)))) (s .stood .fresh o i)) (told c .clear');
                     clear-second = s .clear';

@@ -1,7 +1,7 @@
 -- An alternative without disjunctions is tried: it is entered by one push, or what its graph would do is told without one, and there
 -- is nothing to narrow.
 -- Assumes nothing.
-use Prim.Native.Nat.{ℕ, _+_, _/_, _%_}
+use Prim.Native.Nat.{ℕ, _+_}
 use native.Mathlib.Omega.{arith}
 use mathlib.Core.Path.{_≡_, refl, sym, ap, subst, _∙_}
 use mathlib.Core.Bool.{Bool, true, false}
@@ -11,7 +11,7 @@ use Rattle.area.specs.Region.{words}
 use Rattle.area.proofs.Region.{words-same}
 use Rattle.engine.specs.Quickly.{fails, stands, try-at}
 use Rattle.loading.specs.Entry.{graphs}
-use Rattle.packing.specs.Packed.{extent-step, end-step}
+use Rattle.packing.specs.Packed.{word-extent, word-disjunctions}
 use Rattle.marks.specs.Positions.{tail-at, disjunctions-at}
 use Rattle.marks.specs.Marked.{marking}
 use Rattle.classes.specs.Holds.{Pushes, Backs}
@@ -32,7 +32,7 @@ use Rattle.entering.proofs.Bare.{told-enters, bare-one, bare-good}
 -- what is read of the same words
 none-same : (v w : List ℕ) (g : ℕ) → words v ≡ words w → disjunctions-at v (tail-at v g) ≡ disjunctions-at w (tail-at w g)
 unfolding disjunctions-at tail-at
-none-same v w g e = ap (λ (t : List ℕ). getD t (g + getD t g 0 / extent-step) 0 % end-step) e
+none-same v w g e = ap (λ (t : List ℕ). word-disjunctions (getD t (g + word-extent (getD t g 0)) 0)) e
 
 module _ (n k : ℕ) (w : List ℕ) (g left : ℕ) (o : Pushed) (w₁ : List ℕ) (u : Pushes n k w g o w₁) (c : Entering n k w g left) where
   -- its graph clashes
@@ -88,7 +88,7 @@ told-stands n k w g left c none s = record {
         subst (λ (i : ℕ). Fewer i (marking w) (marking w)) x (fewer-none (marking w)),
         λ d. (
           graphs (d .es) ++ bare-one n k w g left d none .0 ∷ [],
-          record { holds' = d .s .holds; off = λ y h. refl; is = bare-stays n k w g left d none s },
+          record { holds' = d .s .holds; is = bare-stays n k w g left d none s },
         ),
       );
   failing = λ y. let x : _≡_ {A = ℕ} 0 1 = cc in absurd (omega arith);

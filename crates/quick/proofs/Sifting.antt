@@ -3,9 +3,8 @@
 use Prim.Native.Nat.{ℕ, zero, suc, _+_, _-_, _≤_, _<_}
 use native.Mathlib.Omega.{arith}
 use mathlib.Core.Path.{_≡_, refl, sym, ap, subst, _∙_}
-use mathlib.Core.Logic.{inl, inr, ⊎-elim}
 use mathlib.Core.Bool.{Bool, true, false}
-use mathlib.Core.List.{List}
+use mathlib.Core.List.{List, List·Memᴰ·head}
 use lib.ListN.{length}
 use lib.Dec.{eqb}
 use borrow.Author.Tests.{eqb-true, eqb-false}
@@ -13,7 +12,7 @@ use Rattle.area.specs.Region.{words}
 use Rattle.engine.specs.Placed.{Placed, Options, no-more, option}
 use Rattle.engine.specs.Marks.{Marking, drop}
 use Rattle.engine.specs.Quickly as quickly
-use Rattle.engine.specs.Quickly.{tried, sift-at}
+use Rattle.engine.specs.Quickly.{fails, tried, try-at, sift-at}
 use Rattle.modes_by_marks.proofs.Marks.{drop-self, drop-other}
 use Rattle.loading.specs.Entry.{graphs}
 use Rattle.packing.specs.Packed.{number-step}
@@ -21,7 +20,8 @@ use Rattle.loading.specs.Numbered.{options}
 use Rattle.loading.specs.At.{AtAny}
 use Rattle.loading.specs.Lying.{RestAny}
 use Rattle.loading.proofs.Walking.{at-bounds, any-bounds}
-use Rattle.marks.specs.Positions.{number-at, tail-at, after-at}
+use Rattle.loading.proofs.Lying.{distinct-of}
+use Rattle.marks.specs.Positions.{tail-at, mark-at, after-at}
 use Rattle.marks.specs.Marked.{marking, Dropped}
 use Rattle.marks.proofs.Reading.{Read, read-option}
 use Rattle.loading.specs.Nesting.{NestsAny}
@@ -32,10 +32,10 @@ use Rattle.quick.specs.declared.step.Step.the-variants.{Stands, Fails}
 use Rattle.entering.specs.Taken.{AmongRestAny}
 use Rattle.entering.specs.Entered.{Entering}
 use Rattle.entering.specs.Settled.{Alternating}
-use Rattle.quick.specs.Stepped.{kept-below, total, Fewer, Off, Tries, Sifted}
+use Rattle.quick.specs.Stepped.{kept-below, total, Fewer, Tries, Sifted}
 use Rattle.entering.specs.Moved.{Moved}
 use Rattle.entering.proofs.Certain.{free-narrow}
-use Rattle.entering.proofs.Mirror.{sift-dropped, sift-kept}
+use Rattle.entering.proofs.Mirror.{sift-dropped, sift-kept, try-only}
 use Rattle.entering.proofs.Moves.{moved-trans, moved-words, footing-as}
 
 -- ---- how many are kept
@@ -123,7 +123,6 @@ module _ (n k : ℕ) (w : List ℕ) (p count left : ℕ) where
     pub among : AmongRestAny (c .s .U) (c .lies) at l b stand
     pub above : c .lies .from ≤ l
     pub holds : Holds n (c .es) k w₁
-    pub off : Off (c .lies .from) (c .lies .to) (marking w) (marking w₁)
     pub is : sift-at (graphs (c .es)) (marking w) (c .lies .a) ≡ sift-at (graphs (c .es)) (marking w₁) b
 
   pub sift-start : (c : Alternating n k w p count left) → Sifting c count p w
@@ -137,7 +136,6 @@ module _ (n k : ℕ) (w : List ℕ) (p count left : ℕ) where
     among = c .among;
     above = omega arith;
     holds = c .s .holds;
-    off = λ y h. refl;
     is = refl;
   }
 
@@ -147,7 +145,7 @@ module _ (n k : ℕ) (w : List ℕ) (p count left : ℕ) where
   pub sift-done : (c : Alternating n k w p count left) (rest at : ℕ) (w₁ : List ℕ) → Sifting c rest at w₁ → rest ≤ 0 →
       Sifted n k w p count left w₁ c
   unfolding Rattle.modes_by_marks.specs.Quickly.sift-at
-  sift-done c rest at w₁ s h = record { holds' = s .holds; off = s .off; is = go (s .b) (s .many) (s .is) }
+  sift-done c rest at w₁ s h = record { holds' = s .holds; is = go (s .b) (s .many) (s .is) }
     where
       go : (b : Options) → options b ≡ rest → sift-at (graphs (c .es)) (marking w) (c .lies .a) ≡ sift-at (graphs (c .es)) (marking w₁) b →
           sift-at (graphs (c .es)) (marking w) (c .lies .a) ≡ marking w₁
@@ -196,12 +194,8 @@ module _ (n k : ℕ) (w : List ℕ) (p count left : ℕ) where
     room₁ : 16384 ≤ length w₁
     room₁ = omega (arith, m .len, c .s .holds .long)
 
-    pub sift-here : (at < 2048) × (number-at w₁ at < 1024) × (tail-at w₁ at < 2048)
-    sift-here =
-        let r = read w₁ room₁ loaded₁ in
-        let a = r .low in
-        let b = r .number in
-        (r .here, omega arith, r .inside)
+    pub sift-here : ((at < 2048) × (16384 ≤ length w₁)) × (tail-at w₁ at < 2048)
+    sift-here = let r = read w₁ room₁ loaded₁ in ((r .here, room₁), r .inside)
 
     abbrev asks : Entering n k w₁ at left
     asks = record {
@@ -223,19 +217,19 @@ module _ (n k : ℕ) (w : List ℕ) (p count left : ℕ) where
     pub sift-asks : Entering n k w₁ at left
     sift-asks = asks
 
-    module _ (x : ℕ) (is-x : x ≡ number-at w₁ at) where
+    module _ (x : ℕ) (is-x : (x ≡ mark-at w₁ at) × (x < 1024)) where
       own : x ≡ next .x
-      own = is-x ∙ read w₁ room₁ loaded₁ .number
-
-      inner-number : s .l ≡ x
-      inner-number = sym (own ∙ next .o .2)
+      own = is-x .0 ∙ read w₁ room₁ loaded₁ .mark
 
       low-x : x < 1024
-      low-x = omega (arith, own, read w₁ room₁ loaded₁ .low)
+      low-x = is-x .1
 
       -- the mark of an alternative that was tried is as it was
-      still : (w' : List ℕ) → Off (s .l + 1) (next .o .1) (marking w₁) (marking w') → marking w₁ x ≡ true → marking w' x ≡ true
-      still w' off e = off x (inl (omega (arith, inner-number))) ∙ e
+      still : (w' : List ℕ) → try-at (graphs (c .es)) (marking w₁) (next .d) ≡ fails (marking w') → marking w₁ x ≡ true →
+          marking w' x ≡ true
+      still w' is e =
+          try-only (graphs (c .es)) (marking w₁) (marking w') (next .d) (distinct-of (asks .lies)) is x
+          (λ i. next .o .5 x (List·Memᴰ·head own) i) ∙ e
 
       module _ (drops drops' : ℕ) (w₂ : List ℕ) (turn : Turn n k w₁ at x left drops drops' w₂) where
         pub turn-moved : Moved k w k w₂
@@ -260,7 +254,7 @@ module _ (n k : ℕ) (w : List ℕ) (p count left : ℕ) where
                 (fewer-trans drops i (marking w) (marking w₁) (marking w') p (u .standing j i y .0)))
             go (failed r w' w'' e u y d f q) =
                 let told = u .failing y in
-                let up = total-drop (marking w') x low-x (still w' (told .1 asks .off) e) in
+                let up = total-drop (marking w') x low-x (still w' (told .1 asks .is) e) in
                 let same : total (marking w'') ≡ total (drop x (marking w')) = ap total (d .marks) in
                 let one : Fewer 1 (marking w₁) (marking w'') =
                 record { same = λ z. absurd (omega arith); fewer = omega (arith, told .0) } in
@@ -268,21 +262,22 @@ module _ (n k : ℕ) (w : List ℕ) (p count left : ℕ) where
                 (subst (λ (i : ℕ). Fewer i (marking w) (marking w'')) (sym q)
                 (fewer-trans drops 1 (marking w) (marking w₁) (marking w'') p one))
 
-        pub turn-inside : tail-at w₂ at < 2048
-        turn-inside = read w₂ (omega (arith, turn-moved .len, c .s .holds .long)) (moved-words k w k w₂ (c .s .holds .long) turn-moved
-            ∙ c .s .loaded) .inside
+        room₂ : 16384 ≤ length w₂
+        room₂ = omega (arith, turn-moved .len, c .s .holds .long)
+
+        pub turn-inside : ((at < 2048) × (16384 ≤ length w₂)) × (tail-at w₂ at < 2048)
+        turn-inside =
+            let r = read w₂ room₂ (moved-words k w k w₂ (c .s .holds .long) turn-moved ∙ c .s .loaded) in ((r .here, room₂), r .inside)
 
         -- past the alternative
         past : (v : List ℕ) (at' : ℕ) → Moved k w k v → at' ≡ after-at v at → Holds n (c .es) k v →
-            Off (s .l) (next .o .1) (marking w₁) (marking v) →
             sift-at (graphs (c .es)) (marking w₁) (option (next .x) (next .d) (next .a)) ≡ sift-at (graphs (c .es)) (marking v) (next .a) →
             Sifting c (rest - 1) at' v
-        past v at' mv e held off is =
+        past v at' mv e held is =
             let r = read v (omega (arith, mv .len, c .s .holds .long)) (moved-words k w k v (c .s .holds .long) mv ∙ c .s .loaded) in
             let count = next .later in
             let low = s .above in
             let near = first .2 in
-            let high = last in
             subst (λ (j : ℕ). Sifting c (rest - 1) j v) (sym (e ∙ r .after)) (record {
               b = next .a;
               l = next .o .1;
@@ -293,7 +288,6 @@ module _ (n k : ℕ) (w : List ℕ) (p count left : ℕ) where
               among = next .amongst .1;
               above = omega arith;
               holds = held;
-              off = λ y h. off y (⊎-elim (λ b. inl (omega arith)) (λ b. inr (omega arith)) h) ∙ s .off y h;
               is = next .whole ∙ is;
             })
 
@@ -303,18 +297,13 @@ module _ (n k : ℕ) (w : List ℕ) (p count left : ℕ) where
             kept-x : (b : Bool) → marking w₁ x ≡ b → marking w₁ (next .x) ≡ b
             kept-x b e = ap (marking w₁) (sym own) ∙ e
 
-            wide : (v : List ℕ) → Off (s .l + 1) (next .o .1) (marking w₁) (marking v) → Off (s .l) (next .o .1) (marking w₁) (marking v)
-            wide v off y h = off y (⊎-elim (λ b. inl (omega arith)) (λ b. inr b) h)
-
             go : Turn n k w₁ at x left drops drops' w₂ → Sifting c (rest - 1) at' w₂
             go (skipped e f q) = past w₂ at' turn-moved z (subst (Holds n (c .es) k) (sym f) (s .holds))
-                (λ y h. ap (λ (v : List ℕ). marking v y) f)
                 (sift-dropped (graphs (c .es)) (marking w₁) (next .x) (next .d) (next .a) (kept-x false e)
                 ∙ ap (λ (v : List ℕ). sift-at (graphs (c .es)) (marking v) (next .a)) (sym f))
             go (stood r j i w' e u y f q) =
                 let told = u .standing j i y .1 asks .1 in
                 past w₂ at' turn-moved z (subst (Holds n (c .es) k) (sym f) (told .holds'))
-                (subst (λ (v : List ℕ). Off (s .l) (next .o .1) (marking w₁) (marking v)) (sym f) (wide w' (told .off)))
                 (sift-kept (graphs (c .es)) (marking w₁) (next .x) (next .d) (next .a) (kept-x true e)
                 ∙ ap (λ (o : quickly.Step). sift-at (graphs (c .es)) (tried (next .x) o) (next .a)) (told .is)
                 ∙ ap (λ (v : List ℕ). sift-at (graphs (c .es)) (marking v) (next .a)) (sym f))
@@ -323,12 +312,7 @@ module _ (n k : ℕ) (w : List ℕ) (p count left : ℕ) where
                 let room : 16384 ≤ length w' = omega (arith, u .moved .len, room₁) in
                 let lx = low-x in
                 let held = holds-frame n (c .es) k w' (told .holds') w'' (d .len) (λ j h. d .rest j (λ e. omega arith)) in
-                let near = first .2 in
-                let at-x = inner-number in
                 past w₂ at' turn-moved z (subst (Holds n (c .es) k) (sym f) held)
-                (subst (λ (v : List ℕ). Off (s .l) (next .o .1) (marking w₁) (marking v)) (sym f)
-                (λ y h. ap (λ (k : Marking). k y) (d .marks)
-                ∙ drop-other x (marking w') y (λ q. ⊎-elim (λ b. omega arith) (λ b. omega arith) h) ∙ wide w' (told .off) y h))
                 (sift-kept (graphs (c .es)) (marking w₁) (next .x) (next .d) (next .a) (kept-x true e)
                 ∙ ap (λ (o : quickly.Step). sift-at (graphs (c .es)) (tried (next .x) o) (next .a)) (told .is)
                 ∙ ap (λ (j : ℕ). sift-at (graphs (c .es)) (drop j (marking w')) (next .a)) (sym own)

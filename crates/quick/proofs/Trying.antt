@@ -1,6 +1,6 @@
 -- An alternative is tried: it is entered, narrowed, and taken back; engine's `try-at`, return by return.
 -- Assumes nothing.
-use Prim.Native.Nat.{ℕ, _+_}
+use Prim.Native.Nat.{ℕ}
 use native.Mathlib.Omega.{arith}
 use mathlib.Core.Path.{_≡_, refl, sym, ap, subst, _∙_}
 use mathlib.Core.Bool.{Bool, true, false}
@@ -24,7 +24,7 @@ use Rattle.quick.specs.declared.step.Step.{Step}
 use Rattle.quick.specs.declared.step.Step.the-variants.{Stands, Fails}
 use Rattle.entering.specs.Entered.{Entering, entered, Enters}
 use Rattle.entering.specs.Clear.{ClearOf}
-use Rattle.quick.specs.Stepped.{total, Fewer, Off, Narrowing, Narrows, Tries}
+use Rattle.quick.specs.Stepped.{total, Fewer, Narrowing, Narrows, Tries}
 use Rattle.entering.specs.Moved.{Moved}
 use Rattle.entering.proofs.Settling.{agrees-true, clash-false}
 use Rattle.entering.proofs.Within.{entered-graphs, entered-inside, fine, entered-clear}
@@ -53,7 +53,6 @@ module _ (n k : ℕ) (w : List ℕ) (g left : ℕ) where
             let told = u .clashed z .1 c in
             record {
               holds' = told .1;
-              off = λ y h. ap (λ (m : Marking). m y) marks₁;
               is = try-by (graphs (c .es)) (marking w) (c .lies .d) false
                   (clash-false _ (fine n k w g left c) (subst Clash (entered-graphs n k w g left c) (told .0))) ∙ ap fails (sym marks₁);
             },
@@ -114,9 +113,6 @@ module _ (n k : ℕ) (w : List ℕ) (g left : ℕ) where
             marks₃ : marking w₃ ≡ marking w₂
             marks₃ = marking-frame w₂ w₃ (omega (arith, m .len, u .len, c₀ .s .holds .long)) (b .len) (λ i h l. b .rest i (omega arith))
 
-            off₃ : (from to : ℕ) → Off from to (marking w₁) (marking w₂) → Off from to (marking w) (marking w₃)
-            off₃ from to f y h = ap (λ (x : Marking). x y) marks₃ ∙ f y h ∙ ap (λ (x : Marking). x y) marks₁
-
         pub tries-fails : (y : r ≡ Fails) (w₃ : List ℕ) → Backs k e w₂ w₃ → Tries n k w g left Fails w₃
         tries-fails y w₃ b =
             let f = v .failing y in
@@ -128,7 +124,6 @@ module _ (n k : ℕ) (w : List ℕ) (g left : ℕ) where
                     let q : total (marking w₃) ≡ total (marking w₂) = ap total (marks₃ e (f .0) w₃ b) in let s = f .1 in omega arith),
                 λ c. let told = f .2 (goes c) in record {
                   holds' = b .holds n (c .es) w (c .s .holds) (since₂ e (f .0));
-                  off = off₃ e (f .0) w₃ b (c .lies .from + 1) (c .lies .to) (told .off);
                   is = going c ∙ told .is ∙ ap fails (sym (marks₃ e (f .0) w₃ b));
                 },
               );
@@ -150,7 +145,6 @@ module _ (n k : ℕ) (w : List ℕ) (g left : ℕ) where
                   graphs (told .es'),
                   record {
                     holds' = b .holds n (c .es) w (c .s .holds) (since₂ j (f .0));
-                    off = off₃ j (f .0) w₃ b (c .lies .from + 1) (c .lies .to) (told .off);
                     is = going c ∙ told .is ∙ ap (λ (m : Marking). stands (graphs (told .es')) m) (sym (marks₃ j (f .0) w₃ b));
                   },
                 ),

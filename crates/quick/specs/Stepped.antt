@@ -21,7 +21,7 @@ use Rattle.entering.specs.Taken.{AmongOf, AmongAnyOf, Inside}
 use Rattle.entering.specs.Footing.{Footing}
 use Rattle.entering.specs.Entered.{Entering}
 use Rattle.entering.specs.Settled.{Alternating}
-use Rattle.entering.specs.Clear.{Outside, ClearOf, ClearAnyOf}
+use Rattle.entering.specs.Clear.{ClearOf, ClearAnyOf}
 use Rattle.entering.specs.Moved.{Moved}
 
 -- ---- marks
@@ -38,10 +38,6 @@ total k = kept-below k NODES
 pub record Fewer (i : ℕ) (k k' : Marking) : Type 0 where
   pub same : i ≡ 0 → k' ≡ k
   pub fewer : total k' + i ≤ total k
-
--- only marks from n up to m changed
-abbrev pub Off : ℕ → ℕ → Marking → Marking → Type 0
-Off n m k k' = (y : ℕ) → Outside n m y → k' y ≡ k y
 
 -- ---- the area
 -- the graphs es' are pushed: those of es, and some with numbers from `from` up to `to`
@@ -64,12 +60,10 @@ pub record NarrowStands (n k : ℕ) (w : List ℕ) (g left k' : ℕ) (w' : List 
   pub es' : List Entry
   pub stood : Stood n (c .s .U) (c .es) (c .lies .from + 1) (c .lies .to) k' w' es'
   pub clear' : ClearOf es' (marking w') (c .lies)
-  pub off : Off (c .lies .from + 1) (c .lies .to) (marking w) (marking w')
   pub is : inside-at (graphs (c .es)) (marking w) (c .lies .d) ≡ stands (graphs es') (marking w')
 
 pub record NarrowFails (n k : ℕ) (w : List ℕ) (g left : ℕ) (w' : List ℕ) (c : Narrowing n k w g left) : Type 0 where
   pub holds' : Holds n (c .es) k w'
-  pub off : Off (c .lies .from + 1) (c .lies .to) (marking w) (marking w')
   pub is : inside-at (graphs (c .es)) (marking w) (c .lies .d) ≡ fails (marking w')
 
 -- engine's `inside-at`, which is `narrow-at` on the disjunctions
@@ -91,12 +85,10 @@ pub record ChooseStands (n k : ℕ) (w : List ℕ) (p count left k' : ℕ) (w' :
   pub es' : List Entry
   pub stood : Stood n (c .s .U) (c .es) (c .lies .from) (c .lies .to) k' w' es'
   pub clear' : ClearAnyOf es' (marking w') (c .lies)
-  pub off : Off (c .lies .from) (c .lies .to) (marking w) (marking w')
   pub is : any-at (graphs (c .es)) (marking w) (c .lies .a) ≡ stands (graphs es') (marking w')
 
 pub record ChooseFails (n k : ℕ) (w : List ℕ) (p count left : ℕ) (w' : List ℕ) (c : Choosing n k w p count left) : Type 0 where
   pub holds' : Holds n (c .es) k w'
-  pub off : Off (c .lies .from) (c .lies .to) (marking w) (marking w')
   pub is : any-at (graphs (c .es)) (marking w) (c .lies .a) ≡ fails (marking w')
 
 -- engine's `any-at`
@@ -109,7 +101,6 @@ pub record Chooses (n k : ℕ) (w : List ℕ) (p count left : ℕ) (r : Step) (w
 -- ---- an alternative that is tried
 pub record Tried (n k : ℕ) (w : List ℕ) (g left : ℕ) (w' : List ℕ) (c : Entering n k w g left) (s : quickly.Step) : Type 0 where
   pub holds' : Holds n (c .es) k w'
-  pub off : Off (c .lies .from + 1) (c .lies .to) (marking w) (marking w')
   pub is : try-at (graphs (c .es)) (marking w) (c .lies .d) ≡ s
 
 -- engine's `try-at`; nothing that was pushed for it stays
@@ -127,7 +118,6 @@ pub record TriesBare (n k : ℕ) (w : List ℕ) (g : ℕ) (r : Step) (w' : List 
 -- ---- the alternatives of one disjunction are tried: engine's `sift-at`
 pub record Sifted (n k : ℕ) (w : List ℕ) (p count left : ℕ) (w' : List ℕ) (c : Alternating n k w p count left) : Type 0 where
   pub holds' : Holds n (c .es) k w'
-  pub off : Off (c .lies .from) (c .lies .to) (marking w) (marking w')
   pub is : sift-at (graphs (c .es)) (marking w) (c .lies .a) ≡ marking w'
 
 pub record Sifts (n k : ℕ) (w : List ℕ) (p count left r : ℕ) (w' : List ℕ) : Type 0 where

@@ -10,7 +10,7 @@ use marks::marking::kept;
 use marks::positions::after_at;
 use marks::positions::alternatives_at;
 use marks::positions::disjunctions_at;
-use marks::positions::number_at;
+use marks::positions::mark_at;
 use marks::positions::tail_at;
 use marks::tally::Remnant;
 use marks::tally::count_kept;
@@ -128,7 +128,7 @@ fn sift(w: &mut [u32], k: usize, n: usize, p: usize, count: usize, left: u32, t:
     let mut at = p;
     let mut drops: usize = 0;
     while 0 < rest {
-        let x = number_at(w, at);
+        let x = mark_at(w, at);
         if kept(w, x) {
             let step = try_one(w, k, n, at, left, t);
             if let Step::Stands(_, i) = step {

@@ -20,7 +20,7 @@ use Rattle.loading.specs.Numbered.{options}
 use Rattle.loading.specs.At.{AtAny}
 use Rattle.loading.specs.Lying.{RestAny}
 use Rattle.loading.proofs.Walking.{at-bounds, any-bounds}
-use Rattle.marks.specs.Positions.{number-at, tail-at, after-at}
+use Rattle.marks.specs.Positions.{tail-at, mark-at, after-at}
 use Rattle.marks.specs.Marked.{marking}
 use Rattle.marks.proofs.Reading.{Read, read-option}
 use Rattle.loading.specs.Nesting.{NestsAny}
@@ -135,12 +135,12 @@ module _ (n k : ℕ) (w : List ℕ) (p count : ℕ) (a : Agenda) where
     loaded₁ : words w₁ ≡ c .s .t
     loaded₁ = words₁ ∙ c .s .loaded
 
-    pub choose-here : (at < 2048) × (number-at w₁ at < 1024) × (16384 ≤ length w₁)
-    choose-here = let r = read w₁ room₁ loaded₁ in (r .here, omega (arith, r .number, r .low), room₁)
+    pub choose-here : ((at < 2048) × (16384 ≤ length w₁)) × (tail-at w₁ at < 2048)
+    choose-here = let r = read w₁ room₁ loaded₁ in ((r .here, room₁), r .inside)
 
-    module _ (x : ℕ) (is-x : x ≡ number-at w₁ at) where
+    module _ (x : ℕ) (is-x : (x ≡ mark-at w₁ at) × (x < 1024)) where
       own : x ≡ next .x
-      own = is-x ∙ read w₁ room₁ loaded₁ .number
+      own = is-x .0 ∙ read w₁ room₁ loaded₁ .mark
 
       -- the marks of w₁ are those of c
       mark-is : (b : Bool) → marking w₁ x ≡ b → c .s .m (next .x) ≡ b
@@ -178,7 +178,7 @@ module _ (n k : ℕ) (w : List ℕ) (p count : ℕ) (a : Agenda) where
         };
         among = next .amongst .0;
         free = free-narrow (c .lies .from) (c .lies .to) (s .l) (next .o .1) (c .es) (s .above) (last .2) (c .free);
-        kept = ap (c .s .m) (sym (next .o .2)) ∙ mark-is true e;
+        kept = ap (c .s .m) (next .o .2) ∙ mark-is true e;
         l = c .l;
         lists = c .lists;
         deep = c .deep;
@@ -192,7 +192,7 @@ module _ (n k : ℕ) (w : List ℕ) (p count : ℕ) (a : Agenda) where
           taken-with (asks e) ≡ taking (next .x) (dive-at (c .s .m) (graphs (c .es)) (next .d) (left-of c))
       taken-is e = ap (λ (y : ℕ). taking y
           (dive-at (c .s .m) (graphs (c .es)) (next .d)
-          (plan-on (c .s) (c .l) (next .o .0) (next .o .1) (after-it .0)))) (sym (next .o .2))
+          (plan-on (c .s) (c .l) (next .o .0) (next .o .1) (after-it .0)))) (next .o .2)
           ∙ ap (λ (fs : List Places). taking (next .x) (dive-at (c .s .m) (graphs (c .es)) (next .d) fs)) (after-it .1)
 
       module _ (sum' : ℕ) (w₂ : List ℕ) (turn : Turn n k w₁ at x a sum sum' w₂) where

@@ -15,11 +15,11 @@ use Rattle.engine.specs.Marks.{Marking}
 use Rattle.modes_by_marks.proofs.Agenda.{taking-count, lit-append, lit-taking, any-found}
 use Rattle.loading.specs.Entry.{Entry}
 use Rattle.marks.specs.Marked.{marking, lights, Lighted}
-use Rattle.marks.specs.Positions.{number-at}
+use Rattle.marks.specs.Positions.{mark-at}
 use Rattle.classes.specs.Holds.{Holds}
 use Rattle.classes.proofs.Laws.{holds-frame, since-frame}
 use Rattle.entering.specs.Moved.{Moved}
-use Rattle.search.specs.Searched.{Noting, Notes, Finds}
+use Rattle.search.specs.Searched.{Notes, Finds}
 
 -- ---- an alternative is noted
 or-none : (b : Bool) → b ≡ (b || false)
@@ -30,7 +30,7 @@ pub notes-none : (w : List ℕ) (g found : ℕ) → found ≤ 0 → Notes w g fo
 notes-none w g found h = record {
   len = refl;
   rest = λ j o. refl;
-  seen = λ y. or-none (lights w y) ∙ ap (λ (b : Bool). lights w y || (b && eqb y (number-at w g))) (none (ltb 0 found) refl);
+  seen = λ y. or-none (lights w y) ∙ ap (λ (b : Bool). lights w y || (b && eqb y (mark-at w g))) (none (ltb 0 found) refl);
   marks = λ e. refl;
 }
   where
@@ -38,14 +38,14 @@ notes-none w g found h = record {
     none true e = let more = ltb-true 0 found e in absurd (omega arith)
     none false e = sym e
 
-pub notes-some : (w : List ℕ) (g found x : ℕ) (w' : List ℕ) → Noting w g → 0 < found → x ≡ number-at w g → Lighted w x w' →
+pub notes-some : (w : List ℕ) (g found x : ℕ) (w' : List ℕ) → 0 < found → (x ≡ mark-at w g) × (x < 1024) → Lighted w x w' →
     Notes w g found w'
-notes-some w g found x w' c h e u = record {
+notes-some w g found x w' h e u = record {
   len = u .len;
-  rest = λ j o. u .rest j (λ z. ⊎-elim (λ b. omega (arith, c .low)) (λ b. omega (arith, c .low)) o);
-  seen = λ y. u .found y ∙ ap (λ (z : ℕ). lights w y || eqb y z) e
-      ∙ ap (λ (b : Bool). lights w y || (b && eqb y (number-at w g))) (some (ltb 0 found) refl);
-  marks = λ k. u .marks (ap (marking w) e ∙ k);
+  rest = λ j o. u .rest j (λ z. ⊎-elim (λ b. omega (arith, e .1)) (λ b. omega (arith, e .1)) o);
+  seen = λ y. u .found y ∙ ap (λ (z : ℕ). lights w y || eqb y z) (e .0)
+      ∙ ap (λ (b : Bool). lights w y || (b && eqb y (mark-at w g))) (some (ltb 0 found) refl);
+  marks = λ k. u .marks (ap (marking w) (e .0) ∙ k);
 }
   where
     some : (b : Bool) → ltb 0 found ≡ b → true ≡ ltb 0 found
@@ -104,12 +104,12 @@ module _ (n k : ℕ) (w : List ℕ) (es : List Entry) where
 
   -- with the alternative at g
   pub finds-taking : (x : ℕ) (f : Found) (g r : ℕ) (w₁ w₂ : List ℕ) → 16384 ≤ length w₁ → Finds n k w es f r w₁ → Notes w₁ g r w₂ →
-      number-at w₁ g ≡ x → marking w x ≡ true → Finds n k w es (taking x f) r w₂
+      mark-at w₁ g ≡ x → marking w x ≡ true → Finds n k w es (taking x f) r w₂
   finds-taking x f g r w₁ w₂ room u v e own = record {
     count = u .count ∙ ap (λ (c : ℕ). min c choice-stop) (sym (taking-count x f));
     seen = λ y.
         v .seen y
-        ∙ ap₂ {C = Bool} (λ (a b : Bool). a || (b && eqb y (number-at w₁ g))) (u .seen y) (any-counted f r (u .count))
+        ∙ ap₂ {C = Bool} (λ (a b : Bool). a || (b && eqb y (mark-at w₁ g))) (u .seen y) (any-counted f r (u .count))
         ∙ ap (λ (z : ℕ). (lights w y || lit f y) || (any-found f && eqb y z)) e
         ∙ with-own (lights w y) (lit f y) (any-found f) (eqb y x)
         ∙ ap (λ (b : Bool). lights w y || b) (sym (lit-taking x f y));

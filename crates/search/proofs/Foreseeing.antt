@@ -12,6 +12,7 @@ use Rattle.engine.specs.Search.{taking}
 use Rattle.engine.specs.Agenda.{resume-at, dive-at}
 use Rattle.engine.proofs.Agenda.{resume-at-leaf, resume-at-stop, dive-at-push}
 use Rattle.loading.specs.Entry.{graphs}
+use Rattle.loading.specs.Lying.{mark-of}
 use Rattle.marks.specs.Positions.{tail-at, disjunctions-at}
 use Rattle.classes.specs.Holds.{Pushing}
 use Rattle.classes.proofs.Laws.{since-refl}
@@ -65,7 +66,7 @@ module _ (n k : ℕ) (w : List ℕ) (g : ℕ) where
           let S = graphs (c .es) in
           let m = c .s .m in
           let K = bare-one n k w g depth-limit d none .0 in
-          ap (taking (c .lies .from)) (
+          ap (taking (mark-of (c .lies))) (
           ap (λ (p : Placed). dive-at m S p (plan-on (c .s) (c .l) (c .lies .end) (c .lies .to) (c .frames)))
           (bare-one n k w g depth-limit d none .1 .0)
           ∙ dive-at-push m S K stop (plan-on (c .s) (c .l) (c .lies .end) (c .lies .to) (c .frames))
@@ -97,13 +98,13 @@ module _ (n k : ℕ) (w : List ℕ) (g : ℕ) where
 
     pub alone-notes : Noting w g
     alone-notes = let x = read n k w g a c₀ w (c₀ .s .holds .long) (c₀ .s .loaded) in
-        record { room = c₀ .s .holds .long; here = x .here; low = omega (arith, x .number, x .low) }
+        record { room = c₀ .s .holds .long; here = x .here; inside = x .inside }
 
     pub takes-one : (r : Guess) → Foresees n k w g (a .frames) r → r ≡ Agrees → (w₁ : List ℕ) → Notes w g 1 w₁ → Takes n k w g a 1 w₁
     takes-one r f y w₁ v = record {
       moved = moved-noted k w k w w₁ g 1 (c₀ .s .holds .long) stays v;
-      found = λ c. finds-same n k w (c .es) ((c .lies .from ∷ []) ∷ []) (taken-with c) 1 w₁ (f .agrees y a refl c)
-          (finds-taking n k w (c .es) (c .lies .from) ([] ∷ []) g 1 w w₁ (c .s .holds .long) (finds-leaf n k w (c .es) (c .s .holds)) v
-          (read n k w g a c w (c .s .holds .long) (c .s .loaded) .number) (ap (λ (m : Marking). m (c .lies .from)) (c .s .marks)
+      found = λ c. finds-same n k w (c .es) ((mark-of (c .lies) ∷ []) ∷ []) (taken-with c) 1 w₁ (f .agrees y a refl c)
+          (finds-taking n k w (c .es) (mark-of (c .lies)) ([] ∷ []) g 1 w w₁ (c .s .holds .long) (finds-leaf n k w (c .es) (c .s .holds)) v
+          (read n k w g a c w (c .s .holds .long) (c .s .loaded) .mark) (ap (λ (m : Marking). m (mark-of (c .lies))) (c .s .marks)
           ∙ c .kept));
     }

@@ -135,7 +135,7 @@ module _ (n : ℕ) (t : List ℕ) (U : List Entry) (m : Marking) where
       let b = all-bounds-of (f .lies) .2 in
       let r = frames-pushed es es′ l (f .lies .end) (f .lies .to) (λ o i. ⊎-elim (λ j. inl j) (λ h. inr (omega arith)) (new o i)) (F .4) in
       let clear : ClearAllOf es′ m (f .lies) =
-      all-alike-of m m es es′ (f .lies) (λ y x z. refl)
+      all-alike-of m m es es′ (f .lies) (λ y i. refl)
       (λ o i. ⊎-elim (λ j. inl j) (λ h. inr (inl (omega arith))) (new o i)) (f .clear) in (
         (
           record { lies = f .lies; among = f .among; clear = clear },

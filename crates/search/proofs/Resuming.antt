@@ -19,7 +19,7 @@ use Rattle.engine.proofs.Agenda.{resume-at-leaf, resume-at-more, choose-at-none
 use Rattle.loading.specs.Entry.{graphs}
 use Rattle.loading.specs.Numbered.{places, options}
 use Rattle.loading.specs.At.{AtAll, AtAny}
-use Rattle.loading.specs.Lying.{LyingAll, LyingAny}
+use Rattle.loading.specs.Lying.{LyingAll, LyingAny, mark-of}
 use Rattle.loading.proofs.Walking.{all-bounds, any-bounds}
 use Rattle.loading.proofs.Lying.{lying-more, any-many}
 use Rattle.marks.specs.Positions.{tail-at, disjunctions-at, alternatives-at}
@@ -28,7 +28,7 @@ use Rattle.marks.specs.Readable.{Alternatives}
 use Rattle.marks.specs.Tallied.{from-kept, Tallied}
 use Rattle.marks.specs.declared.tally.Remnant.{Remnant}
 use Rattle.marks.specs.declared.tally.Remnant.the-variants.{Nothing, One, Several}
-use Rattle.marks.proofs.Reading.{Read, readable, reads, alternatives, alternatives-is}
+use Rattle.marks.proofs.Reading.{Read, reads-lying, alternatives, alternatives-is}
 use Rattle.marks.proofs.First.{first-kept}
 use Rattle.marks.proofs.Remnant.{kept-none, kept-alone, alone-at, kept-several}
 use Rattle.loading.specs.Nesting.{NestsAll}
@@ -295,10 +295,10 @@ module _ (n k : ℕ) (w : List ℕ) (a : Agenda) where
               one-opens c = open-asks (c .s) (before₁ c) rest (lists₂ c)
 
               abbrev own : Resuming n k w a → ℕ
-              own c = lone c .lies .from
+              own c = mark-of (lone c .lies)
 
               read : (c : Resuming n k w a) (v : List ℕ) → 16384 ≤ length v → words v ≡ c .s .t → Read v first (own c) (lone c .lies .end)
-              read c v room f = reads (readable v room f (c .s .ground .few) (lying-more (lies c .low) (lone c .lies)))
+              read c v room f = reads-lying v room f (c .s .ground .few) (lying-more (lies c .low) (lone c .lies))
 
               module _ (b : Agenda) (lists : (l : List Slot) → Lists rest l →
                   Lists b (onto (tail-at w first + 1) (disjunctions-at w (tail-at w first)) l)) where
@@ -307,8 +307,8 @@ module _ (n k : ℕ) (w : List ℕ) (a : Agenda) where
 
                 abbrev wide₁ : (c : Resuming n k w a) →
                     (G : FramesOn (c .s) (slots₁ c) 0 0)
-                    × (plan-on (c .s) (slots₁ c) 0 0 G ≡ plan-on (c .s) (slots₁ c) (first + 1) (own c) (opened₁ c .frames))
-                wide₁ c = frames-wide n (c .s .t) (c .s .U) (c .s .m) (c .es) (slots₁ c) (first + 1) (own c) 0 0 (omega arith)
+                    × (plan-on (c .s) (slots₁ c) 0 0 G ≡ plan-on (c .s) (slots₁ c) (first + 1) (lone c .lies .from) (opened₁ c .frames))
+                wide₁ c = frames-wide n (c .s .t) (c .s .U) (c .s .m) (c .es) (slots₁ c) (first + 1) (lone c .lies .from) 0 0 (omega arith)
                     (omega arith) (opened₁ c .frames)
 
                 abbrev resuming₁ : Resuming n k w a → Resuming n k w b
@@ -319,7 +319,7 @@ module _ (n k : ℕ) (w : List ℕ) (a : Agenda) where
 
                 pub one-falls : Resuming n k w a → a .at0 < reach (slots b)
                 one-falls c =
-                    let r = frames-reach n (c .s .t) (c .s .U) (c .s .m) (c .es) (many-words c) (slots₁ c) (first + 1) (own c)
+                    let r = frames-reach n (c .s .t) (c .s .U) (c .s .m) (c .es) (many-words c) (slots₁ c) (first + 1) (lone c .lies .from)
                     (opened₁ c .frames) in
                     let f : reach (slots b) ≡ reach (slots₁ c) = ap reach (lists (slots₂ c) (lists₂ c) .is) in
                     omega (arith, lone c .near)
@@ -340,14 +340,14 @@ module _ (n k : ℕ) (w : List ℕ) (a : Agenda) where
 
                   pub one-notes : Noting w₁ first
                   one-notes = let x = read c₀ w₁ room₁ (words₁ ∙ c₀ .s .loaded) in
-                      record { room = room₁; here = x .here; low = omega (arith, x .number, x .low) }
+                      record { room = room₁; here = x .here; inside = x .inside }
 
                   pub resumes-one : (w₂ : List ℕ) → Notes w₁ first r w₂ → Resumes n k w a r w₂
                   resumes-one w₂ y = record {
                     moved = moved-noted k w k w₁ w₂ first r room₁ (v .moved) y;
                     found = λ c. finds-same n k w (c .es) (taking (own c) (resumed (resuming₁ c))) (resumed c) r w₂ (found-is c)
                         (finds-taking n k w (c .es) (own c) (resumed (resuming₁ c)) first r w₁ w₂ room₁ (v .found (resuming₁ c)) y
-                        (read c w₁ room₁ (words₁ ∙ c .s .loaded) .number) (ap (λ (m : Marking). m (own c)) (c .s .marks) ∙ lone c .kept));
+                        (read c w₁ room₁ (words₁ ∙ c .s .loaded) .mark) (ap (λ (m : Marking). m (own c)) (c .s .marks) ∙ lone c .kept));
                   }
 
             -- several are kept

@@ -20,10 +20,11 @@ use Rattle.engine.specs.Search.{taking}
 use Rattle.engine.specs.Agenda.{resume-at, dive-at}
 use Rattle.engine.proofs.Agenda.{dive-at-clash, dive-at-push}
 use Rattle.loading.specs.Entry.{Entry, graphs}
+use Rattle.loading.specs.Lying.{mark-of}
 use Rattle.marks.specs.Positions.{tail-at, disjunctions-at}
 use Rattle.marks.specs.Marked.{marking, lights}
 use Rattle.marks.proofs.Marks.{marking-frame, lights-frame}
-use Rattle.marks.proofs.Reading.{Read, readable, reads}
+use Rattle.marks.proofs.Reading.{Read, reads-lying}
 use Rattle.classes.specs.Holds.{Since, Remembers, Backs}
 use Rattle.classes.specs.declared.push.Pushed.{Pushed}
 use Rattle.classes.specs.declared.push.Pushed.the-variants.{In, Clashed}
@@ -75,11 +76,11 @@ module _ (n k : ℕ) (w : List ℕ) (g : ℕ) (a : Agenda) where
     clash-none z =
         let bad = agree-is false (clash-false (graphs (c .es) ++ flat (strip (keep (marking w) (c .lies .d))))
         (fine n k w g depth-limit asks-enter) (subst Clash (entered-graphs n k w g depth-limit asks-enter) z)) in
-        ap (taking (c .lies .from)) (dive-clashed (c .s .m) (graphs (c .es)) (c .lies .d) left-of bad)
+        ap (taking (mark-of (c .lies))) (dive-clashed (c .s .m) (graphs (c .es)) (c .lies .d) left-of bad)
 
     -- what is read of it
-    pub read : (v : List ℕ) → 16384 ≤ length v → words v ≡ c .s .t → Read v g (c .lies .from) (c .lies .end)
-    read v room e = reads (readable v room e (c .s .ground .few) (c .lies))
+    pub read : (v : List ℕ) → 16384 ≤ length v → words v ≡ c .s .t → Read v g (mark-of (c .lies)) (c .lies .end)
+    read v room e = reads-lying v room e (c .s .ground .few) (c .lies)
 
   module _ (o : Pushed) (w₁ : List ℕ) (u : Enters n k w g depth-limit o w₁) (c₀ : Taking n k w g a) where
     marks₁ : marking w₁ ≡ marking w
@@ -171,7 +172,7 @@ module _ (n k : ℕ) (w : List ℕ) (g : ℕ) (a : Agenda) where
             omega arith
 
         -- what is found after it
-        resumed-is : (c : Taking n k w g a) → taken-with c ≡ taking (c .lies .from) (resumed (resuming₁ c))
+        resumed-is : (c : Taking n k w g a) → taken-with c ≡ taking (mark-of (c .lies)) (resumed (resuming₁ c))
         resumed-is c =
             let S = graphs (pushed-all c) in
             let m = c .s .m in
@@ -179,7 +180,7 @@ module _ (n k : ℕ) (w : List ℕ) (g : ℕ) (a : Agenda) where
             (fine n k w g depth-limit (asks-enter c))
             (subst Agree (entered-graphs n k w g depth-limit (asks-enter c))
             (holds-agree n (pushed-all c) e w₁ (u .pushed e z .1 (asks-enter c))))) in
-            ap (taking (c .lies .from)) (
+            ap (taking (mark-of (c .lies))) (
             dive-pushed m (graphs (c .es)) (c .lies .d) (left-of c) good
             ∙ ap (resume-at m (inner (c .lies .d) ∷ left-of c)) (sym (all-graphs c))
             ∙ ap (λ (fs : List Places). resume-at m (inner (c .lies .d) ∷ fs) S) (sym (later c .1))
@@ -214,7 +215,7 @@ module _ (n k : ℕ) (w : List ℕ) (g : ℕ) (a : Agenda) where
 
             pub take-notes : Noting w₃ g
             take-notes = let x = read c₀ w₃ room₃ (words₃ ∙ c₀ .s .loaded) in
-                record { room = room₃; here = x .here; low = omega (arith, x .number, x .low) }
+                record { room = room₃; here = x .here; inside = x .inside }
 
             found₃ : (c : Taking n k w g a) → Finds n k w (c .es) (resumed (resuming₁ c)) r w₃
             found₃ c = finds-under n k e w w₁ w₂ w₃ (c .es) (pushed-all c) (resumed (resuming₁ c)) r lights₁ marks₁
@@ -224,7 +225,7 @@ module _ (n k : ℕ) (w : List ℕ) (g : ℕ) (a : Agenda) where
             pub takes-found : (w₄ : List ℕ) → Notes w₃ g r w₄ → Takes n k w g a r w₄
             takes-found w₄ y = record {
               moved = moved-noted k w k w₃ w₄ g r room₃ moved₃ y;
-              found = λ c. finds-same n k w (c .es) (taking (c .lies .from) (resumed (resuming₁ c))) (taken-with c) r w₄ (resumed-is c)
-                  (finds-taking n k w (c .es) (c .lies .from) (resumed (resuming₁ c)) g r w₃ w₄ room₃ (found₃ c) y
-                  (read c w₃ room₃ (words₃ ∙ c .s .loaded) .number) (ap (λ (m : Marking). m (c .lies .from)) (c .s .marks) ∙ c .kept));
+              found = λ c. finds-same n k w (c .es) (taking (mark-of (c .lies)) (resumed (resuming₁ c))) (taken-with c) r w₄ (resumed-is c)
+                  (finds-taking n k w (c .es) (mark-of (c .lies)) (resumed (resuming₁ c)) g r w₃ w₄ room₃ (found₃ c) y
+                  (read c w₃ room₃ (words₃ ∙ c .s .loaded) .mark) (ap (λ (m : Marking). m (mark-of (c .lies))) (c .s .marks) ∙ c .kept));
             }

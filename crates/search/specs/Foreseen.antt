@@ -3,6 +3,7 @@
 use Prim.Native.Nat.{ℕ}
 use mathlib.Core.Path.{_≡_}
 use mathlib.Core.List.{List, [], _∷_}
+use Rattle.loading.specs.Lying.{mark-of}
 use Rattle.trying.specs.declared.told.Guess.{Guess}
 use Rattle.trying.specs.declared.told.Guess.the-variants.{Agrees, Clashes}
 use Rattle.search.specs.declared.agenda.Agenda.{Agenda}
@@ -17,4 +18,4 @@ pub record Foreseeing (n k : ℕ) (w : List ℕ) (g left : ℕ) : Type 0 where
 -- where it clashes nothing is found with it; where it agrees, and nothing is left, itself alone
 pub record Foresees (n k : ℕ) (w : List ℕ) (g left : ℕ) (r : Guess) : Type 0 where
   pub clashes : r ≡ Clashes → (a : Agenda) (c : Taking n k w g a) → taken-with c ≡ []
-  pub agrees : r ≡ Agrees → (a : Agenda) → a .frames ≡ left → (c : Taking n k w g a) → taken-with c ≡ (c .lies .from ∷ []) ∷ []
+  pub agrees : r ≡ Agrees → (a : Agenda) → a .frames ≡ left → (c : Taking n k w g a) → taken-with c ≡ (mark-of (c .lies) ∷ []) ∷ []

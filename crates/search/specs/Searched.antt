@@ -8,15 +8,15 @@ use mathlib.Core.List.{List}
 use lib.Dec.{eqb, ltb}
 use lib.ListN.{length, getD}
 use Rattle.theory.specs.Limits.{depth-limit, choice-stop}
-use Rattle.area.specs.Map.{MARKS, RESULT, SIZE, LOADED, NODES}
+use Rattle.area.specs.Map.{MARKS, RESULT, SIZE, LOADED}
 use Rattle.engine.specs.Marks.{keep}
 use Rattle.engine.specs.Search.{Found, taking, lit}
 use Rattle.engine.specs.Search as engine
 use Rattle.engine.specs.Agenda.{resume-at, dive-at, each-at}
 use Rattle.loading.specs.Entry.{Entry, graphs}
-use Rattle.loading.specs.Lying.{Lying, LyingAny}
+use Rattle.loading.specs.Lying.{Lying, LyingAny, mark-of}
 use Rattle.marks.specs.Marked.{marking, lights}
-use Rattle.marks.specs.Positions.{number-at}
+use Rattle.marks.specs.Positions.{tail-at, mark-at}
 use Rattle.classes.specs.Holds.{Holds}
 use Rattle.entering.specs.Taken.{AmongOf, AmongAnyOf, FreeOf, FreeAnyOf}
 use Rattle.entering.specs.Footing.{Footing}
@@ -29,13 +29,13 @@ use Rattle.search.specs.Frames.{Slot, Lists, FramesOn, plan-on}
 pub record Noting (w : List ℕ) (g : ℕ) : Type 0 where
   pub room : SIZE ≤ length w
   pub here : g < LOADED
-  pub low : number-at w g < NODES
+  pub inside : tail-at w g < LOADED
 
 pub record Notes (w : List ℕ) (g found : ℕ) (w' : List ℕ) : Type 0 where
   pub len : length w' ≡ length w
   pub rest : (j : ℕ) → (j < MARKS) ⊎ (RESULT ≤ j) → getD w' j 0 ≡ getD w j 0
-  pub seen : (y : ℕ) → lights w' y ≡ (lights w y || (ltb 0 found && eqb y (number-at w g)))
-  pub marks : marking w (number-at w g) ≡ true → marking w' ≡ marking w
+  pub seen : (y : ℕ) → lights w' y ≡ (lights w y || (ltb 0 found && eqb y (mark-at w g)))
+  pub marks : marking w (mark-at w g) ≡ true → marking w' ≡ marking w
 
 -- ---- what is found
 -- the choices f were found: they are counted, stopping at 4,097, and what they take is marked; what was pushed is as it was
@@ -69,7 +69,7 @@ pub record Taking (n k : ℕ) (w : List ℕ) (g : ℕ) (a : Agenda) : Type 0 whe
   pub lies : Lying n (s .t) g left
   pub among : AmongOf (s .U) lies
   pub free : FreeOf lies es
-  pub kept : s .m (lies .from) ≡ true
+  pub kept : s .m (mark-of lies) ≡ true
   pub l : List Slot
   pub lists : Lists a l
   pub deep : length l + left ≤ 5
@@ -77,7 +77,7 @@ pub record Taking (n k : ℕ) (w : List ℕ) (g : ℕ) (a : Agenda) : Type 0 whe
 
 abbrev pub taken-with : {n k : ℕ} {w : List ℕ} {g : ℕ} {a : Agenda} → Taking n k w g a → Found
 taken-with {n} {k} {w} {g} {a} c =
-    taking (c .lies .from) (dive-at (c .s .m) (graphs (c .es)) (c .lies .d)
+    taking (mark-of (c .lies)) (dive-at (c .s .m) (graphs (c .es)) (c .lies .d)
     (plan-on (c .s) (c .l) (c .lies .end) (c .lies .to) (c .frames)))
 
 pub record Takes (n k : ℕ) (w : List ℕ) (g : ℕ) (a : Agenda) (r : ℕ) (w' : List ℕ) : Type 0 where

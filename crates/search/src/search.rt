@@ -15,7 +15,7 @@ use marks::marking::kept;
 use marks::marking::light;
 use marks::positions::after_at;
 use marks::positions::alternatives_at;
-use marks::positions::number_at;
+use marks::positions::mark_at;
 use marks::tally::Remnant;
 use marks::tally::count_kept;
 use trying::told::Guess;
@@ -29,7 +29,7 @@ fn note(w: &mut [u32], g: usize, found: u32)
     requires { ⌜ Noting (now w) g ⌝ }
     ensures { λ _. ⌜ Notes (now (w .entry)) g found (now (w .exit)) ⌝ }
 {
-    let x = number_at(w, g);
+    let x = mark_at(w, g);
     if 0 < found {
         light(w, x);
     }
@@ -76,7 +76,7 @@ fn choose(w: &mut [u32], k: usize, n: usize, p: usize, count: usize, a: Agenda) 
     let mut at = p;
     let mut sum: u32 = 0;
     while 0 < left {
-        let x = number_at(w, at);
+        let x = mark_at(w, at);
         if kept(w, x) {
             let found = take(w, k, n, at, a);
             sum = capped(sum + found);

@@ -21,7 +21,7 @@ use Rattle.loading.proofs.Sizes.{node-length}
 use Rattle.loading.proofs.Putting.{put-nil, put-append, put-one}
 use Rattle.loading.proofs.Walking.{at-header, at-counts}
 use Rattle.marks.specs.Positions.{number-at}
-use Rattle.marks.proofs.Reading.{reads}
+use Rattle.marks.proofs.Reading.{number-is, reads}
 use Rattle.showing.specs.Copying.{a-node, its-nodes, Copying, Copies, Graphing}
 use Rattle.showing.proofs.Nodes.{put-words, put-end}
 
@@ -169,7 +169,7 @@ module _ (w : List ℕ) (g o : ℕ) (c : Graphing w g o) where
           let low = lies .low in
           let all = c .read .few in (
             omega arith,
-            r .number,
+            number-is w (c .read .room) K ds g (lies .from) (lies .end) (lies .to) at (omega arith),
             at-header (words w) K ds g (lies .from) (lies .end) (lies .to) at
                 (omega arith) .0,
             omega arith,

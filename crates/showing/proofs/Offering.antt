@@ -21,7 +21,7 @@ use Rattle.loading.specs.Numbered.{options}
 use Rattle.loading.specs.At.{AtAny}
 use Rattle.loading.specs.Lying.{RestAny}
 use Rattle.loading.proofs.Walking.{at-bounds, any-bounds}
-use Rattle.marks.specs.Positions.{number-at, tail-at, after-at}
+use Rattle.marks.specs.Positions.{tail-at, mark-at, after-at}
 use Rattle.marks.specs.Marked.{marking}
 use Rattle.marks.proofs.Reading.{Read, read-option}
 use Rattle.loading.specs.Nesting.{NestsAny}
@@ -127,12 +127,8 @@ module _ (n : ℕ) (w : List ℕ) (p of left o : ℕ) (c : Offering n w p of lef
           (subst (λ (s : List ℕ). AtAny s at (v .l) (option (next .x) (next .d) (next .a)) (c .lies .end) (c .lies .to)) (sym e)
           (next .stand)) low .0
 
-      pub offer-here : (at < 2048) × (number-at w₁ at < 1024) × (tail-at w₁ at < 2048)
-      offer-here =
-          let r = read w₁ offer-long (base₁ .loaded) in
-          let a = r .low in
-          let b = r .number in
-          (r .here, omega arith, r .inside)
+      pub offer-here : ((at < 2048) × (16384 ≤ length w₁)) × (tail-at w₁ at < 2048)
+      offer-here = let r = read w₁ offer-long (base₁ .loaded) in ((r .here, offer-long), r .inside)
 
       first : (at < next .stand .0) × (next .stand .0 ≤ length t) × (v .l < next .stand .1)
       first = at-bounds t (next .d) at (v .l) (next .stand .0) (next .stand .1) (next .stand .3)
@@ -140,9 +136,9 @@ module _ (n : ℕ) (w : List ℕ) (p of left o : ℕ) (c : Offering n w p of lef
       last : next .stand .1 ≤ c .lies .to
       last = any-bounds t (next .a) (next .stand .0) (next .stand .1) (c .lies .end) (c .lies .to) (first .1) (next .stand .4) .2
 
-      module _ (x : ℕ) (is-x : x ≡ number-at w₁ at) where
+      module _ (x : ℕ) (is-x : (x ≡ mark-at w₁ at) × (x < 1024)) where
         own : (b : Bool) → marking w₁ x ≡ b → m (next .x) ≡ b
-        own b e = ap m (sym (is-x ∙ read w₁ offer-long (base₁ .loaded) .number)) ∙ ap (λ (k : Marking). k x) (sym (base₁ .marks)) ∙ e
+        own b e = ap m (sym (is-x .0 ∙ read w₁ offer-long (base₁ .loaded) .mark)) ∙ ap (λ (k : Marking). k x) (sym (base₁ .marks)) ∙ e
 
         module _ (e : marking w₁ x ≡ true) where
           kept-are : strip-any (keep-any m (option (next .x) (next .d) (next .a)))
@@ -222,9 +218,12 @@ module _ (n : ℕ) (w : List ℕ) (p of left o : ℕ) (c : Offering n w p of lef
                     (offer-told e r w' u)),
               )
 
-          pub turn-inside : (tail-at w₂ at < 2048) × (16384 ≤ length w₂)
-          turn-inside = let a = turn-done in
-              (read w₂ (a .1 .holds .long) (based n w (c .base) o (a .0) out' w₂ (a .1) .loaded) .inside, a .1 .holds .long)
+          pub turn-inside : ((at < 2048) × (16384 ≤ length w₂)) × (tail-at w₂ at < 2048)
+          turn-inside =
+              let a = turn-done in
+              let long = a .1 .holds .long in
+              let r = read w₂ long (based n w (c .base) o (a .0) out' w₂ (a .1) .loaded) in
+              ((r .here, long), r .inside)
 
           pub turn-on : (at' : ℕ) → at' ≡ after-at w₂ at → Going (rest - 1) at' out' w₂
           turn-on at' z = go turn

@@ -5,7 +5,7 @@ use marks::marking::kept;
 use marks::positions::after_at;
 use marks::positions::alternatives_at;
 use marks::positions::disjunctions_at;
-use marks::positions::number_at;
+use marks::positions::mark_at;
 use marks::positions::tail_at;
 use marks::tally::Remnant;
 use marks::tally::count_kept;
@@ -98,7 +98,7 @@ fn put_alternatives(w: &mut [u32], n: usize, p: usize, of: usize, left: u32, o: 
     let mut at = p;
     let mut out = o;
     while 0 < rest {
-        let x = number_at(w, at);
+        let x = mark_at(w, at);
         if kept(w, x) {
             out = put_description(w, n, at, left, out);
         }

@@ -21,7 +21,7 @@ use Rattle.marks.proofs.marking.kept.Reads as kept-reads
 use Rattle.marks.proofs.positions.after_at.Reads as after-at-reads
 use Rattle.marks.proofs.positions.alternatives_at.Reads as alternatives-at-reads
 use Rattle.marks.proofs.positions.disjunctions_at.Reads as disjunctions-at-reads
-use Rattle.marks.proofs.positions.number_at.Reads as number-at-reads
+use Rattle.marks.proofs.positions.mark_at.Reads as mark-at-reads
 use Rattle.marks.proofs.positions.tail_at.Reads as tail-at-reads
 use Rattle.counting.proofs.choices.+count_choices.{statement}
 use Rattle.counting.proofs.choices.+count_choices.Tie.{close}
@@ -63,8 +63,8 @@ claims t = (
   disjunctions-at-reads.Learnt,
   alternatives-at-reads.Asked,
   alternatives-at-reads.Learnt,
-  number-at-reads.Asked,
-  number-at-reads.Learnt,
+  mark-at-reads.Asked,
+  mark-at-reads.Learnt,
   kept-reads.Asked,
   kept-reads.Learnt,
   count-choices-below t,
@@ -110,23 +110,14 @@ loop2-holds t c = (
   omega arith,
 )
 
-number-at-requires : (t : ℕ) →
-    count-choices-lts.Need-number-at-requires (claims t) (count-choices-at t) count-choices.Post Inv-loop2 μ-loop2 Inv-loop μ-loop
-number-at-requires t c κs = (
-  sum-here _ _ _ (c .before .before .before .before .before .before .before .before .pre .1) _ _ _ _ _
-      (c .before .loop2 .inv .0 (c .before .before .before .before .before .before .before .before .pre .1)) (omega arith) .0,
-  (c .before .before .before .before .before .before .before .before .pre .1) .room,
-)
+mark-at-requires : (t : ℕ) →
+    count-choices-lts.Need-mark-at-requires (claims t) (count-choices-at t) count-choices.Post Inv-loop2 μ-loop2 Inv-loop μ-loop
+mark-at-requires t c κs = let k = c .before .before .before .before .before .before .before .before .pre .1 in
+    let h = sum-here _ _ _ k _ _ _ _ _ (c .before .loop2 .inv .0 k) (omega arith) in ((h .0, k .room), h .1)
 
 kept-requires : (t : ℕ) → count-choices-lts.Need-kept-requires (claims t) (count-choices-at t) count-choices.Post Inv-loop2 μ-loop2 Inv-loop
     μ-loop
-kept-requires t c κs = (
-  let e = c .number-at .ensures in
-      let h = sum-here _ _ _ (c .before .before .before .before .before .before .before .before .before .pre .1) _ _ _ _ _
-      (c .before .before .loop2 .inv .0 (c .before .before .before .before .before .before .before .before .before .pre .1))
-      (omega arith) .1 in omega arith,
-  (c .before .before .before .before .before .before .before .before .before .pre .1) .room,
-)
+kept-requires t c κs = (c .mark-at .ensures .1, c .before .before .before .before .before .before .before .before .before .pre .1 .room)
 
 sub-count-choices : (t : ℕ) → count-choices-lts.Need-sub-count-choices (claims t)
     (count-choices-at t) count-choices.Post Inv-loop2 μ-loop2 Inv-loop μ-loop
@@ -159,7 +150,7 @@ after-at-requires t c κs = let h =
     sum-here _ _ _ (c .before .before .before .before .before .before .before .before .before .before .before .pre .1) _ _ _ _ _
     (c .before .before .before .before .loop2 .inv .0
     (c .before .before .before .before .before .before .before .before .before .before .before .pre .1)) (omega arith) in
-    ((h .0, (c .before .before .before .before .before .before .before .before .before .before .before .pre .1) .room), h .2)
+    ((h .0, (c .before .before .before .before .before .before .before .before .before .before .before .pre .1) .room), h .1)
 
 sub-rest : (t : ℕ) → count-choices-lts.Need-sub-rest (claims t) (count-choices-at t) count-choices.Post Inv-loop2 μ-loop2 Inv-loop μ-loop
 sub-rest t c = omega arith
@@ -215,7 +206,7 @@ pub +count-choices-spec : {M : Type 1} → statement M
     (alternatives-at-requires t)
     (add-at-2 t)
     (loop2-holds t)
-    (number-at-requires t)
+    (mark-at-requires t)
     (kept-requires t)
     (sub-count-choices t)
     (count-choices-requires t)

@@ -5,8 +5,11 @@ use borrow.Author.Needs.{needs}
 use Rattle.loading.proofs.loading.load.Statement.{statement}
 use Rattle.loading.proofs.loading.load.Tie as tie
 
-cast-load-description : tie.Need-cast-load-description
-cast-load-description c = search needs
+cast-first : tie.Need-cast-first
+cast-first c = search needs
+
+add-load-description : tie.Need-add-load-description
+add-load-description c = search needs
 
 load-description-requires : tie.Need-load-description-requires
 load-description-requires c κs = (load-room _ _ _ _ (c .before .before .before .pre), load-asks _ _ _ _ (c .before .before .before .pre))
@@ -18,9 +21,9 @@ same-length : tie.Need-same-length
 same-length c = search needs
 
 returns : tie.Need-returns
-returns c = load-loads _ _ _ _ _ _ _ (c .before .before .before .load-description .ensures)
+returns c = load-loads _ _ _ _ _ _ _ _ _ (c .before .before .before .load-description .ensures)
 
 pub load-spec : {M : Type 1} → statement M
 load-spec =
     tie.close
-    (tie.spec cast-load-description load-description-requires cast-result same-length returns)
+    (tie.spec cast-first add-load-description load-description-requires cast-result same-length returns)

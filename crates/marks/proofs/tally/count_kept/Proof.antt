@@ -1,8 +1,11 @@
 -- `marks::tally::count_kept` meets its contract: what is left of the alternatives goes on to count them all. Assumes nothing.
 use native.Mathlib.Omega.{arith}
 use mathlib.Core.Logic.{⊎-elim}
-use Prim.Native.Nat.{_+_, _≤_}
+use Prim.Native.Nat.{_+_, _≤_, _<_}
 use borrow.Author.Needs.{needs}
+use lib.ListN.{length}
+use Rattle.area.specs.Map.{SIZE, LOADED}
+use Rattle.marks.specs.Positions.{tail-at}
 use Rattle.marks.specs.Readable.{Alternatives}
 use Rattle.marks.proofs.Tallying.{Tallying, one, none, more, tally-none, tally-read, tally-step, tally-all}
 use Rattle.marks.proofs.tally.count_kept.Statement.{statement}
@@ -18,27 +21,23 @@ abbrev μ-loop : tie.MeasureT-loop
 loop-holds : tie.Need-loop-holds Inv-loop μ-loop
 loop-holds c = (λ s. tally-none _ _ _ s, omega arith)
 
-number-at-requires : tie.Need-number-at-requires Inv-loop μ-loop
-number-at-requires c κs = (
-  tally-read _ _ _ (c .before .before .before .pre) _ _ _ _
-      (c .before .loop .inv .0 (c .before .before .before .pre)) (omega arith) .0,
-  c .before .before .before .pre .room,
-)
+-- the next alternative can be read
+there : (c : tie.In-loop Inv-loop μ-loop) →
+    let i = c .before .before .before .args in let at = c .before .loop .at in
+    ((at < LOADED) × (SIZE ≤ length (i .w .now))) × (tail-at (i .w .now) at < LOADED)
+there c =
+    let s = c .before .before .before .pre in
+    let r = tally-read _ _ _ s _ _ _ _ (c .before .loop .inv .0 s) (omega arith) in
+    ((r .0, s .room), r .1)
+
+mark-at-requires : tie.Need-mark-at-requires Inv-loop μ-loop
+mark-at-requires c κs = there c
 
 kept-requires : tie.Need-kept-requires Inv-loop μ-loop
-kept-requires c κs = (
-  let low =
-      tally-read _ _ _ (c .before .before .before .before .pre) _ _ _ _
-      (c .before .before .loop .inv .0 (c .before .before .before .before .pre)) (omega arith) .1 in
-      omega arith,
-  c .before .before .before .before .pre .room,
-)
+kept-requires c κs = (c .mark-at .ensures .1, c .before .before .before .before .pre .room)
 
 after-at-requires : tie.Need-after-at-requires Inv-loop μ-loop
-after-at-requires c κs = let r =
-    tally-read _ _ _ (c .before .before .before .before .before .pre) _ _ _ _
-    (c .before .before .before .loop .inv .0 (c .before .before .before .before .before .pre)) (omega arith) in
-    ((r .0, c .before .before .before .before .before .pre .room), r .2)
+after-at-requires c κs = there (c .before .before)
 
 add-found : tie.Need-add-found Inv-loop μ-loop
 add-found c = omega arith
@@ -71,7 +70,7 @@ count-kept-spec =
     Inv-loop
     μ-loop
     loop-holds
-    number-at-requires
+    mark-at-requires
     kept-requires
     after-at-requires
     add-found

@@ -44,7 +44,7 @@ use Rattle.marks.proofs.marking.kept.Reads as kept-reads
 use Rattle.marks.proofs.positions.after_at.Reads as after-at-reads
 use Rattle.marks.proofs.positions.alternatives_at.Reads as alternatives-at-reads
 use Rattle.marks.proofs.positions.disjunctions_at.Reads as disjunctions-at-reads
-use Rattle.marks.proofs.positions.number_at.Reads as number-at-reads
+use Rattle.marks.proofs.positions.mark_at.Reads as mark-at-reads
 use Rattle.marks.proofs.positions.tail_at.Reads as tail-at-reads
 use Rattle.marks.proofs.tally.count_kept.Reads as count-kept-reads
 use Rattle.quick.proofs.bare.try_bare.Reads as try-bare-reads
@@ -443,8 +443,8 @@ sift-μ-loop w₀ k n p count left t rest₀ at₀ drops₀ w rest at drops = re
 
 abbrev sift-claims : ℕ → sift-lts.Claims
 sift-claims t = (
-  number-at-reads.Asked,
-  number-at-reads.Learnt,
+  mark-at-reads.Asked,
+  mark-at-reads.Learnt,
   kept-reads.Asked,
   kept-reads.Learnt,
   try-one-below t,
@@ -458,18 +458,15 @@ sift-claims t = (
 sift-loop-holds : (t : ℕ) → sift-lts.Need-loop-holds (sift-claims t) (sift-at t) sift.Post sift-Inv-loop sift-μ-loop
 sift-loop-holds t c = let p = c .before .before .pre .1 .0 in (moved-none _ _ _ _ _ _ p, fewer-none _, λ d. sift-start _ _ _ _ _ _ d)
 
-sift-number-at-requires : (t : ℕ) → sift-lts.Need-number-at-requires (sift-claims t) (sift-at t) sift.Post sift-Inv-loop sift-μ-loop
-sift-number-at-requires t c κs = let p = c .before .before .before .before .before .pre .1 .0 in let v = c .before .before .loop .inv in
+sift-mark-at-requires : (t : ℕ) → sift-lts.Need-mark-at-requires (sift-claims t) (sift-at t) sift.Post sift-Inv-loop sift-μ-loop
+sift-mark-at-requires t c κs = let p = c .before .before .before .before .before .pre .1 .0 in let v = c .before .before .loop .inv in
     let q = c .before .loop-test in
-    (sift-here _ _ _ _ _ _ p _ _ _ (v .0) (v .2 p) (omega arith) .0, omega (arith, v .0 .len, p .s .holds .long))
+    sift-here _ _ _ _ _ _ p _ _ _ (v .0) (v .2 p) (omega arith)
 
 sift-kept-requires : (t : ℕ) → sift-lts.Need-kept-requires (sift-claims t) (sift-at t) sift.Post sift-Inv-loop sift-μ-loop
 sift-kept-requires t c κs = let p = c .before .before .before .before .before .before .before .pre .1 .0 in
-    let v = c .before .before .before .before .loop .inv in let q = c .before .before .before .loop-test in (
-      let e = c .before .number-at .ensures in let h = sift-here _ _ _ _ _ _ p _ _ _ (v .0) (v .2 p) (omega arith) .1 in
-          omega arith,
-      omega (arith, v .0 .len, p .s .holds .long),
-    )
+    let v = c .before .before .before .before .loop .inv in
+    (c .before .mark-at .ensures .1, omega (arith, v .0 .len, p .s .holds .long))
 
 sift-try-one-requires : (t : ℕ) → sift-lts.Need-try-one-requires (sift-claims t) (sift-at t) sift.Post sift-Inv-loop sift-μ-loop
 sift-try-one-requires t c κs = let p = c .before .before .before .before .before .before .before .before .before .before .pre .1 .0 in
@@ -499,15 +496,13 @@ sift-enum-told : (t : ℕ) → sift-lts.Need-enum-told (sift-claims t) (sift-at 
 sift-enum-told t c = search needs
 
 sift-drop-requires : (t : ℕ) → sift-lts.Need-drop-requires (sift-claims t) (sift-at t) sift.Post sift-Inv-loop sift-μ-loop
-sift-drop-requires t c κs = let p =
-    c .before .before .before .before .before .before .before .before .before .before .before .before .before .before .before .before .pre
-    .1 .0 in let v = c .before .before .before .before .before .before .before .before .before .before .before .before .before .loop .inv in
-    let q = c .before .before .before .before .before .before .before .before .before .before .before .before .loop-test in (
-      let e = c .before .before .before .before .before .before .before .before .before .before .number-at .ensures in
-          let h = sift-here _ _ _ _ _ _ p _ _ _ (v .0) (v .2 p) (omega arith) .1 in
-          omega arith,
+sift-drop-requires t c κs = (
+  c .before .before .before .before .before .before .before .before .before .before .mark-at .ensures .1,
+  let p = c .before .before .before .before .before .before .before .before .before .before .before .before .before .before .before
+      .before .pre .1 .0 in
+      let v = c .before .before .before .before .before .before .before .before .before .before .before .before .before .loop .inv in
       omega (arith, c .before .before .before .before .before .try-one .ensures .moved .len, v .0 .len, p .s .holds .long),
-    )
+)
 
 sift-add-drops-2 : (t : ℕ) → sift-lts.Need-add-drops-2 (sift-claims t) (sift-at t) sift.Post sift-Inv-loop sift-μ-loop
 sift-add-drops-2 t c = let p =
@@ -521,7 +516,7 @@ turned : (t : ℕ) (c : sift-lts.Joined1 (sift-claims t) (sift-at t) sift.Post s
     Turn (c .before .before .before .before .before .before .before .before .before .args .n)
     (c .before .before .before .before .before .before .before .before .before .args .k)
     (c .before .before .before .before .before .before .loop .w) (c .before .before .before .before .before .before .loop .at)
-    (c .before .before .before .number-at .result) (c .before .before .before .before .before .before .before .before .before .args .left)
+    (c .before .before .before .mark-at .result) (c .before .before .before .before .before .before .before .before .before .args .left)
     (c .before .before .before .before .before .before .loop .drops) (c .if1 .drops) (c .if1 .w)
 turned t c = ⊎-elim (λ u. stood _ _ _ _ (cc) (u .2 .ensures) (u .6 .given .1) (u .8) (u .9))
     (⊎-elim (λ u. failed _ _ _ (cc) (u .2 .ensures) (u .6 .given .1) (u .8 .ensures) (u .11) (u .12)) (λ u. skipped (cc) (u .1) (u .2)))
@@ -530,19 +525,9 @@ turned t c = ⊎-elim (λ u. stood _ _ _ _ (cc) (u .2 .ensures) (u .6 .given .1)
 sift-after-at-requires : (t : ℕ) → sift-lts.Need-after-at-requires (sift-claims t) (sift-at t) sift.Post sift-Inv-loop sift-μ-loop
 sift-after-at-requires t c κs = let p = c .before .before .before .before .before .before .before .before .before .before .pre .1 .0 in
     let v = c .before .before .before .before .before .before .before .loop .inv in
-    let q = c .before .before .before .before .before .before .loop-test in (
-      (
-        sift-here _ _ _ _ _ _ p _ _ _ (v .0) (v .2 p) (omega arith) .0,
-        omega (
-          arith,
-          turn-moved _ _ _ _ _ _ p _ _ _ (v .0) (v .2 p) (omega arith) _ (c .before .before .before .before .number-at .ensures) _ _
-              _ (turned t (c .before)) .len,
-          p .s .holds .long,
-        ),
-      ),
-      turn-inside _ _ _ _ _ _ p _ _ _ (v .0) (v .2 p) (omega arith) _ (c .before .before .before .before .number-at .ensures) _ _ _
-          (turned t (c .before)),
-    )
+    let q = c .before .before .before .before .before .before .loop-test in
+    turn-inside _ _ _ _ _ _ p _ _ _ (v .0) (v .2 p) (omega arith) _ (c .before .before .before .before .mark-at .ensures) _ _ _
+    (turned t (c .before))
 
 sift-sub-rest : (t : ℕ) → sift-lts.Need-sub-rest (sift-claims t) (sift-at t) sift.Post sift-Inv-loop sift-μ-loop
 sift-sub-rest t c = let q = c .before .before .before .before .before .before .before .loop-test in omega arith
@@ -554,11 +539,11 @@ sift-loop-again : (t : ℕ) → sift-lts.Need-loop-again (sift-claims t) (sift-a
 sift-loop-again t c = let p = c .before .before .before .before .before .before .before .before .before .before .before .pre .1 .0 in
     let v = c .before .before .before .before .before .before .before .before .loop .inv in
     let q = c .before .before .before .before .before .before .before .loop-test in (
-      turn-moved _ _ _ _ _ _ p _ _ _ (v .0) (v .2 p) (omega arith) _ (c .before .before .before .before .before .number-at .ensures) _ _ _
+      turn-moved _ _ _ _ _ _ p _ _ _ (v .0) (v .2 p) (omega arith) _ (c .before .before .before .before .before .mark-at .ensures) _ _ _
           (turned t (c .before .before)),
-      turn-fewer _ _ _ _ _ _ p _ _ _ (v .0) (v .2 p) (omega arith) _ (c .before .before .before .before .before .number-at .ensures) _ _ _
+      turn-fewer _ _ _ _ _ _ p _ _ _ (v .0) (v .2 p) (omega arith) _ (c .before .before .before .before .before .mark-at .ensures) _ _ _
           (turned t (c .before .before)) (v .1),
-      λ d. turn-on _ _ _ _ _ _ d _ _ _ (v .0) (v .2 d) (omega arith) _ (c .before .before .before .before .before .number-at .ensures) _ _ _
+      λ d. turn-on _ _ _ _ _ _ d _ _ _ (v .0) (v .2 d) (omega arith) _ (c .before .before .before .before .before .mark-at .ensures) _ _ _
           (turned t (c .before .before)) _ (c .after-at .ensures),
     )
 
@@ -778,8 +763,8 @@ pub +narrow+narrow-one+sift+try-one-spec : {M : Type 1} → statement M
     (narrow-one-same-length-4 t)
     (narrow-one-returns-5 t))
     (λ t. sift-lts.spec (
-      number-at-reads.Asked,
-      number-at-reads.Learnt,
+      mark-at-reads.Asked,
+      mark-at-reads.Learnt,
       kept-reads.Asked,
       kept-reads.Learnt,
       try-one-below t,
@@ -794,7 +779,7 @@ pub +narrow+narrow-one+sift+try-one-spec : {M : Type 1} → statement M
     sift-Inv-loop
     sift-μ-loop
     (sift-loop-holds t)
-    (sift-number-at-requires t)
+    (sift-mark-at-requires t)
     (sift-kept-requires t)
     (sift-try-one-requires t)
     (sift-enum-known-step t)

@@ -32,7 +32,7 @@ use Rattle.counting.proofs.choices.capped.Reads as capped-reads
 use Rattle.marks.proofs.marking.kept.Reads as kept-reads
 use Rattle.marks.proofs.positions.after_at.Reads as after-at-reads
 use Rattle.marks.proofs.positions.alternatives_at.Reads as alternatives-at-reads
-use Rattle.marks.proofs.positions.number_at.Reads as number-at-reads
+use Rattle.marks.proofs.positions.mark_at.Reads as mark-at-reads
 use Rattle.marks.proofs.tally.count_kept.Reads as count-kept-reads
 use Rattle.entering.proofs.enter.enter.Reads as enter-reads
 use Rattle.search.proofs.agenda.after.Reads as after-reads
@@ -79,8 +79,8 @@ choose-μ-loop w₀ k n p count a left₀ at₀ sum₀ w left at sum = left
 
 abbrev choose-claims : ℕ → choose-lts.Claims
 choose-claims t = (
-  number-at-reads.Asked,
-  number-at-reads.Learnt,
+  mark-at-reads.Asked,
+  mark-at-reads.Learnt,
   kept-reads.Asked,
   kept-reads.Learnt,
   take-below t,
@@ -94,16 +94,15 @@ choose-claims t = (
 choose-loop-holds : (t : ℕ) → choose-lts.Need-loop-holds (choose-claims t) (choose-at t) choose.Post choose-Inv-loop choose-μ-loop
 choose-loop-holds t c = let p = c .before .pre .1 in (choose-moved _ _ _ _ _ _ p, λ d. choose-start _ _ _ _ _ _ d)
 
-choose-number-at-requires : (t : ℕ) →
-    choose-lts.Need-number-at-requires (choose-claims t) (choose-at t) choose.Post choose-Inv-loop choose-μ-loop
-choose-number-at-requires t c κs = let p = c .before .before .before .before .pre .1 in let v = c .before .before .loop .inv in
-    let q = c .before .loop-test in let h = choose-here _ _ _ _ _ _ p _ _ _ _ (v .0) (v .1 p) (omega arith) in (h .0, h .2)
+choose-mark-at-requires : (t : ℕ) →
+    choose-lts.Need-mark-at-requires (choose-claims t) (choose-at t) choose.Post choose-Inv-loop choose-μ-loop
+choose-mark-at-requires t c κs = let p = c .before .before .before .before .pre .1 in let v = c .before .before .loop .inv in
+    let q = c .before .loop-test in choose-here _ _ _ _ _ _ p _ _ _ _ (v .0) (v .1 p) (omega arith)
 
 choose-kept-requires : (t : ℕ) → choose-lts.Need-kept-requires (choose-claims t) (choose-at t) choose.Post choose-Inv-loop choose-μ-loop
 choose-kept-requires t c κs = let p = c .before .before .before .before .before .before .pre .1 in
-    let v = c .before .before .before .before .loop .inv in let q = c .before .before .before .loop-test in
-    let h = choose-here _ _ _ _ _ _ p _ _ _ _ (v .0) (v .1 p) (omega arith) in
-    (let e = c .before .number-at .ensures in let l = h .1 in omega arith, h .2)
+    let v = c .before .before .before .before .loop .inv in
+    (c .before .mark-at .ensures .1, omega (arith, v .0 .len, p .s .holds .long))
 
 choose-take-requires : (t : ℕ) → choose-lts.Need-take-requires (choose-claims t) (choose-at t) choose.Post choose-Inv-loop choose-μ-loop
 choose-take-requires t c κs = let p = c .before .before .before .before .before .before .before .before .before .pre .1 in
@@ -111,7 +110,7 @@ choose-take-requires t c κs = let p = c .before .before .before .before .before
     let q = c .before .before .before .before .before .before .loop-test in (
       let e = c .before .before .before .before .before .before .before .before .before .pre .0 in let on = v .1 p .on in
           omega arith,
-      choose-asks _ _ _ _ _ _ p _ _ _ _ (v .0) (v .1 p) (omega arith) _ (c .before .before .before .before .number-at .ensures)
+      choose-asks _ _ _ _ _ _ p _ _ _ _ (v .0) (v .1 p) (omega arith) _ (c .before .before .before .before .mark-at .ensures)
           (cc),
     )
 
@@ -123,7 +122,7 @@ choose-add-capped t c = let p = c .before .before .before .before .before .befor
     let y = finds-small _ _ _ _ _ _ _
     (c .before .before .take .ensures .found
     (choose-asks _ _ _ _ _ _ p _ _ _ _ (v .0) (v .1 p) (omega arith) _
-    (c .before .before .before .before .before .before .before .number-at .ensures) (cc))) in omega arith
+    (c .before .before .before .before .before .before .before .mark-at .ensures) (cc))) in omega arith
 
 choose-capped-requires : (t : ℕ) → choose-lts.Need-capped-requires (choose-claims t) (choose-at t) choose.Post choose-Inv-loop choose-μ-loop
 choose-capped-requires t c κs = search needs
@@ -132,7 +131,7 @@ turned : (t : ℕ) (c : choose-lts.Joined1 (choose-claims t) (choose-at t) choos
     Turn (c .before .before .before .before .before .before .before .before .args .n)
     (c .before .before .before .before .before .before .before .before .args .k)
     (c .before .before .before .before .before .before .loop .w) (c .before .before .before .before .before .before .loop .at)
-    (c .before .before .before .number-at .result) (c .before .before .before .before .before .before .before .before .args .a)
+    (c .before .before .before .mark-at .result) (c .before .before .before .before .before .before .before .before .args .a)
     (c .before .before .before .before .before .before .loop .sum) (c .if1 .sum) (c .if1 .w)
 turned t c = ⊎-elim (λ u. took _ _ (cc) (u .2 .ensures) (u .6) (u .7 ∙ u .5 .ensures)) (λ u. skipped (cc) (u .1) (u .2)) (c .if1 .came)
 
@@ -141,7 +140,7 @@ choose-after-at-requires : (t : ℕ) →
 choose-after-at-requires t c κs = let p = c .before .before .before .before .before .before .before .before .before .pre .1 in
     let v = c .before .before .before .before .before .before .before .loop .inv in
     let q = c .before .before .before .before .before .before .loop-test in
-    turn-inside _ _ _ _ _ _ p _ _ _ _ (v .0) (v .1 p) (omega arith) _ (c .before .before .before .before .number-at .ensures) _ _
+    turn-inside _ _ _ _ _ _ p _ _ _ _ (v .0) (v .1 p) (omega arith) _ (c .before .before .before .before .mark-at .ensures) _ _
     (turned t (c .before))
 
 choose-sub-left : (t : ℕ) → choose-lts.Need-sub-left (choose-claims t) (choose-at t) choose.Post choose-Inv-loop choose-μ-loop
@@ -154,9 +153,9 @@ choose-loop-again : (t : ℕ) → choose-lts.Need-loop-again (choose-claims t) (
 choose-loop-again t c = let p = c .before .before .before .before .before .before .before .before .before .before .pre .1 in
     let v = c .before .before .before .before .before .before .before .before .loop .inv in
     let q = c .before .before .before .before .before .before .before .loop-test in (
-      turn-moved _ _ _ _ _ _ p _ _ _ _ (v .0) (v .1 p) (omega arith) _ (c .before .before .before .before .before .number-at .ensures) _ _
+      turn-moved _ _ _ _ _ _ p _ _ _ _ (v .0) (v .1 p) (omega arith) _ (c .before .before .before .before .before .mark-at .ensures) _ _
           (turned t (c .before .before)),
-      λ d. turn-on _ _ _ _ _ _ d _ _ _ _ (v .0) (v .1 d) (omega arith) _ (c .before .before .before .before .before .number-at .ensures) _ _
+      λ d. turn-on _ _ _ _ _ _ d _ _ _ _ (v .0) (v .1 d) (omega arith) _ (c .before .before .before .before .before .mark-at .ensures) _ _
           (turned t (c .before .before)) _ (c .after-at .ensures),
     )
 
@@ -462,7 +461,7 @@ pub +choose+resume+take-spec : {M : Type 1} → statement M
     choose-Inv-loop
     choose-μ-loop
     (choose-loop-holds t)
-    (choose-number-at-requires t)
+    (choose-mark-at-requires t)
     (choose-kept-requires t)
     (choose-take-requires t)
     (choose-add-capped t)

@@ -5,8 +5,8 @@ use borrow.Author.Needs.{needs}
 use Rattle.search.proofs.search.note.Statement.{statement}
 use Rattle.search.proofs.search.note.Tie as tie
 
-number-at-requires : tie.Need-number-at-requires
-number-at-requires c κs = search needs
+mark-at-requires : tie.Need-mark-at-requires
+mark-at-requires c κs = search needs
 
 light-requires : tie.Need-light-requires
 light-requires c κs = search needs
@@ -15,8 +15,8 @@ same-length : tie.Need-same-length
 same-length c = search needs
 
 returns : tie.Need-returns
-returns c = notes-some _ _ _ _ _ (c .before .before .before .before .before .before .before .before .pre) (omega arith)
-    (c .before .before .before .before .before .number-at .ensures) (c .before .before .light .ensures)
+returns c = notes-some _ _ _ _ _ (omega arith)
+    (c .before .before .before .before .before .mark-at .ensures) (c .before .before .light .ensures)
 
 same-length-2 : tie.Need-same-length-2
 same-length-2 c = search needs
@@ -27,4 +27,4 @@ returns-2 c = notes-none _ _ _ (omega arith)
 pub note-spec : {M : Type 1} → statement M
 note-spec =
     tie.close
-    (tie.spec number-at-requires light-requires same-length returns same-length-2 returns-2)
+    (tie.spec mark-at-requires light-requires same-length returns same-length-2 returns-2)

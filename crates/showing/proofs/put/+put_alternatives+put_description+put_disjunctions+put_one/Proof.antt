@@ -33,7 +33,7 @@ use Rattle.marks.proofs.marking.kept.Reads as kept-reads
 use Rattle.marks.proofs.positions.after_at.Reads as after-at-reads
 use Rattle.marks.proofs.positions.alternatives_at.Reads as alternatives-at-reads
 use Rattle.marks.proofs.positions.disjunctions_at.Reads as disjunctions-at-reads
-use Rattle.marks.proofs.positions.number_at.Reads as number-at-reads
+use Rattle.marks.proofs.positions.mark_at.Reads as mark-at-reads
 use Rattle.marks.proofs.positions.tail_at.Reads as tail-at-reads
 use Rattle.marks.proofs.tally.count_kept.Reads as count-kept-reads
 use Rattle.showing.proofs.graph.put_graph.Reads as put-graph-reads
@@ -112,8 +112,8 @@ put-one-below t = and 1 put-one-kinds.ps (falls 1 put-one-kinds.ps _<_ μ-put-on
 
 abbrev put-alternatives-claims : ℕ → put-alternatives-lts.Claims
 put-alternatives-claims t = (
-  number-at-reads.Asked,
-  number-at-reads.Learnt,
+  mark-at-reads.Asked,
+  mark-at-reads.Learnt,
   kept-reads.Asked,
   kept-reads.Learnt,
   put-description-below t,
@@ -134,21 +134,17 @@ put-alternatives-loop-holds : (t : ℕ) →
     put-alternatives-μ-loop
 put-alternatives-loop-holds t c = λ d. offer-start _ _ _ _ _ _ d
 
-put-alternatives-number-at-requires : (t : ℕ) →
-    put-alternatives-lts.Need-number-at-requires (put-alternatives-claims t)
+put-alternatives-mark-at-requires : (t : ℕ) →
+    put-alternatives-lts.Need-mark-at-requires (put-alternatives-claims t)
     (put-alternatives-at t) put-alternatives.Post put-alternatives-Inv-loop put-alternatives-μ-loop
-put-alternatives-number-at-requires t c κs = let p = c .before .before .before .before .pre .1 in let v = c .before .before .loop .inv p in
-    let q = c .before .loop-test in (offer-here _ _ _ _ _ _ p _ _ _ _ v (omega arith) .0, offer-long _ _ _ _ _ _ p _ _ _ _ v)
+put-alternatives-mark-at-requires t c κs = let p = c .before .before .before .before .pre .1 in let v = c .before .before .loop .inv p in
+    let q = c .before .loop-test in offer-here _ _ _ _ _ _ p _ _ _ _ v (omega arith)
 
 put-alternatives-kept-requires : (t : ℕ) →
     put-alternatives-lts.Need-kept-requires (put-alternatives-claims t)
     (put-alternatives-at t) put-alternatives.Post put-alternatives-Inv-loop put-alternatives-μ-loop
 put-alternatives-kept-requires t c κs = let p = c .before .before .before .before .before .before .pre .1 in
-    let v = c .before .before .before .before .loop .inv p in let q = c .before .before .before .loop-test in (
-      let e = c .before .number-at .ensures in let h = offer-here _ _ _ _ _ _ p _ _ _ _ v (omega arith) .1 in
-          omega arith,
-      offer-long _ _ _ _ _ _ p _ _ _ _ v,
-    )
+    (c .before .mark-at .ensures .1, offer-long _ _ _ _ _ _ p _ _ _ _ (c .before .before .before .before .loop .inv p))
 
 put-alternatives-put-description-requires : (t : ℕ) →
     put-alternatives-lts.Need-put-description-requires (put-alternatives-claims t)
@@ -158,14 +154,14 @@ put-alternatives-put-description-requires t c κs = let p =
     let v = c .before .before .before .before .before .before .before .loop .inv p in
     let q = c .before .before .before .before .before .before .loop-test in (
       omega (arith, c .before .before .before .before .before .before .before .before .before .pre .0),
-      offer-asks _ _ _ _ _ _ p _ _ _ _ v (omega arith) _ (c .before .before .before .before .number-at .ensures) (cc),
+      offer-asks _ _ _ _ _ _ p _ _ _ _ v (omega arith) _ (c .before .before .before .before .mark-at .ensures) (cc),
     )
 
 turned : (t : ℕ) (c : put-alternatives-lts.Joined1 (put-alternatives-claims t)
     (put-alternatives-at t) put-alternatives.Post put-alternatives-Inv-loop put-alternatives-μ-loop) →
     Turn (c .before .before .before .before .before .before .before .before .args .n)
     (c .before .before .before .before .before .before .loop .w) (c .before .before .before .before .before .before .loop .at)
-    (c .before .before .before .number-at .result) (c .before .before .before .before .before .before .before .before .args .left)
+    (c .before .before .before .mark-at .result) (c .before .before .before .before .before .before .before .before .args .left)
     (c .before .before .before .before .before .before .loop .out) (c .if1 .out) (c .if1 .w)
 turned t c = ⊎-elim (λ u. taken _ _ (cc) (u .2 .ensures) (u .5) (u .6)) (λ u. skipped (cc) (u .1) (u .2)) (c .if1 .came)
 
@@ -175,8 +171,7 @@ put-alternatives-after-at-requires : (t : ℕ) →
 put-alternatives-after-at-requires t c κs = let p = c .before .before .before .before .before .before .before .before .before .pre .1 in
     let v = c .before .before .before .before .before .before .before .loop .inv p in
     let q = c .before .before .before .before .before .before .loop-test in
-    let i = turn-inside _ _ _ _ _ _ p _ _ _ _ v (omega arith) _ (c .before .before .before .before .number-at .ensures) _ _
-    (turned t (c .before)) in ((offer-here _ _ _ _ _ _ p _ _ _ _ v (omega arith) .0, i .1), i .0)
+    turn-inside _ _ _ _ _ _ p _ _ _ _ v (omega arith) _ (c .before .before .before .before .mark-at .ensures) _ _ (turned t (c .before))
 
 put-alternatives-sub-rest : (t : ℕ) →
     put-alternatives-lts.Need-sub-rest (put-alternatives-claims t) (put-alternatives-at t) put-alternatives.Post put-alternatives-Inv-loop
@@ -193,7 +188,7 @@ put-alternatives-loop-again : (t : ℕ) →
     put-alternatives-μ-loop
 put-alternatives-loop-again t c = let q = c .before .before .before .before .before .before .before .loop-test in
     λ d. turn-on _ _ _ _ _ _ d _ _ _ _ (c .before .before .before .before .before .before .before .before .loop .inv d) (omega arith) _
-    (c .before .before .before .before .before .number-at .ensures) _ _ (turned t (c .before .before)) _ (c .after-at .ensures)
+    (c .before .before .before .before .before .mark-at .ensures) _ _ (turned t (c .before .before)) _ (c .after-at .ensures)
 
 put-alternatives-same-length : (t : ℕ) →
     put-alternatives-lts.Need-same-length (put-alternatives-claims t)
@@ -470,8 +465,8 @@ pub +put-alternatives+put-description+put-disjunctions+put-one-spec : {M : Type 
     μ-put-disjunctions
     μ-put-one
     (λ t. put-alternatives-lts.spec (
-      number-at-reads.Asked,
-      number-at-reads.Learnt,
+      mark-at-reads.Asked,
+      mark-at-reads.Learnt,
       kept-reads.Asked,
       kept-reads.Learnt,
       put-description-below t,
@@ -482,7 +477,7 @@ pub +put-alternatives+put-description+put-disjunctions+put-one-spec : {M : Type 
     (put-alternatives-at t)
     put-alternatives.Post put-alternatives-Inv-loop put-alternatives-μ-loop
     (put-alternatives-loop-holds t)
-    (put-alternatives-number-at-requires t)
+    (put-alternatives-mark-at-requires t)
     (put-alternatives-kept-requires t)
     (put-alternatives-put-description-requires t)
     (put-alternatives-after-at-requires t)
