@@ -11,7 +11,8 @@ use borrow.Author.Tests.{eq-eqb, ne-eqb, lt-ltb, le-ltb}
 use Rattle.theory.specs.Limits.{code-limit}
 use Rattle.theory.specs.Net.{Node, atom, arcs, Graph, nodeAt, arcsOf}
 use Rattle.theory.specs.Layout.{arc-words, node-words, nodes-words, GraphFits}
-use Rattle.theory.proofs.Weight.{weight, arc-length}
+use Rattle.theory.proofs.Weight.{arc-length}
+use Rattle.theory.specs.Weight.{weight}
 use Rattle.forest.specs.Labels.{pick}
 use Rattle.forest.specs.State.{Pile}
 use Rattle.classes.specs.Nodes.{strung, span, spans, NodeAt, NodesAt}

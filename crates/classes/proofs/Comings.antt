@@ -8,9 +8,10 @@ use native.Mathlib.Omega.{arith}
 use lib.ListN.{length, getD}
 use Rattle.area.specs.Map.{WORDS, MARKS}
 use Rattle.theory.specs.Net.{Node, atom, arcs, Graph, nodeAt, arcsOf, Clash}
-use Rattle.theory.proofs.Weight.{weight, weights, weights-append}
+use Rattle.theory.proofs.Weight.{weights-append}
 use Rattle.theory.proofs.Instance.{numbered-target}
 use Rattle.theory.proofs.Meaning.{canonical-some}
+use Rattle.theory.specs.Weight.{weight, weights}
 use Rattle.area.specs.Region.{words}
 use Rattle.forest.specs.Held.{AtomCode}
 use Rattle.forest.specs.State.{targets, Pile, Done, Same, Clashes, State, Full, withPair}

@@ -5,7 +5,7 @@ use mathlib.Core.List.{List, [], _∷_, _++_}
 use Prim.Native.Nat.{ℕ, suc, _+_, _≤_, _<_}
 use native.Mathlib.Omega.{arith}
 use lib.ListN.{length, getD}
-use Rattle.theory.proofs.Weight.{weight}
+use Rattle.theory.specs.Weight.{weight}
 use Rattle.packing.specs.Packed.{graph-word, word-nodes, word-number}
 use Rattle.packing.proofs.Packed.{nodes-back, number-back}
 use Rattle.area.specs.Map.{SIZE}

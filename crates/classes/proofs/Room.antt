@@ -6,7 +6,8 @@ use mathlib.Core.Logic.{⊎-elim}
 use Prim.Native.Nat.{ℕ, suc, _+_, _*_, _≤_, _<_}
 use native.Mathlib.Omega.{arith}
 use lib.ListN.{length, length-append}
-use Rattle.theory.proofs.Weight.{distinct-length, range, range-length, range-in, range-above, range-distinct, weight, weights}
+use Rattle.theory.proofs.Weight.{distinct-length, range, range-length, range-in, range-above, range-distinct}
+use Rattle.theory.specs.Weight.{weight, weights}
 use Rattle.descriptions.proofs.Tests.{Distinct, distinct-append}
 use Rattle.loading.specs.Entry.{Entry, graphs}
 use Rattle.classes.specs.Entry.{Lies, Aside}

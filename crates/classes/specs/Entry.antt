@@ -10,7 +10,7 @@ use Rattle.loading.specs.Entry.{Entry, graphs}
 use Rattle.loading.specs.Loaded.{located}
 use Rattle.theory.specs.Net.{Graph, beside, Canonical}
 use Rattle.theory.specs.Layout.{GraphFits}
-use Rattle.theory.proofs.Weight.{weight, weights}
+use Rattle.theory.specs.Weight.{weight, weights}
 
 -- "Put the nodes of all graphs side by side.": a node of one of the graphs, and its number
 abbrev pub Spots : List Entry → Type 0

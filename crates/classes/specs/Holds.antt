@@ -9,7 +9,7 @@ use Rattle.area.specs.Map.{WORDS, MARKS, SIZE, NODES, ENTRIES}
 use Rattle.theory.specs.Limits.{code-limit}
 use Rattle.theory.specs.Net.{Node, atom, arcs, nodeAt, arcsOf, Canonical, Clash}
 use Rattle.theory.specs.Layout.{GraphFits}
-use Rattle.theory.proofs.Weight.{weight, weights}
+use Rattle.theory.specs.Weight.{weight, weights}
 use Rattle.area.specs.Log.{body, past, Logged, Later}
 use Rattle.classes.specs.declared.push.Pushed.{Pushed}
 use Rattle.classes.specs.declared.push.Pushed.the-variants.{In, Clashed}

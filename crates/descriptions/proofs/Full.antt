@@ -8,7 +8,7 @@ use mathlib.Core.List.{List, [], _∷_, _++_, append-assoc, append-nil, List·Me
 use mathlib.Core.List.{List·Memᴰ·not-nil, List·Memᴰ·append-cases, Memᴰ·append-left, Memᴰ·append-right}
 use native.Mathlib.Omega.{arith}
 use lib.ListN.{length-append}
-use Rattle.descriptions.proofs.Laws.{All, Laws}
+use Rattle.descriptions.proofs.Laws.{Laws}
 use Rattle.descriptions.specs.Descr.{Alts, Desc, Disjs, _and_, _or_, agree, answers, choices, choices-all, choices-any, desc, each}
 use Rattle.descriptions.specs.Descr.{end, fail, pairs}
 use Rattle.descriptions.specs.Modes.{Round, fold, fold-all, fold-any, folded-in, glue, in-place, prune, prune-all, prune-any}
@@ -19,6 +19,7 @@ use Rattle.descriptions.proofs.Mean.{glue-canonical, glue-none, good-ru
 use Rattle.descriptions.proofs.Mean.{run-none, run-pairs, run-same, within-both}
 use Rattle.descriptions.proofs.Quick.{good-leaf, leaf, meanings, nil-holds, one}
 use Rattle.descriptions.specs.Joining.{Joining}
+use Rattle.descriptions.specs.Canonical.{All}
 
 module _ {Graph : Type 0} where
   -- membership of a choice in a list of choices

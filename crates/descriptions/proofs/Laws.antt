@@ -2,18 +2,15 @@
 -- Assumes nothing.
 use mathlib.Core.Path.{_≡_}
 use mathlib.Core.Option.{none, some}
-use mathlib.Core.List.{List, [], _∷_, _++_, List·Memᴰ}
+use mathlib.Core.List.{List, _∷_, _++_, List·Memᴰ}
 use Prim.Native.Nat.{_<_}
 use lib.ListN.{length}
 use Rattle.descriptions.specs.Joining.{Joining}
+use Rattle.descriptions.specs.Canonical.{All}
 
 -- each graph of the first list is among the second's
 abbrev pub Within : {A : Type 0} → List A → List A → Type 0
 Within {A} gs hs = (g : A) → List·Memᴰ g gs → List·Memᴰ g hs
-
-abbrev pub All : {A : Type 0} → (A → Type 0) → List A → Type 0
-All P [] = Unit {0}
-All P (g ∷ gs) = P g × All P gs
 
 pub record Laws {Graph : Type 0} (J : Joining Graph) : Type 1 where
   -- the graphs that have one image only

@@ -11,7 +11,7 @@ use Rattle.descriptions.specs.Descr.{Desc, choices, desc, end, pairs, re
 use Rattle.descriptions.specs.Answer.{consistent}
 use Rattle.descriptions.specs.Rules.{mode-result}
 use Rattle.descriptions.specs.Demands.{chosen, descriptions, gathered, ways}
-use Rattle.descriptions.proofs.Laws.{All, Laws}
+use Rattle.descriptions.proofs.Laws.{Laws}
 use Rattle.descriptions.proofs.Mean.{AllFine, Can, Fine, Good, alike-set, choices-fine, fine-append, good-run, pairs-fine, run}
 use Rattle.descriptions.proofs.Mean.{run-cong, run-none, run-pairs, swap-within}
 use Rattle.descriptions.proofs.Quick.{good-leaf, leaf, meanings, one, readings-count}
@@ -21,6 +21,7 @@ use Rattle.descriptions.proofs.Modes.{mode-can}
 use Rattle.descriptions.proofs.Table.{full-is}
 use Rattle.descriptions.specs.Joining.{Joining}
 use Rattle.descriptions.specs.Layout.{Layout}
+use Rattle.descriptions.specs.Canonical.{All}
 
 module _ {Graph : Type 0} where
   chosen-append : (l m : List (Desc Graph)) (c : List Graph) (k : List Graph → List Graph) →

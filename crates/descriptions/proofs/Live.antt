@@ -13,9 +13,9 @@ use lib.ListN.{length-append}
 use Rattle.descriptions.specs.Descr.{Alts, Desc, Disjs, _and_, _or_, agree, alts, answers, choices, choices-all, choices-any, desc}
 use Rattle.descriptions.specs.Descr.{end, fail, pairs}
 use Rattle.descriptions.specs.Modes.{Round, fold, fold-all, fold-any, folded-in, full, glue, in-place, joined, prune, prune-all}
-use Rattle.descriptions.specs.Modes.{prune-any, some-agree}
+use Rattle.descriptions.specs.Modes.{prune-any, some-agree, Glues}
 use Rattle.descriptions.proofs.Laws.{Laws, Within}
-use Rattle.descriptions.proofs.Mean.{AllFine, Can, CanAll, CanAny, Fine, Glues, canon-append, choices-all-fine, choices-any-fine}
+use Rattle.descriptions.proofs.Mean.{AllFine, Can, CanAll, CanAny, Fine, canon-append, choices-all-fine, choices-any-fine}
 use Rattle.descriptions.proofs.Mean.{choices-fine, clash-stays, fine-append, in-l, in-r, run, within-both}
 use Rattle.descriptions.proofs.Quick.{good-leaf, leaf, one}
 use Rattle.descriptions.proofs.Full.{AllFull, SomeAgree, each-from, each-in, fine-full, fold-ok, full-graph, full-pairs, none-agrees}

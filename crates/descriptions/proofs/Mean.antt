@@ -8,11 +8,12 @@ use mathlib.Core.List.{List·Memᴰ·not-nil, List·Memᴰ·append-cases, Memᴰ
 use Prim.Native.Nat.{ℕ, zero, suc, _<_}
 use native.Mathlib.Omega.{arith}
 use lib.ListN.{length, length-append}
-use Rattle.descriptions.proofs.Laws.{All, Laws, Within}
+use Rattle.descriptions.proofs.Laws.{Laws, Within}
 use Rattle.descriptions.specs.Descr.{Alts, Desc, Disjs, _and_, _or_, _then_, choices, choices-all, choices-any, desc, each, end, fail}
 use Rattle.descriptions.specs.Descr.{pairs}
-use Rattle.descriptions.specs.Modes.{Round, after, finish, glue, kept, round, tidy}
+use Rattle.descriptions.specs.Modes.{Round, after, finish, glue, kept, round, tidy, Glues}
 use Rattle.descriptions.specs.Joining.{Joining}
+use Rattle.descriptions.specs.Canonical.{All}
 
 module _ {Graph : Type 0} where
   pub within-left : (a b hs : List Graph) → Within a b → Within (a ++ hs) (b ++ hs)
@@ -92,11 +93,7 @@ module _ {Graph : Type 0} (J : Joining Graph) where
   glue-none g [] e = let z : _≡_ {A = ℕ} 0 1 = cc in absurd (omega arith)
   glue-none g (h ∷ hs) e = e
 
-  -- they can be folded in
-  abbrev pub Glues : Graph → List Graph → Type 0
-  Glues g hs = (K : Graph) × (glue J g hs ≡ some K)
-
-  pub glues-of : (g : Graph) (hs : List Graph) (K : Graph) → join (g ∷ hs) ≡ some K → Glues g hs
+  pub glues-of : (g : Graph) (hs : List Graph) (K : Graph) → join (g ∷ hs) ≡ some K → Glues J g hs
   glues-of g [] K e = (g, refl)
   glues-of g (h ∷ hs) K e = (K, e)
 
@@ -112,7 +109,7 @@ module _ {Graph : Type 0} {J : Joining Graph} (𝓛 : Laws J) where
   open Laws 𝓛 using (Canonical)
 
   abbrev pub Fine : List Graph → Type 0
-  Fine c = (0 < length c) × All Canonical c
+  Fine = Rattle.descriptions.specs.Canonical.Fine Canonical
 
   pub canon-append : (a b : List Graph) → All Canonical a → All Canonical b → All Canonical (a ++ b)
   canon-append [] b p q = q
@@ -207,17 +204,14 @@ module _ {Graph : Type 0} {J : Joining Graph} (𝓛 : Laws J) where
   good-run l k a g = record { same = λ c d f h p. run-same l c d k a g f h p; dead = λ c f e. run-dead l c k a g f e }
 
   -- descriptions of canonical graphs
-  abbrev mutual
-    pub Can : Desc Graph → Type 0
-    Can (desc g ds) = Canonical g × CanAll ds
+  abbrev pub Can : Desc Graph → Type 0
+  Can = Rattle.descriptions.specs.Canonical.Can Canonical
 
-    pub CanAll : Disjs Graph → Type 0
-    CanAll end = Unit {0}
-    CanAll (a and ds) = CanAny a × CanAll ds
+  abbrev pub CanAll : Disjs Graph → Type 0
+  CanAll = Rattle.descriptions.specs.Canonical.CanAll Canonical
 
-    pub CanAny : Alts Graph → Type 0
-    CanAny fail = Unit {0}
-    CanAny (d or a) = Can d × CanAny a
+  abbrev pub CanAny : Alts Graph → Type 0
+  CanAny = Rattle.descriptions.specs.Canonical.CanAny Canonical
 
   pub each-fine : (a : List Graph) (l : List (List Graph)) → All Canonical a → AllFine l → AllFine (each a l)
   each-fine a [] p q r m = absurd (List·Memᴰ·not-nil m)

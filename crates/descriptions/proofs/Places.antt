@@ -13,7 +13,7 @@ use Rattle.descriptions.specs.Descr.{fail, pairs}
 use Rattle.descriptions.specs.Modes.{fold, full, joined, prune, prune-all, prune-any, some-agree}
 use Rattle.descriptions.specs.Places.{Pick, PickAll, PickAny, Place, PlaceAll, PlaceAny, Pruned, Stands, StandsAll, StandsAny, only}
 use Rattle.descriptions.specs.Places.{only-all, only-any, taken, taken-all, taken-any}
-use Rattle.descriptions.proofs.Laws.{All, Laws, Within}
+use Rattle.descriptions.proofs.Laws.{Laws, Within}
 use Rattle.descriptions.proofs.Mean.{AllFine, Can, CanAll, CanAny, Fine, canon-append, choices-all-fine, choices-any-fine}
 use Rattle.descriptions.proofs.Mean.{fine-append, within-both}
 use Rattle.descriptions.proofs.Full.{AllFull, each-from, each-in, fine-full, full-graph, full-pairs, pairs-from, pairs-in, prune-can}
@@ -21,6 +21,7 @@ use Rattle.descriptions.proofs.Full.{whole, whole-fine}
 use Rattle.descriptions.proofs.Live.{Agrees, Live, agrees-within, beside-within, some-agree-from, some-agree-in, whole-live}
 use Rattle.descriptions.proofs.Model.{agree-view}
 use Rattle.descriptions.specs.Joining.{Joining}
+use Rattle.descriptions.specs.Canonical.{All}
 
 module _ {Graph : Type 0} where
   -- the choices are the graphs of the picks

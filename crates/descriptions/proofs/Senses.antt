@@ -8,7 +8,8 @@ use Prim.Native.Nat.{_<_}
 use lib.ListN.{length}
 use Rattle.descriptions.specs.Joining.{Joining}
 use Rattle.descriptions.specs.Structures.{Structures, SatisfiesAll}
-use Rattle.descriptions.proofs.Laws.{All, Laws}
+use Rattle.descriptions.proofs.Laws.{Laws}
+use Rattle.descriptions.specs.Canonical.{All}
 
 pub record Sense {Graph : Type 0} {J : Joining Graph} (𝓛 : Laws J) (𝓜 : Structures Graph) : Type 2 where
   -- a join is satisfied exactly when all that it joins is

@@ -9,10 +9,11 @@ use native.Mathlib.Omega.{arith}
 use lib.ListN.{length}
 use Rattle.descriptions.specs.Descr.{Alts, Desc, Disjs, _and_, _or_, _then_, alts, desc, end, fail}
 use Rattle.descriptions.specs.Modes.{Round, after, finish, glue, joined, kept, quick, round, size, tidy}
-use Rattle.descriptions.proofs.Laws.{All, Laws}
+use Rattle.descriptions.proofs.Laws.{Laws}
 use Rattle.descriptions.proofs.Mean.{Can, CanAll, CanAny}
 use Rattle.descriptions.proofs.Weights.{Weights, total}
 use Rattle.descriptions.specs.Joining.{Joining}
+use Rattle.descriptions.specs.Canonical.{All}
 
 module _ {Graph : Type 0} {J : Joining Graph} {𝓛 : Laws J} (𝓦 : Weights 𝓛) where
   open Joining J using (join, nil)

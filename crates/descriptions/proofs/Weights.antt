@@ -6,7 +6,8 @@ use mathlib.Core.List.{List, [], _∷_}
 use Prim.Native.Nat.{ℕ, suc, _+_, _≤_, _<_}
 use lib.ListN.{length}
 use Rattle.descriptions.specs.Joining.{Joining}
-use Rattle.descriptions.proofs.Laws.{All, Laws}
+use Rattle.descriptions.proofs.Laws.{Laws}
+use Rattle.descriptions.specs.Canonical.{All}
 
 abbrev pub total : {A : Type 0} → (A → ℕ) → List A → ℕ
 total w [] = 0

@@ -1,5 +1,6 @@
 -- The three modes.
 -- Assumes nothing: these are definitions.
+use mathlib.Core.Path.{_≡_}
 use mathlib.Core.Bool.{Bool, true, false}
 use mathlib.Core.Option.{Option, none, some}
 use mathlib.Core.List.{List, [], _∷_}
@@ -102,6 +103,10 @@ module _ {Graph : Type 0} (J : Joining Graph) where
   abbrev pub glue : Graph → List Graph → Option Graph
   glue g [] = some g
   glue g (h ∷ hs) = join (g ∷ h ∷ hs)
+
+  -- they can be folded in
+  abbrev pub Glues : Graph → List Graph → Type 0
+  Glues g hs = (K : Graph) × (glue g hs ≡ some K)
 
   -- "Then fold all disjunctions with one alternative left, at every depth, in place."
   unfoldable mutual

@@ -6,7 +6,7 @@ use mathlib.Core.List.{List, [], _∷_, _++_}
 use Prim.Native.Nat.{ℕ}
 use Rattle.theory.specs.Net.{Graph}
 use Rattle.theory.specs.Descr.{agree}
-use Rattle.theory.proofs.Mean.{Ctx}
+use Rattle.theory.specs.Canonical.{Ctx}
 use Rattle.engine.specs.Placed.{Placed, place, Places, stop, _also_, Options, no-more, option}
 use Rattle.engine.specs.Marks.{Marking}
 use Rattle.engine.specs.Certain.{certain}

@@ -6,7 +6,7 @@ use mathlib.Core.List.{_∷_}
 use Rattle.theory.specs.Net.{Graph, Canonical}
 use Rattle.theory.specs.Join.{join}
 use Rattle.theory.proofs.Instance.{AllCanonical}
-use Rattle.theory.proofs.Mean.{Ctx, Fine}
+use Rattle.theory.specs.Canonical.{Ctx, Fine}
 use Rattle.theory.proofs.Live.{Agrees}
 use Rattle.theory.proofs.Laws.{laws}
 

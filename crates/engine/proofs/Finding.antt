@@ -3,7 +3,7 @@
 use mathlib.Core.Path.{_≡_}
 use lib.ListN.{length}
 use Rattle.theory.specs.Descr.{readings}
-use Rattle.theory.proofs.Mean.{Can}
+use Rattle.theory.specs.Canonical.{Can}
 use Rattle.engine.specs.Placed.{Placed, strip}
 use Rattle.engine.specs.Search.{search}
 use Rattle.theory.proofs.Laws.{laws}

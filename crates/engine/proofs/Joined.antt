@@ -6,12 +6,12 @@ use mathlib.Core.List.{List, [], _∷_, _++_}
 use Rattle.theory.specs.Net.{Graph, Canonical}
 use Rattle.theory.specs.Join.{join}
 use Rattle.theory.proofs.Instance.{AllCanonical}
-use Rattle.theory.proofs.Mean.{Ctx, Can}
+use Rattle.theory.specs.Canonical.{Ctx, Can}
 use Rattle.engine.specs.Placed.{Placed, Places, strip}
 use Rattle.engine.specs.Marks.{Marking, keep}
 use Rattle.engine.specs.Beside.{_next_, joined-placed}
 use Rattle.engine.specs.Agenda.{resume-at}
-use Rattle.engine.proofs.Stack.{Same}
+use Rattle.engine.specs.Stack.{Same}
 use Rattle.theory.specs.JoiningOne.{joining-one}
 use Rattle.theory.proofs.Laws.{laws}
 

@@ -5,14 +5,14 @@ use mathlib.Core.Option.{none}
 use mathlib.Core.List.{_∷_, List·Memᴰ}
 use Prim.Native.Nat.{ℕ}
 use Rattle.theory.specs.Net.{Graph}
-use Rattle.theory.proofs.Mean.{Ctx, Can}
+use Rattle.theory.specs.Canonical.{Ctx, Can}
 use Rattle.theory.proofs.Live.{Agrees}
 use Rattle.engine.specs.Placed.{Placed, place, Places, strip}
 use Rattle.engine.specs.Marks.{Marking, all-kept}
 use Rattle.engine.specs.Certain.{certain}
 use Rattle.engine.specs.Quickly.{fails, stands, narrow-at, quick-at, Leaves}
 use Rattle.modes_by_marks.proofs.Names.{names, Distinct}
-use Rattle.engine.proofs.Stack.{Same}
+use Rattle.engine.specs.Stack.{Same}
 use Rattle.theory.proofs.Laws.{laws}
 
 abbrev pub d : (g : Graph) (ds : Places) (c : Can (strip (place g ds))) (w : Distinct (place g ds)) → Placed

@@ -2,7 +2,7 @@
 -- Assumes nothing.
 use mathlib.Core.Bool.{Bool}
 use Rattle.theory.specs.Descr.{agree}
-use Rattle.theory.proofs.Mean.{Ctx}
+use Rattle.theory.specs.Canonical.{Ctx}
 use Rattle.theory.specs.JoiningOne.{joining-one}
 
 abbrev pub Agreeing : (c : Ctx) → Bool → Type 0

@@ -5,8 +5,8 @@ use mathlib.Core.Path.{_≡_}
 use mathlib.Core.Option.{Option}
 use Rattle.theory.specs.Descr.{Desc, Disjs, Alts, desc, end, _and_, fail, _or_}
 use Rattle.theory.specs.Modes.{joined, fold}
-use Rattle.theory.proofs.Mean.{Can}
-use Rattle.engine.proofs.Sane.{Sane}
+use Rattle.theory.specs.Canonical.{Can}
+use Rattle.engine.specs.Sane.{Sane}
 use Rattle.theory.proofs.Laws.{laws}
 use Rattle.modes_by_marks.proofs.Proper.{Proper, ProperAll, ProperAny}
 use Prim.Native.Nat.{ℕ, suc, zero}

@@ -1,6 +1,6 @@
 -- The quick step on marks does what the quick step on descriptions does.
 -- Assumes nothing.
-use Rattle.theory.proofs.Mean.{Ctx}
+use Rattle.theory.specs.Canonical.{Ctx}
 use Rattle.engine.specs.Placed.{Options}
 use Rattle.engine.specs.Marks.{Marking}
 use Rattle.engine.specs.Quickly.{sift-at}

@@ -4,14 +4,14 @@
 use mathlib.Core.Path.{_≡_}
 use mathlib.Core.List.{[], _∷_}
 use Rattle.theory.specs.Net.{Graph}
-use Rattle.theory.proofs.Mean.{Ctx, Can}
+use Rattle.theory.specs.Canonical.{Ctx, Can}
 use Rattle.theory.proofs.Live.{Agrees}
 use Rattle.engine.specs.Placed.{place, Places, strip}
 use Rattle.engine.specs.Marks.{Marking, keep}
 use Rattle.engine.specs.Certain.{certain}
 use Rattle.engine.specs.Search.{search}
 use Rattle.engine.specs.Agenda.{resume-at}
-use Rattle.engine.proofs.Stack.{Same}
+use Rattle.engine.specs.Stack.{Same}
 use Rattle.theory.proofs.Laws.{laws}
 
 pub search-standing : (g : Graph) (ds : Places) (m : Marking) → Can (strip (keep m (place g ds))) → (T : Ctx) → Same T (g ∷ certain m ds) →

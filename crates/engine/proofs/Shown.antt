@@ -4,9 +4,9 @@ use mathlib.Core.Path.{_≡_}
 use mathlib.Core.Option.{Option}
 use Rattle.theory.specs.Descr.{Desc}
 use Rattle.theory.specs.Modes.{fold}
-use Rattle.theory.proofs.Mean.{Can}
+use Rattle.theory.specs.Canonical.{Can}
 use Rattle.engine.specs.Shown.{shown}
-use Rattle.engine.proofs.Sane.{Sane}
+use Rattle.engine.specs.Sane.{Sane}
 use Rattle.theory.proofs.Laws.{laws}
 use Rattle.theory.specs.JoiningOne.{joining-one}
 

@@ -2,7 +2,7 @@
 -- Assumes nothing.
 use Rattle.theory.specs.Descr.{Disjs}
 use Rattle.theory.proofs.Instance.{AllCanonical}
-use Rattle.theory.proofs.Mean.{CanAll}
+use Rattle.theory.specs.Canonical.{CanAll}
 use Rattle.engine.specs.Certain.{sure}
 use Rattle.theory.proofs.Laws.{laws}
 

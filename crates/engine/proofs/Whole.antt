@@ -9,7 +9,7 @@ use Rattle.theory.specs.Limits.{choice-limit, choice-stop}
 use Rattle.theory.specs.Descr.{Desc, number}
 use Rattle.theory.specs.Modes.{quick, full}
 use Rattle.theory.specs.Answer.{consistent}
-use Rattle.theory.proofs.Mean.{Can}
+use Rattle.theory.specs.Canonical.{Can}
 use Rattle.engine.specs.Placed.{Placed, strip}
 use Rattle.engine.specs.Marks.{Marking, keep}
 use Rattle.engine.specs.Beside.{joined-placed}
@@ -18,7 +18,7 @@ use Rattle.engine.specs.Counting.{count-at}
 use Rattle.engine.specs.Search.{search, lit, full-left, full-readings-by}
 use Rattle.engine.specs.Shown.{shown}
 use Rattle.modes_by_marks.proofs.Names.{names, Apart, Distinct}
-use Rattle.engine.proofs.Sane.{Sane}
+use Rattle.engine.specs.Sane.{Sane}
 use Rattle.modes_by_marks.proofs.Proper.{Proper}
 use Rattle.engine.proofs.Shown.{shown-some}
 use Rattle.theory.proofs.Laws.{laws}

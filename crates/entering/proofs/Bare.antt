@@ -7,15 +7,14 @@ use mathlib.Core.Bool.{true}
 use mathlib.Core.List.{List, [], _∷_, _++_}
 use Rattle.theory.specs.Net.{Graph, Agree}
 use Rattle.theory.specs.Descr.{agree}
-use Rattle.theory.proofs.Mean.{Fine}
+use Rattle.theory.specs.Canonical.{Fine}
 use Rattle.engine.specs.Placed.{Placed, place, stop, _also_, strip}
 use Rattle.engine.specs.Marks.{keep}
 use Rattle.engine.specs.Certain.{flat}
-use Rattle.loading.specs.Entry.{graphs}
+use Rattle.loading.specs.Entry.{graphs, entry}
 use Rattle.loading.specs.Loaded.{extent}
 use Rattle.loading.specs.Numbered.{places}
 use Rattle.loading.specs.Lying.{Here}
-use Rattle.loading.proofs.Entries.{entry}
 use Rattle.marks.specs.Positions.{tail-at, disjunctions-at}
 use Rattle.marks.specs.Marked.{marking}
 use Rattle.marks.specs.Readable.{Readable}

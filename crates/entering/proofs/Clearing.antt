@@ -19,9 +19,10 @@ use Rattle.loading.specs.Lying.{Lying, LyingAll, LyingAny}
 use Rattle.loading.proofs.Walking.{at-bounds, all-bounds, any-bounds}
 use Rattle.entering.specs.Taken.{taken, taken-all, taken-any, taken-of, taken-any-of, Free, FreeAnyOf}
 use Rattle.entering.specs.Clear.{Outside, ByRemnant, ByMark, Clear, ClearAll, ClearLone, ClearAny}
-use Rattle.entering.specs.Clear.{ClearOf, ClearAllOf, ClearLoneOf, ClearAnyOf}
+use Rattle.entering.specs.Clear.{ClearOf, ClearAllOf, ClearAnyOf}
 use Rattle.entering.proofs.Mirror.{Alike, kept-alike}
 use Rattle.entering.proofs.Certain.{sole, taken-all-between, taken-any-between, taken-none}
+use Rattle.entering.proofs.Rests.{ClearLoneOf}
 
 -- of the numbers from n up to m, E holds only what xs has
 abbrev pub Holding : ℕ → ℕ → List Entry → List Entry → Type 0

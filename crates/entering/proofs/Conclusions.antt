@@ -6,13 +6,13 @@ use mathlib.Core.Option.{Option, none, some}
 use mathlib.Core.List.{List}
 use Rattle.theory.specs.Descr.{Desc}
 use Rattle.theory.specs.Modes.{joined, quick, full}
-use Rattle.theory.proofs.Mean.{Can}
+use Rattle.theory.specs.Canonical.{Can}
 use Rattle.engine.specs.Placed.{Placed, strip}
 use Rattle.engine.specs.Marks.{Marking, all-kept, keep}
 use Rattle.engine.specs.Quickly.{quick-at, Leaves}
 use Rattle.engine.specs.Shown.{shown}
 use Rattle.modes_by_marks.proofs.Marks.{keep-all-marked}
-use Rattle.engine.proofs.Sane.{Sane}
+use Rattle.engine.specs.Sane.{Sane}
 use Rattle.engine.proofs.Proper.{proper-sane, proper-fold}
 use Rattle.modes_by_marks.proofs.Proper.{Proper}
 use Rattle.engine.proofs.Shown.{shown-ok}

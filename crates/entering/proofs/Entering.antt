@@ -15,12 +15,11 @@ use Rattle.area.specs.Region.{words}
 use Rattle.area.proofs.Region.{words-same, words-many}
 use Rattle.engine.specs.Placed.{Placed, place, Places, stop, _also_, Options}
 use Rattle.engine.specs.Marks.{Marking, kept-of}
-use Rattle.loading.specs.Entry.{Entry, graphs}
+use Rattle.loading.specs.Entry.{Entry, graphs, entry}
 use Rattle.loading.specs.Loaded.{extent}
 use Rattle.loading.specs.Numbered.{places, options}
 use Rattle.loading.specs.At.{AtAll, AtAny}
-use Rattle.loading.specs.Lying.{Here, Rest}
-use Rattle.loading.proofs.Entries.{entry}
+use Rattle.loading.specs.Lying.{Here}
 use Rattle.loading.proofs.Walking.{at-bounds, all-bounds, any-bounds}
 use Rattle.marks.specs.Positions.{tail-at, disjunctions-at, alternatives-at}
 use Rattle.marks.specs.Marked.{marking}
@@ -38,12 +37,13 @@ use Rattle.classes.specs.declared.push.Pushed.{Pushed}
 use Rattle.classes.specs.declared.push.Pushed.the-variants.{In, Clashed}
 use Rattle.classes.proofs.Laws.{since-trans}
 use Rattle.classes.proofs.Comings.{graphs-append}
-use Rattle.entering.specs.Taken.{taken-any, AmongAny, taken-here, taken-rest, taken-of, AmongHere, AmongRest, Inside, Free}
+use Rattle.entering.specs.Taken.{taken-any, AmongAny, taken-here, taken-of, AmongHere, Inside, Free}
 use Rattle.entering.specs.Ground.{Ground}
 use Rattle.entering.specs.Entered.{Entering, entered, Enters}
 use Rattle.entering.specs.Settled.{Alternating, settled}
 use Rattle.entering.proofs.Certain.{inside-of, taken-any-inside, free-narrow, taken-any-between, taken-none}
 use Rattle.entering.proofs.Alone.{counted, inner, inner-entered}
+use Rattle.entering.proofs.Rests.{Rest, taken-rest, AmongRest}
 
 -- ---- lists of entries
 pub inside-append : (U xs ys : List Entry) → Inside U xs → Inside U ys → Inside U (xs ++ ys)

@@ -11,11 +11,11 @@ use Rattle.theory.specs.Layout.{nodes-words, disjs-words, alts-words, WellForme
 use Rattle.theory.specs.Layout as layout
 use Rattle.area.specs.Map.{SIZE}
 use Rattle.area.specs.Region.{words}
-use Rattle.loading.specs.Entry.{Entry}
+use Rattle.loading.specs.Entry.{Entry, entry}
 use Rattle.loading.specs.Loaded.{extent, nodes-in, nodes-all, nodes-any, alts-in, alts-any}
 use Rattle.loading.specs.Numbered.{numbered, numbered-all, numbered-any}
 use Rattle.loading.specs.At.{At, AtAll, AtAny}
-use Rattle.loading.proofs.Entries.{entry, entries, entries-all, entries-any}
+use Rattle.loading.proofs.Entries.{entries, entries-all, entries-any}
 use Rattle.opening.specs.Opening.{Stand}
 use Rattle.opening.proofs.Universe.{universe, good, comes, nodes-room}
 use Rattle.entering.specs.Taken.{Among, AmongAll, AmongAny}

@@ -7,7 +7,7 @@ use mathlib.Core.Option.{some}
 use mathlib.Core.List.{List}
 use Rattle.theory.specs.Limits.{depth-limit}
 use Rattle.theory.specs.Modes.{joined}
-use Rattle.theory.proofs.Mean.{Can}
+use Rattle.theory.specs.Canonical.{Can}
 use Rattle.theory.proofs.Reading.{well-can}
 use Rattle.engine.specs.Placed.{strip}
 use Rattle.modes_by_marks.proofs.Names.{names, Apart, Distinct}

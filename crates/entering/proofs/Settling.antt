@@ -10,7 +10,7 @@ use Rattle.descriptions.specs.Remnant.{remnant, nothing, alone, several}
 use Rattle.theory.specs.Net.{Graph, Clash, Agree}
 use Rattle.theory.specs.Descr.{agree}
 use Rattle.theory.proofs.Instance.{AllCanonical, join-none}
-use Rattle.theory.proofs.Mean.{Ctx, Fine}
+use Rattle.theory.specs.Canonical.{Ctx, Fine}
 use Rattle.theory.proofs.Model.{agree-iff}
 use Rattle.engine.specs.Placed.{Placed, place, Options}
 use Rattle.engine.specs.Marks.{Marking, kept-of}

@@ -14,7 +14,7 @@ use Rattle.theory.specs.Join.{join}
 use Rattle.theory.specs.Descr.{Desc, desc}
 use Rattle.theory.specs.Layout as layout
 use Rattle.theory.specs.Layout.{WellFormed}
-use Rattle.theory.proofs.Mean.{Ctx, Fine}
+use Rattle.theory.specs.Canonical.{Ctx, Fine}
 use Rattle.theory.proofs.Live.{Agrees}
 use Rattle.theory.proofs.Reading.{well-can}
 use Rattle.area.specs.Map.{SECOND, MARKS, SIZE}
@@ -27,7 +27,7 @@ use Rattle.engine.specs.Beside.{joined-placed}
 use Rattle.engine.proofs.Entail.{fine-cons}
 use Rattle.modes_by_marks.proofs.Proper.{Proper, proper-sure}
 use Rattle.modes_by_marks.proofs.Marks.{keep-all-marked}
-use Rattle.engine.proofs.Stack.{Same}
+use Rattle.engine.specs.Stack.{Same}
 use Rattle.engine.proofs.Joined.{joined-same}
 use Rattle.loading.specs.Entry.{Entry, graphs}
 use Rattle.loading.specs.Loaded.{nodes-in}

@@ -7,7 +7,7 @@ use mathlib.Core.Logic.{inl, inr, ⊎-elim}
 use mathlib.Core.List.{List, _++_, List·Memᴰ·append-cases}
 use lib.ListN.{length-append}
 use Rattle.theory.specs.Net.{Graph}
-use Rattle.theory.proofs.Mean.{Fine}
+use Rattle.theory.specs.Canonical.{Fine}
 use Rattle.engine.specs.Placed.{strip}
 use Rattle.engine.specs.Marks.{keep}
 use Rattle.engine.specs.Certain.{flat}

@@ -12,7 +12,7 @@ use Rattle.descriptions.specs.Remnant.{Remnant, remnant, nothing, alone, severa
 use Rattle.loading.specs.Entry.{Entry}
 use Rattle.loading.specs.Loaded.{extent}
 use Rattle.loading.specs.At.{At, AtAll, AtAny}
-use Rattle.loading.specs.Lying.{Lying, LyingAll, LyingAny, Here, Rest}
+use Rattle.loading.specs.Lying.{Lying, LyingAll, LyingAny, Here}
 use Rattle.entering.specs.Taken.{Free}
 
 -- the number y is not from n up to m
@@ -54,17 +54,11 @@ module _ {n : ℕ} {t : List ℕ} {p left : ℕ} (es : List Entry) (m : Marking)
   abbrev pub ClearHere : (l : Lying n t p left) (d : Placed) → Here l d → Type 0
   ClearHere l d s = Clear es t m p (l .from) d (l .end) (l .to) s
 
-  abbrev pub ClearRest : (l : Lying n t p left) (at from : ℕ) (ds : Places) → Rest l at from ds → Type 0
-  ClearRest l at from ds s = ClearAll es t m at from ds (l .end) (l .to) s
-
   abbrev pub ClearOf : Lying n t p left → Type 0
   ClearOf l = ClearHere l (l .d) (l .at)
 
   abbrev pub ClearAllOf : {count : ℕ} → LyingAll n t p count left → Type 0
   ClearAllOf l = ClearAll es t m p (l .from) (l .ds) (l .end) (l .to) (l .at)
-
-  abbrev pub ClearLoneOf : {count : ℕ} → LyingAny n t p count left → Type 0
-  ClearLoneOf l = ClearLone es t m p (l .from) (l .a) (l .end) (l .to) (l .at)
 
   abbrev pub ClearAnyOf : {count : ℕ} → LyingAny n t p count left → Type 0
   ClearAnyOf l = ClearAny es t m p (l .from) (l .a) (l .end) (l .to) (l .at)

@@ -13,7 +13,7 @@ use Rattle.engine.specs.Placed.{Placed, strip}
 use Rattle.engine.specs.Marks.{keep}
 use Rattle.engine.specs.Certain.{flat}
 use Rattle.engine.specs.Beside.{joined-placed}
-use Rattle.engine.proofs.Stack.{Same}
+use Rattle.engine.specs.Stack.{Same}
 use Rattle.loading.specs.Entry.{Entry, graphs}
 use Rattle.loading.specs.Loaded.{nodes-in}
 use Rattle.loading.specs.Numbered.{input-numbered}

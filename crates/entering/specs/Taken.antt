@@ -8,11 +8,10 @@ use lib.ListN.{length}
 use Rattle.engine.specs.Placed.{Placed, place, Places, stop, _also_, Options, no-more, option}
 use Rattle.engine.specs.Marks.{Marking, kept-of}
 use Rattle.descriptions.specs.Remnant.{remnant, nothing, alone, several}
-use Rattle.loading.specs.Entry.{Entry}
+use Rattle.loading.specs.Entry.{Entry, entry}
 use Rattle.loading.specs.Loaded.{extent}
 use Rattle.loading.specs.At.{At, AtAll, AtAny}
-use Rattle.loading.specs.Lying.{Lying, LyingAll, LyingAny, Here, Rest, RestAny}
-use Rattle.loading.proofs.Entries.{entry}
+use Rattle.loading.specs.Lying.{Lying, LyingAll, LyingAny, Here, RestAny}
 
 -- "One with exactly one left is folded: its graph is joined to the definite graph": a description's own graph, and those of
 -- alternatives that stand alone in it, at every depth
@@ -58,17 +57,11 @@ module _ {n : ℕ} {t : List ℕ} {p left : ℕ} where
   abbrev pub taken-here : Marking → (l : Lying n t p left) (d : Placed) → Here l d → List Entry
   taken-here m l d s = taken t m p (l .from) d (l .end) (l .to) s
 
-  abbrev pub taken-rest : Marking → (l : Lying n t p left) (at from : ℕ) (ds : Places) → Rest l at from ds → List Entry
-  taken-rest m l at from ds s = taken-all t m at from ds (l .end) (l .to) s
-
   abbrev pub taken-of : Marking → Lying n t p left → List Entry
   taken-of m l = taken-here m l (l .d) (l .at)
 
   abbrev pub AmongHere : List Entry → (l : Lying n t p left) (d : Placed) → Here l d → Type 0
   AmongHere U l d s = Among U t p (l .from) d (l .end) (l .to) s
-
-  abbrev pub AmongRest : List Entry → (l : Lying n t p left) (at from : ℕ) (ds : Places) → Rest l at from ds → Type 0
-  AmongRest U l at from ds s = AmongAll U t at from ds (l .end) (l .to) s
 
   abbrev pub AmongOf : List Entry → Lying n t p left → Type 0
   AmongOf U l = AmongHere U l (l .d) (l .at)

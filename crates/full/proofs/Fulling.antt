@@ -12,7 +12,7 @@ use lib.ListN.{length}
 use borrow.Author.Tests.{ltb-true, ltb-false}
 use Rattle.theory.specs.Limits.{depth-limit, choice-limit, choice-stop}
 use Rattle.theory.specs.Descr.{Desc}
-use Rattle.theory.proofs.Mean.{Can}
+use Rattle.theory.specs.Canonical.{Can}
 use Rattle.area.specs.Map.{SECOND}
 use Rattle.area.specs.Region.{words}
 use Rattle.area.proofs.Region.{words-same}
@@ -21,7 +21,7 @@ use Rattle.engine.specs.Marks.{Marking, keep}
 use Rattle.engine.specs.Counting.{count-at}
 use Rattle.engine.specs.Search.{Found, lit, full-left, full-readings-by}
 use Rattle.engine.specs.Search as engine
-use Rattle.engine.proofs.Sane.{Sane}
+use Rattle.engine.specs.Sane.{Sane}
 use Rattle.marks.specs.Readable.{Readable}
 use Rattle.marks.specs.Marked.{marking, LitKept}
 use Rattle.marks.proofs.Reading.{readable}

@@ -7,14 +7,14 @@ use mathlib.Core.List.{List}
 use lib.ListN.{length}
 use Rattle.theory.specs.Limits.{choice-stop, choice-limit}
 use Rattle.theory.specs.Descr.{number}
-use Rattle.theory.proofs.Mean.{Can}
+use Rattle.theory.specs.Canonical.{Can}
 use Rattle.theory.proofs.Counting.{readings-number}
 use Rattle.engine.specs.Placed.{strip}
 use Rattle.engine.specs.Marks.{Marking, keep}
 use Rattle.engine.specs.Quickly.{Leaves}
 use Rattle.engine.specs.Counting.{count-at}
 use Rattle.engine.specs.Search.{search, lit}
-use Rattle.engine.proofs.Sane.{Sane}
+use Rattle.engine.specs.Sane.{Sane}
 use Rattle.modes_by_marks.proofs.Counting.{count-left}
 use Rattle.engine.proofs.Finding.{search-count}
 use Rattle.engine.proofs.Joined.{keep-can}

@@ -9,7 +9,7 @@ use mathlib.Core.Option.{some}
 use mathlib.Core.List.{List, _∷_, _++_, List·Memᴰ·append-cases}
 use Rattle.theory.specs.Net.{Graph, Clash}
 use Rattle.theory.specs.Descr.{Desc, desc, agree}
-use Rattle.theory.proofs.Mean.{Ctx, Can}
+use Rattle.theory.specs.Canonical.{Ctx, Can}
 use Rattle.theory.proofs.Live.{Agrees, not-none}
 use Rattle.theory.proofs.Laws.{glue-joins}
 use Rattle.area.specs.Region.{words}
@@ -18,8 +18,8 @@ use Rattle.engine.specs.Marks.{Marking, keep, keep-all}
 use Rattle.engine.specs.Certain.{flat, sure, certain}
 use Rattle.engine.specs.Beside.{_next_, joined-placed}
 use Rattle.engine.proofs.Entail.{agrees-says}
-use Rattle.engine.proofs.Sane.{Sane}
-use Rattle.engine.proofs.Stack.{Same}
+use Rattle.engine.specs.Sane.{Sane}
+use Rattle.engine.specs.Stack.{Same}
 use Rattle.engine.proofs.Stable.{sure-can}
 use Rattle.engine.proofs.Passes.{Agreeing, agreeing-view}
 use Rattle.modes_by_marks.proofs.Passes.{cannot}

@@ -8,14 +8,14 @@ use mathlib.Core.List.{List}
 use lib.Dec.{ltb}
 use lib.ListN.{length, getD}
 use Rattle.theory.specs.Limits.{choice-limit, choice-stop}
-use Rattle.theory.proofs.Mean.{Can}
+use Rattle.theory.specs.Canonical.{Can}
 use Rattle.area.specs.Map.{RESULT}
 use Rattle.engine.specs.Placed.{Placed, strip}
 use Rattle.engine.specs.Marks.{Marking, keep}
 use Rattle.engine.specs.Quickly.{Leaves}
 use Rattle.engine.specs.Counting.{count-at}
 use Rattle.engine.specs.Search.{full-left, full-readings-by}
-use Rattle.engine.proofs.Sane.{Sane}
+use Rattle.engine.specs.Sane.{Sane}
 use Rattle.marks.specs.Marked.{marking, lights}
 use Rattle.entering.specs.Stage.{Pair, Stage}
 use Rattle.full.specs.declared.full.Fully.{Fully}

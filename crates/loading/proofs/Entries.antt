@@ -13,14 +13,11 @@ use Rattle.theory.specs.Descr.{Desc, desc, Disjs, end, _and_, Alts, fail, _or_,
 use Rattle.theory.specs.Layout.{nodes-words, words, disjs-words, alts-words}
 use Rattle.layout.specs.Standing.{Stands}
 use Rattle.layout.proofs.Standing.{stands-append, stands-cons, stands-length}
-use Rattle.loading.specs.Entry.{Entry}
+use Rattle.loading.specs.Entry.{Entry, entry}
 use Rattle.packing.specs.Packed.{tail-word}
 use Rattle.loading.specs.Loaded.{extent, header, located, nodes-in, nodes-all, nodes-any, alts-in, alts-any, loaded, loaded-all}
 use Rattle.loading.specs.Loaded.{loaded-any}
 use Rattle.loading.proofs.Sizes.{located-length, loaded-length, any-length}
-
-abbrev pub entry : ℕ → ℕ → Graph → Entry
-entry p n g = record { at = p; number = n; graph = g }
 
 abbrev mutual
   pub entries : ℕ → ℕ → Desc → List Entry

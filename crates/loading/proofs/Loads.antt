@@ -10,7 +10,7 @@ use Rattle.theory.specs.Limits.{input-limit}
 use Rattle.theory.specs.Descr.{Desc, desc, Disjs, end, _and_, Alts, fail, _or_, disjs, alts}
 use Rattle.theory.specs.Layout.{nodes-words, words, disjs-words, alts-words}
 use Rattle.theory.proofs.Meaning.{canonical-some}
-use Rattle.theory.proofs.Mean.{Can, CanAll, CanAny}
+use Rattle.theory.specs.Canonical.{Can, CanAll, CanAny}
 use Rattle.layout.specs.Standing.{Stands}
 use Rattle.layout.proofs.Standing.{stands-append, stands-nil, stands-cons, stands-length}
 use Rattle.modes_by_marks.proofs.Names.{Distinct, DistinctAll, DistinctAny}

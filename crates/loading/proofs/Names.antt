@@ -9,7 +9,7 @@ use mathlib.Core.List.{List, [], _∷_, List·Memᴰ, List·Memᴰ·not-nil, Lis
 use mathlib.Core.List.{List·Memᴰ·eq-of-singleton}
 use Rattle.theory.specs.Descr.{Desc, desc, Disjs, end, _and_, Alts, fail, _or_, disjs, alts}
 use Rattle.theory.proofs.Meaning.{canonical-some}
-use Rattle.theory.proofs.Mean.{Can, CanAll, CanAny}
+use Rattle.theory.specs.Canonical.{Can, CanAll, CanAny}
 use Rattle.engine.specs.Placed.{Options, no-more, option, strip, strip-all, strip-any}
 use Rattle.modes_by_marks.proofs.Names.{names, names-all, names-any, Distinct, DistinctAll, DistinctAny}
 use Rattle.loading.specs.Loaded.{nodes-in, nodes-all, nodes-any, alts-in, alts-all, alts-any}

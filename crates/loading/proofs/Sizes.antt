@@ -9,9 +9,10 @@ use Rattle.theory.specs.Limits.{input-limit}
 use Rattle.theory.specs.Net.{Node, atom, arcs, Graph, arcsOf, met, Numbered}
 use Rattle.theory.specs.Descr.{Desc, desc, Disjs, end, _and_, Alts, fail, _or_, disjs, alts}
 use Rattle.theory.specs.Layout.{arc-words, node-words, nodes-words, words, disjs-words, alts-words}
-use Rattle.theory.proofs.Mean.{Can, CanAll, CanAny}
-use Rattle.theory.proofs.Weight.{weight, weights, weights-append}
+use Rattle.theory.specs.Canonical.{Can, CanAll, CanAny}
+use Rattle.theory.proofs.Weight.{weights-append}
 use Rattle.theory.proofs.Instance.{met-ge, met-few, numbered-ge}
+use Rattle.theory.specs.Weight.{weight, weights}
 use Rattle.loading.specs.Loaded.{extent, moved-arcs, moved-node, located, nodes-in, nodes-all, nodes-any, loaded, loaded-all}
 use Rattle.loading.specs.Loaded.{alts-in, alts-any, loaded-any}
 use Rattle.loading.specs.Loading.{Low, AllLow}

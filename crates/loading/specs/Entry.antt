@@ -10,6 +10,9 @@ pub record Entry : Type 0 where
   pub number : ℕ
   pub graph : Graph
 
+abbrev pub entry : ℕ → ℕ → Graph → Entry
+entry p n g = record { at = p; number = n; graph = g }
+
 abbrev pub graphs : List Entry → List Graph
 graphs [] = []
 graphs (e ∷ es) = e .graph ∷ graphs es

@@ -49,13 +49,10 @@ pub record LyingAny (n : ℕ) (t : List ℕ) (p count left : ℕ) : Type 0 where
 abbrev pub mark-of : {n : ℕ} {t : List ℕ} {g left : ℕ} → Lying n t g left → ℕ
 mark-of {n} {t} {g} {left} l = marked t g (l .d)
 
--- another description in the place of l, and disjunctions from a later place and number on up to its end
-module _ {n : ℕ} {t : List ℕ} {p left : ℕ} (l : Lying n t p left) where
-  abbrev pub Here : Placed → Type 0
-  Here d = At t p (l .from) d (l .end) (l .to)
+-- another description in the place of l
+abbrev pub Here : {n : ℕ} {t : List ℕ} {p left : ℕ} → Lying n t p left → Placed → Type 0
+Here {n} {t} {p} {left} l d = At t p (l .from) d (l .end) (l .to)
 
-  abbrev pub Rest : (at from : ℕ) → Places → Type 0
-  Rest at from ds = AtAll t at from ds (l .end) (l .to)
 
 -- alternatives from a later place and number on up to the end of l
 abbrev pub RestAny : {n : ℕ} {t : List ℕ} {p count left : ℕ} → LyingAny n t p count left → (at from : ℕ) → Options → Type 0

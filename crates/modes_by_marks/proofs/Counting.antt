@@ -12,7 +12,8 @@ use Rattle.descriptions.proofs.Counting.{cap-add, cap-mul}
 use Rattle.modes_by_marks.specs.Placed.{Options, Placed, Places, _also_, no-more, option, place, stop, strip, strip-all, strip-any}
 use Rattle.modes_by_marks.specs.Marks.{Marking, keep, keep-all, keep-any}
 use Rattle.modes_by_marks.specs.Counting.{count-all-at, count-any-at, count-at}
-use Rattle.modes_by_marks.proofs.Sane.{Sane, SaneAll, SaneAny, lone-in-place, rest, shape}
+use Rattle.modes_by_marks.proofs.Sane.{lone-in-place, rest, shape}
+use Rattle.modes_by_marks.specs.Sane.{Sane, SaneAll, SaneAny}
 use Rattle.descriptions.proofs.Laws.{Laws}
 use Rattle.descriptions.specs.Joining.{Joining}
 

@@ -9,12 +9,13 @@ use mathlib.Core.List.{List·Memᴰ·append-cases, Memᴰ·append-left, Memᴰ·
 use Prim.Native.Nat.{ℕ}
 use native.Mathlib.Omega.{arith}
 use lib.ListN.{length-append}
-use Rattle.descriptions.proofs.Laws.{All, Laws, Within}
+use Rattle.descriptions.proofs.Laws.{Laws, Within}
 use Rattle.descriptions.proofs.Mean.{Alike, Fine, alike-flat, canon-append, clash-stays, fine-append, in-l, in-r, join-canonical}
 use Rattle.descriptions.proofs.Mean.{within-both}
 use Rattle.descriptions.proofs.Live.{Agrees}
 use Rattle.descriptions.proofs.Modes.{join-order}
 use Rattle.descriptions.specs.Joining.{Joining}
+use Rattle.descriptions.specs.Canonical.{All}
 
 module _ {Graph : Type 0} where
   pub w-self : (a : List Graph) → Within a a
@@ -42,10 +43,10 @@ module _ {Graph : Type 0} {J : Joining Graph} (𝓛 : Laws J) where
 
   -- joining g to A changes nothing
   abbrev pub Says : List Graph → Graph → Type 0
-  Says A g = (hs : List Graph) → All Canonical hs → join (A ++ hs) ≡ join (A ++ g ∷ hs)
+  Says = Rattle.modes_by_marks.specs.Stack.Says J Canonical
 
   abbrev pub SaysAll : List Graph → List Graph → Type 0
-  SaysAll A B = (g : Graph) → List·Memᴰ g B → Says A g
+  SaysAll = Rattle.modes_by_marks.specs.Stack.SaysAll J Canonical
 
   pub fine-cons : (g : Graph) (a : List Graph) → Canonical g → All Canonical a → Fine 𝓛 (g ∷ a)
   fine-cons g a p q = (omega arith, (p, q))

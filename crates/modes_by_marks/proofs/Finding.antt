@@ -11,7 +11,7 @@ use native.Mathlib.Omega.{arith}
 use lib.ListN.{length}
 use Rattle.descriptions.specs.Descr.{Alts, Desc, Disjs, _and_, _or_, agree, agreeing, answers, choices, choices-all, choices-any, desc}
 use Rattle.descriptions.specs.Descr.{each, end, fail, pairs, readings}
-use Rattle.descriptions.proofs.Laws.{All, Laws, Within}
+use Rattle.descriptions.proofs.Laws.{Laws, Within}
 use Rattle.descriptions.proofs.Mean.{Can, CanAll, CanAny, Fine, choices-all-fine, choices-any-fine, clash-stays, fine-append, in-l, in-r}
 use Rattle.descriptions.proofs.Mean.{within-both}
 use Rattle.descriptions.proofs.Full.{each-from, pairs-from}
@@ -25,6 +25,7 @@ use Rattle.modes_by_marks.proofs.Entail.{w-left, w-right, w-self, w-tai
 use Rattle.modes_by_marks.proofs.Stable.{flat-can, says-left, sure-can}
 use Rattle.modes_by_marks.proofs.Passes.{Agreeing, agreeing-view, can, cannot}
 use Rattle.descriptions.specs.Joining.{Joining}
+use Rattle.descriptions.specs.Canonical.{All}
 
 -- what is found from the choices
 abbrev pub put : List ℕ → Found → Found

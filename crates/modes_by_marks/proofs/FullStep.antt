@@ -21,7 +21,7 @@ use Rattle.modes_by_marks.specs.Shown.{shown}
 use Rattle.modes_by_marks.proofs.Names.{Distinct, names}
 use Rattle.modes_by_marks.proofs.Entail.{fine-cons}
 use Rattle.modes_by_marks.proofs.Stable.{Best, Hopeless, part-can}
-use Rattle.modes_by_marks.proofs.Sane.{Sane, stable-sane}
+use Rattle.modes_by_marks.proofs.Sane.{stable-sane}
 use Rattle.modes_by_marks.proofs.Greatest.{TidiedBest}
 use Rattle.modes_by_marks.proofs.Tidy.{tidy-best}
 use Rattle.modes_by_marks.proofs.Proper.{Proper, proper-fold, proper-sane, tidies-passed}
@@ -30,6 +30,7 @@ use Rattle.modes_by_marks.proofs.Finding.{picks, search-count, search-o
 use Rattle.modes_by_marks.proofs.Lit.{Some, lit-hit, one-does, picks-names, search-prune, some-view}
 use Rattle.modes_by_marks.proofs.Pruned.{prune-best, prune-part, pruned-stable}
 use Rattle.modes_by_marks.proofs.Shown.{fold-some, shown-ok, shown-some}
+use Rattle.modes_by_marks.specs.Sane.{Sane}
 use Rattle.descriptions.proofs.Laws.{Laws}
 use Rattle.descriptions.specs.Joining.{Joining}
 

@@ -8,7 +8,7 @@ use Prim.Native.Nat.{ℕ, _≤_}
 use native.Mathlib.Omega.{arith}
 use Rattle.descriptions.specs.Descr.{Alts, Desc, Disjs, _and_, _or_, _then_, desc, end, fail}
 use Rattle.descriptions.specs.Modes.{Round, after, fold, fold-all, fold-any, in-place, kept, round, size, size-all, size-any}
-use Rattle.descriptions.proofs.Laws.{All, Laws, Within}
+use Rattle.descriptions.proofs.Laws.{Laws, Within}
 use Rattle.descriptions.proofs.Mean.{Can, CanAll, CanAny, Fine, canon-append, in-l, in-r}
 use Rattle.descriptions.proofs.Fuel.{size-then}
 use Rattle.descriptions.proofs.Live.{Agrees}
@@ -17,9 +17,11 @@ use Rattle.modes_by_marks.proofs.Entail.{Says, SaysAll, agrees-says, fi
 use Rattle.modes_by_marks.proofs.Entail.{says-none, says-second, says-there, w-tail, w-trans}
 use Rattle.modes_by_marks.proofs.Stable.{Best, Hopeless, PartAll, PartAny, StableAll, StableEach, StableSome, part-all-can}
 use Rattle.modes_by_marks.proofs.Stable.{part-any-can, stable-each, stable-each-less, sure-can}
-use Rattle.modes_by_marks.proofs.Sane.{Sane, SaneAll, SaneAny, agrees-glues, flat-some, glued-canonical, graph-says, lone-after}
+use Rattle.modes_by_marks.proofs.Sane.{agrees-glues, flat-some, glued-canonical, graph-says, lone-after}
 use Rattle.modes_by_marks.proofs.Sane.{lone-in-place, rest, says-graph, shape, stable-each-sane, stable-sane}
+use Rattle.modes_by_marks.specs.Sane.{Sane, SaneAll, SaneAny}
 use Rattle.descriptions.specs.Joining.{Joining}
+use Rattle.descriptions.specs.Canonical.{All}
 
 module _ {Graph : Type 0} where
   -- rounds one after the other

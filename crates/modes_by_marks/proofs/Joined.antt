@@ -6,7 +6,7 @@ use mathlib.Core.Option.{Option, none, some}
 use mathlib.Core.List.{List, [], _∷_, _++_, append-assoc, List·Memᴰ, List·Memᴰ·head, List·Memᴰ·tail, List·Memᴰ·not-nil, Memᴰ·append-right}
 use Prim.Native.Nat.{ℕ}
 use native.Mathlib.Omega.{arith}
-use Rattle.descriptions.proofs.Laws.{All, Laws}
+use Rattle.descriptions.proofs.Laws.{Laws}
 use Rattle.descriptions.proofs.Mean.{Can, CanAll, CanAny, Fine, canon-append, fine-append, in-l, in-r, join-canonical}
 use Rattle.modes_by_marks.specs.Placed.{Options, Placed, Places, _also_, inner, no-more, option, own, place, stop, strip, strip-all}
 use Rattle.modes_by_marks.specs.Placed.{strip-any}
@@ -19,6 +19,7 @@ use Rattle.modes_by_marks.proofs.Entail.{SaysAll, fine-cons, join-says,
 use Rattle.modes_by_marks.proofs.Entail.{says-there, says-trans, says-within, w-cons, w-right, w-self, w-tail}
 use Rattle.modes_by_marks.proofs.Stack.{Same}
 use Rattle.descriptions.specs.Joining.{Joining}
+use Rattle.descriptions.specs.Canonical.{All}
 
 module _ {Graph : Type 0} where
   -- what is kept of both

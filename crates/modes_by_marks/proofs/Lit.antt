@@ -11,7 +11,7 @@ use lib.Dec.{eqb}
 use Rattle.descriptions.specs.Descr.{Alts, Disjs, _and_, _or_, agree, choices, choices-all, choices-any, desc, pairs}
 use Rattle.descriptions.specs.Modes.{prune, prune-all, prune-any, some-agree}
 use Rattle.descriptions.proofs.Tests.{Test, differ, equal, test}
-use Rattle.descriptions.proofs.Laws.{All, Laws}
+use Rattle.descriptions.proofs.Laws.{Laws}
 use Rattle.descriptions.proofs.Mean.{AllFine, Can, CanAll, CanAny, Fine, canon-append, choices-all-fine, choices-any-fine, fine-append}
 use Rattle.descriptions.proofs.Full.{AllFull, SomeAgree, full-graph, full-pairs, none-agrees, pairs-from, pairs-in, some-agree-view, whole}
 use Rattle.descriptions.proofs.Full.{whole-fine}
@@ -26,6 +26,7 @@ use Rattle.modes_by_marks.proofs.Finding.{Pick, choice-all-of, choice-a
 use Rattle.modes_by_marks.proofs.Finding.{graphs-any-are, graphs-are, pick-after, pick-as, pick-each, pick-pairs, picks, picks-all}
 use Rattle.modes_by_marks.proofs.Finding.{picks-any, search-ok}
 use Rattle.descriptions.specs.Joining.{Joining}
+use Rattle.descriptions.specs.Canonical.{All}
 
 -- marks of what was found
 or-left : (a b : Bool) → a ≡ true → a || b ≡ true

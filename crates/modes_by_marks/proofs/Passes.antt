@@ -11,7 +11,7 @@ use lib.Dec.{eqb}
 use Rattle.descriptions.specs.Descr.{Alts, Desc, Disjs, _and_, _or_, agree, answers, desc, end, fail}
 use Rattle.descriptions.specs.Modes.{size, size-all, size-any}
 use Rattle.descriptions.proofs.Tests.{Test, differ, equal, test}
-use Rattle.descriptions.proofs.Laws.{All, Laws, Within}
+use Rattle.descriptions.proofs.Laws.{Laws, Within}
 use Rattle.descriptions.proofs.Mean.{Can, CanAll, CanAny, Fine, fine-append, in-l, in-r, within-both}
 use Rattle.descriptions.proofs.Quick.{nil-holds}
 use Rattle.descriptions.proofs.Live.{Agrees, not-none}
@@ -27,6 +27,7 @@ use Rattle.modes_by_marks.proofs.Greatest.{drop-part, part-fail}
 use Rattle.modes_by_marks.proofs.Tidy.{with-part}
 use Rattle.modes_by_marks.proofs.Dropping.{Left, inside, narrow, narrow-any, passes, settle, sift, try}
 use Rattle.descriptions.specs.Joining.{Joining}
+use Rattle.descriptions.specs.Canonical.{All}
 
 module _ {Graph : Type 0} (J : Joining Graph) where
   open Joining J using (join, nil)

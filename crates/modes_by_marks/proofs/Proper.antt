@@ -7,13 +7,13 @@ use mathlib.Core.List.{_++_, [], _∷_, List}
 use Prim.Native.Nat.{ℕ, suc, _≤_}
 use native.Mathlib.Omega.{arith}
 use Rattle.descriptions.specs.Descr.{Alts, Desc, Disjs, _and_, _or_, _then_, alts, desc, end, fail}
-use Rattle.descriptions.specs.Modes.{Round, fold, fold-all, fold-any, folded-in, glue, in-place, joined, quick, size, tidy}
-use Rattle.descriptions.proofs.Mean.{Can, CanAll, CanAny, Glues, can-then, join-canonical}
+use Rattle.descriptions.specs.Modes.{Round, fold, fold-all, fold-any, folded-in, glue, in-place, joined, quick, size, tidy, Glues}
+use Rattle.descriptions.proofs.Mean.{Can, CanAll, CanAny, can-then, join-canonical}
 use Rattle.modes_by_marks.specs.Certain.{sure, sure-any}
 use Rattle.modes_by_marks.proofs.Shown.{fold-some}
 use Rattle.modes_by_marks.proofs.Entail.{fine-cons}
 use Rattle.modes_by_marks.proofs.Stable.{best-one}
-use Rattle.modes_by_marks.proofs.Sane.{Sane, SaneAll, SaneAny}
+use Rattle.modes_by_marks.specs.Sane.{Sane, SaneAll, SaneAny}
 use Rattle.modes_by_marks.proofs.Greatest.{TidiedBest}
 use Rattle.modes_by_marks.proofs.Tidy.{tidy-best}
 use Rattle.modes_by_marks.proofs.Passes.{Passed}

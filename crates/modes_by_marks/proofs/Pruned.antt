@@ -7,7 +7,7 @@ use mathlib.Core.List.{List, [], _∷_, _++_, append-assoc, List·Memᴰ, List·
 use mathlib.Core.List.{List·Memᴰ·append-cases, Memᴰ·append-left, Memᴰ·append-right}
 use Rattle.descriptions.specs.Descr.{Alts, Desc, Disjs, _and_, _or_, choices, choices-all, choices-any, desc, end, fail, pairs}
 use Rattle.descriptions.specs.Modes.{prune, prune-all, prune-any, some-agree}
-use Rattle.descriptions.proofs.Laws.{All, Laws, Within}
+use Rattle.descriptions.proofs.Laws.{Laws, Within}
 use Rattle.descriptions.proofs.Mean.{AllFine, Can, CanAll, CanAny, Fine, canon-append, choices-all-fine, choices-any-fine, fine-append}
 use Rattle.descriptions.proofs.Mean.{in-l, in-r, within-both}
 use Rattle.descriptions.proofs.Full.{AllFull, each-from, each-in, full-graph, full-pairs, pairs-from, pairs-in, prune-can, whole}
@@ -22,6 +22,7 @@ use Rattle.modes_by_marks.proofs.Passes.{stable-nil}
 use Rattle.modes_by_marks.proofs.Finding.{sure-in}
 use Rattle.modes_by_marks.proofs.Lit.{Some, agrees-back, agrees-swap, none-does, one-does, some-view}
 use Rattle.descriptions.specs.Joining.{Joining}
+use Rattle.descriptions.specs.Canonical.{All}
 
 module _ {Graph : Type 0} where
   abbrev pub Among : List (List Graph) → List (List Graph) → Type 0

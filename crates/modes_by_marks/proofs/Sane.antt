@@ -6,9 +6,9 @@ use mathlib.Core.List.{[], _∷_, _++_, List·Memᴰ·head, List·Memᴰ·tail, 
 use Prim.Native.Nat.{ℕ}
 use native.Mathlib.Omega.{arith}
 use Rattle.descriptions.specs.Descr.{Alts, Desc, Disjs, _and_, _or_, _then_, desc, end, fail}
-use Rattle.descriptions.specs.Modes.{Round, after, fold, fold-all, fold-any, folded-in, glue, in-place}
-use Rattle.descriptions.proofs.Laws.{All, Laws, Within}
-use Rattle.descriptions.proofs.Mean.{Alike, Can, CanAll, CanAny, Fine, Glues, fine-append, glue-alike, glue-canonical, glue-same, glues-of}
+use Rattle.descriptions.specs.Modes.{Round, after, fold, fold-all, fold-any, folded-in, glue, in-place, Glues}
+use Rattle.descriptions.proofs.Laws.{Laws, Within}
+use Rattle.descriptions.proofs.Mean.{Alike, Can, CanAll, CanAny, Fine, fine-append, glue-alike, glue-canonical, glue-same, glues-of}
 use Rattle.descriptions.proofs.Mean.{in-l, in-r}
 use Rattle.descriptions.proofs.Full.{fold-all-ok}
 use Rattle.descriptions.proofs.Live.{Agrees}
@@ -17,7 +17,9 @@ use Rattle.modes_by_marks.proofs.Entail.{Says, SaysAll, agrees-says, fi
 use Rattle.modes_by_marks.proofs.Entail.{says-first, says-here, says-in, says-none, says-second, says-stands, says-there, says-trans}
 use Rattle.modes_by_marks.proofs.Entail.{says-within, stands-says, w-right, w-self, w-tail, w-trans}
 use Rattle.modes_by_marks.proofs.Stable.{Stable, StableAll, StableEach, stable-each, sure-can}
+use Rattle.modes_by_marks.specs.Sane.{Sane, SaneAll, SaneAny}
 use Rattle.descriptions.specs.Joining.{Joining}
+use Rattle.descriptions.specs.Canonical.{All}
 
 module _ {Graph : Type 0} where
   -- something is folded in exactly where something is certain
@@ -25,19 +27,6 @@ module _ {Graph : Type 0} where
   flat-some (desc g ds) l e = let z : _≡_ {A = ℕ} 0 1 = cc in omega arith
 
 module _ {Graph : Type 0} (J : Joining Graph) where
-  -- every description in d, at any depth, can be folded
-  abbrev mutual
-    pub Sane : Desc Graph → Type 0
-    Sane (desc g ds) = Glues J g (sure ds) × SaneAll ds
-
-    pub SaneAll : Disjs Graph → Type 0
-    SaneAll end = Unit {0}
-    SaneAll (a and ds) = SaneAny a × SaneAll ds
-
-    pub SaneAny : Alts Graph → Type 0
-    SaneAny fail = Unit {0}
-    SaneAny (d or a) = Sane d × SaneAny a
-
   pub agrees-glues : (g : Graph) (hs : List Graph) → Agrees J (g ∷ hs) → Glues J g hs
   agrees-glues g hs a = glues-of J g hs (a .0) (a .1)
 

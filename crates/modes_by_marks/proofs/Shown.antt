@@ -6,7 +6,8 @@ use Rattle.descriptions.specs.Descr.{Alts, Desc, Disjs, _and_, _or_, _then_, de
 use Rattle.descriptions.specs.Modes.{Round, fold, fold-all, fold-any, in-place}
 use Rattle.descriptions.proofs.Mean.{Can, CanAll, CanAny}
 use Rattle.modes_by_marks.specs.Shown.{or-else, shown, shown-all, shown-any, shown-in, shown-then}
-use Rattle.modes_by_marks.proofs.Sane.{Sane, SaneAll, SaneAny, lone-in-place, rest, shape}
+use Rattle.modes_by_marks.proofs.Sane.{lone-in-place, rest, shape}
+use Rattle.modes_by_marks.specs.Sane.{Sane, SaneAll, SaneAny}
 use Rattle.descriptions.proofs.Laws.{Laws}
 use Rattle.descriptions.specs.Joining.{Joining}
 

@@ -7,13 +7,14 @@ use Prim.Native.Nat.{_≤_, _<_}
 use native.Mathlib.Omega.{arith}
 use Rattle.descriptions.specs.Descr.{Alts, Desc, Disjs, _and_, _or_, desc, end, fail}
 use Rattle.descriptions.specs.Modes.{size, size-all, size-any}
-use Rattle.descriptions.proofs.Laws.{All, Laws, Within}
+use Rattle.descriptions.proofs.Laws.{Laws, Within}
 use Rattle.descriptions.proofs.Mean.{Can, CanAll, CanAny, Fine, canon-append, fine-append, in-l, in-r, within-both}
 use Rattle.descriptions.proofs.Live.{Agrees}
 use Rattle.modes_by_marks.specs.Certain.{flat, sure, sure-any}
 use Rattle.modes_by_marks.proofs.Entail.{SaysAll, agrees-says, canon-in, says-append, says-more, says-within, w-cons, w-left}
 use Rattle.modes_by_marks.proofs.Entail.{w-right, w-self, w-tail}
 use Rattle.descriptions.specs.Joining.{Joining}
+use Rattle.descriptions.specs.Canonical.{All}
 
 module _ {Graph : Type 0} where
   -- Part d e: e is d with alternatives dropped

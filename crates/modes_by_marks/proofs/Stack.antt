@@ -6,14 +6,15 @@ use mathlib.Core.Bool.{Bool, true, false}
 use mathlib.Core.Option.{Option, none, some}
 use mathlib.Core.List.{_∷_, _++_, List}
 use Rattle.descriptions.specs.Descr.{Alts, Desc, Disjs, _and_, _or_, agree, answers, desc, end, fail}
-use Rattle.descriptions.proofs.Laws.{All, Laws}
-use Rattle.descriptions.proofs.Mean.{Can, CanAll, CanAny, Fine, fine-append}
+use Rattle.descriptions.proofs.Laws.{Laws}
+use Rattle.descriptions.proofs.Mean.{Can, CanAll, CanAny, fine-append}
 use Rattle.modes_by_marks.specs.Certain.{flat, sure}
-use Rattle.modes_by_marks.proofs.Entail.{SaysAll, join-both}
+use Rattle.modes_by_marks.proofs.Entail.{join-both}
 use Rattle.modes_by_marks.proofs.Stable.{flat-can, part-any-can, says-left, sure-can}
 use Rattle.modes_by_marks.proofs.Dropping.{Left, inside, narrow, narrow-any, settle, sift, try}
 use Rattle.modes_by_marks.proofs.Passes.{sift-ok}
 use Rattle.descriptions.specs.Joining.{Joining}
+use Rattle.descriptions.specs.Canonical.{All}
 
 module _ {Graph : Type 0} where
   sift-go : (o q : Option (Desc Graph)) → o ≡ q → (a b : Alts Graph) → a ≡ b →
@@ -25,11 +26,8 @@ module _ {Graph : Type 0} {J : Joining Graph} (𝓛 : Laws J) where
   open Laws 𝓛 using (Canonical)
 
   -- two stacks that join alike, whatever is pushed on them
-  pub record Same (S T : List Graph) : Type 0 where
-    pub fine₁ : Fine 𝓛 S
-    pub fine₂ : Fine 𝓛 T
-    pub to : SaysAll 𝓛 S T
-    pub from : SaysAll 𝓛 T S
+  abbrev pub Same : (S T : List Graph) → Type 0
+  Same = Rattle.modes_by_marks.specs.Stack.Same J Canonical
 
   pub same-on : (S T X : List Graph) → Same S T → All Canonical X → Same (S ++ X) (T ++ X)
   same-on S T X s c = record {

@@ -5,7 +5,7 @@ use mathlib.Core.Bool.{Bool, true, false}
 use mathlib.Core.Option.{Option, none, some}
 use mathlib.Core.List.{[], _∷_, _++_, List·Memᴰ·head, List·Memᴰ·not-nil, List}
 use Rattle.descriptions.specs.Descr.{Alts, Desc, Disjs, _and_, _or_, agree, desc, end, fail}
-use Rattle.descriptions.proofs.Laws.{All, Laws, Within}
+use Rattle.descriptions.proofs.Laws.{Laws, Within}
 use Rattle.descriptions.proofs.Mean.{Can, CanAll, CanAny, Fine, canon-append, fine-append, in-l, in-r, within-both}
 use Rattle.descriptions.proofs.Live.{Agrees, not-none}
 use Rattle.modes_by_marks.specs.Certain.{flat, sure, sure-any}
@@ -16,6 +16,7 @@ use Rattle.modes_by_marks.proofs.Dropping.{Left, inside, narrow, narrow
 use Rattle.modes_by_marks.proofs.Passes.{Agreeing, Narrows, agreeing-view, can, cannot, narrow-ok, sift-ok}
 use Rattle.modes_by_marks.proofs.Stack.{LeftSame, Same, agree-same, narrow-same}
 use Rattle.descriptions.specs.Joining.{Joining}
+use Rattle.descriptions.specs.Canonical.{All}
 
 module _ {Graph : Type 0} {J : Joining Graph} (𝓛 : Laws J) where
   open Laws 𝓛 using (Canonical)

@@ -8,7 +8,7 @@ use native.Mathlib.Omega.{arith}
 use lib.ListN.{length}
 use Rattle.descriptions.specs.Descr.{Desc, Disjs, desc}
 use Rattle.descriptions.specs.Modes.{Round, finish, fold, fold-all, glue, round, size, size-all, tidy}
-use Rattle.descriptions.proofs.Laws.{All, Laws, Within}
+use Rattle.descriptions.proofs.Laws.{Laws, Within}
 use Rattle.descriptions.proofs.Mean.{Can, CanAll, Fine, alike-flat, join-canonical}
 use Rattle.descriptions.proofs.Fuel.{Less, round-less, tidy-small}
 use Rattle.descriptions.proofs.Live.{Agrees, not-none}
@@ -16,9 +16,11 @@ use Rattle.modes_by_marks.specs.Certain.{flat, sure}
 use Rattle.modes_by_marks.proofs.Entail.{Says, SaysAll, agrees-says, fine-cons, join-both, join-says, says-cons, says-cut, says-here}
 use Rattle.modes_by_marks.proofs.Entail.{says-in, says-join, says-none, says-there, says-within, w-cons, w-self, w-tail, w-trans}
 use Rattle.modes_by_marks.proofs.Stable.{Hopeless, Part, PartAll, Stable, part-all-can, part-trans, some-size, sure-can, sure-part}
-use Rattle.modes_by_marks.proofs.Sane.{Sane, agrees-glues, glued-canonical, graph-says, says-graph, shape}
+use Rattle.modes_by_marks.proofs.Sane.{agrees-glues, glued-canonical, graph-says, says-graph, shape}
 use Rattle.modes_by_marks.proofs.Greatest.{RoundBest, RoundedBest, TidiedBest, cons-nil, rounds-best}
+use Rattle.modes_by_marks.specs.Sane.{Sane}
 use Rattle.descriptions.specs.Joining.{Joining}
+use Rattle.descriptions.specs.Canonical.{All}
 
 module _ {Graph : Type 0} where
   some-same : (a b : Graph) → some a ≡ some b → a ≡ b

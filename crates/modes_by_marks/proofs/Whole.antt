@@ -23,7 +23,7 @@ use Rattle.modes_by_marks.specs.Shown.{shown}
 use Rattle.modes_by_marks.proofs.Names.{Apart, Distinct, names}
 use Rattle.modes_by_marks.proofs.Entail.{fine-cons}
 use Rattle.modes_by_marks.proofs.Stable.{Best, part-can}
-use Rattle.modes_by_marks.proofs.Sane.{Sane, stable-sane}
+use Rattle.modes_by_marks.proofs.Sane.{stable-sane}
 use Rattle.modes_by_marks.proofs.Passes.{Passed}
 use Rattle.modes_by_marks.proofs.Proper.{Comes, Proper, joined-comes, quick-best}
 use Rattle.modes_by_marks.proofs.QuickStep.{quick-passed}
@@ -31,6 +31,7 @@ use Rattle.modes_by_marks.proofs.Shown.{fold-some, shown-ok, shown-some
 use Rattle.modes_by_marks.proofs.FullStep.{full-count, full-joined, full-of, full-result, full-sane, full-writes, hopeless-full}
 use Rattle.modes_by_marks.proofs.Counting.{count-left, number-fold}
 use Rattle.modes_by_marks.proofs.Beside.{SomeDistinct, joined-distinct, joined-strip, strip-some}
+use Rattle.modes_by_marks.specs.Sane.{Sane}
 use Rattle.descriptions.proofs.Laws.{Laws}
 use Rattle.descriptions.specs.Joining.{Joining}
 

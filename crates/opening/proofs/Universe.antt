@@ -11,14 +11,14 @@ use Rattle.theory.specs.Limits.{input-limit, depth-limit}
 use Rattle.theory.specs.Net.{Canonical}
 use Rattle.theory.specs.Descr.{Desc, desc, Disjs, end, _and_, Alts, fail, _or_}
 use Rattle.theory.specs.Layout.{words, alts-words, GraphFits, WellFormed, WellAll, WellAny}
-use Rattle.theory.proofs.Weight.{weight}
+use Rattle.theory.specs.Weight.{weight}
 use Rattle.theory.proofs.Reading.{well-can}
 use Rattle.layout.specs.Standing.{Stands}
 use Rattle.layout.proofs.Standing.{stands-cons, stands-bounds}
-use Rattle.loading.specs.Entry.{Entry}
+use Rattle.loading.specs.Entry.{Entry, entry}
 use Rattle.loading.specs.Loaded.{extent, header, located, nodes-in, nodes-any}
 use Rattle.loading.proofs.Sizes.{nodes-few, graph-extent, located-length}
-use Rattle.loading.proofs.Entries.{entry, entries, entries-all, entries-any, Inside, inside-wide, entries-inside, Ordered, ordered-append}
+use Rattle.loading.proofs.Entries.{entries, entries-all, entries-any, Inside, inside-wide, entries-inside, Ordered, ordered-append}
 use Rattle.loading.proofs.Entries.{entries-ordered, entries-lie}
 use Rattle.area.specs.Map.{WORDS, SIZE, SECOND}
 use Rattle.area.specs.Region.{region}

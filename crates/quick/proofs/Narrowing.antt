@@ -19,7 +19,7 @@ use Rattle.loading.specs.Entry.{Entry, graphs}
 use Rattle.loading.specs.Loaded.{extent}
 use Rattle.loading.specs.Numbered.{places}
 use Rattle.loading.specs.At.{AtAll}
-use Rattle.loading.specs.Lying.{Here, Rest}
+use Rattle.loading.specs.Lying.{Here}
 use Rattle.loading.proofs.Walking.{all-bounds, any-bounds}
 use Rattle.loading.proofs.Lying.{bounds-of, any-distinct-of}
 use Rattle.marks.specs.Positions.{tail-at, disjunctions-at, alternatives-at}
@@ -36,8 +36,8 @@ use Rattle.sieving.specs.Sieved.{Sieved}
 use Rattle.sieving.proofs.Keeping.{sieved-since}
 use Rattle.quick.specs.declared.step.Step.{Step}
 use Rattle.quick.specs.declared.step.Step.the-variants.{Stands, Fails}
-use Rattle.entering.specs.Taken.{AmongHere, AmongRest}
-use Rattle.entering.specs.Clear.{Outside, ClearHere, ClearRest, ClearOf}
+use Rattle.entering.specs.Taken.{AmongHere}
+use Rattle.entering.specs.Clear.{Outside, ClearHere, ClearOf}
 use Rattle.quick.specs.Stepped.{total, Fewer, Stood, Narrowing, NarrowStands, NarrowFails, Narrows, Choosing, ChooseStands}
 use Rattle.quick.specs.Stepped.{Chooses}
 use Rattle.entering.specs.Moved.{Moved}
@@ -45,6 +45,7 @@ use Rattle.entering.proofs.Mirror.{any-only}
 use Rattle.entering.proofs.Clearing.{all-alike, any-alike}
 use Rattle.quick.proofs.Choosing.{chosen}
 use Rattle.entering.proofs.Moves.{moved-trans, moved-words}
+use Rattle.entering.proofs.Rests.{Rest, AmongRest, ClearRest}
 
 narrow-more : (S : List Graph) (m : Marking) (a : Options) (ds : Places) (s : quickly.Step) → any-at S m a ≡ s →
     narrow-at S m (a also ds) ≡ elim s [ fails n ↦ fails n | stands T n ↦ narrow-at T n ds ]

@@ -9,14 +9,14 @@ use mathlib.Core.List.{List, _∷_}
 use lib.Dec.{ltb}
 use borrow.Author.Tests.{lt-ltb}
 use Rattle.theory.specs.Net.{Graph}
-use Rattle.theory.proofs.Mean.{Can}
+use Rattle.theory.specs.Canonical.{Can}
 use Rattle.engine.specs.Placed.{Placed, place, Places, strip}
 use Rattle.engine.specs.Marks.{Marking, all-kept, keep}
 use Rattle.engine.specs.Certain.{flat, certain}
 use Rattle.engine.specs.Quickly.{quick-at, Leaves}
 use Rattle.modes_by_marks.proofs.Names.{Distinct}
 use Rattle.modes_by_marks.proofs.Marks.{false-true}
-use Rattle.engine.proofs.Stack.{Same}
+use Rattle.engine.specs.Stack.{Same}
 use Rattle.engine.proofs.Loop.{Loop, loop-start, loop-pass, loop-still, loop-fails}
 use Rattle.engine.proofs.Joined.{joined-is}
 use Rattle.loading.specs.Entry.{Entry, graphs}

@@ -11,7 +11,8 @@ use Rattle.theory.specs.Join.{join}
 use Rattle.theory.specs.Descr.{Desc, desc, disjs}
 use Rattle.theory.specs.Layout.{words, nodes-words, disjs-words, WellFormed}
 use Rattle.theory.proofs.Instance.{AllCanonical, join-some, join-none}
-use Rattle.theory.proofs.Weight.{weight, joined-weight}
+use Rattle.theory.proofs.Weight.{joined-weight}
+use Rattle.theory.specs.Weight.{weight}
 use Rattle.loading.specs.Entry.{Entry, graphs}
 use Rattle.loading.specs.Loaded.{nodes-in}
 use Rattle.classes.specs.Holds.{Holds}

@@ -12,7 +12,7 @@ use Rattle.theory.specs.Limits.{depth-limit}
 use Rattle.theory.specs.Descr.{agree}
 use Rattle.theory.specs.Modes.{joined}
 use Rattle.theory.proofs.Live.{Agrees}
-use Rattle.theory.proofs.Mean.{Ctx, Can}
+use Rattle.theory.specs.Canonical.{Ctx, Can}
 use Rattle.area.specs.Map.{SECOND}
 use Rattle.engine.specs.Placed.{Placed, place, Places, strip, inner}
 use Rattle.engine.specs.Marks.{Marking, keep}
@@ -22,7 +22,7 @@ use Rattle.engine.specs.Search as engine
 use Rattle.engine.specs.Agenda.{resume-at}
 use Rattle.engine.proofs.Passes.{Agreeing, agreeing-view}
 use Rattle.modes_by_marks.proofs.Passes.{can}
-use Rattle.engine.proofs.Stack.{Same}
+use Rattle.engine.specs.Stack.{Same}
 use Rattle.engine.proofs.Joined.{keep-can, joined-is, resume-at-after, resume-at-next}
 use Rattle.engine.proofs.SearchStack.{search-standing}
 use Rattle.loading.specs.Entry.{graphs}

@@ -7,13 +7,13 @@ use mathlib.Core.List.{List, _∷_, _++_}
 use lib.ListN.{length, set}
 use Rattle.theory.specs.Descr.{Disjs, disjs}
 use Rattle.theory.specs.Layout.{disjs-words}
-use Rattle.theory.proofs.Mean.{Can, CanAll}
+use Rattle.theory.specs.Canonical.{Can, CanAll}
 use Rattle.area.specs.Map.{RESULT}
 use Rattle.layout.specs.Standing.{graph-words}
 use Rattle.engine.specs.Placed.{Placed, place, strip}
 use Rattle.engine.specs.Marks.{Marking, keep}
 use Rattle.engine.specs.Shown.{shown-all}
-use Rattle.engine.proofs.Sane.{Sane, SaneAll}
+use Rattle.engine.specs.Sane.{Sane, SaneAll}
 use Rattle.showing.specs.Putting.{Written, Describing, Describes, LeadPut, lead, left-all, Disjoining, Disjoins}
 use Rattle.showing.proofs.Written.{written-order, written-between, based}
 use Rattle.showing.proofs.Leaving.{description-words, few-disjunctions}

@@ -7,22 +7,23 @@ use mathlib.Core.List.{List, [], _++_, append-nil, append-assoc}
 use lib.ListN.{length, length-append}
 use Rattle.theory.specs.Descr.{Disjs, end, disjs}
 use Rattle.theory.specs.Layout.{disjs-words}
-use Rattle.theory.proofs.Mean.{CanAll, CanAny}
+use Rattle.theory.specs.Canonical.{CanAll, CanAny}
 use Rattle.area.proofs.Region.{words-many}
 use Rattle.engine.specs.Placed.{Placed, place, Places, stop, _also_, Options, strip-all, strip-any}
 use Rattle.engine.specs.Marks.{Marking, keep-all, keep-any}
 use Rattle.engine.specs.Shown.{shown-all}
-use Rattle.engine.proofs.Sane.{SaneAll, SaneAny}
+use Rattle.engine.specs.Sane.{SaneAll, SaneAny}
 use Rattle.loading.specs.Loaded.{extent}
 use Rattle.loading.specs.Numbered.{places, options}
 use Rattle.loading.specs.At.{AtAll, AtAny}
-use Rattle.loading.specs.Lying.{Here, Rest}
+use Rattle.loading.specs.Lying.{Here}
 use Rattle.loading.proofs.Walking.{all-bounds, any-bounds}
 use Rattle.marks.specs.Positions.{tail-at, disjunctions-at, alternatives-at}
 use Rattle.marks.specs.Readable.{Readable}
 use Rattle.marks.proofs.Reading.{readable, reads, tail-of, disjunctions-of, alternatives-is}
 use Rattle.loading.specs.Nesting.{Nests, NestsAll, NestsAny}
-use Rattle.entering.specs.Taken.{AmongAny, AmongHere, AmongRest}
+use Rattle.entering.specs.Taken.{AmongAny, AmongHere}
+use Rattle.entering.proofs.Rests.{Rest, AmongRest}
 use Rattle.showing.specs.Putting.{Written, Base, left-all, Disjoining, folded, Varying, Varies}
 use Rattle.showing.proofs.Written.{written-none, written-order, written-append, based}
 use Rattle.showing.proofs.Leaving.{then-words, then-count, shown-first, few-disjunctions, nothing-left}

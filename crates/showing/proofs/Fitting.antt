@@ -10,13 +10,13 @@ use Rattle.theory.specs.Descr.{Desc}
 use Rattle.theory.specs.Layout.{words}
 use Rattle.theory.specs.Modes.{joined, quick}
 use Rattle.theory.specs.Rules.{mode-result}
-use Rattle.theory.proofs.Mean.{Can}
+use Rattle.theory.specs.Canonical.{Can}
 use Rattle.theory.proofs.Reading.{result-words}
 use Rattle.engine.specs.Placed.{strip}
 use Rattle.engine.specs.Marks.{Marking, all-kept, keep}
 use Rattle.engine.specs.Quickly.{Leaves}
 use Rattle.engine.specs.Shown.{shown}
-use Rattle.engine.proofs.Sane.{Sane}
+use Rattle.engine.specs.Sane.{Sane}
 use Rattle.marks.specs.Marked.{marking}
 use Rattle.entering.specs.Stage.{Pair, Stage}
 use Rattle.entering.proofs.Conclusions.{every-can, every-sane, joined-shown, left-can, left-sane, quick-shown}

@@ -12,16 +12,17 @@ use Rattle.theory.specs.Join.{join}
 use Rattle.theory.specs.Descr.{Desc, desc, disjs}
 use Rattle.theory.specs.Layout.{disjs-words}
 use Rattle.theory.proofs.Instance.{none-join}
-use Rattle.theory.proofs.Mean.{Ctx, Fine, Can}
+use Rattle.theory.specs.Canonical.{Ctx, Fine, Can}
 use Rattle.theory.proofs.Live.{not-none}
-use Rattle.theory.proofs.Weight.{weight}
+use Rattle.theory.specs.Weight.{weight}
 use Rattle.area.specs.Map.{RESULT}
 use Rattle.layout.specs.Standing.{graph-words}
 use Rattle.engine.specs.Placed.{strip}
 use Rattle.engine.specs.Marks.{Marking, keep}
 use Rattle.engine.specs.Certain.{flat, sure}
 use Rattle.engine.specs.Shown.{or-else, shown-all}
-use Rattle.engine.proofs.Sane.{Sane, fine-flat}
+use Rattle.engine.proofs.Sane.{fine-flat}
+use Rattle.engine.specs.Sane.{Sane}
 use Rattle.loading.specs.Entry.{graphs}
 use Rattle.loading.proofs.Putting.{stands-frame}
 use Rattle.marks.specs.Marked.{marking}

@@ -7,12 +7,12 @@ use mathlib.Core.List.{List, [], _∷_, _++_, append-assoc}
 use lib.ListN.{length}
 use Rattle.theory.specs.Descr.{Desc, Disjs, end, _and_, Alts, fail, _or_, _then_, disjs, alts}
 use Rattle.theory.specs.Layout.{words, disjs-words, alts-words}
-use Rattle.theory.proofs.Mean.{CanAll}
+use Rattle.theory.specs.Canonical.{CanAll}
 use Rattle.layout.specs.Standing.{graph-words}
 use Rattle.engine.specs.Placed.{Placed, place, strip, strip-all}
 use Rattle.engine.specs.Marks.{Marking, keep, keep-all}
 use Rattle.engine.specs.Shown.{shown, shown-all, shown-then, shown-any, shown-in}
-use Rattle.engine.proofs.Sane.{SaneAll}
+use Rattle.engine.specs.Sane.{SaneAll}
 use Rattle.modes_by_marks.proofs.Greatest.{then-assoc}
 use Rattle.loading.proofs.Sizes.{weights-fit-all}
 use Rattle.showing.specs.Putting.{lead, left-all}

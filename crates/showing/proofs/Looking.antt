@@ -17,7 +17,7 @@ use Rattle.loading.specs.Loaded.{extent}
 use Rattle.loading.specs.Numbered.{places, options}
 use Rattle.loading.specs.Nesting.{Nests, NestsAll}
 use Rattle.loading.specs.At.{AtAny}
-use Rattle.loading.specs.Lying.{Here, Rest}
+use Rattle.loading.specs.Lying.{Here}
 use Rattle.loading.proofs.Walking.{all-bounds, any-bounds}
 use Rattle.marks.specs.Positions.{tail-at, disjunctions-at, alternatives-at}
 use Rattle.marks.specs.Marked.{marking}
@@ -28,6 +28,7 @@ use Rattle.marks.specs.declared.tally.Remnant.the-variants.{One}
 use Rattle.marks.proofs.Reading.{reads, tail-of, disjunctions-of, alternatives-is}
 use Rattle.marks.proofs.Remnant.{kept-other}
 use Rattle.showing.specs.Putting.{left-all}
+use Rattle.entering.proofs.Rests.{Rest}
 
 -- none is certain where none or several are left
 several-sure : (a : Alts) → (alts a ≡ 1 → ⊥) → sure-any a ≡ []

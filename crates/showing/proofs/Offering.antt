@@ -9,13 +9,13 @@ use lib.ListN.{length, length-append}
 use Rattle.theory.specs.Descr.{Alts, _or_}
 use Rattle.theory.specs.Layout.{alts-words}
 use Rattle.theory.specs.Layout as layout
-use Rattle.theory.proofs.Mean.{CanAny}
+use Rattle.theory.specs.Canonical.{CanAny}
 use Rattle.area.specs.Region.{words}
 use Rattle.engine.specs.Placed.{Placed, Options, no-more, option, strip, strip-any}
 use Rattle.engine.specs.Marks.{Marking, keep, keep-any}
 use Rattle.engine.specs.Shown.{shown, shown-any}
 use Rattle.modes_by_marks.proofs.Marks.{keep-true, keep-false}
-use Rattle.engine.proofs.Sane.{SaneAny}
+use Rattle.engine.specs.Sane.{SaneAny}
 use Rattle.packing.specs.Packed.{number-step}
 use Rattle.loading.specs.Numbered.{options}
 use Rattle.loading.specs.At.{AtAny}

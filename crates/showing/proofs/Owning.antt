@@ -9,7 +9,7 @@ use mathlib.Core.List.{List, []}
 use lib.ListN.{length}
 use Rattle.theory.specs.Net.{Graph}
 use Rattle.theory.specs.Modes.{glue}
-use Rattle.theory.proofs.Mean.{Can}
+use Rattle.theory.specs.Canonical.{Can}
 use Rattle.area.specs.Map.{RESULT}
 use Rattle.layout.specs.Standing.{Stands, graph-words}
 use Rattle.engine.specs.Placed.{Placed, place, strip, own}

@@ -13,7 +13,7 @@ use Rattle.theory.specs.Join.{join}
 use Rattle.theory.specs.Descr.{Disjs, end, _then_, disjs}
 use Rattle.theory.specs.Layout.{disjs-words}
 use Rattle.theory.specs.Layout as layout
-use Rattle.theory.proofs.Mean.{CanAll}
+use Rattle.theory.specs.Canonical.{CanAll}
 use Rattle.theory.proofs.Laws.{joined-of}
 use Rattle.area.specs.Map.{RESULT, SECOND, SIZE}
 use Rattle.area.specs.Region.{words}
@@ -26,7 +26,7 @@ use Rattle.engine.specs.Beside.{_next_, joined-placed}
 use Rattle.engine.specs.Certain.{flat}
 use Rattle.engine.specs.Shown.{shown-all}
 use Rattle.engine.proofs.Entail.{join-both}
-use Rattle.engine.proofs.Sane.{SaneAll}
+use Rattle.engine.specs.Sane.{SaneAll}
 use Rattle.modes_by_marks.proofs.Beside.{strip-next}
 use Rattle.modes_by_marks.proofs.Joined.{keep-next}
 use Rattle.loading.specs.Entry.{graphs}

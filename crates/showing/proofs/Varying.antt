@@ -9,7 +9,7 @@ use mathlib.Core.List.{List, [], _∷_, append-nil}
 use lib.ListN.{length, set}
 use Rattle.theory.specs.Descr.{Disjs, end, _and_, Alts, disjs, alts}
 use Rattle.theory.specs.Layout.{disjs-words, alts-words}
-use Rattle.theory.proofs.Mean.{CanAny}
+use Rattle.theory.specs.Canonical.{CanAny}
 use Rattle.area.specs.Map.{RESULT}
 use Rattle.area.specs.Region.{words}
 use Rattle.area.proofs.Region.{words-many}
@@ -17,7 +17,7 @@ use Rattle.engine.specs.Placed.{Options, no-more, option, strip-any}
 use Rattle.engine.specs.Marks.{Marking, kept-of, keep-any}
 use Rattle.engine.specs.Shown.{shown-all, shown-any}
 use Rattle.modes_by_marks.proofs.Marks.{kept-alts}
-use Rattle.engine.proofs.Sane.{SaneAny}
+use Rattle.engine.specs.Sane.{SaneAny}
 use Rattle.loading.specs.Numbered.{options}
 use Rattle.loading.specs.At.{AtAny}
 use Rattle.loading.proofs.Walking.{any-counts}

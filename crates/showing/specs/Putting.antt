@@ -9,14 +9,14 @@ use Rattle.theory.specs.Modes.{glue}
 use Rattle.theory.specs.Descr.{Desc, desc, Disjs, disjs, end, _and_}
 use Rattle.theory.specs.Layout.{disjs-words, alts-words}
 use Rattle.theory.specs.Layout as layout
-use Rattle.theory.proofs.Mean.{Can, CanAll, CanAny}
+use Rattle.theory.specs.Canonical.{Can, CanAll, CanAny}
 use Rattle.area.specs.Map.{WORDS, RESULT, LONGEST}
 use Rattle.layout.specs.Standing.{Stands, graph-words}
 use Rattle.engine.specs.Placed.{Placed, place, Places, Options, strip, strip-all, strip-any}
 use Rattle.engine.specs.Marks.{Marking, keep, keep-all, keep-any}
 use Rattle.engine.specs.Certain.{sure}
 use Rattle.engine.specs.Shown.{or-else, shown, shown-all, shown-any}
-use Rattle.engine.proofs.Sane.{Sane, SaneAll, SaneAny}
+use Rattle.engine.specs.Sane.{Sane, SaneAll, SaneAny}
 use Rattle.loading.specs.Lying.{Lying, LyingAny}
 use Rattle.classes.specs.Holds.{Holds}
 use Rattle.entering.specs.Taken.{AmongOf, AmongAnyOf}

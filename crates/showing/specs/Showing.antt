@@ -6,13 +6,13 @@ use mathlib.Core.List.{List}
 use lib.ListN.{length, getD}
 use Rattle.theory.specs.Descr.{Desc}
 use Rattle.theory.specs.Layout.{words}
-use Rattle.theory.proofs.Mean.{Can}
+use Rattle.theory.specs.Canonical.{Can}
 use Rattle.area.specs.Map.{SECOND, RESULT, LONGEST}
 use Rattle.layout.specs.Standing.{Stands}
 use Rattle.engine.specs.Placed.{strip}
 use Rattle.engine.specs.Marks.{keep}
 use Rattle.engine.specs.Shown.{shown}
-use Rattle.engine.proofs.Sane.{Sane}
+use Rattle.engine.specs.Sane.{Sane}
 use Rattle.marks.specs.Positions.{tail-at, disjunctions-at}
 use Rattle.marks.specs.Marked.{marking}
 use Rattle.entering.specs.Stage.{Pair, Stage}

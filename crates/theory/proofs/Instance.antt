@@ -12,7 +12,7 @@ use native.Mathlib.Bridge.{le-prop}
 use native.Mathlib.Omega.{arith}
 use lib.ListN.{length}
 use lib.Dec.{eqb}
-use Rattle.descriptions.proofs.Laws.{All}
+use Rattle.descriptions.specs.Canonical.{All}
 use Rattle.theory.specs.Net.{Node, atom, arcs, Graph, nodeAt, arcsOf, Net, beside, roots, Same, seed, self, along, Clash, InOrder}
 use Rattle.theory.specs.Net.{met, Numbered, Canonical, Joined}
 use Rattle.theory.proofs.Meaning.{canonical-some, joined-agrees}

@@ -4,7 +4,7 @@
 use mathlib.Core.Path.{_≡_}
 use mathlib.Core.Option.{none}
 use Rattle.theory.specs.Join.{join}
-use Rattle.theory.proofs.Mean.{Ctx}
+use Rattle.theory.specs.Canonical.{Ctx}
 use Rattle.theory.specs.JoiningOne.{joining-one}
 
 abbrev pub Agrees : Ctx → Type 0

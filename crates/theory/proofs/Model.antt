@@ -6,7 +6,7 @@ use mathlib.Core.Option.{Option, some, none}
 use Rattle.theory.specs.Net.{Graph, beside, roots, Agree}
 use Rattle.theory.specs.Join.{join}
 use Rattle.theory.specs.Descr.{agree, answers}
-use Rattle.theory.proofs.Mean.{Ctx, Fine}
+use Rattle.theory.specs.Canonical.{Ctx, Fine}
 use Rattle.theory.specs.JoiningOne.{joining-one}
 use mathlib.Core.Logic.{_↔_}
 use mathlib.Core.List.{[], _∷_}

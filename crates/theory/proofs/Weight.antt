@@ -10,13 +10,13 @@ use native.Mathlib.Bridge.{le-prop}
 use native.Mathlib.Omega.{arith}
 use lib.ListN.{length, length-append, length-map}
 use lib.Dec.{ltb}
-use Rattle.descriptions.proofs.Weights.{total as sum}
 use Rattle.theory.specs.Net.{Node, atom, arcs, Graph, nodeAt, arcsOf, NodeOf, beside, Rising, met, Numbered, Joined}
 use Rattle.theory.specs.Layout.{arc-words, node-words, nodes-words}
 use Rattle.descriptions.proofs.Tests.{Tells, holds, fails, tells-lt, Distinct, distinct-append, map-in}
 use Rattle.theory.proofs.Instance.{AllCanonical}
 use Rattle.theory.proofs.Meaning.{canonical-some}
 use Rattle.theory.proofs.Unique.{rising-above}
+use Rattle.theory.specs.Weight.{weight, weights}
 
 -- what is left when x is taken out
 taken : {A : Type 0} (x : A) (m : List A) → List·Memᴰ x m →
@@ -131,10 +131,6 @@ arcs-distinct k j m (v ∷ vs) c =
     (λ x a b. let e = triples-from k (arcsOf v) x a .0 in let f = arcs-from (suc k) vs x b .1 in let n = arcs-from (suc k) vs x b .0 in
     omega (arith, e, f))
 
--- the words of a graph, from its nodes and arcs
-unfoldable pub weight : Graph → ℕ
-weight g = length (nodes-words g)
-
 pub arc-length : (l : List (ℕ × ℕ)) → length (arc-words l) ≡ length l + length l
 arc-length [] = refl
 arc-length (p ∷ l) = omega (arith, arc-length l)
@@ -215,10 +211,6 @@ arcs-found (g ∷ gs) c (inl n) f (inr y) u = absurd u
 arcs-found (g ∷ gs) c (inr x) f (inl m) u = absurd u
 arcs-found (g ∷ gs) c (inr x) f (inr y) u =
     Memᴰ·append-right (map (under (total g (λ z. c (inl z)))) (arcs-of 0 g)) (arcs-found gs (λ z. c (inr z)) x f y u)
-
--- the weights of several graphs, and the nodes beside the root
-abbrev pub weights : List Graph → ℕ
-weights = sum weight
 
 pub weights-append : (a b : List Graph) → weights (a ++ b) ≡ weights a + weights b
 weights-append [] b = omega arith

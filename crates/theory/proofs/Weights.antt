@@ -12,10 +12,11 @@ use Rattle.theory.specs.Descr.{Desc, desc, Disjs, end, _and_, Alts, fail
 use Rattle.theory.specs.Layout.{arc-words, node-words, nodes-words, words, disjs-words, alts-words, ArcsFit, GraphFits, WellFormed}
 use Rattle.theory.specs.Layout.{WellAll, WellAny}
 use Rattle.theory.proofs.Sets.{graph-of, number, graph-in, spot-atom, spot-arc}
-use Rattle.theory.proofs.Weight.{weight, joined-weight}
-use Rattle.descriptions.proofs.Laws.{All}
-use Rattle.descriptions.proofs.Weights.{Weights}
+use Rattle.theory.proofs.Weight.{joined-weight}
+use Rattle.descriptions.specs.Canonical.{All}
+use Rattle.descriptions.proofs.Weights.{Weights, total}
 use Rattle.theory.proofs.Laws.{laws, joined-of}
+use Rattle.theory.specs.Weight.{weight, weights}
 
 -- features and atoms are at most 65,535
 abbrev pub SoftNode : Node → Type 0
@@ -73,12 +74,16 @@ joined-soft gs p G j = soft-graph G
     (λ n a e. let (x, d, u) = j .atom-from n a e in
     soft-atom (graph-of gs x) (soft-in gs p (graph-of gs x) (graph-in gs x)) (number gs x) a (spot-atom gs x a u))
 
+pub weights-total : (gs : List Graph) → weights gs ≡ total weight gs
+weights-total [] = refl
+weights-total (g ∷ gs) = rw (weights-total gs) refl
+
 abbrev pub weights-one : Weights laws
 weights-one = record {
   SoftGraph = SoftGraph;
   weight = weight;
   soft-join = λ gs p f s K e. joined-soft gs s K (joined-of gs (p, f) K e);
-  weight-join = λ gs p f K e. joined-weight gs f K (joined-of gs (p, f) K e);
+  weight-join = λ gs p f K e. rw (← weights-total gs) (joined-weight gs f K (joined-of gs (p, f) K e));
 }
 
 abbrev Soft : ℕ → Desc → ℕ → Type 0

@@ -1,5 +1,5 @@
--- `Net`, `Structure` and `Layout` are graphs, structures and words; `Isomorphic` says when two graphs are one but for the numbers of
--- their nodes.
+-- `Net`, `Structure` and `Layout` are graphs, structures and words, `Weight` how many words; `Isomorphic` says when two graphs are one
+-- but for the numbers of their nodes.
 -- `JoiningOne`, `LayoutOne` and `Structure` say what `descriptions` takes for layout one; files with the names of its files are its
 -- instance.
 -- `Join`, `Reading` and `Fitted` are programs, so that cases compute; `FitTest` is the table of the fit test, `Known` has the known
@@ -10,9 +10,11 @@ pub mod Structure
 pub mod Join
 pub mod JoiningOne
 pub mod Descr
+pub mod Canonical
 pub mod Modes
 pub mod Satisfaction
 pub mod Layout
+pub mod Weight
 pub mod Isomorphic
 pub mod Reading
 pub mod LayoutOne

@@ -7,7 +7,7 @@ use lib.ListN.{length, getD, set, length-set}
 use lib.Seq.{getD-set-same, getD-set-other}
 use Rattle.theory.specs.Net.{Graph}
 use Rattle.theory.specs.Layout.{nodes-words}
-use Rattle.theory.proofs.Weight.{weight}
+use Rattle.theory.specs.Weight.{weight}
 use Rattle.layout.specs.Standing.{Stands}
 use Rattle.layout.proofs.Standing.{stands-length}
 use Rattle.area.specs.Map.{PARENT, RESULT, SIZE}

@@ -6,7 +6,7 @@ use Prim.Native.Nat.{ℕ, suc, _+_, _*_, _-_, _≤_, _<_, max}
 use lib.ListN.{length, getD}
 use Rattle.theory.specs.Net.{Graph, nodeAt, arcsOf, Rising, InOrder, met, Canonical, Joined}
 use Rattle.theory.specs.Layout.{arc-words, node-words, nodes-words}
-use Rattle.theory.proofs.Weight.{weight}
+use Rattle.theory.specs.Weight.{weight}
 use Rattle.layout.specs.Standing.{Stands, graph-words}
 use Rattle.loading.specs.Entry.{Entry, graphs}
 use Rattle.area.specs.Map.{LOG, STACK, WORDS, RESULT, TARGETS, LONGEST}

@@ -1,0 +1,8 @@
+-- Two stacks of graphs that join alike, whatever is pushed on them.
+-- Assumes nothing: these are definitions.
+use Rattle.theory.specs.Net.{Canonical}
+use Rattle.theory.specs.Canonical.{Ctx}
+use Rattle.theory.specs.JoiningOne.{joining-one}
+
+abbrev pub Same : (S T : Ctx) → Type 0
+Same = Rattle.modes_by_marks.specs.Stack.Same joining-one Canonical
