@@ -4,7 +4,7 @@ use mathlib.Core.Path.{_≡_}
 use Rattle.theory.specs.Modes.{joined}
 use Rattle.engine.specs.Placed.{Placed, strip}
 use Rattle.engine.specs.Beside.{joined-placed}
-use Rattle.modes_by_marks.proofs.Names.{names, Apart, Distinct}
+use Rattle.modes_by_marks.specs.Names.{names, Apart, Distinct}
 use Rattle.theory.specs.JoiningOne.{joining-one}
 use Rattle.modes_by_marks.proofs.Beside.{strip-some, SomeDistinct}
 

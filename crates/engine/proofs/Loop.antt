@@ -11,7 +11,7 @@ use Rattle.engine.specs.Placed.{Placed, place, Places, strip}
 use Rattle.engine.specs.Marks.{Marking, all-kept}
 use Rattle.engine.specs.Certain.{certain}
 use Rattle.engine.specs.Quickly.{fails, stands, narrow-at, quick-at, Leaves}
-use Rattle.modes_by_marks.proofs.Names.{names, Distinct}
+use Rattle.modes_by_marks.specs.Names.{names, Distinct}
 use Rattle.engine.specs.Stack.{Same}
 use Rattle.theory.proofs.Laws.{laws}
 

@@ -4,7 +4,7 @@ use Rattle.theory.specs.Canonical.{Ctx}
 use Rattle.engine.specs.Placed.{Options}
 use Rattle.engine.specs.Marks.{Marking}
 use Rattle.engine.specs.Quickly.{sift-at}
-use Rattle.modes_by_marks.proofs.Names.{DistinctAny}
+use Rattle.modes_by_marks.specs.Names.{DistinctAny}
 use Rattle.theory.specs.JoiningOne.{joining-one}
 
 abbrev pub SiftedAt : Ctx → Marking → Options → Marking → Type 0

@@ -17,7 +17,7 @@ use Rattle.engine.specs.Quickly.{quick-at, Leaves}
 use Rattle.engine.specs.Counting.{count-at}
 use Rattle.engine.specs.Search.{search, lit, full-left, full-readings-by}
 use Rattle.engine.specs.Shown.{shown}
-use Rattle.modes_by_marks.proofs.Names.{names, Apart, Distinct}
+use Rattle.modes_by_marks.specs.Names.{names, Apart, Distinct}
 use Rattle.engine.specs.Sane.{Sane}
 use Rattle.modes_by_marks.proofs.Proper.{Proper}
 use Rattle.engine.proofs.Shown.{shown-some}

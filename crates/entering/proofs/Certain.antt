@@ -14,7 +14,7 @@ use Rattle.theory.specs.Descr.{Alts, fail, _or_, alts}
 use Rattle.engine.specs.Placed.{Placed, place, Places, stop, _also_, Options, no-more, option, strip, strip-all, strip-any}
 use Rattle.engine.specs.Marks.{Marking, kept-of, keep, keep-all, keep-any}
 use Rattle.engine.specs.Certain.{flat, sure, sure-any}
-use Rattle.modes_by_marks.proofs.Names.{names, names-any}
+use Rattle.modes_by_marks.specs.Names.{names, names-any}
 use Rattle.modes_by_marks.proofs.Marks.{kept-alts, keep-true, keep-false}
 use Rattle.modes_by_marks.proofs.QuickStep.{Only}
 use Rattle.loading.specs.Entry.{Entry, graphs}

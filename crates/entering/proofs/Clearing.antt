@@ -11,7 +11,7 @@ use lib.ListN.{length}
 use Rattle.descriptions.specs.Remnant.{remnant}
 use Rattle.engine.specs.Placed.{Placed, place, Places, stop, _also_, Options, no-more, option}
 use Rattle.engine.specs.Marks.{Marking, kept-of}
-use Rattle.modes_by_marks.proofs.Names.{names, names-all, names-any}
+use Rattle.modes_by_marks.specs.Names.{names, names-all, names-any}
 use Rattle.loading.specs.Entry.{Entry}
 use Rattle.loading.specs.Loaded.{extent}
 use Rattle.loading.specs.At.{At, AtAll, AtAny}

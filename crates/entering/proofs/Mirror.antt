@@ -12,7 +12,7 @@ use Rattle.engine.specs.Placed.{Placed, Options, no-more, option, strip-any}
 use Rattle.engine.specs.Marks.{Marking, kept-of}
 use Rattle.engine.specs.Certain.{sure-any, certain-any}
 use Rattle.engine.specs.Quickly.{Step, fails, stands, tried, settle-at, try-at, any-at, inside-at, sift-at}
-use Rattle.modes_by_marks.proofs.Names.{Distinct, DistinctAny, names, names-any}
+use Rattle.modes_by_marks.specs.Names.{Distinct, DistinctAny, names, names-any}
 use Rattle.modes_by_marks.proofs.Marks.{keep-false, keep-any-same, kept-alts}
 use Rattle.modes_by_marks.proofs.QuickStep.{Only, try-at-ok, inside-at-ok, any-at-ok}
 use Rattle.theory.specs.JoiningOne.{joining-one}

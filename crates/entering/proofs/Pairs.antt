@@ -10,7 +10,7 @@ use Rattle.theory.specs.Modes.{joined}
 use Rattle.theory.specs.Canonical.{Can}
 use Rattle.theory.proofs.Reading.{well-can}
 use Rattle.engine.specs.Placed.{strip}
-use Rattle.modes_by_marks.proofs.Names.{names, Apart, Distinct}
+use Rattle.modes_by_marks.specs.Names.{names, Apart, Distinct}
 use Rattle.engine.proofs.Proper.{well-proper, Comes, joined-comes}
 use Rattle.modes_by_marks.proofs.Proper.{Proper}
 use Rattle.engine.proofs.Beside.{joined-strip, joined-distinct}

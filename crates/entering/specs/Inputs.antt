@@ -4,12 +4,12 @@ use Prim.Native.Nat.{ℕ, _+_, _≤_}
 use mathlib.Core.Path.{_≡_}
 use mathlib.Core.List.{List}
 use Rattle.theory.specs.Limits.{depth-limit}
-use Rattle.modes_by_marks.proofs.Names.{names}
+use Rattle.modes_by_marks.specs.Names.{names}
 use Rattle.area.specs.Map.{SECOND}
 use Rattle.area.specs.Region.{words}
 use Rattle.loading.specs.Entry.{Entry}
+use Rattle.loading.specs.Numbered.{Between}
 use Rattle.loading.specs.Lying.{Lying}
-use Rattle.loading.proofs.Names.{Between}
 use Rattle.marks.specs.Marked.{marking}
 use Rattle.classes.specs.Holds.{Holds}
 use Rattle.entering.specs.Taken.{AmongOf, Inside}

@@ -13,7 +13,7 @@ use Rattle.theory.proofs.Meaning.{canonical-some}
 use Rattle.theory.specs.Canonical.{Can, CanAll, CanAny}
 use Rattle.layout.specs.Standing.{Stands}
 use Rattle.layout.proofs.Standing.{stands-append, stands-nil, stands-cons, stands-length}
-use Rattle.modes_by_marks.proofs.Names.{Distinct, DistinctAll, DistinctAny}
+use Rattle.modes_by_marks.specs.Names.{Distinct, DistinctAll, DistinctAny}
 use Rattle.packing.specs.Packed.{mark-step, tail-word, word-disjunctions, word-mark, word-end}
 use Rattle.packing.proofs.Packed.{count-back, mark-back, end-back}
 use Rattle.loading.specs.Loaded.{extent, header, located, nodes-in, nodes-all, nodes-any, alts-in, alts-all, alts-any, loaded}

@@ -5,7 +5,7 @@ use native.Mathlib.Omega.{arith}
 use mathlib.Core.Path.{_≡_, _∙_}
 use mathlib.Core.List.{List}
 use lib.ListN.{length}
-use Rattle.modes_by_marks.proofs.Names.{Distinct, DistinctAny}
+use Rattle.modes_by_marks.specs.Names.{Distinct, DistinctAny}
 use Rattle.loading.specs.Lying.{Lying, LyingAll, LyingAny}
 use Rattle.loading.proofs.Walking.{at-bounds, all-bounds, any-bounds, at-distinct, any-distinct}
 

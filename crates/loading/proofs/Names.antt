@@ -11,9 +11,9 @@ use Rattle.theory.specs.Descr.{Desc, desc, Disjs, end, _and_, Alts, fail, _or_,
 use Rattle.theory.proofs.Meaning.{canonical-some}
 use Rattle.theory.specs.Canonical.{Can, CanAll, CanAny}
 use Rattle.engine.specs.Placed.{Options, no-more, option, strip, strip-all, strip-any}
-use Rattle.modes_by_marks.proofs.Names.{names, names-all, names-any, Distinct, DistinctAll, DistinctAny}
+use Rattle.modes_by_marks.specs.Names.{names, names-all, names-any, Distinct, DistinctAll, DistinctAny}
 use Rattle.loading.specs.Loaded.{nodes-in, nodes-all, nodes-any, alts-in, alts-all, alts-any}
-use Rattle.loading.specs.Numbered.{numbered, numbered-all, numbered-any, input-numbered, places, options}
+use Rattle.loading.specs.Numbered.{numbered, numbered-all, numbered-any, input-numbered, places, options, Between}
 
 mutual
   pub numbered-strip : (y : ℕ) (d : Desc) → strip (numbered y d) ≡ d
@@ -49,10 +49,6 @@ run x (suc k) = x ∷ run (x + 1) k
 pub names-together : (x y : ℕ) (a : Alts) → own-names (numbered-any x y a) ≡ run x (alts a)
 names-together x y fail = refl
 names-together x y (d or a) = ap (λ (l : List ℕ). x ∷ l) (names-together (x + 1) (y + alts-in d) a)
-
--- all numbers of a list are from n on, and below m
-abbrev pub Between : ℕ → ℕ → List ℕ → Type 0
-Between n m l = (y : ℕ) → List·Memᴰ y l → (n ≤ y) × (y < m)
 
 mutual
   names-between : (y : ℕ) (d : Desc) → Between y (y + alts-in d) (names (numbered y d))

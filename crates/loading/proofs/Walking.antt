@@ -7,7 +7,7 @@ use mathlib.Core.List.{List}
 use lib.ListN.{length, getD}
 use Rattle.theory.specs.Net.{Graph}
 use Rattle.engine.specs.Placed.{Placed, place, Places, stop, _also_, Options, no-more, option}
-use Rattle.modes_by_marks.proofs.Names.{Distinct, DistinctAll, DistinctAny}
+use Rattle.modes_by_marks.specs.Names.{Distinct, DistinctAll, DistinctAny}
 use Rattle.packing.specs.Packed.{number-step, word-nodes, word-number, word-extent}
 use Rattle.loading.specs.Loaded.{extent}
 use Rattle.loading.specs.Numbered.{places, options}

@@ -4,7 +4,7 @@ use Prim.Native.Nat.{ℕ, _+_, _<_}
 use mathlib.Core.Path.{_≡_}
 use mathlib.Core.List.{List, [], _∷_}
 use lib.ListN.{length, getD}
-use Rattle.modes_by_marks.proofs.Names.{names, names-all, names-any, Apart}
+use Rattle.modes_by_marks.specs.Names.{names, names-all, names-any, Apart}
 use Rattle.engine.specs.Placed.{Placed, place, Places, stop, _also_, Options, no-more, option, own}
 use Rattle.packing.specs.Packed.{word-disjunctions, word-mark, word-end}
 use Rattle.layout.specs.Standing.{Stands}

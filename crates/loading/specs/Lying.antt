@@ -53,7 +53,6 @@ mark-of {n} {t} {g} {left} l = marked t g (l .d)
 abbrev pub Here : {n : ℕ} {t : List ℕ} {p left : ℕ} → Lying n t p left → Placed → Type 0
 Here {n} {t} {p} {left} l d = At t p (l .from) d (l .end) (l .to)
 
-
 -- alternatives from a later place and number on up to the end of l
 abbrev pub RestAny : {n : ℕ} {t : List ℕ} {p count left : ℕ} → LyingAny n t p count left → (at from : ℕ) → Options → Type 0
 RestAny {n} {t} {p} {count} {left} l at from a = AtAny t at from a (l .end) (l .to)

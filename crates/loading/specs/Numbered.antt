@@ -1,6 +1,7 @@
 -- The placed description that a loaded one is: the name of an alternative is the number of its mark.
 -- Assumes nothing: these are definitions.
-use Prim.Native.Nat.{ℕ, suc, _+_}
+use Prim.Native.Nat.{ℕ, suc, _+_, _≤_, _<_}
+use mathlib.Core.List.{List, List·Memᴰ}
 use Rattle.theory.specs.Descr.{Desc, desc, Disjs, end, _and_, Alts, fail, _or_, alts}
 use Rattle.engine.specs.Placed.{Placed, place, Places, stop, _also_, Options, no-more, option}
 use Rattle.loading.specs.Loaded.{alts-in, alts-any}
@@ -32,3 +33,7 @@ places (a also ds) = suc (places ds)
 abbrev pub options : Options → ℕ
 options no-more = 0
 options (option x d a) = suc (options a)
+
+-- all numbers of a list are from n on, and below m
+abbrev pub Between : ℕ → ℕ → List ℕ → Type 0
+Between n m l = (y : ℕ) → List·Memᴰ y l → (n ≤ y) × (y < m)

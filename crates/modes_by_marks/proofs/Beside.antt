@@ -9,7 +9,7 @@ use Rattle.descriptions.specs.Descr.{Desc, Disjs, _and_, _then_, desc}
 use Rattle.descriptions.specs.Modes.{joined}
 use Rattle.modes_by_marks.specs.Placed.{Placed, Places, _also_, place, stop, strip, strip-all, strip-any}
 use Rattle.modes_by_marks.specs.Beside.{_next_, joined-placed}
-use Rattle.modes_by_marks.proofs.Names.{Apart, Distinct, DistinctAll, names, names-all, names-any}
+use Rattle.modes_by_marks.specs.Names.{Apart, Distinct, DistinctAll, names, names-all, names-any}
 use Rattle.descriptions.specs.Joining.{Joining}
 
 module _ {Graph : Type 0} where

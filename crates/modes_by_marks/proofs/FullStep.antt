@@ -18,7 +18,7 @@ use Rattle.modes_by_marks.specs.Placed.{Placed, strip}
 use Rattle.modes_by_marks.specs.Marks.{Marking, keep}
 use Rattle.modes_by_marks.specs.Search.{Found, full-left, full-readings-by, lit, search}
 use Rattle.modes_by_marks.specs.Shown.{shown}
-use Rattle.modes_by_marks.proofs.Names.{Distinct, names}
+use Rattle.modes_by_marks.specs.Names.{Distinct, names}
 use Rattle.modes_by_marks.proofs.Entail.{fine-cons}
 use Rattle.modes_by_marks.proofs.Stable.{Best, Hopeless, part-can}
 use Rattle.modes_by_marks.proofs.Sane.{stable-sane}

@@ -19,7 +19,7 @@ use Rattle.descriptions.proofs.Live.{Agrees, agrees-within, beside-within, not-
 use Rattle.modes_by_marks.specs.Placed.{Options, Placed, Places, _also_, no-more, option, place, stop, strip, strip-all, strip-any}
 use Rattle.modes_by_marks.specs.Marks.{Marking, keep, keep-all, keep-any}
 use Rattle.modes_by_marks.specs.Search.{Found, among, lit, search}
-use Rattle.modes_by_marks.proofs.Names.{Apart, Distinct, DistinctAll, DistinctAny, names, names-all, names-any}
+use Rattle.modes_by_marks.specs.Names.{Apart, Distinct, DistinctAll, DistinctAny, names, names-all, names-any}
 use Rattle.modes_by_marks.proofs.Passes.{Agreeing, agreeing-view, can, cannot}
 use Rattle.modes_by_marks.proofs.Marks.{false-true}
 use Rattle.modes_by_marks.proofs.Finding.{Pick, choice-all-of, choice-any-of, choice-of, found, graphs, graphs-all-are}

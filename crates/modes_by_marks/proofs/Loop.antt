@@ -13,7 +13,7 @@ use Rattle.modes_by_marks.specs.Placed.{Placed, Places, place, strip, st
 use Rattle.modes_by_marks.specs.Marks.{Marking, all-kept, keep, keep-all, left-by}
 use Rattle.modes_by_marks.specs.Certain.{certain}
 use Rattle.modes_by_marks.specs.Quickly.{Leaves, fails, narrow-at, quick-at, stands}
-use Rattle.modes_by_marks.proofs.Names.{Distinct, names}
+use Rattle.modes_by_marks.specs.Names.{Distinct, names}
 use Rattle.modes_by_marks.proofs.Dropping.{Left, narrow, try}
 use Rattle.modes_by_marks.proofs.Passes.{Passed, pass-fails, pass-last, pass-on, passed-one}
 use Rattle.modes_by_marks.proofs.Marks.{keep-all-marked, keep-same}

@@ -11,7 +11,7 @@ use Rattle.descriptions.specs.Descr.{alts}
 use Rattle.descriptions.proofs.Tests.{eqb-no, eqb-yes}
 use Rattle.modes_by_marks.specs.Placed.{Options, Placed, Places, _also_, no-more, option, place, stop, strip-any}
 use Rattle.modes_by_marks.specs.Marks.{Marking, all-kept, drop, keep, keep-all, keep-any, kept-of}
-use Rattle.modes_by_marks.proofs.Names.{Distinct, DistinctAll, DistinctAny, names, names-all, names-any}
+use Rattle.modes_by_marks.specs.Names.{Distinct, DistinctAll, DistinctAny, names, names-all, names-any}
 
 -- dropping one mark leaves the others
 pub drop-self : (x : ℕ) (m : Marking) → drop x m x ≡ false

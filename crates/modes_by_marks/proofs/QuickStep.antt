@@ -16,7 +16,7 @@ use Rattle.modes_by_marks.specs.Marks.{Marking, all-kept, drop, keep, ke
 use Rattle.modes_by_marks.specs.Certain.{certain, certain-any, sure-any}
 use Rattle.modes_by_marks.specs.Quickly.{Step, any-at, fails, inside-at, narrow-at, passes-at, quick-at, settle-at, sift-at, stands}
 use Rattle.modes_by_marks.specs.Quickly.{tried, try-at}
-use Rattle.modes_by_marks.proofs.Names.{Apart, Distinct, DistinctAll, DistinctAny, names, names-all, names-any}
+use Rattle.modes_by_marks.specs.Names.{Apart, Distinct, DistinctAll, DistinctAny, names, names-all, names-any}
 use Rattle.modes_by_marks.proofs.Dropping.{Left, inside, narrow, narrow-any, passes, settle, sift, try}
 use Rattle.modes_by_marks.proofs.Passes.{Passed, passes-ok}
 use Rattle.modes_by_marks.proofs.Marks.{drop-other, drop-self, keep-all-marked, keep-all-same, keep-any-same, keep-false, keep-same}

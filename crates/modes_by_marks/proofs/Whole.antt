@@ -20,7 +20,7 @@ use Rattle.modes_by_marks.specs.Quickly.{Leaves, quick-at}
 use Rattle.modes_by_marks.specs.Counting.{count-at}
 use Rattle.modes_by_marks.specs.Search.{full-left, full-readings-by, lit, search}
 use Rattle.modes_by_marks.specs.Shown.{shown}
-use Rattle.modes_by_marks.proofs.Names.{Apart, Distinct, names}
+use Rattle.modes_by_marks.specs.Names.{Apart, Distinct, names}
 use Rattle.modes_by_marks.proofs.Entail.{fine-cons}
 use Rattle.modes_by_marks.proofs.Stable.{Best, part-can}
 use Rattle.modes_by_marks.proofs.Sane.{stable-sane}

@@ -11,7 +11,7 @@ use Rattle.area.specs.Region.{words}
 use Rattle.area.proofs.Region.{words-many}
 use Rattle.engine.specs.Placed.{Placed, place, Places, stop, _also_, Options}
 use Rattle.engine.specs.Marks.{Marking}
-use Rattle.modes_by_marks.proofs.Names.{names-any, names-all}
+use Rattle.modes_by_marks.specs.Names.{names-any, names-all}
 use Rattle.modes_by_marks.proofs.QuickStep.{Only}
 use Rattle.engine.specs.Quickly as quickly
 use Rattle.engine.specs.Quickly.{fails, stands, narrow-at, inside-at, any-at}

@@ -14,7 +14,7 @@ use Rattle.engine.specs.Placed.{Placed, place, Places, strip}
 use Rattle.engine.specs.Marks.{Marking, all-kept, keep}
 use Rattle.engine.specs.Certain.{flat, certain}
 use Rattle.engine.specs.Quickly.{quick-at, Leaves}
-use Rattle.modes_by_marks.proofs.Names.{Distinct}
+use Rattle.modes_by_marks.specs.Names.{Distinct}
 use Rattle.modes_by_marks.proofs.Marks.{false-true}
 use Rattle.engine.specs.Stack.{Same}
 use Rattle.engine.proofs.Loop.{Loop, loop-start, loop-pass, loop-still, loop-fails}
