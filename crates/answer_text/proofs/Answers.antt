@@ -13,7 +13,7 @@ use lib.Dec.{eqb}
 use borrow.Author.Tests.{eq-eqb, ne-eqb}
 use Rattle.answer_text.specs.declared.line.Written.{Written}
 use Rattle.answer_text.specs.declared.line.Written.the-variants.{Bytes, NoRoom}
-use Rattle.call_text.specs.Token.{blank, largest, token, is}
+use Rattle.call_text.specs.Token.{space-or-newline, largest, token, is}
 use Rattle.call_text.specs.Call.{before, words-in}
 use Rattle.answer_text.specs.Answer.{decimal, after-spaces, spaced, newline, answer-label, words-label, readings-label, labelled}
 use Rattle.answer_text.specs.Answer.{first-line, second-line, answer-text, Wrote}
@@ -125,12 +125,12 @@ module _ (text dst : List ℕ) where
 
 -- ---- reading back
 after-parted : (ws rest : List ℕ) → Parted rest → Parted (after-spaces ws ++ rest)
-unfolding after-spaces blank
+unfolding after-spaces space-or-newline
 after-parted [] rest p = p
 after-parted (w ∷ ws) rest p = refl
 
 space-skipped : (cs : List ℕ) → token (32 ∷ cs) ≡ token cs
-unfolding token blank
+unfolding token space-or-newline
 space-skipped cs = refl
 
 after-back : (ws rest : List ℕ) → ((i : ℕ) → i < length ws → getD ws i 0 ≤ largest) → Parted rest →

@@ -9,7 +9,7 @@ use mathlib.Core.List.{List, [], _∷_, _++_, append-assoc}
 use lib.ListN.{length, length-append}
 use lib.Dec.{eqb, ltb}
 use borrow.Author.Tests.{ltb-true, ltb-false, lt-ltb, le-ltb, eqb-true, ne-eqb}
-use Rattle.call_text.specs.Token.{blank, digit, largest, Start, is, bad, more, token}
+use Rattle.call_text.specs.Token.{space-or-newline, digit, largest, Start, is, bad, more, token}
 use Rattle.answer_text.specs.Answer.{digits, decimal}
 
 -- ---- the digits of a number
@@ -75,13 +75,13 @@ unfolding digit
 digit-is d h = ap {B = Bool} (λ (t : Bool). elim t [ true ↦ false | false ↦ ltb (48 + d) 58 ]) (le-ltb (48 + d) 48 (omega arith))
     ∙ lt-ltb (48 + d) 58 (omega arith)
 
-digit-filled : (d : ℕ) → d < 10 → blank (48 + d) ≡ false
-unfolding blank
+digit-filled : (d : ℕ) → d < 10 → space-or-newline (48 + d) ≡ false
+unfolding space-or-newline
 digit-filled d h = ap {B = Bool} (λ (t : Bool). elim t [ true ↦ true | false ↦ eqb (48 + d) 10 ]) (ne-eqb (48 + d) 32 (λ e. omega arith))
     ∙ ne-eqb (48 + d) 10 (λ e. omega arith)
 
-blank-other : (c : ℕ) → blank c ≡ true → digit c ≡ false
-unfolding blank digit
+blank-other : (c : ℕ) → space-or-newline c ≡ true → digit c ≡ false
+unfolding space-or-newline digit
 blank-other c b = ap {B = Bool} (λ (t : Bool). elim t [ true ↦ false | false ↦ ltb c 58 ]) (lt-ltb c 48 (low (eqb c 32) refl b))
   where
     low : (t : Bool) → eqb c 32 ≡ t → elim t [ true ↦ true | false ↦ eqb c 10 ] ≡ true → c < 48
@@ -95,7 +95,7 @@ module _ (d : ℕ) (h : d < 10) (rest : List ℕ) where
       let s : u * 10 + (48 + d - 48) ≡ u * 10 + d = omega arith in
       ap {B = Start} (λ (t : Bool). elim t [
         | true ↦ elim (ltb largest (u * 10 + (48 + d - 48))) [ true ↦ bad | false ↦ more (u * 10 + (48 + d - 48)) rest ]
-        | false ↦ elim (blank (48 + d)) [ true ↦ is u ((48 + d) ∷ rest) | false ↦ bad ]
+        | false ↦ elim (space-or-newline (48 + d)) [ true ↦ is u ((48 + d) ∷ rest) | false ↦ bad ]
       ]) (digit-is d h)
       ∙ ap {B = Start} (λ (n : ℕ). elim (ltb largest n) [ true ↦ bad | false ↦ more n rest ]) s
       ∙ ap {B = Start} (λ (t : Bool). elim t [ true ↦ bad | false ↦ more (u * 10 + d) rest ]) (le-ltb largest (u * 10 + d) f)
@@ -134,7 +134,7 @@ decimal-read =
 -- no byte that could go on a number stands at the start
 abbrev pub Parted : List ℕ → Type 0
 Parted [] = Unit {0}
-Parted (c ∷ cs) = blank c ≡ true
+Parted (c ∷ cs) = space-or-newline c ≡ true
 
 more-over : (v : ℕ) (rest : List ℕ) → Parted rest → more v rest ≡ is v rest
 unfolding more
@@ -142,7 +142,7 @@ more-over v [] p = refl
 more-over v (c ∷ cs) p =
     ap {B = Start} (λ (t : Bool). elim t [
       | true ↦ elim (ltb largest (v * 10 + (c - 48))) [ true ↦ bad | false ↦ more (v * 10 + (c - 48)) cs ]
-      | false ↦ elim (blank c) [ true ↦ is v (c ∷ cs) | false ↦ bad ]
+      | false ↦ elim (space-or-newline c) [ true ↦ is v (c ∷ cs) | false ↦ bad ]
     ]) (blank-other c p)
     ∙ ap {B = Start} (λ (t : Bool). elim t [ true ↦ is v (c ∷ cs) | false ↦ bad ]) p
 

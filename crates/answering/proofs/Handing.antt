@@ -9,10 +9,10 @@ use Rattle.area.specs.Region.{region}
 use Rattle.answering.specs.declared.hand.Made.{Made}
 use Rattle.answering.specs.declared.hand.Made.the-variants as made
 use Rattle.answering.specs.declared.answer.Answer.the-variants.{Done, Clash, TooMany, NoRoom}
-use Rattle.answering.specs.Handing.{Room, Handed}
+use Rattle.answering.specs.Handing.{ResultInside, Handed}
 
-pub handed-room : (w : List ℕ) (m : Made) (n k : ℕ) → m ≡ made.Ready n k → Room w m → RESULT + n ≤ length w
-handed-room w m n k e h = subst (Room w) e h
+pub handed-room : (w : List ℕ) (m : Made) (n k : ℕ) → m ≡ made.Ready n k → ResultInside w m → RESULT + n ≤ length w
+handed-room w m n k e h = subst (ResultInside w) e h
 
 module _ (w s : List ℕ) where
   pub handed-clash : (m : Made) → m ≡ made.Clash → Handed w s m Clash s

@@ -13,12 +13,12 @@ use Rattle.answering.specs.declared.answer.Answer.{Answer}
 use Rattle.answering.specs.declared.answer.Answer.the-variants.{Done, Clash, TooMany, NoRoom}
 
 -- the result lies inside the working area
-abbrev pub Room : List ℕ → Made → Type 0
-Room w (made.Ready n r) = RESULT + n ≤ length w
-Room w made.Clash = Unit {0}
-Room w made.QuickFails = Unit {0}
-Room w made.TooMany = Unit {0}
-Room w made.NoChoice = Unit {0}
+abbrev pub ResultInside : List ℕ → Made → Type 0
+ResultInside w (made.Ready n r) = RESULT + n ≤ length w
+ResultInside w made.Clash = Unit {0}
+ResultInside w made.QuickFails = Unit {0}
+ResultInside w made.TooMany = Unit {0}
+ResultInside w made.NoChoice = Unit {0}
 
 -- "6 | clash", whichever of the three; "8 | result longer than the result area"
 -- "Result area: only number 0 writes, the first so many words; the rest stays."

@@ -1,7 +1,7 @@
 // What a mode made is handed over.
 use crate::answer::Answer;
 use crate::areas::copy_out;
-ghost use Rattle.answering.specs.Handing.{Room, Handed};
+ghost use Rattle.answering.specs.Handing.{ResultInside, Handed};
 
 // What was made: a result of so many words, which stand in the working area, with so many readings; or the definite graphs clash,
 // the quick step fails, there are too many choices, or no choice is consistent.
@@ -15,7 +15,7 @@ pub enum Made {
 
 // Hands over what was made: its words go to the result area if they have room there.
 pub fn hand_over(made: Made, working: &[u32], result: &mut [u32]) -> Answer
-    requires { ⌜ Room (now working) made ⌝ }
+    requires { ⌜ ResultInside (now working) made ⌝ }
     ensures { λ r. ⌜ Handed (now (working .entry)) (now (result .entry)) made r (now (result .exit)) ⌝ }
 {
     match made {

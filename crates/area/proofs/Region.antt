@@ -6,7 +6,7 @@ use native.Mathlib.Omega.{arith}
 use lib.ListN.{length, take, drop, set, getD, length-take, length-drop}
 use lib.Seq.{ext-getD, drop-set-add, take-set-lt, take-take, getD-take, getD-drop}
 use Rattle.area.specs.Map.{HELD, WORDS, MARKS}
-use Rattle.area.specs.Region.{region, words}
+use Rattle.area.specs.Region.{region, loaded-words}
 
 pub length-region : (a n : ℕ) (w : List ℕ) → a + n ≤ length w → length (region a n w) ≡ n
 unfolding region
@@ -38,18 +38,18 @@ region-ext a n u w h e f =
     ∙ sym (getD-region a n w j m))
 
 -- the loaded words
-pub word-at : (w : List ℕ) (j : ℕ) → j < 2048 → getD (words w) j 0 ≡ getD w (WORDS + j) 0
-unfolding words
+pub word-at : (w : List ℕ) (j : ℕ) → j < 2048 → getD (loaded-words w) j 0 ≡ getD w (WORDS + j) 0
+unfolding loaded-words
 word-at w j h = getD-region WORDS 2048 w j h
 
-pub words-many : (w : List ℕ) → 16384 ≤ length w → length (words w) ≡ 2048
-unfolding words
+pub words-many : (w : List ℕ) → 16384 ≤ length w → length (loaded-words w) ≡ 2048
+unfolding loaded-words
 words-many w h = length-region WORDS 2048 w (omega arith)
 
 -- they are the same where the area is
 pub words-same : (w w' : List ℕ) → 16384 ≤ length w → length w' ≡ length w → ((j : ℕ) → WORDS ≤ j → j < MARKS → getD w' j 0 ≡ getD w j 0) →
-    words w' ≡ words w
-unfolding words
+    loaded-words w' ≡ loaded-words w
+unfolding loaded-words
 words-same w w' h len same = region-ext WORDS 2048 w' w (omega arith) len (λ j l. same (WORDS + j) (omega arith) (omega arith))
 
 -- what the classes hold stands first

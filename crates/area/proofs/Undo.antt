@@ -12,7 +12,7 @@ use lib.Seq.{getD-set-other, length-take-le}
 use Rattle.area.specs.Map.{LOG, STACK, WORDS, SIZE}
 use Rattle.area.specs.Region.{region}
 use Rattle.area.proofs.Region.{region-take, region-set-same}
-use Rattle.area.specs.Log.{body, entries, back, past, Logged, Later, Put, Undone}
+use Rattle.area.specs.Log.{body, entries, back, past, Logged, Later, Stores, Undone}
 
 -- the last entry first
 back-last : (L : List ℕ) (m d : ℕ) (b : List ℕ) →
@@ -112,7 +112,7 @@ module _ (n : ℕ) (w : List ℕ) (i v : ℕ) (g : Logged n w) (hi : i < LOG) (h
       go j h (yes e) = rw (e, getD-set-same (set w (LOG + n) packed) i v 0 (simp length-set (omega arith))) hv
       go j h (no e) = rw (off j e (λ z. omega arith)) (g .small j h)
 
-  pub put-law : Put n w i v (n + 1) stored
+  pub put-law : Stores n w i v (n + 1) stored
   put-law = record {
     next = refl;
     later = record {
@@ -230,19 +230,19 @@ later-scratch a u n w w' p e f = record {
 }
 
 -- ---- one store, word by word
-pub put-at : (k : ℕ) (w : List ℕ) (i v r : ℕ) (w' : List ℕ) → Put k w i v r w' → i < LOG → LOG ≤ length w → getD w' i 0 ≡ v
+pub put-at : (k : ℕ) (w : List ℕ) (i v r : ℕ) (w' : List ℕ) → Stores k w i v r w' → i < LOG → LOG ≤ length w → getD w' i 0 ≡ v
 unfolding body
 put-at k w i v r w' p h l =
     let e : length (take LOG w) ≡ LOG = length-take-le LOG w l in
     sym (getD-take LOG w' i 0 h) ∙ ap (λ (t : List ℕ). getD t i 0) (p .now) ∙ getD-set-same (take LOG w) i v 0 (omega arith)
 
 -- outside the log
-pub put-off : (k : ℕ) (w : List ℕ) (i v r : ℕ) (w' : List ℕ) → Put k w i v r w' → k < 4096 → (j : ℕ) → (j ≡ i → ⊥) →
+pub put-off : (k : ℕ) (w : List ℕ) (i v r : ℕ) (w' : List ℕ) → Stores k w i v r w' → k < 4096 → (j : ℕ) → (j ≡ i → ⊥) →
     (j < LOG) ⊎ (STACK ≤ j) → getD w' j 0 ≡ getD w j 0
 put-off k w i v r w' p h j n c = p .rest j n (λ e. ⊎-elim (λ l. omega arith) (λ l. omega arith) c)
 
 -- into a region of the body
-pub put-region : (k : ℕ) (w : List ℕ) (v r : ℕ) (w' : List ℕ) (a n i : ℕ) → Put k w (a + i) v r w' → i < n → a + n ≤ LOG →
+pub put-region : (k : ℕ) (w : List ℕ) (v r : ℕ) (w' : List ℕ) (a n i : ℕ) → Stores k w (a + i) v r w' → i < n → a + n ≤ LOG →
     region a n w' ≡ set (region a n w) i v
 unfolding body
 put-region k w v r w' a n i p h l =

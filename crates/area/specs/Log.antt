@@ -34,7 +34,7 @@ pub record Later (n : ℕ) (w : List ℕ) (n' : ℕ) (w' : List ℕ) : Type 0 wh
   pub keeps : (m : ℕ) → m ≤ n → past m n' w' ≡ past m n w
   pub rest : (j : ℕ) → WORDS ≤ j → getD w' j 0 ≡ getD w j 0
 
-pub record Put (n : ℕ) (w : List ℕ) (i v r : ℕ) (w' : List ℕ) : Type 0 where
+pub record Stores (n : ℕ) (w : List ℕ) (i v r : ℕ) (w' : List ℕ) : Type 0 where
   pub next : r ≡ n + 1
   pub later : Later n w r w'
   pub now : body w' ≡ set (body w) i v

@@ -6,13 +6,13 @@ ghost use mathlib.Core.Path.{_≡_};
 ghost use Prim.Native.Nat.{_+_, _*_, _≤_, _<_};
 ghost use lib.ListN.{length};
 ghost use Rattle.area.specs.Map.{LOG, SIZE, ENTRIES, ENTRY_MOST};
-ghost use Rattle.area.specs.Log.{Logged, Put, Undone};
+ghost use Rattle.area.specs.Log.{Logged, Stores, Undone};
 
 // Stores v at i of the body, and what stood there in the log, which has n entries. The entries after it.
 pub fn put(w: &mut [u32], n: usize, i: usize, v: u32) -> usize
     requires { ⌜ Logged n (now w) ⌝ }
     requires { ⌜ (i < LOG) × ((n < ENTRIES) × ((v < ENTRY_MOST) × (SIZE ≤ length (now w)))) ⌝ }
-    ensures { λ r. ⌜ Put n (now (w .entry)) i v r (now (w .exit)) ⌝ }
+    ensures { λ r. ⌜ Stores n (now (w .entry)) i v r (now (w .exit)) ⌝ }
 {
     let old = w[i];
     w[LOG + n] = i as u32 + ENTRY_STEP * old;

@@ -10,8 +10,9 @@ use lib.ListN.{length, drop}
 use lib.Dec.{ltb}
 use borrow.Author.Tests.{lt-ltb, le-ltb, ltb-false}
 use Rattle.call_text.specs.Token.{Start, is, over, bad, token}
-use Rattle.call_text.specs.Call.{Taken, words-in, count-limit, counted, done, Asked, inputs, call, text-limit, heard, heard-in, Heard}
-use Rattle.call_text.specs.Finding.{beyond, Finds, Puts}
+use Rattle.call_text.specs.Call.{Taken, words-in, count-limit, counted, done, Typed, inputs, typed, text-limit, heard, heard-in}
+use Rattle.call_text.specs.Call.{Heard}
+use Rattle.call_text.specs.Finding.{beyond, FindsRun, Puts}
 use Rattle.call_text.specs.declared.call.Counts.{Counts}
 use Rattle.call_text.specs.declared.call.Counts.the-variants.{Good, BadInput}
 use Rattle.call_text.specs.declared.call.Words.{Words}
@@ -25,15 +26,15 @@ done-by cs s e = ap {B = Bool} (λ (s : Start). elim s [ is v rest ↦ false | o
 
 -- ---- what follows the mode
 module _ (m : ℕ) (cs : List ℕ) where
-  abbrev last : List ℕ → List ℕ → Bool → Option Asked
+  abbrev last : List ℕ → List ℕ → Bool → Option Typed
   last a b true = some (record { mode = m; first = a; second = b })
   last a b false = none
 
-  abbrev second : List ℕ → Option Taken → Option Asked
+  abbrev second : List ℕ → Option Taken → Option Typed
   second a none = none
   second a (some q) = last a (q .0) (done (q .1))
 
-  abbrev first : Option Taken → Option Asked
+  abbrev first : Option Taken → Option Typed
   first none = none
   first (some p) = second (p .0) (counted (p .1))
 
@@ -75,10 +76,10 @@ module _ (m : ℕ) (cs : List ℕ) where
       inputs-both x g = ap (last a b) g ∙ ap (second a) f ∙ ap first e ∙ parts
 
 -- ---- bad input changes nothing
-module _ (o : Option Asked) (first second : List ℕ) (r : Counts) where
+module _ (o : Option Typed) (first second : List ℕ) (r : Counts) where
   pub unheard : o ≡ none → r ≡ BadInput → Heard o first second first second r
   unheard e f =
-      subst (λ (o : Option Asked). Heard o first second first second r) (sym e)
+      subst (λ (o : Option Typed). Heard o first second first second r) (sym e)
       (record { answer = f; the-first = refl; the-second = refl })
 
 -- ---- the inputs, by what is found of them
@@ -88,16 +89,16 @@ there : (text : List ℕ) (run : Option Taken) (next : ℕ) → beyond run ≡ s
 there text none next e = let z : _≡_ {A = ℕ} 0 1 = cc in absurd (omega arith)
 there text (some t) next e = let f : t .1 ≡ drop next text = cc in (t .0, ap (λ (l : List ℕ). some (t .0, l)) (sym f))
 
-pub found-few : (text : List ℕ) (run : Option Taken) (r : Words) → Finds text run r → (n s q : ℕ) → r ≡ Run n s q → n ≤ count-limit
-found-few text run r f n s q e = let one : Finds text run (Run n s q) = subst (Finds text run) e f in one .0
+pub found-few : (text : List ℕ) (run : Option Taken) (r : Words) → FindsRun text run r → (n s q : ℕ) → r ≡ Run n s q → n ≤ count-limit
+found-few text run r f n s q e = let one : FindsRun text run (Run n s q) = subst (FindsRun text run) e f in one .0
 
 module _ (m : ℕ) (text cs : List ℕ) where
-  pub without-first : (r : Words) → Finds text (counted cs) r → r ≡ Wrong → inputs m cs ≡ none
-  without-first r f e = sym (inputs-none m cs (sym (subst (Finds text (counted cs)) e f)))
+  pub without-first : (r : Words) → FindsRun text (counted cs) r → r ≡ Wrong → inputs m cs ≡ none
+  without-first r f e = sym (inputs-none m cs (sym (subst (FindsRun text (counted cs)) e f)))
 
-  module _ (r : Words) (f : Finds text (counted cs) r) (n s q : ℕ) (e : r ≡ Run n s q) where
-    one : Finds text (counted cs) (Run n s q)
-    one = subst (Finds text (counted cs)) e f
+  module _ (r : Words) (f : FindsRun text (counted cs) r) (n s q : ℕ) (e : r ≡ Run n s q) where
+    one : FindsRun text (counted cs) (Run n s q)
+    one = subst (FindsRun text (counted cs)) e f
 
     ahead : (xs : List ℕ) × (some (xs, drop q text) ≡ counted cs)
     ahead = there text (counted cs) q (one .2)
@@ -105,12 +106,12 @@ module _ (m : ℕ) (text cs : List ℕ) where
     abbrev rest : Option Taken
     rest = counted (drop q text)
 
-    pub without-second : (w : Words) → Finds text rest w → w ≡ Wrong → inputs m cs ≡ none
-    without-second w g d = sym (inputs-one m cs (ahead .0) (drop q text) (ahead .1) (sym (subst (Finds text rest) d g)))
+    pub without-second : (w : Words) → FindsRun text rest w → w ≡ Wrong → inputs m cs ≡ none
+    without-second w g d = sym (inputs-one m cs (ahead .0) (drop q text) (ahead .1) (sym (subst (FindsRun text rest) d g)))
 
-    module _ (w : Words) (g : Finds text rest w) (k u z : ℕ) (d : w ≡ Run k u z) where
-      two : Finds text rest (Run k u z)
-      two = subst (Finds text rest) d g
+    module _ (w : Words) (g : FindsRun text rest w) (k u z : ℕ) (d : w ≡ Run k u z) where
+      two : FindsRun text rest (Run k u z)
+      two = subst (FindsRun text rest) d g
 
       after : (ys : List ℕ) × (some (ys, drop z text) ≡ rest)
       after = there text rest z (two .2)
@@ -129,7 +130,7 @@ module _ (m : ℕ) (text cs : List ℕ) where
             let y : words-in k (drop u text) ≡ some (after .0, drop z text) = two .1 ∙ sym (after .1) in
             let xs = words-length n (drop s text) (ahead .0, drop q text) x in
             let ys = words-length k (drop u text) (after .0, drop z text) y in
-            subst (λ (o : Option Asked). Heard o first second first′ second′ a) asked
+            subst (λ (o : Option Typed). Heard o first second first′ second′ a) asked
             (record {
               answer = v ∙ ap₂ {C = Counts} (Good m) (sym xs) (sym ys);
               the-first = i (ahead .0, drop q text) x;
@@ -138,7 +139,7 @@ module _ (m : ℕ) (text cs : List ℕ) where
 
 -- ---- the whole
 -- a call by what stands at the start
-abbrev by-mode : Start → Option Asked
+abbrev by-mode : Start → Option Typed
 by-mode (is m rest) = inputs m rest
 by-mode over = none
 by-mode bad = none
@@ -148,8 +149,8 @@ by-mode-is (is m rest) = refl
 by-mode-is over = refl
 by-mode-is bad = refl
 
-call-start : (text : List ℕ) (s : Start) → s ≡ token text → by-mode s ≡ call text
-unfolding call
+call-start : (text : List ℕ) (s : Start) → s ≡ token text → by-mode s ≡ typed text
+unfolding typed
 call-start text s e = ap by-mode e ∙ by-mode-is (token text)
 
 module _ (n m : ℕ) (text : List ℕ) where
@@ -173,7 +174,7 @@ module _ (n m : ℕ) (text : List ℕ) where
       long-text h = let e = lt-ltb text-limit (length text) h in with-room ∙ rw (e, heard)
 
       module _ (fits : length text ≤ text-limit) where
-        short-text : heard-in n m text ≡ call text
+        short-text : heard-in n m text ≡ typed text
         unfolding heard
         short-text = let e = le-ltb text-limit (length text) fits in with-room ∙ rw (e, heard)
 
@@ -186,11 +187,11 @@ module _ (n m : ℕ) (text : List ℕ) where
         module _ (first second first′ second′ : List ℕ) (r : Counts) (mode : ℕ) (rest : List ℕ) (e : is mode rest ≡ token text) where
           pub with-mode : Heard (inputs mode rest) first second first′ second′ r → Heard (heard-in n m text) first second first′ second′ r
           with-mode h =
-              subst (λ (o : Option Asked). Heard o first second first′ second′ r) (call-start text (is mode rest) e ∙ sym short-text) h
+              subst (λ (o : Option Typed). Heard o first second first′ second′ r) (call-start text (is mode rest) e ∙ sym short-text) h
 
 -- ---- what a call is
 -- one answer only is allowed, and one content of both lists
-pub one-call : (o : Option Asked) (first second : List ℕ) (a b c d : List ℕ) (r s : Counts)
+pub one-call : (o : Option Typed) (first second : List ℕ) (a b c d : List ℕ) (r s : Counts)
     → Heard o first second a b r → Heard o first second c d s → (r ≡ s) × (a ≡ c) × (b ≡ d)
 one-call o first second a b c d r s p q =
     (p .answer ∙ sym (q .answer), p .the-first ∙ sym (q .the-first), p .the-second ∙ sym (q .the-second))
@@ -199,7 +200,7 @@ abbrev Few : Option Taken → Type 0
 Few none = Unit {0}
 Few (some t) = length (t .0) ≤ count-limit
 
-abbrev FewBoth : Option Asked → Type 0
+abbrev FewBoth : Option Typed → Type 0
 FewBoth none = Unit {0}
 FewBoth (some c) = (length (c .first) ≤ count-limit) × (length (c .second) ≤ count-limit)
 
@@ -240,7 +241,7 @@ inputs-few m cs = subst FewBoth (parts m cs) (one (counted cs) (counted-few cs))
     one (some t) h = two (t .0) (counted (t .1)) h (counted-few (t .1))
 
 heard-few : (text : List ℕ) → FewBoth (heard text)
-unfolding heard call
+unfolding heard typed
 heard-few text = go (ltb text-limit (length text)) (token text)
   where
     go : (t : Bool) (s : Start) → FewBoth (elim t [
@@ -253,5 +254,5 @@ heard-few text = go (ltb text-limit (length text)) (token text)
     go false bad = tt
 
 -- a good call has at most 2,048 words in each input
-pub counts-few : (text : List ℕ) (c : Asked) → heard text ≡ some c → (length (c .first) ≤ count-limit) × (length (c .second) ≤ count-limit)
+pub counts-few : (text : List ℕ) (c : Typed) → heard text ≡ some c → (length (c .first) ≤ count-limit) × (length (c .second) ≤ count-limit)
 counts-few text c e = subst FewBoth e (heard-few text)

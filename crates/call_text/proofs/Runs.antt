@@ -17,7 +17,7 @@ use Rattle.call_text.specs.declared.number.Token.the-variants.{Is, Over,
 use Rattle.call_text.specs.declared.call.Words.{Words}
 use Rattle.call_text.specs.Token.{Start, is, over, bad, token}
 use Rattle.call_text.specs.Call.{Taken, before, words-in, count-limit, counted}
-use Rattle.call_text.specs.Finding.{beyond, Finds, Puts}
+use Rattle.call_text.specs.Finding.{beyond, FindsRun, Puts}
 use Rattle.call_text.proofs.Tokens.{meant}
 
 before-before : (xs ys : List ℕ) (o : Option Taken) → before xs (before ys o) ≡ before (xs ++ ys) o
@@ -228,5 +228,5 @@ module _ (cs : List ℕ) where
 
     -- so many words are found where the count is not too large
     pub counted-finds : (text : List ℕ) (k : ℕ) (r : Words) → k ≡ n → n ≤ count-limit
-        → Finds text (words-in k rest) r → Finds text (counted cs) r
-    counted-finds text k r f h g = subst (λ (o : Option Taken). Finds text o r) (ap (λ (j : ℕ). words-in j rest) f ∙ counted-fine h) g
+        → FindsRun text (words-in k rest) r → FindsRun text (counted cs) r
+    counted-finds text k r f h g = subst (λ (o : Option Taken). FindsRun text o r) (ap (λ (j : ℕ). words-in j rest) f ∙ counted-fine h) g

@@ -12,7 +12,7 @@ use lib.Seq.{drop-cons, drop-at}
 use lib.Dec.{ltb}
 use Rattle.call_text.specs.declared.number.Token.{Token}
 use Rattle.call_text.specs.declared.number.Token.the-variants.{Is, Over, Bad}
-use Rattle.call_text.specs.Token.{blank, digit, largest, Start, is, over, bad, more, token, placed}
+use Rattle.call_text.specs.Token.{space-or-newline, digit, largest, Start, is, over, bad, more, token, placed}
 
 -- a digit is one of ten bytes
 pub digit-range : (c : ℕ) → digit c ≡ true → (48 ≤ c) × (c < 58)
@@ -50,23 +50,23 @@ module _ (text : List ℕ) (at : ℕ) where
       unfolding more
       more-large d l = rw (next, d, l, more)
 
-      pub more-blank : digit c ≡ false → blank c ≡ true → is v (drop at text) ≡ more v (drop at text)
+      pub more-blank : digit c ≡ false → space-or-newline c ≡ true → is v (drop at text) ≡ more v (drop at text)
       unfolding more
       more-blank d b = rw (next, d, b, more)
 
-      pub more-other : digit c ≡ false → blank c ≡ false → bad ≡ more v (drop at text)
+      pub more-other : digit c ≡ false → space-or-newline c ≡ false → bad ≡ more v (drop at text)
       unfolding more
       more-other d b = rw (next, d, b, more)
 
-    pub token-blank : blank c ≡ true → token (drop at text) ≡ token (drop (at + 1) text)
+    pub token-blank : space-or-newline c ≡ true → token (drop at text) ≡ token (drop (at + 1) text)
     unfolding token
     token-blank b = rw (next, b, token)
 
-    pub token-digit : blank c ≡ false → digit c ≡ true → more 0 (drop at text) ≡ token (drop at text)
+    pub token-digit : space-or-newline c ≡ false → digit c ≡ true → more 0 (drop at text) ≡ token (drop at text)
     unfolding token
     token-digit b d = rw (next, b, d, token)
 
-    pub token-other : blank c ≡ false → digit c ≡ false → bad ≡ token (drop at text)
+    pub token-other : space-or-newline c ≡ false → digit c ≡ false → bad ≡ token (drop at text)
     unfolding token
     token-other b d = rw (next, b, d, token)
 
@@ -85,7 +85,7 @@ longer c cs bad e = tt
 more-ends : (v : ℕ) (cs : List ℕ) → Ends cs (more v cs)
 unfolding more
 more-ends v [] = ([], refl)
-more-ends v (c ∷ cs) = let w : ℕ = v * 10 + (c - 48) in go (digit c) (ltb largest w) (blank c) (more-ends w cs)
+more-ends v (c ∷ cs) = let w : ℕ = v * 10 + (c - 48) in go (digit c) (ltb largest w) (space-or-newline c) (more-ends w cs)
   where
     go : (d l b : Bool) → Ends cs (more (v * 10 + (c - 48)) cs) → Ends (c ∷ cs) (elim d [
       | true ↦ elim l [ true ↦ bad | false ↦ more (v * 10 + (c - 48)) cs ]
@@ -99,7 +99,7 @@ more-ends v (c ∷ cs) = let w : ℕ = v * 10 + (c - 48) in go (digit c) (ltb la
 token-ends : (cs : List ℕ) → Ends cs (token cs)
 unfolding token
 token-ends [] = tt
-token-ends (c ∷ cs) = go (blank c) (digit c) (token-ends cs)
+token-ends (c ∷ cs) = go (space-or-newline c) (digit c) (token-ends cs)
   where
     go : (b d : Bool) → Ends cs (token cs) → Ends (c ∷ cs) (elim b [
       | true ↦ token cs

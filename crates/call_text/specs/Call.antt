@@ -37,13 +37,13 @@ unfoldable pub done : List ℕ → Bool
 done cs = elim (token cs) [ is v rest ↦ false | over ↦ true | bad ↦ false ]
 
 -- a call: its mode and both inputs
-pub record Asked : Type 0 where
+pub record Typed : Type 0 where
   pub mode : ℕ
   pub first : List ℕ
   pub second : List ℕ
 
 -- what follows the mode: two counted runs of words, and nothing else
-unfoldable pub inputs : ℕ → List ℕ → Option Asked
+unfoldable pub inputs : ℕ → List ℕ → Option Typed
 inputs m cs = elim (counted cs) [
   | none ↦ none
   | some p ↦ elim (counted (p .1)) [
@@ -52,31 +52,31 @@ inputs m cs = elim (counted cs) [
   ]
 ]
 
-unfoldable pub call : List ℕ → Option Asked
-call cs = elim (token cs) [ is m rest ↦ inputs m rest | over ↦ none | bad ↦ none ]
+unfoldable pub typed : List ℕ → Option Typed
+typed cs = elim (token cs) [ is m rest ↦ inputs m rest | over ↦ none | bad ↦ none ]
 
 -- "input over 65,536 bytes"
 abbrev pub text-limit : ℕ
 text-limit = 65536
 
-unfoldable pub heard : List ℕ → Option Asked
-heard text = elim (ltb text-limit (length text)) [ true ↦ none | false ↦ call text ]
+unfoldable pub heard : List ℕ → Option Typed
+heard text = elim (ltb text-limit (length text)) [ true ↦ none | false ↦ typed text ]
 
 -- for lists of so many words: without room for the longest run in each, there is no call
-unfoldable pub heard-in : ℕ → ℕ → List ℕ → Option Asked
+unfoldable pub heard-in : ℕ → ℕ → List ℕ → Option Typed
 heard-in n m text = elim (ltb n count-limit) [ true ↦ none | false ↦ elim (ltb m count-limit) [ true ↦ none | false ↦ heard text ] ]
 
 -- the answer: the mode, and how many words each input has
-abbrev pub told : Option Asked → Counts
+abbrev pub told : Option Typed → Counts
 told none = BadInput
 told (some c) = Good (c .mode) (length (c .first)) (length (c .second))
 
 -- the words of each input, none after bad input
-abbrev pub first-words : Option Asked → List ℕ
+abbrev pub first-words : Option Typed → List ℕ
 first-words none = []
 first-words (some c) = c .first
 
-abbrev pub second-words : Option Asked → List ℕ
+abbrev pub second-words : Option Typed → List ℕ
 second-words none = []
 second-words (some c) = c .second
 
@@ -85,7 +85,7 @@ abbrev pub upon : List ℕ → List ℕ → List ℕ
 upon words l = words ++ drop (length words) l
 
 -- the answer to a call, and every word of both lists: the inputs stand at their starts, and bad input changes neither
-pub record Heard (o : Option Asked) (first second first′ second′ : List ℕ) (r : Counts) : Type 0 where
+pub record Heard (o : Option Typed) (first second first′ second′ : List ℕ) (r : Counts) : Type 0 where
   pub answer : r ≡ told o
   pub the-first : first′ ≡ upon (first-words o) first
   pub the-second : second′ ≡ upon (second-words o) second

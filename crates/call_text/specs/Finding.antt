@@ -15,10 +15,10 @@ beyond none = none
 beyond (some t) = some (t .1)
 
 -- a run of so many numbers was found from `start` on, the text goes on at `next`; or there is none
-abbrev pub Finds : List ℕ → Option Taken → Words → Type 0
-Finds text run (Run count start next) =
+abbrev pub FindsRun : List ℕ → Option Taken → Words → Type 0
+FindsRun text run (Run count start next) =
     (count ≤ count-limit) × (words-in count (drop start text) ≡ run) × (beyond run ≡ some (drop next text))
-Finds text run Wrong = run ≡ none
+FindsRun text run Wrong = run ≡ none
 
 -- the words of a run, where there is one, were put at the start of dst
 abbrev pub Puts : Option Taken → List ℕ → List ℕ → Type 0

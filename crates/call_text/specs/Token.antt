@@ -10,8 +10,8 @@ use Rattle.call_text.specs.declared.number.Token.{Token}
 use Rattle.call_text.specs.declared.number.Token.the-variants.{Is, Over, Bad}
 
 -- "spaces or newlines"
-unfoldable pub blank : ℕ → Bool
-blank c = elim (eqb c 32) [ true ↦ true | false ↦ eqb c 10 ]
+unfoldable pub space-or-newline : ℕ → Bool
+space-or-newline c = elim (eqb c 32) [ true ↦ true | false ↦ eqb c 10 ]
 
 -- "decimal digits"
 unfoldable pub digit : ℕ → Bool
@@ -32,12 +32,12 @@ unfoldable pub more : ℕ → List ℕ → Start
 more v [] = is v []
 more v (c ∷ cs) = elim (digit c) [
   | true ↦ elim (ltb largest (v * 10 + (c - 48))) [ true ↦ bad | false ↦ more (v * 10 + (c - 48)) cs ]
-  | false ↦ elim (blank c) [ true ↦ is v (c ∷ cs) | false ↦ bad ]
+  | false ↦ elim (space-or-newline c) [ true ↦ is v (c ∷ cs) | false ↦ bad ]
 ]
 
 unfoldable pub token : List ℕ → Start
 token [] = over
-token (c ∷ cs) = elim (blank c) [ true ↦ token cs | false ↦ elim (digit c) [ true ↦ more 0 (c ∷ cs) | false ↦ bad ] ]
+token (c ∷ cs) = elim (space-or-newline c) [ true ↦ token cs | false ↦ elim (digit c) [ true ↦ more 0 (c ∷ cs) | false ↦ bad ] ]
 
 -- the answer for a start: a number goes with the position where the text after it begins
 abbrev pub placed : List ℕ → Start → Token

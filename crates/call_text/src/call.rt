@@ -5,7 +5,7 @@ ghost use mathlib.Core.Path.{_≡_};
 ghost use Prim.Native.Nat.{_≤_};
 ghost use lib.ListN.{length, drop};
 ghost use Rattle.call_text.specs.Call.{count-limit, words-in, counted, done, inputs, heard-in, Heard};
-ghost use Rattle.call_text.specs.Finding.{Finds, Puts};
+ghost use Rattle.call_text.specs.Finding.{FindsRun, Puts};
 
 // The most words that a run may have.
 pub const COUNT_LIMIT: usize = 2048;
@@ -23,7 +23,7 @@ pub enum Words {
 // Passes over `count` words from p on.
 fn skip_words(text: &[u8], p: usize, count: usize) -> Words
     requires { ⌜ count ≤ count-limit ⌝ }
-    ensures { λ r. ⌜ Finds (now (text .entry)) (words-in count (drop p (now (text .entry)))) r ⌝ }
+    ensures { λ r. ⌜ FindsRun (now (text .entry)) (words-in count (drop p (now (text .entry)))) r ⌝ }
 {
     let mut at = p;
     let mut left = count;
@@ -50,7 +50,7 @@ fn wide(x: u32) -> usize
 
 // Finds a word count at p, and so many words after it.
 fn find_counted(text: &[u8], p: usize) -> Words
-    ensures { λ r. ⌜ Finds (now (text .entry)) (counted (drop p (now (text .entry)))) r ⌝ }
+    ensures { λ r. ⌜ FindsRun (now (text .entry)) (counted (drop p (now (text .entry)))) r ⌝ }
 {
     let number = read_token(text, p);
     let Token::Is { value, next } = number else {

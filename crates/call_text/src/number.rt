@@ -2,7 +2,7 @@
 ghost use mathlib.Core.Path.{_≡_};
 ghost use Prim.Native.Nat.{_≤_};
 ghost use lib.ListN.{length, drop};
-ghost use Rattle.call_text.specs.Token.{blank, digit, more, token, placed};
+ghost use Rattle.call_text.specs.Token.{space-or-newline, digit, more, token, placed};
 
 // What stands next: a number and the position after it, no number any more, or something else.
 pub enum Token {
@@ -13,7 +13,7 @@ pub enum Token {
 
 // Whether the byte parts numbers: a space or a newline.
 fn is_blank(c: u8) -> bool
-    ensures { λ r. ⌜ r ≡ blank c ⌝ }
+    ensures { λ r. ⌜ r ≡ space-or-newline c ⌝ }
 {
     if c == 32 {
         return true;

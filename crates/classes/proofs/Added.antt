@@ -13,7 +13,7 @@ use Rattle.theory.specs.Net.{Node, atom, arcs, Graph, nodeAt, arcsOf}
 use Rattle.theory.specs.Layout.{arc-words, node-words, nodes-words, GraphFits}
 use Rattle.theory.proofs.Weight.{arc-length}
 use Rattle.theory.specs.Weight.{weight}
-use Rattle.forest.specs.Labels.{pick}
+use Rattle.forest.specs.Labels.{by-test}
 use Rattle.forest.specs.State.{Pile}
 use Rattle.classes.specs.Nodes.{strung, span, spans, NodeAt, NodesAt}
 use Rattle.loading.specs.Loaded.{moved-arcs, located}
@@ -94,14 +94,14 @@ positions B p (v ∷ vs) = strung (positions B (p + span v) vs) (p + 1) (length 
 
 unfoldable pub source : (ℕ → ℕ) → ℕ → ℕ → Graph → ℕ → ℕ
 source S x p [] q = S q
-source S x p (v ∷ vs) q = pick (ltb q (p + span v)) x (source S (suc x) (p + span v) vs q)
+source S x p (v ∷ vs) q = by-test (ltb q (p + span v)) x (source S (suc x) (p + span v) vs q)
 
 unfoldable pub codes : (ℕ → ℕ) → ℕ → Graph → ℕ → ℕ
 codes A x [] i = A i
-codes A x (v ∷ vs) i = pick (eqb i x) (code v) (codes A (suc x) vs i)
+codes A x (v ∷ vs) i = by-test (eqb i x) (code v) (codes A (suc x) vs i)
 
 unfoldable pub sources : (ℕ → ℕ) → ℕ → ℕ → Graph → ℕ → ℕ
-sources S x p vs q = pick (ltb q p) (S q) (source S x p vs q)
+sources S x p vs q = by-test (ltb q p) (S q) (source S x p vs q)
 
 abbrev pub added : Pile → ℕ → ℕ → Graph → Pile
 added G x p vs = record {

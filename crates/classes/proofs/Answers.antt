@@ -7,7 +7,7 @@ use lib.ListN.{getD}
 use Rattle.theory.specs.Limits.{code-limit}
 use Rattle.theory.specs.Net.{beside}
 use Rattle.area.specs.Map.{PARENT}
-use Rattle.area.specs.Region.{region, words}
+use Rattle.area.specs.Region.{region, loaded-words}
 use Rattle.loading.specs.Entry.{Entry, graphs}
 use Rattle.forest.specs.Forest.{Root}
 use Rattle.forest.specs.Held.{ChainCode, AtomCode}
@@ -72,27 +72,27 @@ module _ (n : ℕ) (w : List ℕ) (x : ℕ) (hx : x < n) (c : ℕ) (cl : Classed
       told = λ es k h s t a e. let q = holds es k h .arc-in s f t a (e ∙ sym (is es k h)) .0 in absurd (omega arith);
     }
 
-    pub target-none : ChainCode (getD w c 0) → Looked (words w) w f (getD w c 0) 0 → TargetOf n w x f Nowhere
+    pub target-none : ChainCode (getD w c 0) → Looked (loaded-words w) w f (getD w c 0) 0 → TargetOf n w x f Nowhere
     target-none l m = record {
       is = λ es k h d e. let y : _≡_ {A = ℕ} 0 1 = cc in absurd (omega arith);
       told = λ es k h s t a e.
           let o = holds es k h in
           let q = o .arc-in s f t a (e ∙ sym (is es k h)) .1 in
-          absurd (none-first (words w) f (o .chain) (q .0) (m .miss (omega arith) (o .chain) (o .linked l)) (q .1 .0));
+          absurd (none-first (loaded-words w) f (o .chain) (q .0) (m .miss (omega arith) (o .chain) (o .linked l)) (q .1 .0));
     }
 
     pub target-void : getD w c 0 ≡ 0 → TargetOf n w x f Nowhere
     target-void z = target-none (omega arith) (record {
-      miss = λ e xs d. subst (None (words w) f) (sym (chain-zero w (getD w c 0) xs z d)) tt;
+      miss = λ e xs d. subst (None (loaded-words w) f) (sym (chain-zero w (getD w c 0) xs z d)) tt;
       hit = λ i e. absurd (omega arith);
     })
 
-    module _ (l : ChainCode (getD w c 0)) (i : ℕ) (m : Looked (words w) w f (getD w c 0) (suc i)) where
+    module _ (l : ChainCode (getD w c 0)) (i : ℕ) (m : Looked (loaded-words w) w f (getD w c 0) (suc i)) where
       pub target-low : Labelled n w → (i < 2047) × (getD (targets w) i 0 < n)
       target-low g =
           let o = holds (g .es) (g .k) (g .holds) in
           let p = m .hit i (omega arith) (o .chain) (o .linked l) in
-          let r = o .arc-from i (first-mem (words w) f (o .chain) i p) in
+          let r = o .arc-from i (first-mem (loaded-words w) f (o .chain) i p) in
           let b = spot-low n (g .es) (g .k) w (g .holds) (r .1 .1 .0) in
           let e = r .1 .1 .1 .1 .0 in
           (r .0, omega arith)
@@ -102,7 +102,7 @@ module _ (n : ℕ) (w : List ℕ) (x : ℕ) (hx : x < n) (c : ℕ) (cl : Classed
         is = λ es k h d' e.
             let o = holds es k h in
             let p = m .hit i (omega arith) (o .chain) (o .linked l) in
-            let r = o .arc-from i (first-mem (words w) f (o .chain) i p) in
+            let r = o .arc-from i (first-mem (loaded-words w) f (o .chain) i p) in
             let y : d ≡ d' = cc in (
               r .1 .0,
               (
@@ -113,7 +113,7 @@ module _ (n : ℕ) (w : List ℕ) (x : ℕ) (hx : x < n) (c : ℕ) (cl : Classed
                   (
                     ap (class h) (r .1 .1 .1 .1 .0) ∙ sym (v .is es k h)
                         ∙ y,
-                    subst (λ (z : ℕ). beside (graphs es) .Arc (r .1 .0) z (r .1 .1 .0)) (first-feature (words w) f (o .chain) i p)
+                    subst (λ (z : ℕ). beside (graphs es) .Arc (r .1 .0) z (r .1 .1 .0)) (first-feature (loaded-words w) f (o .chain) i p)
                         (r .1 .1 .1 .1 .1),
                   ),
                 ),
@@ -123,6 +123,6 @@ module _ (n : ℕ) (w : List ℕ) (x : ℕ) (hx : x < n) (c : ℕ) (cl : Classed
             let o = holds es k h in
             let p = m .hit i (omega arith) (o .chain) (o .linked l) in
             let q = o .arc-in s f t a (e ∙ sym (is es k h)) .1 in
-            let y : i ≡ q .0 = first-det (words w) f (o .chain) i (q .0) p (q .1 .0) in
+            let y : i ≡ q .0 = first-det (loaded-words w) f (o .chain) i (q .0) p (q .1 .0) in
             ap To (v .is es k h ∙ ap (λ (z : ℕ). class h (getD (targets w) z 0)) y ∙ q .1 .1);
       }

@@ -9,20 +9,20 @@ use native.Mathlib.Omega.{arith}
 use lib.ListN.{length, getD}
 use Rattle.theory.specs.Limits.{code-limit}
 use Rattle.theory.specs.Net.{Node, atom, arcs, nodeAt, arcsOf, beside, Same, seed, self, back, on, along, roots, atoms, atom-arc, Clash}
-use Rattle.forest.specs.State.{Pile, Clashes}
+use Rattle.forest.specs.State.{Pile, ClashIn}
 use Rattle.forest.specs.State as pile
 use Rattle.loading.specs.Entry.{Entry, graphs}
-use Rattle.classes.specs.Entry.{Spots, number-of}
+use Rattle.classes.specs.Entry.{Spots, spot-number}
 use Rattle.classes.specs.Holds.{code, NodeIn, Tied, Apart}
 
 -- the node of a spot
-pub spot-node : (es : List Entry) (s : Spots es) → NodeIn es (number-of es s)
+pub spot-node : (es : List Entry) (s : Spots es) → NodeIn es (spot-number es s)
 spot-node (e ∷ es) (inl x) = record { e = e; one = List·Memᴰ·head refl; j = x .0; below = x .1; is = refl }
 spot-node (e ∷ es) (inr y) = let r = spot-node es y in
     record { e = r .e; one = List·Memᴰ·tail (r .one); j = r .j; below = r .below; is = r .is }
 
 -- graphs that share no number have no two spots of one number
-pub spot-one : (es : List Entry) → Apart es → (s t : Spots es) → number-of es s ≡ number-of es t → s ≡ t
+pub spot-one : (es : List Entry) → Apart es → (s t : Spots es) → spot-number es s ≡ spot-number es t → s ≡ t
 spot-one (e ∷ es) a (inl x) (inl y) q = let z : x .0 ≡ y .0 = omega arith in ap {B = Spots (e ∷ es)} inl (Σ-prop-path (λ n. le-prop) z)
 spot-one (e ∷ es) a (inl x) (inr y) q =
     let r = spot-node es y in
@@ -37,7 +37,7 @@ spot-one (e ∷ es) a (inr x) (inr y) q = ap {B = Spots (e ∷ es)} inr (spot-on
 -- the spot of a node
 pub record Spotted (es : List Entry) (e : Entry) (j : ℕ) : Type 0 where
   pub spot : Spots es
-  pub is : number-of es spot ≡ e .number + j
+  pub is : spot-number es spot ≡ e .number + j
   pub atom-is : (a : ℕ) → nodeAt (e .graph) j ≡ atom a → beside (graphs es) .Atom spot a
   pub root-is : j ≡ 0 → beside (graphs es) .Root spot
 
@@ -55,8 +55,8 @@ spotted (o ∷ es) e j m h = ⊎-elim
 pub record Arched (es : List Entry) (e : Entry) (j f t : ℕ) : Type 0 where
   pub from : Spots es
   pub to : Spots es
-  pub from-is : number-of es from ≡ e .number + j
-  pub to-is : number-of es to ≡ e .number + t
+  pub from-is : spot-number es from ≡ e .number + j
+  pub to-is : spot-number es to ≡ e .number + t
   pub arc : beside (graphs es) .Arc from f to
 
 pub arched : (es : List Entry) (e : Entry) (j f t : ℕ) → List·Memᴰ e es → j < length (e .graph) → t < length (e .graph) →
@@ -76,51 +76,51 @@ arched (o ∷ es) e j f t m h i a = ⊎-elim
 module _ (F T : List ℕ) (all : List Entry) (G : Pile) (tied : Tied F T all G) where
   -- ---- from spots to numbers: what the graphs es say, which are among all
   pub root-down : (es : List Entry) → ((e : Entry) → List·Memᴰ e es → List·Memᴰ e all) → (s : Spots es) → beside (graphs es) .Root s →
-      List·Memᴰ (number-of es s) (G .R)
+      List·Memᴰ (spot-number es s) (G .R)
   root-down (e ∷ es) i (inl x) r = let z : e .number + x .0 ≡ e .number = omega arith in rw z (tied .root e (i e (List·Memᴰ·head refl)))
   root-down (e ∷ es) i (inr y) r = root-down es (λ o m. i o (List·Memᴰ·tail m)) y r
 
   pub atom-down : (es : List Entry) → ((e : Entry) → List·Memᴰ e es → List·Memᴰ e all) → (s : Spots es) (a : ℕ) →
-      beside (graphs es) .Atom s a → List·Memᴰ (number-of es s) (G .N) × (G .A (number-of es s) ≡ code-limit + a)
+      beside (graphs es) .Atom s a → List·Memᴰ (spot-number es s) (G .N) × (G .A (spot-number es s) ≡ code-limit + a)
   atom-down (e ∷ es) i (inl x) a q = let r = tied .node e (i e (List·Memᴰ·head refl)) (x .0) (x .1) in (r .0, r .1 ∙ ap code q)
   atom-down (e ∷ es) i (inr y) a q = atom-down es (λ o m. i o (List·Memᴰ·tail m)) y a q
 
   pub arc-down : (es : List Entry) → ((e : Entry) → List·Memᴰ e es → List·Memᴰ e all) → (s : Spots es) (f : ℕ) (t : Spots es) →
       beside (graphs es) .Arc s f t
-      → (q : ℕ) × (List·Memᴰ q (G .B) × ((G .S q ≡ number-of es s) × ((getD F q 0 ≡ f) × (getD T q 0 ≡ number-of es t))))
+      → (q : ℕ) × (List·Memᴰ q (G .B) × ((G .S q ≡ spot-number es s) × ((getD F q 0 ≡ f) × (getD T q 0 ≡ spot-number es t))))
   arc-down (e ∷ es) i (inl x) f (inl y) a = tied .arc e (i e (List·Memᴰ·head refl)) (x .0) f (y .0) (x .1) a
   arc-down (e ∷ es) i (inl x) f (inr y) a = absurd a
   arc-down (e ∷ es) i (inr x) f (inl y) a = absurd a
   arc-down (e ∷ es) i (inr x) f (inr y) a = arc-down es (λ o m. i o (List·Memᴰ·tail m)) x f y a
 
   abbrev num : Spots all → ℕ
-  num = number-of all
+  num = spot-number all
 
-  pub same-down : {s t : Spots all} → Same (beside (graphs all)) (roots (beside (graphs all))) s t → pile.Same G F T (num s) (num t)
-  same-down (seed {x} {y} r) = pile.Same.root (root-down all (λ e m. m) x (r .0)) (root-down all (λ e m. m) y (r .1))
-  same-down (self x) = pile.Same.self (num x)
-  same-down (back p) = pile.Same.back (same-down p)
-  same-down (on p q) = pile.Same.on (same-down p) (same-down q)
+  pub same-down : {s t : Spots all} → Same (beside (graphs all)) (roots (beside (graphs all))) s t → pile.Equal G F T (num s) (num t)
+  same-down (seed {x} {y} r) = pile.Equal.root (root-down all (λ e m. m) x (r .0)) (root-down all (λ e m. m) y (r .1))
+  same-down (self x) = pile.Equal.self (num x)
+  same-down (back p) = pile.Equal.back (same-down p)
+  same-down (on p q) = pile.Equal.on (same-down p) (same-down q)
   same-down (along {x} {y} {x′} {y′} p f u v) =
       let a = arc-down all (λ e m. m) x f x′ u in
       let b = arc-down all (λ e m. m) y f y′ v in
-      subst (λ (z : ℕ). pile.Same G F T (num x′) z) (b .1 .1 .1 .1)
-      (subst (λ (z : ℕ). pile.Same G F T z (getD T (b .0) 0)) (a .1 .1 .1 .1)
-      (pile.Same.along (a .1 .0) (b .1 .0) (a .1 .1 .1 .0 ∙ sym (b .1 .1 .1 .0))
-      (subst (λ (z : ℕ). pile.Same G F T z (G .S (b .0))) (sym (a .1 .1 .0))
-      (subst (λ (z : ℕ). pile.Same G F T (num x) z) (sym (b .1 .1 .0)) (same-down p)))))
+      subst (λ (z : ℕ). pile.Equal G F T (num x′) z) (b .1 .1 .1 .1)
+      (subst (λ (z : ℕ). pile.Equal G F T z (getD T (b .0) 0)) (a .1 .1 .1 .1)
+      (pile.Equal.along (a .1 .0) (b .1 .0) (a .1 .1 .1 .0 ∙ sym (b .1 .1 .1 .0))
+      (subst (λ (z : ℕ). pile.Equal G F T z (G .S (b .0))) (sym (a .1 .1 .0))
+      (subst (λ (z : ℕ). pile.Equal G F T (num x) z) (sym (b .1 .1 .0)) (same-down p)))))
 
-  pub clash-down : Clash (graphs all) → Clashes G F T
+  pub clash-down : Clash (graphs all) → ClashIn G F T
   clash-down (atoms {x} {y} p a b u v ne) =
       let r = atom-down all (λ e m. m) x a u in
       let q = atom-down all (λ e m. m) y b v in
       let ra = r .1 in let qa = q .1 in
-      Clashes.atoms (r .0) (q .0) (same-down p) (λ z. omega arith) (λ z. omega arith) (λ z. ne (omega arith))
+      ClashIn.atoms (r .0) (q .0) (same-down p) (λ z. omega arith) (λ z. omega arith) (λ z. ne (omega arith))
   clash-down (atom-arc {x} {y} p a u f z v) =
       let r = atom-down all (λ e m. m) x a u in
       let q = arc-down all (λ e m. m) y f z v in
       let ra = r .1 in
-      Clashes.mixed (r .0) (λ z. omega arith) (q .1 .0) (subst (λ (n : ℕ). pile.Same G F T (num x) n) (sym (q .1 .1 .0)) (same-down p))
+      ClashIn.mixed (r .0) (λ z. omega arith) (q .1 .0) (subst (λ (n : ℕ). pile.Equal G F T (num x) n) (sym (q .1 .1 .0)) (same-down p))
 
   -- ---- from numbers to spots
   -- a node with an atom
@@ -153,7 +153,7 @@ module _ (F T : List ℕ) (all : List Entry) (G : Pile) (tied : Tied F T all G) 
     abbrev Stands : ℕ → Spots all → Type 0
     Stands x s = (num s ≡ x) ⊎ ((x ≡ 0) × beside (graphs all) .Root s)
 
-    root-zero : (es : List Entry) (s : Spots es) → number-of es s ≡ 0 → beside (graphs es) .Root s
+    root-zero : (es : List Entry) (s : Spots es) → spot-number es s ≡ 0 → beside (graphs es) .Root s
     root-zero (e ∷ es) (inl x) q = omega arith
     root-zero (e ∷ es) (inr y) q = root-zero es y q
 
@@ -181,26 +181,26 @@ module _ (F T : List ℕ) (all : List Entry) (G : Pile) (tied : Tied F T all G) 
         (t .spot, inl (omega arith)))
         (tied .roots x m)
 
-    good : {x y : ℕ} → pile.Same G F T x y → (x ≡ y) ⊎ (Good x × Good y)
-    good (pile.Same.root {x} {y} a b) = inr (root-good x a, root-good y b)
-    good (pile.Same.self x) = inl refl
-    good (pile.Same.back p) = ⊎-elim (λ e. inl (sym e)) (λ g. inr (g .1, g .0)) (good p)
-    good (pile.Same.on {x} {y} {z} p q) = ⊎-elim
+    good : {x y : ℕ} → pile.Equal G F T x y → (x ≡ y) ⊎ (Good x × Good y)
+    good (pile.Equal.root {x} {y} a b) = inr (root-good x a, root-good y b)
+    good (pile.Equal.self x) = inl refl
+    good (pile.Equal.back p) = ⊎-elim (λ e. inl (sym e)) (λ g. inr (g .1, g .0)) (good p)
+    good (pile.Equal.on {x} {y} {z} p q) = ⊎-elim
         (λ e. ⊎-elim (λ d. inl (e ∙ d)) (λ g. inr (subst Good (sym e) (g .0), g .1)) (good q))
         (λ g. ⊎-elim (λ d. inr (g .0, subst Good d (g .1))) (λ h. inr (g .0, h .1)) (good q))
         (good p)
-    good (pile.Same.along {p} {q} a b e r) = let s = ends p a in let t = ends q b in
+    good (pile.Equal.along {p} {q} a b e r) = let s = ends p a in let t = ends q b in
         inr ((s .1 .0, inl (s .1 .1 .1 .0)), (t .1 .0, inl (t .1 .1 .1 .0)))
 
-    pub same-up : {x y : ℕ} → pile.Same G F T x y → (s t : Spots all) → Stands x s → Stands y t → SameSpots s t
-    same-up (pile.Same.root {x} {y} a b) s t p q = seed (root-up x s a p, root-up y t b q)
-    same-up (pile.Same.self x) s t p q = one-spot x s t p q
-    same-up (pile.Same.back r) s t p q = back (same-up r t s q p)
-    same-up (pile.Same.on {x} {y} {z} r u) s t p q = ⊎-elim
+    pub same-up : {x y : ℕ} → pile.Equal G F T x y → (s t : Spots all) → Stands x s → Stands y t → SameSpots s t
+    same-up (pile.Equal.root {x} {y} a b) s t p q = seed (root-up x s a p, root-up y t b q)
+    same-up (pile.Equal.self x) s t p q = one-spot x s t p q
+    same-up (pile.Equal.back r) s t p q = back (same-up r t s q p)
+    same-up (pile.Equal.on {x} {y} {z} r u) s t p q = ⊎-elim
         (λ e. same-up u s t (subst (λ (n : ℕ). Stands n s) e p) q)
         (λ g. on (same-up r s (g .1 .0) p (g .1 .1)) (same-up u (g .1 .0) t (g .1 .1) q))
         (good r)
-    same-up (pile.Same.along {p} {q} a b e r) s t i j =
+    same-up (pile.Equal.along {p} {q} a b e r) s t i j =
         let c = ends p a in
         let d = ends q b in
         let m = same-up r (c .0) (d .0) (inl (c .1 .1 .0)) (inl (d .1 .1 .0)) in
@@ -208,13 +208,13 @@ module _ (F T : List ℕ) (all : List Entry) (G : Pile) (tied : Tied F T all G) 
         along m (getD F p 0) (c .1 .1 .1 .1) (subst (λ (f : ℕ). beside (graphs all) .Arc (d .0) f (d .1 .0)) (sym e) (d .1 .1 .1 .1)) in
         on (one-spot (getD T p 0) s (c .1 .0) i (inl (c .1 .1 .1 .0))) (on n (one-spot (getD T q 0) (d .1 .0) t (inl (d .1 .1 .1 .0)) j))
 
-    pub clash-up : Clashes G F T → Clash (graphs all)
-    clash-up (Clashes.atoms {x} {y} mx my p nx ny ne) =
+    pub clash-up : ClashIn G F T → Clash (graphs all)
+    clash-up (ClashIn.atoms {x} {y} mx my p nx ny ne) =
         let a = atom-up x mx nx in
         let b = atom-up y my ny in
         atoms (same-up p (a .0) (b .0) (inl (a .1 .0)) (inl (b .1 .0))) (a .1 .1 .0) (b .1 .1 .0) (a .1 .1 .1 .0) (b .1 .1 .1 .0)
         (λ z. ne (a .1 .1 .1 .1 ∙ ap (λ (n : ℕ). code-limit + n) z ∙ sym (b .1 .1 .1 .1)))
-    clash-up (Clashes.mixed {x} {q} mx nx mq p) =
+    clash-up (ClashIn.mixed {x} {q} mx nx mq p) =
         let a = atom-up x mx nx in
         let d = ends q mq in
         atom-arc (same-up p (a .0) (d .0) (inl (a .1 .0)) (inl (d .1 .1 .0))) (a .1 .1 .0) (a .1 .1 .1 .0) (getD F q 0) (d .1 .0)

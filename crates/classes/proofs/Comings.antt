@@ -12,9 +12,9 @@ use Rattle.theory.proofs.Weight.{weights-append}
 use Rattle.theory.proofs.Instance.{numbered-target}
 use Rattle.theory.proofs.Meaning.{canonical-some}
 use Rattle.theory.specs.Weight.{weight, weights}
-use Rattle.area.specs.Region.{words}
+use Rattle.area.specs.Region.{loaded-words}
 use Rattle.forest.specs.Held.{AtomCode}
-use Rattle.forest.specs.State.{targets, Pile, Done, Same, Clashes, State, Full, withPair}
+use Rattle.forest.specs.State.{targets, Pile, Done, Equal, ClashIn, State, Full, withPair}
 use Rattle.classes.specs.Nodes.{spans, NodesAt, Ahead, listed}
 use Rattle.loading.specs.Entry.{Entry, graphs}
 use Rattle.classes.specs.Entry.{Aside, Comes}
@@ -51,7 +51,7 @@ code-large (arcs l) n = absurd (n refl)
 
 module _ (n : ℕ) (es : List Entry) (k : ℕ) (w : List ℕ) (e : Entry) (h : Holds n es k w) (c : Comes n es e w) where
   abbrev F : List ℕ
-  F = words w
+  F = loaded-words w
 
   abbrev T : List ℕ
   T = targets w
@@ -153,8 +153,8 @@ module _ (n : ℕ) (es : List Entry) (k : ℕ) (w : List ℕ) (e : Entry) (h : H
   state' = state-extends G pile F T extends (h .H) n k w arcs' atoms' (h .state)
 
   -- ---- the root comes first
-  pub same' : Same pile F T 0 x
-  same' = Same.root (List·Memᴰ·tail (h .tied .anchor)) (List·Memᴰ·head refl)
+  pub same' : Equal pile F T 0 x
+  same' = Equal.root (List·Memᴰ·tail (h .tied .anchor)) (List·Memᴰ·head refl)
 
   pub some' : 0 < length vs
   some' = canonical-some vs (c .canonical)
@@ -282,7 +282,7 @@ module _ (n : ℕ) (es : List Entry) (k : ℕ) (w : List ℕ) (e : Entry) (h : H
       sits' = record { lies = c .lies; canonical = c .canonical; fits = c .fits; inside = c .inside }
 
   -- a clash by numbers is one of the graphs
-  pub clash' : Clashes pile F T → Clash (graphs es ++ e .graph ∷ [])
+  pub clash' : ClashIn pile F T → Clash (graphs es ++ e .graph ∷ [])
   clash' z =
       let r = spotted all e 0 mine some' in
       subst Clash graphs' (clash-up F T all pile tied' apart' (r .spot) (r .root-is refl) z)

@@ -7,7 +7,7 @@ use native.Mathlib.Omega.{arith}
 use lib.ListN.{length, getD}
 use Rattle.theory.specs.Net.{atom, arcs, Graph, nodeAt}
 use Rattle.forest.specs.Held.{AtomCode}
-use Rattle.forest.specs.State.{Pile, Done, Same, First, State}
+use Rattle.forest.specs.State.{Pile, Done, Equal, First, State}
 use Rattle.classes.specs.Nodes.{spans, noded, listed}
 use Rattle.classes.specs.Holds.{code}
 use Rattle.classes.proofs.Runs.{strung-length, strung-cases, strung-old, strung-new}
@@ -22,15 +22,15 @@ pub record Extends (G G' : Pile) : Type 0 where
   pub codes : (i : ℕ) → List·Memᴰ i (G .N) → G' .A i ≡ G .A i
 
 module _ (G G' : Pile) (F T : List ℕ) (x : Extends G G') where
-  pub same-extends : {i j : ℕ} → Same G F T i j → Same G' F T i j
-  same-extends (Same.root {x = i} {y = j} a b) = Same.root (x .roots i a) (x .roots j b)
-  same-extends (Same.self i) = Same.self i
-  same-extends (Same.back r) = Same.back (same-extends r)
-  same-extends (Same.on r t) = Same.on (same-extends r) (same-extends t)
-  same-extends (Same.along {p} {q} a b e r) =
-      Same.along (x .arcs p a) (x .arcs q b) e
-      (subst (λ (z : ℕ). Same G' F T z (G' .S q)) (sym (x .sources p a))
-      (subst (λ (z : ℕ). Same G' F T (G .S p) z) (sym (x .sources q b)) (same-extends r)))
+  pub same-extends : {i j : ℕ} → Equal G F T i j → Equal G' F T i j
+  same-extends (Equal.root {x = i} {y = j} a b) = Equal.root (x .roots i a) (x .roots j b)
+  same-extends (Equal.self i) = Equal.self i
+  same-extends (Equal.back r) = Equal.back (same-extends r)
+  same-extends (Equal.on r t) = Equal.on (same-extends r) (same-extends t)
+  same-extends (Equal.along {p} {q} a b e r) =
+      Equal.along (x .arcs p a) (x .arcs q b) e
+      (subst (λ (z : ℕ). Equal G' F T z (G' .S q)) (sym (x .sources p a))
+      (subst (λ (z : ℕ). Equal G' F T (G .S p) z) (sym (x .sources q b)) (same-extends r)))
 
   pub state-extends : (H : Done) (n k : ℕ) (w : List ℕ) → ((q : ℕ) → List·Memᴰ q (G' .B) → (q < 2047) × ((G' .S q < n) × (getD T q 0 < n)))
       → ((i : ℕ) → List·Memᴰ i (G' .N) → (G' .A i ≡ 0 → ⊥) → AtomCode (G' .A i)) → State G H F T n k 0 [] w → State G' H F T n k 0 [] w

@@ -7,7 +7,7 @@ use native.Mathlib.Omega.{arith}
 use lib.ListN.{length, getD}
 use Rattle.area.specs.Map.{PARENT, NEXT, LOG, WORDS, MARKS, SIZE}
 use Rattle.theory.specs.Net.{Graph, Agree}
-use Rattle.area.specs.Region.{region, words}
+use Rattle.area.specs.Region.{region, loaded-words}
 use Rattle.area.specs.Log.{Logged, Later, Undone}
 use Rattle.area.proofs.Region.{region-ext, words-same}
 use Rattle.area.proofs.Undo.{word, logged-same, past-agree, undone-is, undone-logged, undone-keeps, undone-rest}
@@ -88,8 +88,8 @@ sits-frame w w' n e f s = record {
 module _ (n : ℕ) (es : List Entry) (k : ℕ) (w : List ℕ) (h : Holds n es k w) where
   -- ---- what the graphs that are pushed agree on
   pub holds-agree : Agree (graphs es)
-  holds-agree z = agree (h .G) (h .H) (words w) (targets w) n k 0 w (h .below) (h .long) (h .state) (h .full)
-      (clash-down (words w) (targets w) es (h .G) (h .tied) z)
+  holds-agree z = agree (h .G) (h .H) (loaded-words w) (targets w) n k 0 w (h .below) (h .long) (h .state) (h .full)
+      (clash-down (loaded-words w) (targets w) es (h .G) (h .tied) z)
 
   -- the log has room
   pub holds-few : k ≤ 4096
@@ -118,7 +118,7 @@ module _ (n : ℕ) (es : List Entry) (k : ℕ) (w : List ℕ) (h : Holds n es k 
         below = h .below;
         G = h .G;
         H = h .H;
-        state = rw (ew, et) (state-again (h .G) (h .H) (words w) (targets w) n k w w' (h .below) (h .long) (h .state)
+        state = rw (ew, et) (state-again (h .G) (h .H) (loaded-words w) (targets w) n k w w' (h .below) (h .long) (h .state)
             (logged-same k w w' (h .state .logged) len f) f len);
         full = h .full;
         top = h .top;

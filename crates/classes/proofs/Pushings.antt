@@ -12,8 +12,8 @@ use Rattle.area.specs.Map.{SIZE}
 use Rattle.area.specs.Log.{body, Later, Undone}
 use Rattle.area.proofs.Undo.{later-trans, word, undone-is, undone-later}
 use Rattle.classes.specs.declared.push.Pushed.the-variants.{In, Clashed}
-use Rattle.area.specs.Region.{words}
-use Rattle.forest.specs.State.{targets, State, Asked, United, withPair}
+use Rattle.area.specs.Region.{loaded-words}
+use Rattle.forest.specs.State.{targets, State, Uniting, United, withPair}
 use Rattle.classes.specs.Nodes.{Listing, Listed}
 use Rattle.loading.specs.Entry.{Entry}
 use Rattle.classes.specs.Entry.{Comes}
@@ -23,8 +23,8 @@ use Rattle.classes.proofs.Comings.{pile, state', same', some', nodes', 
 use Rattle.classes.proofs.Laws.{holds-few, holds-again, since-later}
 
 module _ (n k : ℕ) (w : List ℕ) (g base c : ℕ) where
-  pub add-asked : Adding n k w g base c → Asked (words w) (targets w) n k w 0 base
-  add-asked a = subst (λ (z : ℕ). Asked (words w) (targets w) n k w 0 z) (a .number)
+  pub add-asked : Adding n k w g base c → Uniting (loaded-words w) (targets w) n k w 0 base
+  add-asked a = subst (λ (z : ℕ). Uniting (loaded-words w) (targets w) n k w 0 z) (a .number)
       (record {
         G = pile n (a .es) k w (a .e) (a .holds) (a .comes);
         H = a .holds .H;
@@ -40,24 +40,24 @@ module _ (n k : ℕ) (w : List ℕ) (g base c : ℕ) where
       let f = a .comes .lies .fits in let i = a .is in
       (omega arith, (a .holds .below, (a .holds .long, omega arith)))
 
-  module _ (k1 : ℕ) (b1 : Bool) (w1 : List ℕ) (p1 : United (words w) (targets w) n k w 0 base k1 b1 w1) where
+  module _ (k1 : ℕ) (b1 : Bool) (w1 : List ℕ) (p1 : United (loaded-words w) (targets w) n k w 0 base k1 b1 w1) where
     pub adds-bad : b1 ≡ true → Adds n k w g base c k1 true w1
     adds-bad z = record {
       later = p1 .later;
       fine = λ y. let x : _≡_ {A = ℕ} 0 1 = cc in absurd (omega arith);
       clash = λ y es e i j l h d.
-          let p : United (words w) (targets w) n k w 0 (e .number) k1 b1 w1 = rw j p1 in
+          let p : United (loaded-words w) (targets w) n k w 0 (e .number) k1 b1 w1 = rw j p1 in
           clash' n es k w e h d (p .clash z (pile n es k w e h d) (h .H) (state' n es k w e h d) (same' n es k w e h d));
     }
 
     module _ (z1 : b1 ≡ false) where
       state1 : (es : List Entry) (e : Entry) → e .number ≡ base → (h : Holds n es k w) (d : Comes n es e w) →
-          State (pile n es k w e h d) (withPair (h .H) 0 (e .number)) (words w) (targets w) n k1 0 [] w1
+          State (pile n es k w e h d) (withPair (h .H) 0 (e .number)) (loaded-words w) (targets w) n k1 0 [] w1
       state1 es e j h d =
-          let p : United (words w) (targets w) n k w 0 (e .number) k1 b1 w1 = rw j p1 in
+          let p : United (loaded-words w) (targets w) n k w 0 (e .number) k1 b1 w1 = rw j p1 in
           p .fine z1 (pile n es k w e h d) (h .H) (state' n es k w e h d) (same' n es k w e h d)
 
-      pub add-listing : Adding n k w g base c → Listing (words w) (targets w) n k1 w1 base (g + 1) c
+      pub add-listing : Adding n k w g base c → Listing (loaded-words w) (targets w) n k1 w1 base (g + 1) c
       add-listing a = rw (← a .number, ← a .is, ← a .many)
           (record {
             G = pile n (a .es) k w (a .e) (a .holds) (a .comes);
@@ -69,7 +69,7 @@ module _ (n k : ℕ) (w : List ℕ) (g base c : ℕ) where
             ahead = ahead' n (a .es) k w (a .e) (a .holds) (a .comes);
           })
 
-      pub adds : (k2 : ℕ) (b2 : Bool) (w2 : List ℕ) → Listed (words w) (targets w) n k1 w1 base (g + 1) c k2 b2 w2 →
+      pub adds : (k2 : ℕ) (b2 : Bool) (w2 : List ℕ) → Listed (loaded-words w) (targets w) n k1 w1 base (g + 1) c k2 b2 w2 →
           Adds n k w g base c k2 b2 w2
       adds k2 b2 w2 p2 =
           let l : Later k w k2 w2 = later-trans k w k1 w1 k2 w2 (p1 .later) (p2 .later) in
@@ -84,17 +84,17 @@ module _ (n k : ℕ) (w : List ℕ) (g base c : ℕ) where
           }
         where
           listed : (es : List Entry) (e : Entry) → e .at ≡ g → e .number ≡ base → length (e .graph) ≡ c →
-              Listed (words w) (targets w) n k1 w1 (e .number) (e .at + 1) (length (e .graph)) k2 b2 w2
+              Listed (loaded-words w) (targets w) n k1 w1 (e .number) (e .at + 1) (length (e .graph)) k2 b2 w2
           listed es e i j m = rw (i, j, m) p2
 
 -- the parts of a header
-module _ (n k : ℕ) (w : List ℕ) (g head base count : ℕ) (is : head ≡ getD (words w) g 0) (first : base ≡ word-number head)
+module _ (n k : ℕ) (w : List ℕ) (g head base count : ℕ) (is : head ≡ getD (loaded-words w) g 0) (first : base ≡ word-number head)
     (many : count ≡ word-nodes head) where
   pub parts : (es : List Entry) (e : Entry) → e .at ≡ g → Comes n es e w → (e .number ≡ base) × (length (e .graph) ≡ count)
   parts es e i d =
       let l = d .lies in
       let word : head ≡ graph-word (length (e .graph)) (e .number) (suc (weight (e .graph))) =
-      is ∙ ap (λ (z : ℕ). getD (words w) z 0) (sym i) ∙ word-at w (e .at) (omega (arith, l .fits)) ∙ l .head in (
+      is ∙ ap (λ (z : ℕ). getD (loaded-words w) z 0) (sym i) ∙ word-at w (e .at) (omega (arith, l .fits)) ∙ l .head in (
         sym (first ∙ ap word-number word ∙ number-back (length (e .graph)) (e .number) (suc (weight (e .graph))) (l .few) (l .low)),
         sym (many ∙ ap word-nodes word ∙ nodes-back (length (e .graph)) (e .number) (suc (weight (e .graph))) (l .few)),
       )

@@ -7,19 +7,19 @@ use lib.ListN.{length, getD}
 use Rattle.area.specs.Map.{SIZE}
 use Rattle.forest.specs.Labels.{Eq}
 use Rattle.forest.specs.Held.{AtomCode}
-use Rattle.forest.specs.State.{Pile, Done, Same, Clashes, First, State, Full}
+use Rattle.forest.specs.State.{Pile, Done, Equal, ClashIn, First, State, Full}
 use Rattle.forest.proofs.Fuse.{low, top}
 use Rattle.forest.proofs.Links.{first-det, first-mem}
 use Rattle.classes.proofs.Visits.{near-none}
 
 module _ (G : Pile) (H : Done) (F T : List ℕ) (n k s : ℕ) (w : List ℕ) (hn : n ≤ 1024) (hw : SIZE ≤ length w) (u : State G H F T n k s [] w)
     (f : Full G H) where
-  pub complete : {x y : ℕ} → Same G F T x y → Eq (u .M) x y
-  complete {x} {y} (Same.root a b) = sym (u .held (f .root) x (f .roots x a)) ∙ u .held (f .root) y (f .roots y b)
-  complete (Same.self x) = refl
-  complete (Same.back r) = sym (complete r)
-  complete (Same.on r t) = complete r ∙ complete t
-  complete (Same.along {p} {q} a b e r) =
+  pub complete : {x y : ℕ} → Equal G F T x y → Eq (u .M) x y
+  complete {x} {y} (Equal.root a b) = sym (u .held (f .root) x (f .roots x a)) ∙ u .held (f .root) y (f .roots y b)
+  complete (Equal.self x) = refl
+  complete (Equal.back r) = sym (complete r)
+  complete (Equal.on r t) = complete r ∙ complete t
+  complete (Equal.along {p} {q} a b e r) =
       let o = u .cover p (f .arcs p a) in
       let o' = u .cover q (f .arcs q b) in
       let c : Eq (u .M) (G .S p) (G .S q) = complete r in
@@ -28,10 +28,10 @@ module _ (G : Pile) (H : Done) (F T : List ℕ) (n k s : ℕ) (w : List ℕ) (hn
       (subst (λ (z : ℕ). First F (getD F p 0) (getD (u .C) z []) (o .0)) c (o .1 .0))) (o' .1 .0) in
       sym (near-none F T (u .M) w (o .1 .1)) ∙ ap (λ (z : ℕ). getD (u .M) (getD T z 0) 0) d ∙ near-none F T (u .M) w (o' .1 .1)
 
-  pub agree : Clashes G F T → ⊥
-  agree (Clashes.atoms {x} {y} a b r nx ny ne) =
+  pub agree : ClashIn G F T → ⊥
+  agree (ClashIn.atoms {x} {y} a b r nx ny ne) =
       ne (sym (u .met x (f .atoms x a nx) nx) ∙ ap (λ (z : ℕ). getD w z 0) (complete r) ∙ u .met y (f .atoms y b ny) ny)
-  agree (Clashes.mixed {x} {q} a nx b r) =
+  agree (ClashIn.mixed {x} {q} a nx b r) =
       let e : Eq (u .M) x (G .S q) = complete r in
       let m = f .atoms x a nx in
       let hx = u .nodes x m .0 in

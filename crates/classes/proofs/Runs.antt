@@ -11,8 +11,8 @@ use lib.ListN.{length, getD}
 use Rattle.theory.specs.Net.{Node, atom, arcs, Graph}
 use Rattle.area.specs.Log.{Logged, Later}
 use Rattle.area.proofs.Undo.{later-refl, later-trans}
-use Rattle.forest.specs.State.{Pile, Done, Clashes, State, Fresh, Coming, Bearing, Heading, Headed}
-use Rattle.forest.specs.Order.{Ordered, Taken}
+use Rattle.forest.specs.State.{Pile, Done, ClashIn, State, Fresh, Coming, Bearing, Heading, Headed}
+use Rattle.forest.specs.Order.{Ordered, VisitedInOrder}
 use Rattle.classes.specs.Nodes.{strung, grown, Batch, Batched, Run, span, AtomAt, ArcsAt, NodeAt, Ahead, noded, Noding, Noded, spans}
 use Rattle.classes.specs.Nodes.{NodesAt, listed, Listing, Listed}
 
@@ -77,7 +77,7 @@ module _ (F T : List ℕ) (n k : ℕ) (w : List ℕ) (x from d done e at : ℕ) 
         fresh (g .G) (g .H) (g .batch);
   }
 
-  module _ (e2 at2 : ℕ) (bad : Bool) (w2 : List ℕ) (v : Taken F T n e w' x here e2 at2 bad w2) where
+  module _ (e2 at2 : ℕ) (bad : Bool) (w2 : List ℕ) (v : VisitedInOrder F T n e w' x here e2 at2 bad w2) where
     pub stringing-turn : bad ≡ false → Stringing F T n k w x from d (done + 1) e2 at2 w2
     stringing-turn z = record {
       below = omega arith;
@@ -155,7 +155,7 @@ module _ (F T : List ℕ) (n k : ℕ) (w : List ℕ) (x p : ℕ) where
       fine z G H (arcs l) u s r = let e = s .head in let b = s .low in absurd (omega arith)
 
       clash : bad ≡ true → (G : Pile) (H : Done) (v : Node) → State G H F T n k 0 [] w → NodeAt F G n x p v → Ahead H n p (span v) →
-          Clashes G F T
+          ClashIn G F T
       clash z G H (atom a) u s r = m .clash z G H u (bearing G H a s r)
       clash z G H (arcs l) u s r = let e = s .head in let b = s .low in absurd (omega arith)
 
@@ -175,7 +175,7 @@ module _ (F T : List ℕ) (n k : ℕ) (w : List ℕ) (x p : ℕ) where
           m' .fine z G H u (batch G H l s r)
 
       clash : bad ≡ true → (G : Pile) (H : Done) (v : Node) → State G H F T n k 0 [] w → NodeAt F G n x p v → Ahead H n p (span v) →
-          Clashes G F T
+          ClashIn G F T
       clash z G H (atom a) u s r = let e = s .head in absurd (omega arith)
       clash z G H (arcs l) u s r = let m' : Run F T n k w x (p + 1) (length l) k' bad w' = rw (s .head) at m in
           m' .clash z G H u (batch G H l s r)
@@ -248,7 +248,7 @@ module _ (F T : List ℕ) (n k : ℕ) (w : List ℕ) (x p c : ℕ) where
       }
         where
           told : (G : Pile) (D : Done) (o : Reached F T G D n e w' y at left) (us : Graph) → length us ≡ left → NodesAt F G n y at us →
-              Ahead (o .H) n at (spans us) → Clashes G F T
+              Ahead (o .H) n at (spans us) → ClashIn G F T
           told G D o [] l s r = absurd (omega arith)
           told G D o (u ∷ us) l s r = v .clash z G (o .H) u (o .state) (s .0) (ahead-first (o .H) n at (span u) (spans us) r)
 

@@ -7,7 +7,7 @@ use native.Mathlib.Omega.{arith}
 use lib.ListN.{length, getD}
 use Rattle.area.specs.Map.{NEXT}
 use Rattle.forest.specs.State.{Chain, First}
-use Rattle.forest.specs.Order.{Rising, Between}
+use Rattle.forest.specs.Order.{FeaturesRise, Between}
 use Rattle.forest.proofs.Links.{chain-same}
 use Rattle.forest.proofs.Places.{chain-once, between-where}
 
@@ -42,8 +42,8 @@ module _ (F : List ℕ) (t : ℕ) where
   lodge-grows b a (j ∷ xs) (inl u) = grows-front F t (j ∷ xs)
   lodge-grows b a (j ∷ xs) (inr u) = grows-after F t j xs (lodge (NEXT + j) a xs (u .1)) (u .0) (lodge-grows (NEXT + j) a xs (u .1))
 
-  pub lodge-rising : (b a low : ℕ) (xs : List ℕ) (u : Between F (getD F t 0) b a xs) → low ≤ getD F t 0 → Rising F low xs →
-      Rising F low (lodge b a xs u)
+  pub lodge-rising : (b a low : ℕ) (xs : List ℕ) (u : Between F (getD F t 0) b a xs) → low ≤ getD F t 0 → FeaturesRise F low xs →
+      FeaturesRise F low (lodge b a xs u)
   lodge-rising b a low [] u h r = (h, tt)
   lodge-rising b a low (j ∷ xs) (inl u) h r = let l = u .1 in (h, (omega arith, r .1))
   lodge-rising b a low (j ∷ xs) (inr u) h r = let l = u .0 in

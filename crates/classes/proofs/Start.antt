@@ -10,11 +10,11 @@ use lib.ListN.{length, set, getD, replicate, length-replicate, length-set}
 use lib.Seq.{getD-set-same, getD-set-other}
 use lib.Dec.{eqb}
 use Rattle.area.specs.Map.{HELD, PARENT, NEXT, LOG, SIZE}
-use Rattle.area.specs.Region.{region, words}
+use Rattle.area.specs.Region.{region, loaded-words}
 use Rattle.area.proofs.Region.{length-region, getD-region, held-at}
-use Rattle.forest.specs.Labels.{pick}
+use Rattle.forest.specs.Labels.{by-test}
 use Rattle.forest.specs.Forest.{tops}
-use Rattle.forest.specs.State.{targets, Pile, Done, Same, Chain, State, total}
+use Rattle.forest.specs.State.{targets, Pile, Done, Equal, Chain, State, total-length}
 use Rattle.classes.specs.Holds.{Holds, Starts}
 
 tops-le : (i : ℕ) (P : List ℕ) → tops i P ≤ length P
@@ -22,7 +22,7 @@ unfolding tops
 tops-le i [] = omega arith
 tops-le i (x ∷ P) = go (eqb x i) (tops-le (suc i) P)
   where
-    go : (b : Bool) → tops (suc i) P ≤ length P → pick b 1 0 + tops (suc i) P ≤ suc (length P)
+    go : (b : Bool) → tops (suc i) P ≤ length P → by-test b 1 0 + tops (suc i) P ≤ suc (length P)
     go true r = omega arith
     go false r = omega arith
 
@@ -34,10 +34,10 @@ none-length : (n : ℕ) → length (none n) ≡ n
 unfolding none
 none-length n = length-replicate n []
 
-none-total : (n : ℕ) → total (none n) ≡ 0
-unfolding none total
+none-total : (n : ℕ) → total-length (none n) ≡ 0
+unfolding none total-length
 none-total zero = refl
-none-total (suc n) = let r : total (replicate n []) ≡ 0 = none-total n in omega arith
+none-total (suc n) = let r : total-length (replicate n []) ≡ 0 = none-total n in omega arith
 
 none-at : (n c : ℕ) → getD (none n) c [] ≡ []
 unfolding none
@@ -110,7 +110,7 @@ module _ (w₀ w : List ℕ) (hw : SIZE ≤ length w₀) (s : Started w₀ 1024 
           met = λ i m. absurd (List·Memᴰ·not-nil m);
           held = λ x y m. let e = List·Memᴰ·eq-of-singleton m in ap (λ (v : ℕ × ℕ). getD P (v .0) 0) e
               ∙ ap (λ (v : ℕ × ℕ). getD P (v .1) 0) (sym e);
-          sound = λ i j hi hj e. subst (λ (z : ℕ). Same unpushed F T i z) (sym (own i hi) ∙ e ∙ own j hj) (Same.self i);
+          sound = λ i j hi hj e. subst (λ (z : ℕ). Equal unpushed F T i z) (sym (own i hi) ∙ e ∙ own j hj) (Equal.self i);
           frame = λ a b m. absurd (List·Memᴰ·not-nil m);
         }
 
@@ -120,7 +120,7 @@ module _ (w₀ w : List ℕ) (hw : SIZE ≤ length w₀) (s : Started w₀ 1024 
       below = hn;
       G = unpushed;
       H = undone;
-      state = empty (words w) (targets w);
+      state = empty (loaded-words w) (targets w);
       full = record {
         arcs = λ q m. absurd (List·Memᴰ·not-nil m);
         atoms = λ i m. absurd (List·Memᴰ·not-nil m);

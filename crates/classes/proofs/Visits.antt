@@ -14,12 +14,12 @@ use borrow.Author.Tests.{eqb-true, eqb-false}
 use Rattle.area.specs.Map.{PARENT, NEXT, LOG, SIZE}
 use Rattle.area.specs.Region.{region}
 use Rattle.forest.specs.Labels.{Eq}
-use Rattle.area.specs.Log.{Logged, Put}
+use Rattle.area.specs.Log.{Logged, Stores}
 use Rattle.forest.specs.Forest.{Root, tops}
 use Rattle.forest.specs.Held.{last-arc, ChainCode, AtomCode}
-use Rattle.forest.specs.State.{Pile, Done, Same, Clashes, Chain, First, None, Near, Bears, State, Runs, Calm, Looked, withPair, withArc}
+use Rattle.forest.specs.State.{Pile, Done, Equal, ClashIn, Chain, First, None, Near, Bears, State, Runs, Calm, Looked, withPair, withArc}
 use Rattle.forest.specs.State.{withNode, Fresh, Visited, United, Bearing, Headed}
-use Rattle.forest.specs.Order.{Rising, Risen, Between, Hint, Ordered, Located, Steady}
+use Rattle.forest.specs.Order.{FeaturesRise, Risen, Between, Hint, Ordered, Located, Steady}
 use Rattle.area.proofs.Region.{length-region, region-ext}
 use Rattle.area.proofs.Undo.{later-refl, later-trans, put-at, put-off}
 use Rattle.forest.proofs.Links.{chain-same, chain-zero, first-mem, first-feature, none-first, total-set}
@@ -53,7 +53,7 @@ hint-first F w c r u e = record { low = omega arith; up = u .up e; on = λ z. ab
 pub hint-none : (F w : List ℕ) (c : ℕ) → getD w c 0 ≡ 0 → Hint F w c 1
 hint-none F w c e = record {
   low = omega arith;
-  up = λ xs d. subst (Rising F 0) (sym (chain-zero w (getD w c 0) xs e d)) tt;
+  up = λ xs d. subst (FeaturesRise F 0) (sym (chain-zero w (getD w c 0) xs e d)) tt;
   on = λ z. absurd (omega arith);
 }
 
@@ -96,7 +96,7 @@ module _ (F T : List ℕ) (n k : ℕ) (w : List ℕ) (hn : n ≤ 1024) (hw : SIZ
     class-runs l = record { xs = getD (u .C) c []; chain = chain-c l; short = short G H F T n k 0 [] w (omega arith) hw u c }
 
     -- an arc of the class
-    arc-of : (i : ℕ) → List·Memᴰ i (getD (u .C) c []) → List·Memᴰ i (G .B) × (Same G F T x (G .S i) × ((getD T i 0 < n) × (i < 2047)))
+    arc-of : (i : ℕ) → List·Memᴰ i (getD (u .C) c []) → List·Memᴰ i (G .B) × (Equal G F T x (G .S i) × ((getD T i 0 < n) × (i < 2047)))
     arc-of i m =
         let h = u .home c i c-in m in
         let b = u .known i (h .0) in
@@ -108,7 +108,7 @@ module _ (F T : List ℕ) (n k : ℕ) (w : List ℕ) (hn : n ≤ 1024) (hw : SIZ
     head-of [] d e = absurd (d e)
     head-of (j ∷ l) d e = (j, List·Memᴰ·head refl)
 
-    bearer : (g : AtomCode (getD w c 0)) → Same G F T (u .bare c c-in Mc g .1 .i) x
+    bearer : (g : AtomCode (getD w c 0)) → Equal G F T (u .bare c c-in Mc g .1 .i) x
     bearer g = let r = u .bare c c-in Mc g .1 in u .sound (r .i) x (r .small) hx (r .class ∙ sym Mx)
 
   -- ---- an arc and an atom
@@ -118,8 +118,8 @@ module _ (F T : List ℕ) (n k : ℕ) (w : List ℕ) (hn : n ≤ 1024) (hw : SIZ
     fine = λ z. let y : _≡_ {A = ℕ} 0 1 = cc in absurd (omega arith);
     clash = λ z G H u f.
         let r = u .bare c c-in (Mc G H u) h .1 in
-        Clashes.mixed (r .node) (λ e. let d : (G .A) (r .i) ≡ getD w c 0 = r .is in
-        omega arith) (f .arc) (subst (λ (v : ℕ). Same G F T (r .i) v) (sym (f .is)) (bearer G H u h));
+        ClashIn.mixed (r .node) (λ e. let d : (G .A) (r .i) ≡ getD w c 0 = r .is in
+        omega arith) (f .arc) (subst (λ (v : ℕ). Equal G F T (r .i) v) (sym (f .is)) (bearer G H u h));
   }
 
   -- ---- the feature is there: the targets are equal
@@ -130,12 +130,12 @@ module _ (F T : List ℕ) (n k : ℕ) (w : List ℕ) (hn : n ≤ 1024) (hw : SIZ
     pub found-arc : (G : Pile) (H : Done) (u : State G H F T n k 0 [] w) → (getD T i 0 < n) × (i < 2047)
     found-arc G H u = arc-of G H u i (first-mem F (getD F t 0) (getD (u .C) c []) i (found G H u)) .1 .1
 
-    pub found-same : (G : Pile) (H : Done) (u : State G H F T n k 0 [] w) → Fresh G H n x t → Same G F T (getD T t 0) (getD T i 0)
+    pub found-same : (G : Pile) (H : Done) (u : State G H F T n k 0 [] w) → Fresh G H n x t → Equal G F T (getD T t 0) (getD T i 0)
     found-same G H u f =
         let p = found G H u in
         let a = arc-of G H u i (first-mem F (getD F t 0) (getD (u .C) c []) i p) in
-        Same.along (f .arc) (a .0) (sym (first-feature F (getD F t 0) (getD (u .C) c []) i p))
-        (subst (λ (v : ℕ). Same G F T v (G .S i)) (sym (f .is)) (a .1 .0))
+        Equal.along (f .arc) (a .0) (sym (first-feature F (getD F t 0) (getD (u .C) c []) i p))
+        (subst (λ (v : ℕ). Equal G F T v (G .S i)) (sym (f .is)) (a .1 .0))
 
     pub visit-found : (k' : ℕ) (bad : Bool) (w' : List ℕ) → United F T n k w (getD T t 0) (getD T i 0) k' bad w' →
         Visited F T n k w x t k' bad w'
@@ -201,7 +201,7 @@ module _ (F T : List ℕ) (n k : ℕ) (w : List ℕ) (hn : n ≤ 1024) (hw : SIZ
   -- ---- the feature is not there: the arc goes onto the chain, after the link l
   module _ (t : ℕ) (ht : t < 2048) (lc : ChainCode (getD w c 0)) (at l : ℕ) (hint : 0 < at →
       Hint F w c at) (loc : Located F w (getD F t 0) c l 0) (h : ℕ) (eh : h ≡ getD w l 0) (hk : k + 2 ≤ 4096)
-      (k1 k2 : ℕ) (w1 w2 : List ℕ) (p1 : Put k w (NEXT + t) h k1 w1) (p2 : Put k1 w1 l (t + 1) k2 w2) where
+      (k1 k2 : ℕ) (w1 w2 : List ℕ) (p1 : Stores k w (NEXT + t) h k1 w1) (p2 : Stores k1 w1 l (t + 1) k2 w2) where
     off : (j : ℕ) → (j ≡ NEXT + t → ⊥) → (j ≡ l → ⊥) → j < LOG → getD w2 j 0 ≡ getD w j 0
     off j a b i = let e = p1 .next in put-off k1 w1 l (t + 1) k2 w2 p2 (omega arith) j b (inl i)
         ∙ put-off k w (NEXT + t) h k1 w1 p1 (omega arith) j a (inl i)
@@ -395,7 +395,7 @@ module _ (F T : List ℕ) (n k : ℕ) (w : List ℕ) (hn : n ≤ 1024) (hw : SIZ
           lodge F t c l xs gap ≡ ys = λ ys d. chain-det w2 (getD w2 c 0) (lodge F t c l xs gap) ys lodged d in
           record {
             low = omega arith;
-            up = λ ys d. subst (Rising F 0) (is ys d) (lodge-rising F t c l 0 xs gap (omega arith) r);
+            up = λ ys d. subst (FeaturesRise F 0) (is ys d) (lodge-rising F t c l 0 xs gap (omega arith) r);
             on = λ e ys d. rw q (subst (List·Memᴰ t) (is ys d)
                 (first-mem F (getD F t 0) (lodge F t c l xs gap) t (lodge-grows F t c l xs gap .mine)));
           }
@@ -422,17 +422,17 @@ module _ (F T : List ℕ) (n k : ℕ) (w : List ℕ) (hn : n ≤ 1024) (hw : SIZ
       clash = λ z G H u b. go G H u b (decLt last-arc (getD w c 0));
     }
       where
-        go : (G : Pile) (H : Done) (u : State G H F T n k 0 [] w) → Bearing G H n x v → Dec (AtomCode (getD w c 0)) → Clashes G F T
+        go : (G : Pile) (H : Done) (u : State G H F T n k 0 [] w) → Bearing G H n x v → Dec (AtomCode (getD w c 0)) → ClashIn G F T
         go G H u b (yes l) =
             let r = u .bare c c-in (Mc G H u) l .1 in
             let q : (G .A) (r .i) ≡ getD w c 0 = r .is in
             let q' : (G .A) x ≡ v = b .is in
-            Clashes.atoms (r .node) (b .node) (bearer G H u l) (λ o. omega arith) (λ o. omega arith) (λ o. e (sym q ∙ o ∙ q'))
+            ClashIn.atoms (r .node) (b .node) (bearer G H u l) (λ o. omega arith) (λ o. omega arith) (λ o. e (sym q ∙ o ∙ q'))
         go G H u b (no l) =
             let t = head-of G H u (getD (u .C) c []) d (chain-c G H u (omega arith)) in
             let a = arc-of G H u (t .0) (t .1) in
             let q' : (G .A) x ≡ v = b .is in
-            Clashes.mixed (b .node) (λ o. omega arith) (a .0) (a .1 .0)
+            ClashIn.mixed (b .node) (λ o. omega arith) (a .0) (a .1 .0)
 
     mark-same : Logged k w → getD w c 0 ≡ v → Headed F T n k w x v k false w
     mark-same g e = record {
@@ -476,7 +476,7 @@ module _ (F T : List ℕ) (n k : ℕ) (w : List ℕ) (hn : n ≤ 1024) (hw : SIZ
         go true i = mark-same g (sym e ∙ eqb-true h v i)
         go false i = mark-clash g (λ z. omega arith) (λ z. eqb-false h v i (e ∙ z))
 
-    module _ (e0 : getD w c 0 ≡ 0) (hk : k + 1 ≤ 4096) (k1 : ℕ) (w1 : List ℕ) (p1 : Put k w c v k1 w1) where
+    module _ (e0 : getD w c 0 ≡ 0) (hk : k + 1 ≤ 4096) (k1 : ℕ) (w1 : List ℕ) (p1 : Stores k w c v k1 w1) where
       off1 : (j : ℕ) → (j ≡ c → ⊥) → j < LOG → getD w1 j 0 ≡ getD w j 0
       off1 j a l = put-off k w c v k1 w1 p1 (omega arith) j a (inl l)
 

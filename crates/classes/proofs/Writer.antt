@@ -10,12 +10,12 @@ use Rattle.area.specs.Map.{PARENT}
 use Rattle.theory.specs.Limits.{code-limit}
 use Rattle.theory.specs.Net.{beside, Same, roots}
 use Rattle.theory.proofs.Meaning.{some-root}
-use Rattle.area.specs.Region.{region, words}
+use Rattle.area.specs.Region.{region, loaded-words}
 use Rattle.forest.specs.Forest.{tops}
 use Rattle.forest.specs.Held.{last-arc, ChainCode, AtomCode}
 use Rattle.forest.specs.State.{targets, First}
 use Rattle.loading.specs.Entry.{Entry, graphs}
-use Rattle.classes.specs.Entry.{Spots, number-of}
+use Rattle.classes.specs.Entry.{Spots, spot-number}
 use Rattle.classes.specs.Holds.{Holds, class}
 use Rattle.classes.proofs.Content.{Content}
 use Rattle.area.proofs.Region.{length-region}
@@ -30,7 +30,7 @@ module _ (n : ℕ) (es : List Entry) (k : ℕ) (w : List ℕ) (h : Holds n es k 
   pub holds-room : k + 3 * tops 0 (region PARENT n w) ≤ 4096
   holds-room = let a = h .state .room in let b = h .state .few in omega arith
 
-  pub spot-low : (s : Spots es) → number-of es s < n
+  pub spot-low : (s : Spots es) → spot-number es s < n
   spot-low s = let r = spot-node es s in let i = h .each (r .e) (r .one) .inside in let b = r .below in let d = r .is in omega arith
 
   -- ---- classes
@@ -39,65 +39,66 @@ module _ (n : ℕ) (es : List Entry) (k : ℕ) (w : List ℕ) (h : Holds n es k 
       label-low (region PARENT n w) (h .state .M) (h .state .shape) (h .state .forest) x (omega arith)
 
   pub class-top : (x : ℕ) → x < n → class h (class h x) ≡ class h x
-  class-top x l = top (h .G) (h .H) (words w) (targets w) n k 0 [] w (h .below) (h .long) (h .state) x l
+  class-top x l = top (h .G) (h .H) (loaded-words w) (targets w) n k 0 [] w (h .below) (h .long) (h .state) x l
 
-  pub class-root : (s : Spots es) → beside (graphs es) .Root s → class h (number-of es s) ≡ class h 0
+  pub class-root : (s : Spots es) → beside (graphs es) .Root s → class h (spot-number es s) ≡ class h 0
   class-root s r =
-      let m = h .full .roots (number-of es s) (root-down (words w) (targets w) es (h .G) (h .tied) es (λ e i. i) s r) in
-      sym (h .state .held (h .full .root) (number-of es s) m) ∙ ap (class h) (h .top)
+      let m = h .full .roots (spot-number es s) (root-down (loaded-words w) (targets w) es (h .G) (h .tied) es (λ e i. i) s r) in
+      sym (h .state .held (h .full .root) (spot-number es s) m) ∙ ap (class h) (h .top)
 
   pub same-class : (s t : Spots es) → Same (beside (graphs es)) (roots (beside (graphs es))) s t →
-      class h (number-of es s) ≡ class h (number-of es t)
-  same-class s t p = complete (h .G) (h .H) (words w) (targets w) n k 0 w (h .below) (h .long) (h .state) (h .full)
-      (same-down (words w) (targets w) es (h .G) (h .tied) p)
+      class h (spot-number es s) ≡ class h (spot-number es t)
+  same-class s t p = complete (h .G) (h .H) (loaded-words w) (targets w) n k 0 w (h .below) (h .long) (h .state) (h .full)
+      (same-down (loaded-words w) (targets w) es (h .G) (h .tied) p)
 
-  pub class-same : (s t : Spots es) → class h (number-of es s) ≡ class h (number-of es t) →
+  pub class-same : (s t : Spots es) → class h (spot-number es s) ≡ class h (spot-number es t) →
       Same (beside (graphs es)) (roots (beside (graphs es))) s t
   class-same s t e =
       let r = some-root (graphs es) s in
-      same-up (words w) (targets w) es (h .G) (h .tied) (h .apart) (r .0) (r .1)
-      (h .state .sound (number-of es s) (number-of es t) (spot-low s) (spot-low t) e) s t (inl refl) (inl refl)
+      same-up (loaded-words w) (targets w) es (h .G) (h .tied) (h .apart) (r .0) (r .1)
+      (h .state .sound (spot-number es s) (spot-number es t) (spot-low s) (spot-low t) e) s t (inl refl) (inl refl)
 
   -- ---- what a class holds
   module _ (c : ℕ) (hc : c < n) (own : class h c ≡ c) where
-    arc-in : (s : Spots es) (f : ℕ) (t : Spots es) → beside (graphs es) .Arc s f t → class h (number-of es s) ≡ c
+    arc-in : (s : Spots es) (f : ℕ) (t : Spots es) → beside (graphs es) .Arc s f t → class h (spot-number es s) ≡ c
         → ChainCode (getD w c 0) × ((q : ℕ)
-        × (First (words w) f (getD (h .state .C) c []) q × (class h (getD (targets w) q 0) ≡ class h (number-of es t))))
+        × (First (loaded-words w) f (getD (h .state .C) c []) q × (class h (getD (targets w) q 0) ≡ class h (spot-number es t))))
     arc-in s f t a e =
-        let r = arc-down (words w) (targets w) es (h .G) (h .tied) es (λ e i. i) s f t a in
+        let r = arc-down (loaded-words w) (targets w) es (h .G) (h .tied) es (λ e i. i) s f t a in
         let o = h .state .cover (r .0) (h .full .arcs (r .0) (r .1 .0)) in
         let z : class h (h .G .S (r .0)) ≡ c = ap (class h) (r .1 .1 .0) ∙ e in
-        let x : First (words w) f (getD (h .state .C) c []) (o .0) =
-        subst (λ (i : ℕ). First (words w) f (getD (h .state .C) i []) (o .0)) z
-        (subst (λ (i : ℕ). First (words w) i (getD (h .state .C) (class h (h .G .S (r .0))) []) (o .0)) (r .1 .1 .1 .0) (o .1 .0)) in (
+        let x : First (loaded-words w) f (getD (h .state .C) c []) (o .0) =
+        subst (λ (i : ℕ). First (loaded-words w) f (getD (h .state .C) i []) (o .0)) z
+        (subst (λ (i : ℕ). First (loaded-words w) i (getD (h .state .C) (class h (h .G .S (r .0))) []) (o .0)) (r .1 .1 .1 .0)
+        (o .1 .0)) in (
           small (o .0) x (decLt last-arc (getD w c 0)),
-          (o .0, (x, near-none (words w) (targets w) (h .state .M) w (o .1 .1) ∙ ap (class h) (r .1 .1 .1 .1))),
+          (o .0, (x, near-none (loaded-words w) (targets w) (h .state .M) w (o .1 .1) ∙ ap (class h) (r .1 .1 .1 .1))),
         )
       where
-        small : (q : ℕ) → First (words w) f (getD (h .state .C) c []) q → Dec (AtomCode (getD w c 0)) → ChainCode (getD w c 0)
+        small : (q : ℕ) → First (loaded-words w) f (getD (h .state .C) c []) q → Dec (AtomCode (getD w c 0)) → ChainCode (getD w c 0)
         small q x (yes l) = absurd (List·Memᴰ·not-nil
-            (subst (List·Memᴰ q) (h .state .bare c hc own l .0) (first-mem (words w) f (getD (h .state .C) c []) q x)))
+            (subst (List·Memᴰ q) (h .state .bare c hc own l .0) (first-mem (loaded-words w) f (getD (h .state .C) c []) q x)))
         small q x (no l) = omega arith
 
     pub content : Content es (class h) w c
     content = record {
       atom-in = λ s a u e.
-          let r = atom-down (words w) (targets w) es (h .G) (h .tied) es (λ e i. i) s a u in
-          let z : h .G .A (number-of es s) ≡ code-limit + a = r .1 in
-          let nz : h .G .A (number-of es s) ≡ 0 → ⊥ = λ y. omega arith in
-          ap (λ (i : ℕ). getD w i 0) (sym e) ∙ h .state .met (number-of es s) (h .full .atoms (number-of es s) (r .0) nz) nz ∙ z;
+          let r = atom-down (loaded-words w) (targets w) es (h .G) (h .tied) es (λ e i. i) s a u in
+          let z : h .G .A (spot-number es s) ≡ code-limit + a = r .1 in
+          let nz : h .G .A (spot-number es s) ≡ 0 → ⊥ = λ y. omega arith in
+          ap (λ (i : ℕ). getD w i 0) (sym e) ∙ h .state .met (spot-number es s) (h .full .atoms (spot-number es s) (r .0) nz) nz ∙ z;
       atom-from = λ l.
           let b = h .state .bare c hc own l .1 in
           let v : h .G .A (b .i) ≡ getD w c 0 = b .is in
-          let r = atom-up (words w) (targets w) es (h .G) (h .tied) (b .i) (b .node) (λ y. omega arith) in
+          let r = atom-up (loaded-words w) (targets w) es (h .G) (h .tied) (b .i) (b .node) (λ y. omega arith) in
           (r .0, (ap (class h) (r .1 .0) ∙ b .class, (r .1 .1 .0, (r .1 .1 .1 .0, sym v ∙ r .1 .1 .1 .1))));
       chain = getD (h .state .C) c [];
-      short = short (h .G) (h .H) (words w) (targets w) n k 0 [] w (h .below) (h .long) (h .state) c;
+      short = short (h .G) (h .H) (loaded-words w) (targets w) n k 0 [] w (h .below) (h .long) (h .state) c;
       linked = λ l. h .state .chain c hc own l;
       arc-in = arc-in;
       arc-from = λ q m.
           let o = h .state .home c q hc m in
           let b = h .state .known q (o .0) in
-          let r = ends (words w) (targets w) es (h .G) (h .tied) q b in
+          let r = ends (loaded-words w) (targets w) es (h .G) (h .tied) q b in
           (h .state .arcs q b .0, (r .0, (r .1 .0, (ap (class h) (r .1 .1 .0) ∙ o .1, (r .1 .1 .1 .0, r .1 .1 .1 .1)))));
     }

@@ -16,9 +16,9 @@ use Rattle.theory.specs.Weight.{weight, weights}
 abbrev pub Spots : List Entry → Type 0
 Spots es = beside (graphs es) .Spot
 
-abbrev pub number-of : (es : List Entry) → Spots es → ℕ
-number-of (e ∷ es) (inl x) = e .number + x .0
-number-of (e ∷ es) (inr y) = number-of es y
+abbrev pub spot-number : (es : List Entry) → Spots es → ℕ
+spot-number (e ∷ es) (inl x) = e .number + x .0
+spot-number (e ∷ es) (inr y) = spot-number es y
 
 -- the graph K lies in the words of w: at g its header, after it its nodes, the first of which has the number n
 pub record Lies (w : List ℕ) (g n : ℕ) (K : Graph) : Type 0 where

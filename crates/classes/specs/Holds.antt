@@ -13,7 +13,7 @@ use Rattle.theory.specs.Weight.{weight, weights}
 use Rattle.area.specs.Log.{body, past, Logged, Later}
 use Rattle.classes.specs.declared.push.Pushed.{Pushed}
 use Rattle.classes.specs.declared.push.Pushed.the-variants.{In, Clashed}
-use Rattle.area.specs.Region.{words}
+use Rattle.area.specs.Region.{loaded-words}
 use Rattle.forest.specs.State.{targets, Pile, Done, State, Full}
 use Rattle.loading.specs.Entry.{Entry, graphs}
 use Rattle.classes.specs.Entry.{Lies, Aside, Comes}
@@ -76,10 +76,10 @@ pub record Holds (n : ℕ) (es : List Entry) (k : ℕ) (w : List ℕ) : Type 0 w
   pub below : n ≤ NODES
   pub G : Pile
   pub H : Done
-  pub state : State G H (words w) (targets w) n k 0 [] w
+  pub state : State G H (loaded-words w) (targets w) n k 0 [] w
   pub full : Full G H
   pub top : full .root ≡ 0
-  pub tied : Tied (words w) (targets w) es G
+  pub tied : Tied (loaded-words w) (targets w) es G
   pub apart : Apart es
   pub each : (e : Entry) → List·Memᴰ e es → Sits n w e
   pub count : 2 * length (H .K) + length (H .U) ≤ weights (graphs es)

@@ -8,7 +8,7 @@ use Rattle.area.specs.Map.{ENTRIES, LOADED}
 use Rattle.theory.specs.Limits.{code-limit}
 use Rattle.theory.specs.Net.{Node, atom, arcs, Graph}
 use Rattle.area.specs.Log.{Later}
-use Rattle.forest.specs.State.{Pile, Done, Clashes, State, withNode}
+use Rattle.forest.specs.State.{Pile, Done, ClashIn, State, withNode}
 
 -- ---- the arcs of a node
 -- the d arcs from t on, each two words after the one before, the last one first
@@ -34,7 +34,7 @@ pub record Run (F T : List ℕ) (n k : ℕ) (w : List ℕ) (x from d k' : ℕ) (
   pub later : Later k w k' w'
   pub fine : bad ≡ false → (G : Pile) (H : Done) → State G H F T n k 0 [] w → Batch G H n x from d →
       State G (grown H from d) F T n k' 0 [] w'
-  pub clash : bad ≡ true → (G : Pile) (H : Done) → State G H F T n k 0 [] w → Batch G H n x from d → Clashes G F T
+  pub clash : bad ≡ true → (G : Pile) (H : Done) → State G H F T n k 0 [] w → Batch G H n x from d → ClashIn G F T
 
 -- ---- a node
 -- how many words it takes
@@ -84,7 +84,7 @@ pub record Noded (F T : List ℕ) (n k : ℕ) (w : List ℕ) (x p k' : ℕ) (bad
   pub fine : bad ≡ false → (G : Pile) (H : Done) (v : Node) → State G H F T n k 0 [] w → NodeAt F G n x p v → Ahead H n p (span v) →
       State G (noded H x p v) F T n k' 0 [] w'
   pub clash : bad ≡ true → (G : Pile) (H : Done) (v : Node) → State G H F T n k 0 [] w → NodeAt F G n x p v → Ahead H n p (span v) →
-      Clashes G F T
+      ClashIn G F T
 
 -- ---- the nodes of a graph
 abbrev pub spans : Graph → ℕ
@@ -114,4 +114,4 @@ pub record Listed (F T : List ℕ) (n k : ℕ) (w : List ℕ) (x p c k' : ℕ) (
   pub fine : bad ≡ false → (G : Pile) (H : Done) (vs : Graph) → length vs ≡ c → State G H F T n k 0 [] w → NodesAt F G n x p vs →
       Ahead H n p (spans vs) → State G (listed H x p vs) F T n k' 0 [] w'
   pub clash : bad ≡ true → (G : Pile) (H : Done) (vs : Graph) → length vs ≡ c → State G H F T n k 0 [] w → NodesAt F G n x p vs →
-      Ahead H n p (spans vs) → Clashes G F T
+      Ahead H n p (spans vs) → ClashIn G F T

@@ -7,7 +7,7 @@ use area::map::NODES;
 use area::map::PARENT;
 use forest::chain::loaded;
 use forest::forest::find;
-use forest::merge::Made;
+use forest::merge::Progress;
 use forest::settle::unite;
 use packing::nodes_of;
 use packing::number_of;
@@ -38,14 +38,14 @@ pub fn start(w: &mut [u32])
 }
 
 // The graph at g, of c nodes from the number `base` on: its root joins all roots, and then its nodes come.
-fn add(w: &mut [u32], k: usize, n: usize, g: usize, base: usize, c: usize) -> Made
+fn add(w: &mut [u32], k: usize, n: usize, g: usize, base: usize, c: usize) -> Progress
     requires { ⌜ Adding n k (now w) g base c ⌝ }
     ensures { λ r. ⌜ Adds n k (now (w .entry)) g base c (r .k) (r .bad) (now (w .exit)) ⌝ }
 {
     let m = unite(w, k, n, 0, base);
     let e = m.k;
     if m.bad {
-        return Made {
+        return Progress {
             k: e,
             s: 0,
             bad: true,

@@ -10,7 +10,7 @@ use forest::forest::find;
 use forest::held::Held;
 use forest::held::bears_atom;
 use forest::held::held_by;
-use forest::merge::Made;
+use forest::merge::Progress;
 use forest::settle::unite;
 use limits::CODE_LIMIT;
 use limits::wide;
@@ -20,10 +20,10 @@ ghost use Prim.Native.Nat.{_+_, _*_, _-_, _≤_, _<_};
 ghost use lib.ListN.{length};
 ghost use Rattle.theory.specs.Limits.{code-limit};
 ghost use Rattle.area.specs.Map.{SIZE, NODES, LOADED, ENTRIES, TARGETS, ENTRY_MOST};
-ghost use Rattle.area.specs.Region.{words};
+ghost use Rattle.area.specs.Region.{loaded-words};
 ghost use Rattle.forest.specs.Held.{AtomCode};
 ghost use Rattle.forest.specs.State.{targets, Coming, Heading, Headed};
-ghost use Rattle.forest.specs.Order.{Ordered, Steady, Turning, Taken};
+ghost use Rattle.forest.specs.Order.{Ordered, Steady, Turning, VisitedInOrder};
 ghost use Rattle.classes.specs.Nodes.{Batched, Run, Noding, Noded, Listing, Listed};
 
 // The log's entries after an arc, the link to go on from with the next one, and whether there is a clash.
@@ -38,7 +38,7 @@ pub struct Came {
 fn afresh(w: &[u32], k: usize, n: usize, x: usize) -> usize
     requires { ⌜ (x < n) × ((n ≤ NODES) × (SIZE ≤ length (now w))) ⌝ }
     requires { ⌜ Steady n k (now w) ⌝ }
-    ensures { λ r. ⌜ Ordered (words (now (w .entry))) n (now (w .entry)) x r ⌝ }
+    ensures { λ r. ⌜ Ordered (loaded-words (now (w .entry))) n (now (w .entry)) x r ⌝ }
 {
     let c = find(w, n, x);
     let held = held_by(w, c);
@@ -56,7 +56,7 @@ fn afresh(w: &[u32], k: usize, n: usize, x: usize) -> usize
 fn outset(w: &[u32], k: usize, n: usize, x: usize, d: usize) -> usize
     requires { ⌜ (x < n) × ((n ≤ NODES) × (SIZE ≤ length (now w))) ⌝ }
     requires { ⌜ Steady n k (now w) ⌝ }
-    ensures { λ r. ⌜ Ordered (words (now (w .entry))) n (now (w .entry)) x r ⌝ }
+    ensures { λ r. ⌜ Ordered (loaded-words (now (w .entry))) n (now (w .entry)) x r ⌝ }
 {
     if d < 4 {
         return 0;
@@ -69,8 +69,8 @@ fn outset(w: &[u32], k: usize, n: usize, x: usize, d: usize) -> usize
 fn onward(w: &[u32], k: usize, e: usize, n: usize, x: usize, c: usize, r: usize, at: usize) -> usize
     requires { ⌜ (x < n) × ((n ≤ NODES) × (SIZE ≤ length (now w))) ⌝ }
     requires { ⌜ (0 < r) × ((r ≤ LOADED) × (k ≤ ENTRIES)) ⌝ }
-    requires { ⌜ Turning (words (now w)) n k e (now w) c r at ⌝ }
-    ensures { λ r. ⌜ Ordered (words (now (w .entry))) n (now (w .entry)) x r ⌝ }
+    requires { ⌜ Turning (loaded-words (now w)) n k e (now w) c r at ⌝ }
+    ensures { λ r. ⌜ Ordered (loaded-words (now (w .entry))) n (now (w .entry)) x r ⌝ }
 {
     if at == 0 {
         return 0;
@@ -88,9 +88,10 @@ fn onward(w: &[u32], k: usize, e: usize, n: usize, x: usize, c: usize, r: usize,
 fn visit(w: &mut [u32], k: usize, n: usize, x: usize, t: usize, at: usize) -> Came
     requires { ⌜ (n ≤ NODES) × (SIZE ≤ length (now w)) ⌝ }
     requires { ⌜ (x < n) × (t < TARGETS) ⌝ }
-    requires { ⌜ Coming (words (now w)) (targets (now w)) n k (now w) x t ⌝ }
-    requires { ⌜ Ordered (words (now w)) n (now w) x at ⌝ }
-    ensures { λ r. ⌜ Taken (words (now (w .entry))) (targets (now (w .entry))) n k (now (w .entry)) x t (r .k) (r .at) (r .bad)
+    requires { ⌜ Coming (loaded-words (now w)) (targets (now w)) n k (now w) x t ⌝ }
+    requires { ⌜ Ordered (loaded-words (now w)) n (now w) x at ⌝ }
+    ensures { λ r. ⌜ VisitedInOrder (loaded-words (now (w .entry))) (targets (now (w .entry))) n k (now (w .entry)) x t (r .k) (r .at)
+        (r .bad)
         (now (w .exit)) ⌝ }
 {
     let c = find(w, n, x);
@@ -136,18 +137,19 @@ fn visit(w: &mut [u32], k: usize, n: usize, x: usize, t: usize, at: usize) -> Ca
 }
 
 // The atom's head v of the node x meets what its class holds.
-fn mark(w: &mut [u32], k: usize, n: usize, x: usize, v: u32) -> Made
+fn mark(w: &mut [u32], k: usize, n: usize, x: usize, v: u32) -> Progress
     requires { ⌜ (n ≤ NODES) × ((x < n) × (SIZE ≤ length (now w))) ⌝ }
     requires { ⌜ AtomCode v × (v < ENTRY_MOST) ⌝ }
-    requires { ⌜ Heading (words (now w)) (targets (now w)) n k (now w) x v ⌝ }
-    ensures { λ r. ⌜ Headed (words (now (w .entry))) (targets (now (w .entry))) n k (now (w .entry)) x v (r .k) (r .bad) (now (w .exit)) ⌝ }
+    requires { ⌜ Heading (loaded-words (now w)) (targets (now w)) n k (now w) x v ⌝ }
+    ensures { λ r. ⌜ Headed (loaded-words (now (w .entry))) (targets (now (w .entry))) n k (now (w .entry)) x v (r .k) (r .bad)
+        (now (w .exit)) ⌝ }
 {
     let c = find(w, n, x);
     let held = held_by(w, c);
     let bad = match held {
         Held::Nothing => {
             let e = put(w, k, HELD + c, v);
-            return Made {
+            return Progress {
                 k: e,
                 s: 0,
                 bad: false,
@@ -156,7 +158,7 @@ fn mark(w: &mut [u32], k: usize, n: usize, x: usize, v: u32) -> Made
         Held::Arcs(_) => true,
         Held::Atom(h) => h != v,
     };
-    Made {
+    Progress {
         k: k,
         s: 0,
         bad: bad,
@@ -164,11 +166,11 @@ fn mark(w: &mut [u32], k: usize, n: usize, x: usize, v: u32) -> Made
 }
 
 // The d arcs of the node x that stand from `from` on.
-fn arcs(w: &mut [u32], k: usize, n: usize, x: usize, from: usize, d: usize) -> Made
+fn arcs(w: &mut [u32], k: usize, n: usize, x: usize, from: usize, d: usize) -> Progress
     requires { ⌜ (n ≤ NODES) × (SIZE ≤ length (now w)) ⌝ }
     requires { ⌜ (x < n) × (from + 2 * d ≤ LOADED) ⌝ }
-    requires { ⌜ Batched (words (now w)) (targets (now w)) n k (now w) x from d ⌝ }
-    ensures { λ r. ⌜ Run (words (now (w .entry))) (targets (now (w .entry))) n k (now (w .entry)) x from d (r .k) (r .bad)
+    requires { ⌜ Batched (loaded-words (now w)) (targets (now w)) n k (now w) x from d ⌝ }
+    ensures { λ r. ⌜ Run (loaded-words (now (w .entry))) (targets (now (w .entry))) n k (now (w .entry)) x from d (r .k) (r .bad)
         (now (w .exit)) ⌝ }
 {
     let mut e = k;
@@ -179,7 +181,7 @@ fn arcs(w: &mut [u32], k: usize, n: usize, x: usize, from: usize, d: usize) -> M
         e = m.k;
         at = m.at;
         if m.bad {
-            return Made {
+            return Progress {
                 k: e,
                 s: 0,
                 bad: true,
@@ -187,7 +189,7 @@ fn arcs(w: &mut [u32], k: usize, n: usize, x: usize, from: usize, d: usize) -> M
         }
         done += 1;
     }
-    Made {
+    Progress {
         k: e,
         s: 0,
         bad: false,
@@ -195,10 +197,11 @@ fn arcs(w: &mut [u32], k: usize, n: usize, x: usize, from: usize, d: usize) -> M
 }
 
 // The node x, whose head stands at p.
-fn node(w: &mut [u32], k: usize, n: usize, x: usize, p: usize) -> Made
+fn node(w: &mut [u32], k: usize, n: usize, x: usize, p: usize) -> Progress
     requires { ⌜ (n ≤ NODES) × (SIZE ≤ length (now w)) ⌝ }
-    requires { ⌜ Noding (words (now w)) (targets (now w)) n k (now w) x p ⌝ }
-    ensures { λ r. ⌜ Noded (words (now (w .entry))) (targets (now (w .entry))) n k (now (w .entry)) x p (r .k) (r .bad) (now (w .exit)) ⌝ }
+    requires { ⌜ Noding (loaded-words (now w)) (targets (now w)) n k (now w) x p ⌝ }
+    ensures { λ r. ⌜ Noded (loaded-words (now (w .entry))) (targets (now (w .entry))) n k (now (w .entry)) x p (r .k) (r .bad)
+        (now (w .exit)) ⌝ }
 {
     let h = loaded(w, p);
     if h >= CODE_LIMIT {
@@ -215,10 +218,10 @@ fn span(h: u32) -> usize
 }
 
 // The c nodes from x on, the first of which has its head at p.
-pub fn nodes(w: &mut [u32], k: usize, n: usize, x: usize, p: usize, c: usize) -> Made
+pub fn nodes(w: &mut [u32], k: usize, n: usize, x: usize, p: usize, c: usize) -> Progress
     requires { ⌜ (n ≤ NODES) × (SIZE ≤ length (now w)) ⌝ }
-    requires { ⌜ Listing (words (now w)) (targets (now w)) n k (now w) x p c ⌝ }
-    ensures { λ r. ⌜ Listed (words (now (w .entry))) (targets (now (w .entry))) n k (now (w .entry)) x p c (r .k) (r .bad)
+    requires { ⌜ Listing (loaded-words (now w)) (targets (now w)) n k (now w) x p c ⌝ }
+    ensures { λ r. ⌜ Listed (loaded-words (now (w .entry))) (targets (now (w .entry))) n k (now (w .entry)) x p c (r .k) (r .bad)
         (now (w .exit)) ⌝ }
 {
     let mut e = k;
@@ -229,7 +232,7 @@ pub fn nodes(w: &mut [u32], k: usize, n: usize, x: usize, p: usize, c: usize) ->
         let m = node(w, e, n, y, at);
         e = m.k;
         if m.bad {
-            return Made {
+            return Progress {
                 k: e,
                 s: 0,
                 bad: true,
@@ -239,7 +242,7 @@ pub fn nodes(w: &mut [u32], k: usize, n: usize, x: usize, p: usize, c: usize) ->
         y += 1;
         left -= 1;
     }
-    Made {
+    Progress {
         k: e,
         s: 0,
         bad: false,

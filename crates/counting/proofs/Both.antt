@@ -16,7 +16,7 @@ use Rattle.engine.specs.Beside.{_next_, joined-placed}
 use Rattle.engine.specs.Counting.{count-at, count-all-at, count-any-at}
 use Rattle.marks.specs.Readable.{Readable}
 use Rattle.marks.specs.Marked.{marking}
-use Rattle.counting.specs.Counted.{Counted, CountedBoth, beside}
+use Rattle.counting.specs.Counted.{Counted, CountedBoth, inner-both}
 use Rattle.counting.proofs.Products.{cap-first}
 use Rattle.counting.proofs.Descent.{count-small}
 
@@ -32,7 +32,7 @@ count-next m (a also ds) es =
     ∙ cap-first choice-stop first here there
 
 count-beside : (m : Marking) (d e : Placed) →
-    count-all-at choice-stop m (beside d e) ≡ min (count-at choice-stop m d * count-at choice-stop m e) choice-stop
+    count-all-at choice-stop m (inner-both d e) ≡ min (count-at choice-stop m d * count-at choice-stop m e) choice-stop
 unfolding count-at
 count-beside m (place g ds) (place h es) = count-next m ds es
 
@@ -42,7 +42,7 @@ counted-both w left x y r first second is c e = is ∙ ap₂ {C = ℕ} (λ (a b 
     ∙ sym (count-beside _ (c .lies .d) (e .lies .d))
 
 count-joined : (m : Marking) (d e j : Placed) → joined-placed d e ≡ some j →
-    count-all-at choice-stop m (beside d e) ≡ count-at choice-stop m j
+    count-all-at choice-stop m (inner-both d e) ≡ count-at choice-stop m j
 unfolding count-at
 count-joined m (place g ds) (place h es) j is = go (join (g ∷ h ∷ [])) is
   where

@@ -8,7 +8,7 @@ use mathlib.Core.List.{List}
 use lib.ListN.{length}
 use Rattle.theory.specs.Limits.{choice-stop}
 use Rattle.descriptions.proofs.Counting.{cap-one}
-use Rattle.area.specs.Region.{words}
+use Rattle.area.specs.Region.{loaded-words}
 use Rattle.area.proofs.Region.{words-many}
 use Rattle.engine.specs.Placed.{Placed, place, Places, stop, _also_, Options, no-more, option}
 use Rattle.engine.specs.Marks.{Marking}
@@ -51,7 +51,7 @@ module _ (w : List ℕ) (p left : ℕ) (c : Readable w p left) where
   pub record Multiplying (more at product : ℕ) : Type 0 where
     pub ds : Places
     pub n : ℕ
-    pub stand : AtAll (words w) at n ds (c .lies .end) (c .lies .to)
+    pub stand : AtAll (loaded-words w) at n ds (c .lies .end) (c .lies .to)
     pub many : places ds ≡ more
     pub nests : NestsAll ds left
     pub total : count-at choice-stop (marking w) (c .lies .d) ≡ min (product * count-all-at choice-stop (marking w) ds) choice-stop
@@ -63,9 +63,9 @@ module _ (w : List ℕ) (p left : ℕ) (c : Readable w p left) where
     pub n : ℕ
     pub r : ℕ
     pub l : ℕ
-    pub stand : AtAny (words w) at n a r l
+    pub stand : AtAny (loaded-words w) at n a r l
     pub low : l < number-step
-    pub others : AtAll (words w) r l ds (c .lies .end) (c .lies .to)
+    pub others : AtAll (loaded-words w) r l ds (c .lies .end) (c .lies .to)
     pub many : options a ≡ rest
     pub later : places ds + 1 ≡ more
     pub deep : 0 < left
@@ -116,7 +116,7 @@ module _ (w : List ℕ) (p left : ℕ) (c : Readable w p left) where
   pub multiply-here : (more at product : ℕ) → Multiplying more at product → 0 < more → at < 2048
   multiply-here more at product t h = go (t .ds) (t .stand) (t .many)
     where
-      go : (ds : Places) → AtAll (words w) at (t .n) ds (c .lies .end) (c .lies .to) → places ds ≡ more → at < 2048
+      go : (ds : Places) → AtAll (loaded-words w) at (t .n) ds (c .lies .end) (c .lies .to) → places ds ≡ more → at < 2048
       go stop s many = absurd (omega arith)
       go (a also ds) s many = let there = s .2 in omega (arith, words-many w (c .room))
 
@@ -125,14 +125,14 @@ module _ (w : List ℕ) (p left : ℕ) (c : Readable w p left) where
   unfolding count-at
   sum-none more at product rest t h e = go (t .ds) (t .stand) (t .many) (t .nests) (t .total)
     where
-      go : (ds : Places) → AtAll (words w) at (t .n) ds (c .lies .end) (c .lies .to) → places ds ≡ more → NestsAll ds left →
+      go : (ds : Places) → AtAll (loaded-words w) at (t .n) ds (c .lies .end) (c .lies .to) → places ds ≡ more → NestsAll ds left →
           count-at choice-stop (marking w) (c .lies .d) ≡ min (product * count-all-at choice-stop (marking w) ds) choice-stop →
           Summing more product (at + 1) rest 0
       go stop s many nests total = absurd (omega arith)
       go (a also ds) s many nests total =
           let there = s .2 in
-          let first = any-bounds (words w) a (at + 1) (t .n) (s .0) (s .1) (omega arith) (s .4) in
-          let last = all-bounds (words w) ds (s .0) (s .1) (c .lies .end) (c .lies .to) (first .1) (s .5) .2 in
+          let first = any-bounds (loaded-words w) a (at + 1) (t .n) (s .0) (s .1) (omega arith) (s .4) in
+          let last = all-bounds (loaded-words w) ds (s .0) (s .1) (c .lies .end) (c .lies .to) (first .1) (s .5) .2 in
           let low = c .lies .low in
           let few = c .few in
           let sums = count-any-at choice-stop (marking w) a in
@@ -160,7 +160,7 @@ module _ (w : List ℕ) (p left : ℕ) (c : Readable w p left) where
     pub sum-here : 0 < rest → (at < 2048) × (tail-at w at < 2048)
     sum-here h = read-first w (c .room) (t .a) at (t .n) (t .r) (t .l) rest (t .stand) (t .low) (t .many) h
 
-    asks-one : (x : ℕ) (d : Placed) (a : Options) → AtAny (words w) at (t .n) (option x d a) (t .r) (t .l) → Nests d (left - 1) →
+    asks-one : (x : ℕ) (d : Placed) (a : Options) → AtAny (loaded-words w) at (t .n) (option x d a) (t .r) (t .l) → Nests d (left - 1) →
         Readable w at (left - 1)
     asks-one x d a o inner = record {
       room = c .room;
@@ -172,7 +172,7 @@ module _ (w : List ℕ) (p left : ℕ) (c : Readable w p left) where
     pub sum-asks : 0 < rest → Readable w at (left - 1)
     sum-asks h = go (t .a) (t .stand) (t .many) (t .inner)
       where
-        go : (a : Options) → AtAny (words w) at (t .n) a (t .r) (t .l) → options a ≡ rest → NestsAny a (left - 1) →
+        go : (a : Options) → AtAny (loaded-words w) at (t .n) a (t .r) (t .l) → options a ≡ rest → NestsAny a (left - 1) →
             Readable w at (left - 1)
         go no-more o many inner = absurd (omega arith)
         go (option x d a) o many inner = asks-one x d a o (inner .0)
@@ -181,7 +181,7 @@ module _ (w : List ℕ) (p left : ℕ) (c : Readable w p left) where
     unfolding asks-one
     sum-on next sum' h e turn = go (t .a) (t .stand) (t .many) (t .inner) (t .total)
       where
-        go : (a : Options) → AtAny (words w) at (t .n) a (t .r) (t .l) → options a ≡ rest → NestsAny a (left - 1) →
+        go : (a : Options) → AtAny (loaded-words w) at (t .n) a (t .r) (t .l) → options a ≡ rest → NestsAny a (left - 1) →
             count-at choice-stop (marking w) (c .lies .d)
             ≡ min (product * ((sum + count-any-at choice-stop (marking w) a) * count-all-at choice-stop (marking w) (t .ds)))
             choice-stop → Summing more product next (rest - 1) sum'
@@ -194,7 +194,7 @@ module _ (w : List ℕ) (p left : ℕ) (c : Readable w p left) where
               n = o .1;
               r = t .r;
               l = t .l;
-              stand = subst (λ (k : ℕ). AtAny (words w) k (o .1) a (t .r) (t .l)) (sym (e ∙ read .0 .after)) (o .4);
+              stand = subst (λ (k : ℕ). AtAny (loaded-words w) k (o .1) a (t .r) (t .l)) (sym (e ∙ read .0 .after)) (o .4);
               low = t .low;
               others = t .others;
               many = omega arith;
@@ -220,7 +220,7 @@ module _ (w : List ℕ) (p left : ℕ) (c : Readable w p left) where
     unfolding count-at
     sum-all product' h e = go (t .a) (t .stand) (t .many) (t .total)
       where
-        go : (a : Options) → AtAny (words w) at (t .n) a (t .r) (t .l) → options a ≡ rest →
+        go : (a : Options) → AtAny (loaded-words w) at (t .n) a (t .r) (t .l) → options a ≡ rest →
             count-at choice-stop (marking w) (c .lies .d)
             ≡ min (product * ((sum + count-any-at choice-stop (marking w) a) * count-all-at choice-stop (marking w) (t .ds)))
             choice-stop → Multiplying (more - 1) at product'
@@ -231,7 +231,7 @@ module _ (w : List ℕ) (p left : ℕ) (c : Readable w p left) where
             record {
               ds = t .ds;
               n = t .l;
-              stand = subst (λ (k : ℕ). AtAll (words w) k (t .l) (t .ds) (c .lies .end) (c .lies .to)) (sym (o .0)) (t .others);
+              stand = subst (λ (k : ℕ). AtAll (loaded-words w) k (t .l) (t .ds) (c .lies .end) (c .lies .to)) (sym (o .0)) (t .others);
               many = omega arith;
               nests = t .nests;
               total = total ∙ ap (λ (k : ℕ). min (product * (k * products)) choice-stop) same ∙ cap-first choice-stop product sum products

@@ -10,7 +10,7 @@ use Rattle.theory.specs.Limits.{choice-limit, choice-stop}
 use Rattle.theory.specs.Descr.{Desc, desc, Disjs, end, _and_, Alts, fail, _or_, alts, number, capped}
 use Rattle.theory.specs.Layout.{WellFormed, WellAll, WellAny}
 use Rattle.descriptions.proofs.Counting.{capped-number, over-limit}
-use Rattle.area.specs.Region.{words}
+use Rattle.area.specs.Region.{loaded-words}
 use Rattle.engine.specs.Placed.{strip}
 use Rattle.engine.specs.Marks.{Marking, all-kept}
 use Rattle.engine.specs.Counting.{count-at}
@@ -50,7 +50,7 @@ count-every d y = count-left (numbered y d) choice-stop (omega arith) all-kept
     ∙ ap (λ (e : Desc). min (number e) choice-stop) (ap strip (keep-all-marked (numbered y d)) ∙ numbered-strip y d) ∙ sym (capped-number d)
 
 module _ (w : List ℕ) (room : 16384 ≤ length w) (d : Desc) (p n y q m left : ℕ) (fine : WellFormed d left)
-    (at : At (words w) p n (numbered y d) q m) (low : m < number-step) where
+    (at : At (loaded-words w) p n (numbered y d) q m) (low : m < number-step) where
   -- such an input may be read
   abbrev pub loaded-readable : Readable w p left
   loaded-readable = record {

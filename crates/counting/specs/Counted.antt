@@ -18,10 +18,10 @@ pub record Counted (w : List ℕ) (p left r : ℕ) : Type 0 where
   pub is : (c : Readable w p left) → r ≡ count-at choice-stop (marking w) (c .lies .d)
 
 -- "The disjunctions are those of the first input, then those of the second, in order."
-abbrev pub beside : Placed → Placed → Places
-beside d e = inner d next inner e
+abbrev pub inner-both : Placed → Placed → Places
+inner-both d e = inner d next inner e
 
 -- the same, for the two inputs as loaded
 abbrev pub CountedBoth : List ℕ → ℕ → ℕ → Type 0
 CountedBoth w left r = (c : Readable w 0 left) (e : Readable w SECOND left) →
-    r ≡ count-all-at choice-stop (marking w) (beside (c .lies .d) (e .lies .d))
+    r ≡ count-all-at choice-stop (marking w) (inner-both (c .lies .d) (e .lies .d))

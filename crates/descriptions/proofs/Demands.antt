@@ -16,7 +16,7 @@ use Rattle.descriptions.specs.Answer.{Answer, consistent}
 use Rattle.descriptions.specs.Unified.{unified}
 use Rattle.descriptions.specs.Rules.{Accepted, Given, mode-readings, mode-result}
 use Rattle.descriptions.specs.Demands.{Demand2, Demand3, Refused, Succeeds}
-use Rattle.descriptions.specs.Demands.{Step, call, chosen, items, reached, start, ways, next-call, with-words}
+use Rattle.descriptions.specs.Demands.{ListCall, call, one-of-each, items, reached, start, ways, next-call, with-words}
 use Rattle.descriptions.proofs.Layouts.{Reads, one-image}
 use Rattle.descriptions.proofs.Tests.{Tells, holds, tells-eq}
 use Rattle.descriptions.proofs.Mean.{Can}
@@ -36,13 +36,13 @@ module _ {Graph : Type 0} (𝓕 : Layout Graph) where
   open Layout 𝓕 using (words, WellFormed)
 
   -- the inputs of a call on d, in their order
-  abbrev front : Step 𝓕 → Desc Graph → Desc Graph
+  abbrev front : ListCall 𝓕 → Desc Graph → Desc Graph
   front s d = elim (s .in-hand-first) [ true ↦ d | false ↦ s .item ]
 
-  abbrev back : Step 𝓕 → Desc Graph → Desc Graph
+  abbrev back : ListCall 𝓕 → Desc Graph → Desc Graph
   back s d = elim (s .in-hand-first) [ true ↦ s .item | false ↦ d ]
 
-  module _ (s : Step 𝓕) (d : Desc Graph) where
+  module _ (s : ListCall 𝓕) (d : Desc Graph) where
     front-well : WellFormed d depth-limit → WellFormed (front s d) depth-limit
     front-well p = go (s .in-hand-first)
       where
@@ -80,12 +80,12 @@ module _ {Graph : Type 0} {J : Joining Graph} {𝓛 : Laws J} {𝓕 : Layout Gra
   State L ws = (d : Desc Graph) × WellFormed d depth-limit × (ws ≡ words d) × Stands-for 𝓛 L d
 
   -- demand 3
-  items-can : (l : List (Step 𝓕)) → AllCan 𝓛 (items 𝓕 l)
+  items-can : (l : List (ListCall 𝓕)) → AllCan 𝓛 (items 𝓕 l)
   items-can [] = tt
   items-can (s ∷ l) = (well-can (s .item) (s .fine), items-can l)
 
   -- the ways with one more description are the readings of both together, in either order
-  next-step : (l : List (Step 𝓕)) (s : Step 𝓕) (d : Desc Graph) → WellFormed d depth-limit → Stands-for 𝓛 (sofar J (items 𝓕 l)) d →
+  next-step : (l : List (ListCall 𝓕)) (s : ListCall 𝓕) (d : Desc Graph) → WellFormed d depth-limit → Stands-for 𝓛 (sofar J (items 𝓕 l)) d →
       ways J (items 𝓕 l ++ s .item ∷ []) ≡ length (both J (front 𝓕 s d) (back 𝓕 s d))
   next-step l s d p m = go (s .in-hand-first)
     where
@@ -104,7 +104,7 @@ module _ {Graph : Type 0} {J : Joining Graph} {𝓛 : Laws J} {𝓕 : Layout Gra
       go false = first ∙ both-swap 𝓛 d (s .item) cd cs
 
   -- what a call makes stands for the choices of both
-  call-more : (L : List (List Graph)) (s : Step 𝓕) (d : Desc Graph) → WellFormed d depth-limit → Stands-for 𝓛 L d → (t : Desc Graph) →
+  call-more : (L : List (List Graph)) (s : ListCall 𝓕) (d : Desc Graph) → WellFormed d depth-limit → Stands-for 𝓛 L d → (t : Desc Graph) →
       mode-result J (s .mode) (front 𝓕 s d) (back 𝓕 s d) ≡ some t → Stands-for 𝓛 (pairs L (choices (s .item))) t
   call-more L s d p m t = go (s .in-hand-first)
     where
@@ -167,7 +167,7 @@ module _ {Graph : Type 0} {J : Joining Graph} {𝓛 : Laws J} {𝓜 : Structures
   }
 
   -- a call on the words in hand, by the inputs in their order
-  module _ (ws : List ℕ) (s : Step 𝓕) (d : Desc Graph) (p : WellFormed d depth-limit) (e : ws ≡ words d) where
+  module _ (ws : List ℕ) (s : ListCall 𝓕) (d : Desc Graph) (p : WellFormed d depth-limit) (e : ws ≡ words d) where
     abbrev before : Desc Graph
     before = front 𝓕 s d
 
@@ -204,7 +204,7 @@ module _ {Graph : Type 0} {J : Joining Graph} {𝓛 : Laws J} {𝓜 : Structures
         (which J 𝓕 between (s .room) (s .work) (unified J 𝓕 between (s .room) (s .work))
         (unified-given 𝓡 between (s .room) (s .work)))
 
-  one-call : (L : List (List Graph)) (ws : List ℕ) → State 𝓡 L ws → (s : Step 𝓕) → call 𝓕 (unified J 𝓕) ws s .number ≡ 0 →
+  one-call : (L : List (List Graph)) (ws : List ℕ) → State 𝓡 L ws → (s : ListCall 𝓕) → call 𝓕 (unified J 𝓕) ws s .number ≡ 0 →
       State 𝓡 (pairs L (choices (s .item))) (call 𝓕 (unified J 𝓕) ws s .result)
   one-call L ws (d, p, e, m) s z =
       let (t, g) = call-zero ws s d p e z in
@@ -214,9 +214,9 @@ module _ {Graph : Type 0} {J : Joining Graph} {𝓛 : Laws J} {𝓜 : Structures
       (g .accepted .second-short) in
       (t, well, g .wrote, call-more 𝓡 L s d p m t (g .by))
 
-  calls : (l : List (Step 𝓕)) (L : List (List Graph)) (ws : List ℕ) → State 𝓡 L ws → (out : List ℕ) →
+  calls : (l : List (ListCall 𝓕)) (L : List (List Graph)) (ws : List ℕ) → State 𝓡 L ws → (out : List ℕ) →
       reached 𝓕 (unified J 𝓕) ws l ≡ some out →
-      State 𝓡 (pairs L (chosen (items 𝓕 l))) out
+      State 𝓡 (pairs L (one-of-each (items 𝓕 l))) out
   calls [] L ws (d, p, e, m) out h =
       let k : ws ≡ out = cc in
       (d, p, sym k ∙ e, no-more 𝓛 L d m)
@@ -226,28 +226,28 @@ module _ {Graph : Type 0} {J : Joining Graph} {𝓛 : Laws J} {𝓜 : Structures
       b : Desc Graph
       b = s .item
 
-      last : State 𝓡 (pairs (pairs L (choices b)) (chosen (items 𝓕 l))) out → State 𝓡 (pairs L (chosen (items 𝓕 (s ∷ l)))) out
+      last : State 𝓡 (pairs (pairs L (choices b)) (one-of-each (items 𝓕 l))) out → State 𝓡 (pairs L (one-of-each (items 𝓕 (s ∷ l)))) out
       last (d, p, e, m) = (d, p, e, regroup 𝓛 L b d (items 𝓕 l) m)
 
       go : (t : Bool) → Tells (call 𝓕 (unified J 𝓕) ws s .number ≡ 0) t →
           ((L : List (List Graph)) (ws : List ℕ) → State 𝓡 L ws → reached 𝓕 (unified J 𝓕) ws l ≡ some out →
-          State 𝓡 (pairs L (chosen (items 𝓕 l))) out) →
+          State 𝓡 (pairs L (one-of-each (items 𝓕 l))) out) →
           _≡_ {A = Option (List ℕ)} (elim t [ true ↦ reached 𝓕 (unified J 𝓕) (call 𝓕 (unified J 𝓕) ws s .result) l | false ↦ none ])
-          (some out) → State 𝓡 (pairs L (chosen (items 𝓕 (s ∷ l)))) out
+          (some out) → State 𝓡 (pairs L (one-of-each (items 𝓕 (s ∷ l)))) out
       go true (holds z) ih h = last (ih (pairs L (choices b)) (call 𝓕 (unified J 𝓕) ws s .result) (one-call L ws st s z) h)
       go false n ih h = let z : _≡_ {A = ℕ} 0 1 = cc in absurd (omega arith)
 
-  after-calls : (l : List (Step 𝓕)) (ws : List ℕ) → reached 𝓕 (unified J 𝓕) (start J 𝓕) l ≡ some ws → State 𝓡 (sofar J (items 𝓕 l)) ws
+  after-calls : (l : List (ListCall 𝓕)) (ws : List ℕ) → reached 𝓕 (unified J 𝓕) (start J 𝓕) l ≡ some ws → State 𝓡 (sofar J (items 𝓕 l)) ws
   after-calls l ws h = calls l (choices (nothing-said J)) (start J 𝓕) (nothing-said J, nothing-well, refl, λ k g. refl) ws h
 
   pub demand3 : Demand3 J 𝓕 (unified J 𝓕)
   demand3 = record { number = count; clash = clash; told = told; counted = counted }
     where
-      count : (l : List (Step 𝓕)) (ws : List ℕ) → reached 𝓕 (unified J 𝓕) (start J 𝓕) l ≡ some ws →
+      count : (l : List (ListCall 𝓕)) (ws : List ℕ) → reached 𝓕 (unified J 𝓕) (start J 𝓕) l ≡ some ws →
           (d : Desc Graph) × WellFormed d depth-limit × (ws ≡ words d) × (readings J d ≡ ways J (items 𝓕 l))
       count l ws h = let (d, p, e, m) = after-calls l ws h in (d, p, e, stands-ways 𝓛 (items 𝓕 l) (items-can 𝓡 l) d m)
 
-      clash : (l : List (Step 𝓕)) (ws : List ℕ) (s : Step 𝓕) → reached 𝓕 (unified J 𝓕) (start J 𝓕) l ≡ some ws →
+      clash : (l : List (ListCall 𝓕)) (ws : List ℕ) (s : ListCall 𝓕) → reached 𝓕 (unified J 𝓕) (start J 𝓕) l ≡ some ws →
           call 𝓕 (unified J 𝓕) ws s .number ≡ 6 → ways J (items 𝓕 l ++ s .item ∷ []) ≡ 0
       clash l ws s h z =
           let (d, p, e, m) = after-calls l ws h in
@@ -255,20 +255,21 @@ module _ {Graph : Type 0} {J : Joining Graph} {𝓛 : Laws J} {𝓜 : Structures
           (none-means 𝓛 (front 𝓕 s d) (back 𝓕 s d) (before-can ws s d p e) (behind-can ws s d p e) (call-six ws s d p e z))
 
       -- the consistent choices of both inputs are the ways
-      consistent-ways : (l : List (Step 𝓕)) (ws : List ℕ) (s : Step 𝓕) (d : Desc Graph) (p : WellFormed d depth-limit) (e : ws ≡ words d) →
+      consistent-ways : (l : List (ListCall 𝓕)) (ws : List ℕ) (s : ListCall 𝓕) (d : Desc Graph) (p : WellFormed d depth-limit)
+          (e : ws ≡ words d) →
           Stands-for 𝓛 (sofar J (items 𝓕 l)) d →
           consistent J (front 𝓕 s d) (back 𝓕 s d) ≡ ways J (items 𝓕 l ++ s .item ∷ [])
       consistent-ways l ws s d p e m = consistent-means 𝓛 (front 𝓕 s d) (back 𝓕 s d) (before-can ws s d p e) (behind-can ws s d p e)
           ∙ sym (next-step 𝓡 l s d p m)
 
-      counted : (l : List (Step 𝓕)) (ws : List ℕ) (s : Step 𝓕) → reached 𝓕 (unified J 𝓕) (start J 𝓕) l ≡ some ws → s .mode ≡ 2 →
+      counted : (l : List (ListCall 𝓕)) (ws : List ℕ) (s : ListCall 𝓕) → reached 𝓕 (unified J 𝓕) (start J 𝓕) l ≡ some ws → s .mode ≡ 2 →
           call 𝓕 (unified J 𝓕) ws s .number ≡ 0 → call 𝓕 (unified J 𝓕) ws s .readings ≡ ways J (items 𝓕 l ++ s .item ∷ [])
       counted l ws s h k z =
           let (d, p, e, m) = after-calls l ws h in
           let (t, g) = call-zero ws s d p e z in
           g .count ∙ ap (λ (n : ℕ). mode-readings J n (front 𝓕 s d) (back 𝓕 s d)) k ∙ consistent-ways l ws s d p e m
 
-      told : (l : List (Step 𝓕)) (ws : List ℕ) (s : Step 𝓕) → reached 𝓕 (unified J 𝓕) (start J 𝓕) l ≡ some ws → s .mode ≡ 2 →
+      told : (l : List (ListCall 𝓕)) (ws : List ℕ) (s : ListCall 𝓕) → reached 𝓕 (unified J 𝓕) (start J 𝓕) l ≡ some ws → s .mode ≡ 2 →
           ways J (items 𝓕 l ++ s .item ∷ []) ≡ 0 → (call 𝓕 (unified J 𝓕) ws s .number ≡ 6) ⊎ Refused (call 𝓕 (unified J 𝓕) ws s .number)
       told l ws s h k w =
           let (d, p, e, m) = after-calls l ws h in

@@ -10,7 +10,7 @@ use lib.ListN.{length, length-append}
 use Rattle.descriptions.specs.Descr.{Desc, choices, desc, end, pairs, readings}
 use Rattle.descriptions.specs.Answer.{consistent}
 use Rattle.descriptions.specs.Rules.{mode-result}
-use Rattle.descriptions.specs.Demands.{chosen, descriptions, gathered, ways}
+use Rattle.descriptions.specs.Demands.{one-of-each, descriptions, gathered, ways}
 use Rattle.descriptions.proofs.Laws.{Laws}
 use Rattle.descriptions.proofs.Mean.{AllFine, Can, Fine, Good, alike-set, choices-fine, fine-append, good-run, pairs-fine, run}
 use Rattle.descriptions.proofs.Mean.{run-cong, run-none, run-pairs, swap-within}
@@ -25,13 +25,14 @@ use Rattle.descriptions.specs.Canonical.{All}
 
 module _ {Graph : Type 0} where
   chosen-append : (l m : List (Desc Graph)) (c : List Graph) (k : List Graph → List Graph) →
-      run (chosen (l ++ m)) c k ≡ run (chosen l) c (λ d. run (chosen m) d k)
-  chosen-append [] m c k = ap (λ (z : List Graph). run (chosen m) z k) (sym (append-nil c)) ∙ sym (append-nil (run (chosen m) (c ++ []) k))
+      run (one-of-each (l ++ m)) c k ≡ run (one-of-each l) c (λ d. run (one-of-each m) d k)
+  chosen-append [] m c k = ap (λ (z : List Graph). run (one-of-each m) z k) (sym (append-nil c))
+      ∙ sym (append-nil (run (one-of-each m) (c ++ []) k))
   chosen-append (d ∷ l) m c k =
-      run-pairs (choices d) (chosen (l ++ m)) c k
-      ∙ run-cong (choices d) c c (λ d. run (chosen (l ++ m)) d k) (λ d. run (chosen l) d (λ e. run (chosen m) e k))
+      run-pairs (choices d) (one-of-each (l ++ m)) c k
+      ∙ run-cong (choices d) c c (λ d. run (one-of-each (l ++ m)) d k) (λ d. run (one-of-each l) d (λ e. run (one-of-each m) e k))
       (λ r i. chosen-append l m (c ++ r) k)
-      ∙ sym (run-pairs (choices d) (chosen l) c (λ d. run (chosen m) d k))
+      ∙ sym (run-pairs (choices d) (one-of-each l) c (λ d. run (one-of-each m) d k))
 
   -- what two continuations find together
   run-sum : (l : List (List Graph)) (c : List Graph) (j k : List Graph → List Graph) →
@@ -53,7 +54,7 @@ module _ {Graph : Type 0} (J : Joining Graph) where
 
   -- the lists of choices so far, after a list of descriptions from the one that says nothing
   abbrev pub sofar : List (Desc Graph) → List (List Graph)
-  sofar l = pairs (choices nothing-said) (chosen l)
+  sofar l = pairs (choices nothing-said) (one-of-each l)
 
 module _ {Graph : Type 0} {J : Joining Graph} (𝓛 : Laws J) where
   open Joining J using (nil)
@@ -71,14 +72,14 @@ module _ {Graph : Type 0} {J : Joining Graph} (𝓛 : Laws J) where
 
   -- one list after the other, or all at once
   pub regroup : (L : List (List Graph)) (b d : Desc Graph) (l : List (Desc Graph)) →
-      Stands-for (pairs (pairs L (choices b)) (chosen l)) d → Stands-for (pairs L (chosen (b ∷ l))) d
+      Stands-for (pairs (pairs L (choices b)) (one-of-each l)) d → Stands-for (pairs L (one-of-each (b ∷ l))) d
   regroup L b d l m k g =
-      let inner : List Graph → List Graph = λ c. run (choices b) c (λ d. run (chosen l) d k) in
-      let outer : List Graph → List Graph = λ c. run (pairs (choices b) (chosen l)) c k in
-      m k g ∙ ap length (run-pairs (pairs L (choices b)) (chosen l) [] k
-      ∙ run-pairs L (choices b) [] (λ c. run (chosen l) c k)
-      ∙ run-cong L [] [] inner outer (λ r i. sym (run-pairs (choices b) (chosen l) r k))
-      ∙ sym (run-pairs L (pairs (choices b) (chosen l)) [] k))
+      let inner : List Graph → List Graph = λ c. run (choices b) c (λ d. run (one-of-each l) d k) in
+      let outer : List Graph → List Graph = λ c. run (pairs (choices b) (one-of-each l)) c k in
+      m k g ∙ ap length (run-pairs (pairs L (choices b)) (one-of-each l) [] k
+      ∙ run-pairs L (choices b) [] (λ c. run (one-of-each l) c k)
+      ∙ run-cong L [] [] inner outer (λ r i. sym (run-pairs (choices b) (one-of-each l) r k))
+      ∙ sym (run-pairs L (pairs (choices b) (one-of-each l)) [] k))
 
   -- which of two lists of choices comes first makes no difference
   swap-runs : (l m : List (List Graph)) → AllFull 𝓛 l → AllFull 𝓛 m → (k : List Graph → List Graph) → Good 𝓛 k →
@@ -108,9 +109,9 @@ module _ {Graph : Type 0} {J : Joining Graph} (𝓛 : Laws J) where
   AllCan [] = Unit {0}
   AllCan (d ∷ l) = Can 𝓛 d × AllCan l
 
-  chosen-fine : (l : List (Desc Graph)) → AllCan l → AllFine 𝓛 (chosen l)
+  chosen-fine : (l : List (Desc Graph)) → AllCan l → AllFine 𝓛 (one-of-each l)
   chosen-fine [] c = λ r m. ⊎-elim (λ e. subst (All Canonical) (sym e) tt) (λ i. absurd (List·Memᴰ·not-nil i)) (List·Memᴰ·cases-cons m)
-  chosen-fine (d ∷ l) c = pairs-fine 𝓛 (choices d) (chosen l) (choices-fine 𝓛 d (c .0)) (chosen-fine l (c .1))
+  chosen-fine (d ∷ l) c = pairs-fine 𝓛 (choices d) (one-of-each l) (choices-fine 𝓛 d (c .0)) (chosen-fine l (c .1))
 
   -- the graph that says nothing changes no reading
   nil-leaf : (r : List Graph) → All Canonical r → leaf J (nil ∷ r) ≡ leaf J r
@@ -148,7 +149,7 @@ module _ {Graph : Type 0} {J : Joining Graph} (𝓛 : Laws J) where
         ∙ swap-runs (choices b) (choices d) (choices-full 𝓛 b q) (choices-full 𝓛 d p) k g ∙ with-more k g
 
   ways-run : (l : List (Desc Graph)) → AllCan l → ways J l ≡ length (run (sofar J l) [] (leaf J))
-  ways-run l c = agreeing-run J (chosen l) ∙ ap length (sym (prefixed (chosen l) (chosen-fine l c)))
+  ways-run l c = agreeing-run J (one-of-each l) ∙ ap length (sym (prefixed (one-of-each l) (chosen-fine l c)))
 
   -- the readings of what stands for a list number as many as the ways
   pub stands-ways : (l : List (Desc Graph)) → AllCan l → (d : Desc Graph) → Stands-for (sofar J l) d → readings J d ≡ ways J l
@@ -161,16 +162,16 @@ module _ {Graph : Type 0} {J : Joining Graph} (𝓛 : Laws J) where
 
   -- one more description on the list
   more-run : (l : List (Desc Graph)) (b : Desc Graph) → AllCan l → Can 𝓛 b →
-      run (pairs (sofar J l) (choices b)) [] (leaf J) ≡ run (chosen (l ++ b ∷ [])) [] (leaf J)
+      run (pairs (sofar J l) (choices b)) [] (leaf J) ≡ run (one-of-each (l ++ b ∷ [])) [] (leaf J)
   more-run l b ca q =
       let K : List Graph → List Graph = λ c. run (choices b) c (leaf J) in
       run-pairs (sofar J l) (choices b) [] (leaf J)
-      ∙ run-pairs (choices (nothing-said J)) (chosen l) [] K
-      ∙ run-cong (choices (nothing-said J)) [] [] (λ c. run (chosen l) c K) (λ c. run (chosen (l ++ b ∷ [])) c (leaf J))
-      (λ r i. run-cong (chosen l) r r K (λ c. run (chosen (b ∷ [])) c (leaf J)) (λ x j. single (r ++ x))
+      ∙ run-pairs (choices (nothing-said J)) (one-of-each l) [] K
+      ∙ run-cong (choices (nothing-said J)) [] [] (λ c. run (one-of-each l) c K) (λ c. run (one-of-each (l ++ b ∷ [])) c (leaf J))
+      (λ r i. run-cong (one-of-each l) r r K (λ c. run (one-of-each (b ∷ [])) c (leaf J)) (λ x j. single (r ++ x))
       ∙ sym (chosen-append l (b ∷ []) r (leaf J)))
-      ∙ sym (run-pairs (choices (nothing-said J)) (chosen (l ++ b ∷ [])) [] (leaf J))
-      ∙ prefixed (chosen (l ++ b ∷ [])) (chosen-fine (l ++ b ∷ []) (all-more l b ca q))
+      ∙ sym (run-pairs (choices (nothing-said J)) (one-of-each (l ++ b ∷ [])) [] (leaf J))
+      ∙ prefixed (one-of-each (l ++ b ∷ [])) (chosen-fine (l ++ b ∷ []) (all-more l b ca q))
     where
       single : (c : List Graph) → run (choices b) c (leaf J) ≡ run (pairs (choices b) ([] ∷ [])) c (leaf J)
       single c = run-cong (choices b) c c (leaf J) (λ d. run ([] ∷ []) d (leaf J)) (λ r i. ap (leaf J) (sym (append-nil (c ++ r)))
@@ -178,11 +179,11 @@ module _ {Graph : Type 0} {J : Joining Graph} (𝓛 : Laws J) where
 
   pub next-ways : (l : List (Desc Graph)) → AllCan l → (d : Desc Graph) → Can 𝓛 d → Stands-for (sofar J l) d → (b : Desc Graph) → Can 𝓛 b →
       ways J (l ++ b ∷ []) ≡ length (both J d b)
-  next-ways l c d p m b q = agreeing-run J (chosen (l ++ b ∷ [])) ∙ ap length (sym (more-run l b c q))
+  next-ways l c d p m b q = agreeing-run J (one-of-each (l ++ b ∷ [])) ∙ ap length (sym (more-run l b c q))
       ∙ sym (with-more (sofar J l) d p m b q (leaf J) (good-leaf 𝓛))
 
   gathers : (l : List (ℕ × Desc Graph)) → AllCan (descriptions l) → (L : List (List Graph)) (d : Desc Graph) → Can 𝓛 d → Stands-for L d →
-      (t : Desc Graph) → gathered J d l ≡ some t → Can 𝓛 t × Stands-for (pairs L (chosen (descriptions l))) t
+      (t : Desc Graph) → gathered J d l ≡ some t → Can 𝓛 t × Stands-for (pairs L (one-of-each (descriptions l))) t
   gathers [] c L d p m t e = let k : d ≡ t = cc in
       subst (λ (z : Desc Graph). Can 𝓛 z × Stands-for (pairs L ([] ∷ [])) z) k (p, no-more L d m)
   gathers (s ∷ l) c L d p m t e =
@@ -193,9 +194,9 @@ module _ {Graph : Type 0} {J : Joining Graph} (𝓛 : Laws J) where
 
       go : (o : Option (Desc Graph)) → mode-result J (s .0) d (s .1) ≡ o →
           ((r : Desc Graph) → Can 𝓛 r → Stands-for More r → gathered J r l ≡ some t →
-          Can 𝓛 t × Stands-for (pairs More (chosen (descriptions l))) t) →
+          Can 𝓛 t × Stands-for (pairs More (one-of-each (descriptions l))) t) →
           _≡_ {A = Option (Desc Graph)} (elim o [ none ↦ none | some e ↦ gathered J e l ]) (some t) →
-          Can 𝓛 t × Stands-for (pairs L (chosen (descriptions (s ∷ l)))) t
+          Can 𝓛 t × Stands-for (pairs L (one-of-each (descriptions (s ∷ l)))) t
       go none h ih e = let z : _≡_ {A = ℕ} 0 1 = cc in absurd (omega arith)
       go (some r) h ih e =
           let (ct, mt) = ih r (mode-can 𝓛 (s .0) d (s .1) p (c .0) r h) (one-more L d p m (s .1) (c .0) (s .0) r h) e in

@@ -7,7 +7,7 @@ use mathlib.Core.List.{List·Memᴰ·append-cases, Memᴰ·append-left, Memᴰ·
 use Prim.Native.Nat.{ℕ}
 use native.Mathlib.Omega.{arith}
 use Rattle.descriptions.specs.Descr.{Alts, Desc, Disjs, _and_, _or_, choices, choices-all, choices-any, desc, each, end, fail, pairs}
-use Rattle.descriptions.specs.Places.{Pick, PickAll, PickAny, taken, taken-all, taken-any}
+use Rattle.descriptions.specs.Places.{Pick, PickAll, PickAny, picked, picked-all, picked-any}
 use Rattle.descriptions.proofs.Tests.{Distinct, distinct-append, map-in}
 
 abbrev beside-all : {A B : Type 0} → List A → List B → List (A × B)
@@ -84,20 +84,20 @@ module _ {Graph : Type 0} where
       ∙ sym (map-append (λ (p : A × B). f (p .0) ++ g (p .1)) (map (λ (y : B). (x, y)) l) (beside-all k l))
 
   mutual
-    pub choices-picks : (d : Desc Graph) → choices d ≡ map (taken d) (picks d)
-    choices-picks (desc g ds) = ap (each (g ∷ [])) (choices-all-picks ds) ∙ each-map (g ∷ []) (taken-all ds) (picks-all ds)
+    pub choices-picks : (d : Desc Graph) → choices d ≡ map (picked d) (picks d)
+    choices-picks (desc g ds) = ap (each (g ∷ [])) (choices-all-picks ds) ∙ each-map (g ∷ []) (picked-all ds) (picks-all ds)
 
-    choices-all-picks : (ds : Disjs Graph) → choices-all ds ≡ map (taken-all ds) (picks-all ds)
+    choices-all-picks : (ds : Disjs Graph) → choices-all ds ≡ map (picked-all ds) (picks-all ds)
     choices-all-picks end = refl
     choices-all-picks (a and ds) = ap₂ {C = List (List Graph)} pairs (choices-any-picks a) (choices-all-picks ds)
-        ∙ pairs-map (taken-any a) (taken-all ds) (picks-any a) (picks-all ds)
+        ∙ pairs-map (picked-any a) (picked-all ds) (picks-any a) (picks-all ds)
 
-    choices-any-picks : (a : Alts Graph) → choices-any a ≡ map (taken-any a) (picks-any a)
+    choices-any-picks : (a : Alts Graph) → choices-any a ≡ map (picked-any a) (picks-any a)
     choices-any-picks fail = refl
     choices-any-picks (d or a) = ap₂ {C = List (List Graph)} _++_
-        (choices-picks d ∙ sym (map-map inl (taken-any (d or a)) (picks d)))
-        (choices-any-picks a ∙ sym (map-map inr (taken-any (d or a)) (picks-any a)))
-        ∙ sym (map-append (taken-any (d or a)) (map inl (picks d)) (map inr (picks-any a)))
+        (choices-picks d ∙ sym (map-map inl (picked-any (d or a)) (picks d)))
+        (choices-any-picks a ∙ sym (map-map inr (picked-any (d or a)) (picks-any a)))
+        ∙ sym (map-append (picked-any (d or a)) (map inl (picks d)) (map inr (picks-any a)))
 
   mutual
     pub every-pick : (d : Desc Graph) (p : Pick d) → List·Memᴰ p (picks d)

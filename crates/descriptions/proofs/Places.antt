@@ -11,8 +11,9 @@ use native.Mathlib.Omega.{arith}
 use Rattle.descriptions.specs.Descr.{Alts, Desc, Disjs, _and_, _or_, agree, answers, choices, choices-all, choices-any, desc, end}
 use Rattle.descriptions.specs.Descr.{fail, pairs}
 use Rattle.descriptions.specs.Modes.{fold, full, joined, prune, prune-all, prune-any, some-agree}
-use Rattle.descriptions.specs.Places.{Pick, PickAll, PickAny, Place, PlaceAll, PlaceAny, Pruned, Stands, StandsAll, StandsAny, only}
-use Rattle.descriptions.specs.Places.{only-all, only-any, taken, taken-all, taken-any}
+use Rattle.descriptions.specs.Places.{Pick, PickAll, PickAny, Place, PlaceAll, PlaceAny, Pruned, StandsIn, StandsInAll, StandsInAny}
+use Rattle.descriptions.specs.Places.{only}
+use Rattle.descriptions.specs.Places.{only-all, only-any, picked, picked-all, picked-any}
 use Rattle.descriptions.proofs.Laws.{Laws, Within}
 use Rattle.descriptions.proofs.Mean.{AllFine, Can, CanAll, CanAny, Fine, canon-append, choices-all-fine, choices-any-fine}
 use Rattle.descriptions.proofs.Mean.{fine-append, within-both}
@@ -26,25 +27,25 @@ use Rattle.descriptions.specs.Canonical.{All}
 module _ {Graph : Type 0} where
   -- the choices are the graphs of the picks
   mutual
-    pub pick-in : (d : Desc Graph) (p : Pick d) → List·Memᴰ (taken d p) (choices d)
-    pick-in (desc g ds) p = each-in (g ∷ []) (choices-all ds) (taken-all ds p) (pick-all-in ds p)
+    pub pick-in : (d : Desc Graph) (p : Pick d) → List·Memᴰ (picked d p) (choices d)
+    pick-in (desc g ds) p = each-in (g ∷ []) (choices-all ds) (picked-all ds p) (pick-all-in ds p)
 
-    pub pick-all-in : (ds : Disjs Graph) (p : PickAll ds) → List·Memᴰ (taken-all ds p) (choices-all ds)
+    pub pick-all-in : (ds : Disjs Graph) (p : PickAll ds) → List·Memᴰ (picked-all ds p) (choices-all ds)
     pick-all-in end p = List·Memᴰ·head refl
-    pick-all-in (a and ds) p = pairs-in (choices-any a) (choices-all ds) (taken-any a (p .0)) (taken-all ds (p .1)) (pick-any-in a (p .0))
+    pick-all-in (a and ds) p = pairs-in (choices-any a) (choices-all ds) (picked-any a (p .0)) (picked-all ds (p .1)) (pick-any-in a (p .0))
         (pick-all-in ds (p .1))
 
-    pub pick-any-in : (a : Alts Graph) (p : PickAny a) → List·Memᴰ (taken-any a p) (choices-any a)
+    pub pick-any-in : (a : Alts Graph) (p : PickAny a) → List·Memᴰ (picked-any a p) (choices-any a)
     pick-any-in fail p = absurd p
     pick-any-in (d or a) (inl p) = Memᴰ·append-left (choices-any a) (pick-in d p)
     pick-any-in (d or a) (inr p) = Memᴰ·append-right (choices d) (pick-any-in a p)
 
   mutual
-    pub pick-of : (d : Desc Graph) (r : List Graph) → List·Memᴰ r (choices d) → (p : Pick d) × (r ≡ taken d p)
+    pub pick-of : (d : Desc Graph) (r : List Graph) → List·Memᴰ r (choices d) → (p : Pick d) × (r ≡ picked d p)
     pick-of (desc g ds) r m = let (s, j, e) = each-from (g ∷ []) (choices-all ds) r m in let (p, f) = pick-all-of ds s j in
         (p, e ∙ ap (λ (z : List Graph). g ∷ z) f)
 
-    pub pick-all-of : (ds : Disjs Graph) (r : List Graph) → List·Memᴰ r (choices-all ds) → (p : PickAll ds) × (r ≡ taken-all ds p)
+    pub pick-all-of : (ds : Disjs Graph) (r : List Graph) → List·Memᴰ r (choices-all ds) → (p : PickAll ds) × (r ≡ picked-all ds p)
     pick-all-of end r m = (tt, ⊎-elim (λ e. e) (λ i. absurd (List·Memᴰ·not-nil i)) (List·Memᴰ·cases-cons m))
     pick-all-of (a and ds) r m =
         let (x, y, i, j, e) = pairs-from (choices-any a) (choices-all ds) r m in
@@ -52,7 +53,7 @@ module _ {Graph : Type 0} where
         let (q, g) = pick-all-of ds y j in
         ((p, q), e ∙ ap₂ {C = List Graph} _++_ f g)
 
-    pub pick-any-of : (a : Alts Graph) (r : List Graph) → List·Memᴰ r (choices-any a) → (p : PickAny a) × (r ≡ taken-any a p)
+    pub pick-any-of : (a : Alts Graph) (r : List Graph) → List·Memᴰ r (choices-any a) → (p : PickAny a) × (r ≡ picked-any a p)
     pick-any-of fail r m = absurd (List·Memᴰ·not-nil m)
     pick-any-of (d or a) r m = ⊎-elim (λ i. let (p, e) = pick-of d r i in (inl p, e)) (λ i. let (p, e) = pick-any-of a r i in
         (inr p, e)) (List·Memᴰ·append-cases (choices d) m)
@@ -163,30 +164,30 @@ module _ {Graph : Type 0} {J : Joining Graph} (𝓛 : Laws J) where
 
   mutual
     kept-stands : (d : Desc Graph) → Can 𝓛 d → (others : List (List Graph)) → AllFine 𝓛 others → (x : Place d) → keeps J d others x ≡ true →
-        (p : Pick d) × Stands d x p × Joins J others (taken d p)
+        (p : Pick d) × StandsIn d x p × Joins J others (picked d p)
     kept-stands (desc g ds) c others fo x h =
         let (p, s, j) = kept-all-stands ds (c .1) (pairs others ((g ∷ []) ∷ [])) (full-graph 𝓛 others g (c .0) fo) x h in
-        (p, s, joins-graph J others g (taken-all ds p) .0 j)
+        (p, s, joins-graph J others g (picked-all ds p) .0 j)
 
     kept-all-stands : (ds : Disjs Graph) → CanAll 𝓛 ds → (others : List (List Graph)) → AllFull 𝓛 others → (x : PlaceAll ds) →
-        keeps-all J ds others x ≡ true → (p : PickAll ds) × StandsAll ds x p × Joins J others (taken-all ds p)
+        keeps-all J ds others x ≡ true → (p : PickAll ds) × StandsInAll ds x p × Joins J others (picked-all ds p)
     kept-all-stands end c others fo x h = absurd x
     kept-all-stands (a and ds) c others fo (inl x) h =
         let fd = choices-all-fine 𝓛 ds (c .1) in
         let (p, s, j) = kept-any-stands a (c .0) (pairs others (choices-all ds)) (full-pairs 𝓛 others (choices-all ds) fo fd) x h in
-        let (y, k, i) = joins-later others fo (choices-all ds) fd (taken-any a p)
-        (choices-any-fine 𝓛 a (c .0) (taken-any a p) (pick-any-in a p)) j in
+        let (y, k, i) = joins-later others fo (choices-all ds) fd (picked-any a p)
+        (choices-any-fine 𝓛 a (c .0) (picked-any a p) (pick-any-in a p)) j in
         let (q, e) = pick-all-of ds y k in
-        ((p, q), s, subst (λ (z : List Graph). Joins J others (taken-any a p ++ z)) e i)
+        ((p, q), s, subst (λ (z : List Graph). Joins J others (picked-any a p ++ z)) e i)
     kept-all-stands (a and ds) c others fo (inr x) h =
         let fa = choices-any-fine 𝓛 a (c .0) in
         let (q, s, j) = kept-all-stands ds (c .1) (pairs others (choices-any a)) (full-pairs 𝓛 others (choices-any a) fo fa) x h in
-        let (y, k, i) = joins-chosen others fo (choices-any a) (taken-all ds q) j in
+        let (y, k, i) = joins-chosen others fo (choices-any a) (picked-all ds q) j in
         let (p, e) = pick-any-of a y k in
-        ((p, q), s, subst (λ (z : List Graph). Joins J others (z ++ taken-all ds q)) e i)
+        ((p, q), s, subst (λ (z : List Graph). Joins J others (z ++ picked-all ds q)) e i)
 
     kept-any-stands : (a : Alts Graph) → CanAny 𝓛 a → (others : List (List Graph)) → AllFull 𝓛 others → (x : PlaceAny a) →
-        keeps-any J a others x ≡ true → (p : PickAny a) × StandsAny a x p × Joins J others (taken-any a p)
+        keeps-any J a others x ≡ true → (p : PickAny a) × StandsInAny a x p × Joins J others (picked-any a p)
     kept-any-stands fail c others fo x h = absurd x
     kept-any-stands (d or a) c others fo (inl (inl u)) h =
         let (r, i, ag) = some-agree-from J (pairs others (choices d)) h in
@@ -198,30 +199,31 @@ module _ {Graph : Type 0} {J : Joining Graph} (𝓛 : Laws J) where
     kept-any-stands (d or a) c others fo (inr x) h = let (p, s, j) = kept-any-stands a (c .1) others fo x h in (inr p, s, j)
 
   mutual
-    stands-kept : (d : Desc Graph) → Can 𝓛 d → (others : List (List Graph)) → AllFine 𝓛 others → (x : Place d) (p : Pick d) → Stands d x p →
-        Joins J others (taken d p) → keeps J d others x ≡ true
+    stands-kept : (d : Desc Graph) → Can 𝓛 d → (others : List (List Graph)) → AllFine 𝓛 others → (x : Place d) (p : Pick d) →
+        StandsIn d x p →
+        Joins J others (picked d p) → keeps J d others x ≡ true
     stands-kept (desc g ds) c others fo x p s j =
         stands-all-kept ds (c .1) (pairs others ((g ∷ []) ∷ [])) (full-graph 𝓛 others g (c .0) fo) x p s
-        (joins-graph J others g (taken-all ds p) .1 j)
+        (joins-graph J others g (picked-all ds p) .1 j)
 
     stands-all-kept : (ds : Disjs Graph) → CanAll 𝓛 ds → (others : List (List Graph)) → AllFull 𝓛 others →
-        (x : PlaceAll ds) (p : PickAll ds) → StandsAll ds x p → Joins J others (taken-all ds p) → keeps-all J ds others x ≡ true
+        (x : PlaceAll ds) (p : PickAll ds) → StandsInAll ds x p → Joins J others (picked-all ds p) → keeps-all J ds others x ≡ true
     stands-all-kept end c others fo x p s j = absurd x
     stands-all-kept (a and ds) c others fo (inl x) p s j =
         let fd = choices-all-fine 𝓛 ds (c .1) in
         stands-any-kept a (c .0) (pairs others (choices-all ds)) (full-pairs 𝓛 others (choices-all ds) fo fd) x (p .0) s
-        (later-joins others fo (choices-all ds) fd (taken-any a (p .0))
-        (choices-any-fine 𝓛 a (c .0) (taken-any a (p .0)) (pick-any-in a (p .0))) (taken-all ds (p .1)) (pick-all-in ds (p .1)) j)
+        (later-joins others fo (choices-all ds) fd (picked-any a (p .0))
+        (choices-any-fine 𝓛 a (c .0) (picked-any a (p .0)) (pick-any-in a (p .0))) (picked-all ds (p .1)) (pick-all-in ds (p .1)) j)
     stands-all-kept (a and ds) c others fo (inr x) p s j =
         stands-all-kept ds (c .1) (pairs others (choices-any a)) (full-pairs 𝓛 others (choices-any a) fo (choices-any-fine 𝓛 a (c .0))) x
         (p .1) s
-        (chosen-joins others fo (choices-any a) (taken-all ds (p .1)) (taken-any a (p .0)) (pick-any-in a (p .0)) j)
+        (chosen-joins others fo (choices-any a) (picked-all ds (p .1)) (picked-any a (p .0)) (pick-any-in a (p .0)) j)
 
     stands-any-kept : (a : Alts Graph) → CanAny 𝓛 a → (others : List (List Graph)) → AllFull 𝓛 others → (x : PlaceAny a) (p : PickAny a) →
-        StandsAny a x p → Joins J others (taken-any a p) → keeps-any J a others x ≡ true
+        StandsInAny a x p → Joins J others (picked-any a p) → keeps-any J a others x ≡ true
     stands-any-kept fail c others fo x p s j = absurd x
     stands-any-kept (d or a) c others fo (inl (inl u)) (inl p) s (o, i, ag) =
-        some-agree-in J (pairs others (choices d)) (o ++ taken d p) (pairs-in others (choices d) o (taken d p) i (pick-in d p)) ag
+        some-agree-in J (pairs others (choices d)) (o ++ picked d p) (pairs-in others (choices d) o (picked d p) i (pick-in d p)) ag
     stands-any-kept (d or a) c others fo (inl (inr x)) (inl p) s j = stands-kept d (c .0) others (fine-full 𝓛 others fo) x p s j
     stands-any-kept (d or a) c others fo (inl x) (inr p) s j = absurd s
     stands-any-kept (d or a) c others fo (inr x) (inl p) s j = absurd s
@@ -233,11 +235,11 @@ module _ {Graph : Type 0} {J : Joining Graph} (𝓛 : Laws J) where
     keep = keeps J d whole;
     left = prune-only J d whole;
     kept = λ x h. let (p, s, (o, i, a)) = kept-stands d c whole (whole-fine 𝓛) x h in
-        (p, s, agree-of J (taken d p) (subst (λ (z : List Graph). Agrees J (z ++ taken d p)) (only-one o i) a));
+        (p, s, agree-of J (picked d p) (subst (λ (z : List Graph). Agrees J (z ++ picked d p)) (only-one o i) a));
     stays = λ x p s h. stands-kept d c whole (whole-fine 𝓛) x p s (
       [],
       List·Memᴰ·head refl,
-      agree-view J (taken d p) (join (taken d p)) refl h,
+      agree-view J (picked d p) (join (picked d p)) refl h,
     );
   }
     where

@@ -20,7 +20,7 @@ use Rattle.descriptions.specs.Limits.{word-limit, length-limit}
 use Rattle.descriptions.specs.Unified.{unified}
 use Rattle.descriptions.specs.Rules.{Given}
 use Rattle.descriptions.specs.Demands.{Demand2, Demand3, Refused, Succeeds, Unifier}
-use Rattle.descriptions.specs.Demands.{Step, call, items, reached, start, ways, next-call, with-words}
+use Rattle.descriptions.specs.Demands.{ListCall, call, items, reached, start, ways, next-call, with-words}
 use Rattle.descriptions.proofs.Tests.{eqb-yes}
 use Rattle.descriptions.proofs.Table.{given-unified, one-answer, unified-given}
 use Rattle.descriptions.proofs.Areas.{Writes, given-writes, nothing, result}
@@ -96,10 +96,10 @@ module _ {Graph : Type 0} {J : Joining Graph} {𝓛 : Laws J} {𝓜 : Structures
           (demand2 𝓢 𝓡 .clash mode a b x y room work);
     }
 
-    called : (ws : List ℕ) (s : Step 𝓕) → call 𝓕 (unified J 𝓕) ws s ≡ call 𝓕 U ws s
+    called : (ws : List ℕ) (s : ListCall 𝓕) → call 𝓕 (unified J 𝓕) ws s ≡ call 𝓕 U ws s
     called ws s = same (next-call 𝓕 ws s) (s .room) (s .work)
 
-    reached-same : (l : List (Step 𝓕)) (ws : List ℕ) → reached 𝓕 U ws l ≡ reached 𝓕 (unified J 𝓕) ws l
+    reached-same : (l : List (ListCall 𝓕)) (ws : List ℕ) → reached 𝓕 U ws l ≡ reached 𝓕 (unified J 𝓕) ws l
     reached-same [] ws = refl
     reached-same (s ∷ l) ws = ap (next (eqb (call 𝓕 U ws s .number) 0)) (reached-same l (call 𝓕 U ws s .result))
         ∙ ap (after l) (sym (called ws s))
@@ -107,10 +107,10 @@ module _ {Graph : Type 0} {J : Joining Graph} {𝓛 : Laws J} {𝓜 : Structures
         next : Bool → Option (List ℕ) → Option (List ℕ)
         next t o = elim t [ true ↦ o | false ↦ none ]
 
-        after : List (Step 𝓕) → Answer → Option (List ℕ)
+        after : List (ListCall 𝓕) → Answer → Option (List ℕ)
         after m r = elim (eqb (r .number) 0) [ true ↦ reached 𝓕 (unified J 𝓕) (r .result) m | false ↦ none ]
 
-    came : (l : List (Step 𝓕)) (ws : List ℕ) → reached 𝓕 U (start J 𝓕) l ≡ some ws → reached 𝓕 (unified J 𝓕) (start J 𝓕) l ≡ some ws
+    came : (l : List (ListCall 𝓕)) (ws : List ℕ) → reached 𝓕 U (start J 𝓕) l ≡ some ws → reached 𝓕 (unified J 𝓕) (start J 𝓕) l ≡ some ws
     came l ws e = sym (reached-same l (start J 𝓕)) ∙ e
 
     pub table-demand3 : Demand3 J 𝓕 U

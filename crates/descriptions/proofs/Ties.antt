@@ -7,7 +7,7 @@ use Prim.Native.Nat.{ℕ}
 use native.Mathlib.Omega.{arith}
 use Rattle.descriptions.specs.Descr.{Alts, Desc, Disjs, _and_, _or_, choices, desc, end, fail}
 use Rattle.descriptions.specs.Modes.{fold, fold-all, folded-in, full, glue, joined, prune, some-agree}
-use Rattle.descriptions.specs.Places.{Consistent, Pick, Pruned, taken}
+use Rattle.descriptions.specs.Places.{Consistent, Pick, Pruned, picked}
 use Rattle.descriptions.proofs.Mean.{Can, CanAll, CanAny}
 use Rattle.descriptions.proofs.Live.{Live, LiveAll, LiveAny, fold-joins, some-agree-in}
 use Rattle.descriptions.proofs.Places.{full-is-pruned, pick-in}
@@ -43,7 +43,7 @@ module _ {Graph : Type 0} (J : Joining Graph) where
   unfolding full
   full-clash a b j h f p s =
       let t : some-agree J (choices j) ≡ true =
-      some-agree-in J (choices j) (taken j p) (pick-in j p) (agree-view J (taken j p) (join (taken j p)) refl s) in
+      some-agree-in J (choices j) (picked j p) (pick-in j p) (agree-view J (picked j p) (join (picked j p)) refl s) in
       let k : full J a b ≡ some (fold J (prune J whole j)) =
       ap {B = Option (Desc Graph)} (λ
       (z : Option (Desc Graph)). elim z [

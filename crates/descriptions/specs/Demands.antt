@@ -28,9 +28,9 @@ Refused n = ((1 ≤ n) × (n ≤ 5)) ⊎ ((7 ≤ n) × (n ≤ 8))
 
 module _ {Graph : Type 0} where
   -- "the ways to choose one reading from each description on the list": each as the graphs that it takes
-  abbrev pub chosen : List (Desc Graph) → List (List Graph)
-  chosen [] = [] ∷ []
-  chosen (d ∷ l) = pairs (choices d) (chosen l)
+  abbrev pub one-of-each : List (Desc Graph) → List (List Graph)
+  one-of-each [] = [] ∷ []
+  one-of-each (d ∷ l) = pairs (choices d) (one-of-each l)
 
   -- the descriptions on a list
   abbrev pub descriptions : List (ℕ × Desc Graph) → List (Desc Graph)
@@ -46,7 +46,7 @@ module _ {Graph : Type 0} (𝓕 : Layout Graph) where
 
   -- Demand 3. A description on the list, with the mode and the areas of its call, and whether the words in hand are the first input of
   -- it or the second
-  pub record Step : Type 0 where
+  pub record ListCall : Type 0 where
     pub item : Desc Graph
     pub fine : WellFormed item depth-limit
     pub in-hand-first : Bool
@@ -55,26 +55,26 @@ module _ {Graph : Type 0} (𝓕 : Layout Graph) where
     pub work : ℕ
 
   -- the call that a step makes with the words in hand
-  abbrev pub next-call : List ℕ → Step → Call
+  abbrev pub next-call : List ℕ → ListCall → Call
   next-call ws s = let b = words (s .item) in let t = s .in-hand-first in
       record { mode = s .mode; first = elim t [ true ↦ ws | false ↦ b ]; second = elim t [ true ↦ b | false ↦ ws ] }
 
-  abbrev pub call : Unifier → List ℕ → Step → Answer
+  abbrev pub call : Unifier → List ℕ → ListCall → Answer
   call U ws s = U (next-call ws s) (s .room) (s .work)
 
   -- the words in hand after these calls, "while every call succeeds"
-  abbrev pub reached : Unifier → List ℕ → List Step → Option (List ℕ)
+  abbrev pub reached : Unifier → List ℕ → List ListCall → Option (List ℕ)
   reached U ws [] = some ws
   reached U ws (s ∷ l) = elim (eqb (call U ws s .number) 0) [ true ↦ reached U (call U ws s .result) l | false ↦ none ]
 
-  abbrev pub items : List Step → List (Desc Graph)
+  abbrev pub items : List ListCall → List (Desc Graph)
   items [] = []
   items (s ∷ l) = s .item ∷ items l
 
 module _ {Graph : Type 0} (J : Joining Graph) where
   -- "so that all agree"
   abbrev pub ways : List (Desc Graph) → ℕ
-  ways l = agreeing J (chosen l)
+  ways l = agreeing J (one-of-each l)
 
   -- the same before any words, rooms or limits: each description with its mode, one after another into d
   abbrev pub gathered : Desc Graph → List (ℕ × Desc Graph) → Option (Desc Graph)
@@ -91,16 +91,17 @@ module _ {Graph : Type 0} (J : Joining Graph) (𝓕 : Layout Graph) where
 
   pub record Demand3 (U : Unifier) : Type 0 where
     -- "While every call succeeds, the consistent readings of the result number as many as the ways"
-    pub number : (l : List (Step 𝓕)) (ws : List ℕ) → reached 𝓕 U start l ≡ some ws →
+    pub number : (l : List (ListCall 𝓕)) (ws : List ℕ) → reached 𝓕 U start l ≡ some ws →
         (d : Desc Graph) × WellFormed d depth-limit × (ws ≡ words d) × (readings J d ≡ ways J (items 𝓕 l))
     -- "A clash is reported only when that number is zero"
-    pub clash : (l : List (Step 𝓕)) (ws : List ℕ) (s : Step 𝓕) → reached 𝓕 U start l ≡ some ws → call 𝓕 U ws s .number ≡ 6 →
+    pub clash : (l : List (ListCall 𝓕)) (ws : List ℕ) (s : ListCall 𝓕) → reached 𝓕 U start l ≡ some ws → call 𝓕 U ws s .number ≡ 6 →
         ways J (items 𝓕 l ++ s .item ∷ []) ≡ 0
     -- "the complete mode, unless it refuses on another ground, reports a clash whenever it is zero"
-    pub told : (l : List (Step 𝓕)) (ws : List ℕ) (s : Step 𝓕) → reached 𝓕 U start l ≡ some ws → s .mode ≡ 2 →
+    pub told : (l : List (ListCall 𝓕)) (ws : List ℕ) (s : ListCall 𝓕) → reached 𝓕 U start l ≡ some ws → s .mode ≡ 2 →
         ways J (items 𝓕 l ++ s .item ∷ []) ≡ 0 → (call 𝓕 U ws s .number ≡ 6) ⊎ Refused (call 𝓕 U ws s .number)
     -- "and on success it reports that number"
-    pub counted : (l : List (Step 𝓕)) (ws : List ℕ) (s : Step 𝓕) → reached 𝓕 U start l ≡ some ws → s .mode ≡ 2 → call 𝓕 U ws s .number ≡ 0 →
+    pub counted : (l : List (ListCall 𝓕)) (ws : List ℕ) (s : ListCall 𝓕) → reached 𝓕 U start l ≡ some ws → s .mode ≡ 2 →
+        call 𝓕 U ws s .number ≡ 0 →
         call 𝓕 U ws s .readings ≡ ways J (items 𝓕 l ++ s .item ∷ [])
 
 module _ {Graph : Type 0} (J : Joining Graph) (𝓜 : Structures Graph) (𝓕 : Layout Graph) where

@@ -23,17 +23,17 @@ module _ {Graph : Type 0} where
 
   -- the graphs that it takes, the definite graph first
   abbrev mutual
-    pub taken : (d : Desc Graph) → Pick d → List Graph
-    taken (desc g ds) p = g ∷ taken-all ds p
+    pub picked : (d : Desc Graph) → Pick d → List Graph
+    picked (desc g ds) p = g ∷ picked-all ds p
 
-    pub taken-all : (ds : Disjs Graph) → PickAll ds → List Graph
-    taken-all end p = []
-    taken-all (a and ds) p = taken-any a (p .0) ++ taken-all ds (p .1)
+    pub picked-all : (ds : Disjs Graph) → PickAll ds → List Graph
+    picked-all end p = []
+    picked-all (a and ds) p = picked-any a (p .0) ++ picked-all ds (p .1)
 
-    pub taken-any : (a : Alts Graph) → PickAny a → List Graph
-    taken-any fail p = absurd p
-    taken-any (d or a) (inl p) = taken d p
-    taken-any (d or a) (inr p) = taken-any a p
+    pub picked-any : (a : Alts Graph) → PickAny a → List Graph
+    picked-any fail p = absurd p
+    picked-any (d or a) (inl p) = picked d p
+    picked-any (d or a) (inr p) = picked-any a p
 
   -- the places of the alternatives, at every depth
   abbrev mutual
@@ -51,21 +51,21 @@ module _ {Graph : Type 0} where
 
   -- the alternative at this place stands in this choice
   abbrev mutual
-    pub Stands : (d : Desc Graph) → Place d → Pick d → Type 0
-    Stands (desc g ds) x p = StandsAll ds x p
+    pub StandsIn : (d : Desc Graph) → Place d → Pick d → Type 0
+    StandsIn (desc g ds) x p = StandsInAll ds x p
 
-    pub StandsAll : (ds : Disjs Graph) → PlaceAll ds → PickAll ds → Type 0
-    StandsAll end x p = absurd x
-    StandsAll (a and ds) (inl x) p = StandsAny a x (p .0)
-    StandsAll (a and ds) (inr x) p = StandsAll ds x (p .1)
+    pub StandsInAll : (ds : Disjs Graph) → PlaceAll ds → PickAll ds → Type 0
+    StandsInAll end x p = absurd x
+    StandsInAll (a and ds) (inl x) p = StandsInAny a x (p .0)
+    StandsInAll (a and ds) (inr x) p = StandsInAll ds x (p .1)
 
-    pub StandsAny : (a : Alts Graph) → PlaceAny a → PickAny a → Type 0
-    StandsAny fail x p = absurd x
-    StandsAny (d or a) (inl (inl u)) (inl p) = Unit {0}
-    StandsAny (d or a) (inl (inr x)) (inl p) = Stands d x p
-    StandsAny (d or a) (inl x) (inr p) = ⊥
-    StandsAny (d or a) (inr x) (inl p) = ⊥
-    StandsAny (d or a) (inr x) (inr p) = StandsAny a x p
+    pub StandsInAny : (a : Alts Graph) → PlaceAny a → PickAny a → Type 0
+    StandsInAny fail x p = absurd x
+    StandsInAny (d or a) (inl (inl u)) (inl p) = Unit {0}
+    StandsInAny (d or a) (inl (inr x)) (inl p) = StandsIn d x p
+    StandsInAny (d or a) (inl x) (inr p) = ⊥
+    StandsInAny (d or a) (inr x) (inl p) = ⊥
+    StandsInAny (d or a) (inr x) (inr p) = StandsInAny a x p
 
   -- the description with only the alternatives at the places that pass
   abbrev mutual
@@ -85,11 +85,11 @@ module _ {Graph : Type 0} where
 
 module _ {Graph : Type 0} (J : Joining Graph) where
   abbrev pub Consistent : (d : Desc Graph) → Pick d → Type 0
-  Consistent d p = agree J (taken d p) ≡ true
+  Consistent d p = agree J (picked d p) ≡ true
 
   -- "drop every alternative that stands in no consistent choice of the whole"
   pub record Pruned (d e : Desc Graph) : Type 0 where
     pub keep : Place d → Bool
     pub left : e ≡ only d keep
-    pub kept : (x : Place d) → keep x ≡ true → (p : Pick d) × Stands d x p × Consistent d p
-    pub stays : (x : Place d) (p : Pick d) → Stands d x p → Consistent d p → keep x ≡ true
+    pub kept : (x : Place d) → keep x ≡ true → (p : Pick d) × StandsIn d x p × Consistent d p
+    pub stays : (x : Place d) (p : Pick d) → StandsIn d x p → Consistent d p → keep x ≡ true

@@ -11,7 +11,7 @@ use Rattle.engine.specs.Placed.{Placed, Places, strip}
 use Rattle.engine.specs.Marks.{Marking, keep}
 use Rattle.engine.specs.Beside.{_next_, joined-placed}
 use Rattle.engine.specs.Agenda.{resume-at}
-use Rattle.engine.specs.Stack.{Same}
+use Rattle.engine.specs.Stack.{Equivalent}
 use Rattle.theory.specs.JoiningOne.{joining-one}
 use Rattle.theory.proofs.Laws.{laws}
 
@@ -25,7 +25,7 @@ pub joined-is : (a b j : Placed) → joined-placed a b ≡ some j → Joins a b 
 joined-is = Rattle.modes_by_marks.proofs.Joined.joined-is joining-one
 
 pub joined-same : (g h k : Graph) (X Y : Ctx) → Canonical g → Canonical h → AllCanonical X → AllCanonical Y → join (g ∷ h ∷ []) ≡ some k →
-    Same ((g ∷ X) ++ h ∷ Y) (k ∷ (X ++ Y))
+    Equivalent ((g ∷ X) ++ h ∷ Y) (k ∷ (X ++ Y))
 joined-same = Rattle.modes_by_marks.proofs.Joined.joined-same laws
 
 pub resume-at-after : (m : Marking) → (ds : Places) (fs gs : List Places) (S : Ctx) → ((T : Ctx) → resume-at m fs T ≡ resume-at m gs T) →

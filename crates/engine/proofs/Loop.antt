@@ -12,7 +12,7 @@ use Rattle.engine.specs.Marks.{Marking, all-kept}
 use Rattle.engine.specs.Certain.{certain}
 use Rattle.engine.specs.Quickly.{fails, stands, narrow-at, quick-at, Leaves}
 use Rattle.modes_by_marks.specs.Names.{names, Distinct}
-use Rattle.engine.specs.Stack.{Same}
+use Rattle.engine.specs.Stack.{Equivalent}
 use Rattle.theory.proofs.Laws.{laws}
 
 abbrev pub d : (g : Graph) (ds : Places) (c : Can (strip (place g ds))) (w : Distinct (place g ds)) → Placed
@@ -22,7 +22,7 @@ abbrev pub Loop : (g : Graph) (ds : Places) (c : Can (strip (place g ds))) (w : 
 Loop = Rattle.modes_by_marks.proofs.Loop.Loop laws
 
 pub loop-start : (g : Graph) (ds : Places) (c : Can (strip (place g ds))) (w : Distinct (place g ds)) → (T : Ctx) →
-    Same T (g ∷ certain all-kept ds) → Agrees T → Loop g ds c w T all-kept
+    Equivalent T (g ∷ certain all-kept ds) → Agrees T → Loop g ds c w T all-kept
 loop-start = Rattle.modes_by_marks.proofs.Loop.loop-start laws
 
 pub loop-fails : (g : Graph) (ds : Places) (c : Can (strip (place g ds))) (w : Distinct (place g ds)) (T : Ctx) (m : Marking)

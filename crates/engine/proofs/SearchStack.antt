@@ -11,9 +11,10 @@ use Rattle.engine.specs.Marks.{Marking, keep}
 use Rattle.engine.specs.Certain.{certain}
 use Rattle.engine.specs.Search.{search}
 use Rattle.engine.specs.Agenda.{resume-at}
-use Rattle.engine.specs.Stack.{Same}
+use Rattle.engine.specs.Stack.{Equivalent}
 use Rattle.theory.proofs.Laws.{laws}
 
-pub search-standing : (g : Graph) (ds : Places) (m : Marking) → Can (strip (keep m (place g ds))) → (T : Ctx) → Same T (g ∷ certain m ds) →
+pub search-standing : (g : Graph) (ds : Places) (m : Marking) → Can (strip (keep m (place g ds))) → (T : Ctx) →
+    Equivalent T (g ∷ certain m ds) →
     Agrees T → search (keep m (place g ds)) ≡ resume-at m (ds ∷ []) T
 search-standing = Rattle.modes_by_marks.proofs.SearchStack.search-standing laws

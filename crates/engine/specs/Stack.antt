@@ -4,5 +4,5 @@ use Rattle.theory.specs.Net.{Canonical}
 use Rattle.theory.specs.Canonical.{Ctx}
 use Rattle.theory.specs.JoiningOne.{joining-one}
 
-abbrev pub Same : (S T : Ctx) → Type 0
-Same = Rattle.modes_by_marks.specs.Stack.Same joining-one Canonical
+abbrev pub Equivalent : (S T : Ctx) → Type 0
+Equivalent = Rattle.modes_by_marks.specs.Stack.Equivalent joining-one Canonical

@@ -3,7 +3,7 @@
 use Prim.Native.Nat.{ℕ}
 use mathlib.Core.Path.{_≡_, refl, sym, ap}
 use mathlib.Core.List.{List, _++_}
-use Rattle.area.specs.Region.{words}
+use Rattle.area.specs.Region.{loaded-words}
 use Rattle.loading.specs.Entry.{Entry}
 use Rattle.loading.proofs.Lying.{lying-more}
 use Rattle.marks.specs.Marked.{marking}
@@ -23,7 +23,7 @@ module _ (n k : ℕ) (w : List ℕ) (p count left : ℕ) (c : Alternating n k w 
 
   module _ (which : Remnant) (after : ℕ) (tally : Tallied w counted which after) (first : ℕ) (one : which ≡ One first) where
     lone : LoneOf (marking w) (c .lies) (c .s .U) first
-    lone = lone-alone (c .s .U) (words w) (marking w) (c .lies) (c .among) (kept-alone w counted which after tally first one) first
+    lone = lone-alone (c .s .U) (loaded-words w) (marking w) (c .lies) (c .among) (kept-alone w counted which after tally first one) first
         (alone-at w counted which after tally first one)
 
     pub inner : Entering n k w first left

@@ -11,7 +11,7 @@ use Rattle.theory.specs.Net.{Graph, Clash}
 use Rattle.theory.proofs.Instance.{AllCanonical}
 use Rattle.theory.proofs.Sets.{clash-within}
 use Rattle.area.specs.Map.{WORDS}
-use Rattle.area.specs.Region.{words}
+use Rattle.area.specs.Region.{loaded-words}
 use Rattle.area.proofs.Region.{words-same, words-many}
 use Rattle.engine.specs.Placed.{Placed, place, Places, stop, _also_, Options}
 use Rattle.engine.specs.Marks.{Marking, kept-of}
@@ -117,7 +117,7 @@ module _ (n k : ℕ) (w : List ℕ) (g left : ℕ) (c : Entering n k w g left) w
     room₁ : 16384 ≤ length w₁
     room₁ = omega (arith, r .len, room)
 
-    loaded₁ : words w₁ ≡ c .s .t
+    loaded₁ : loaded-words w₁ ≡ c .s .t
     loaded₁ = words-same w w₁ room (r .len) (λ j a b. r .rest j a) ∙ c .s .loaded
 
     marks₁ : marking w₁ ≡ marking w

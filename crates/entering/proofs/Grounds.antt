@@ -10,7 +10,7 @@ use Rattle.theory.specs.Descr.{Desc, desc, Disjs, end, _and_, Alts, fail, _or_,
 use Rattle.theory.specs.Layout.{nodes-words, disjs-words, alts-words, WellFormed}
 use Rattle.theory.specs.Layout as layout
 use Rattle.area.specs.Map.{SIZE}
-use Rattle.area.specs.Region.{words}
+use Rattle.area.specs.Region.{loaded-words}
 use Rattle.loading.specs.Entry.{Entry, entry}
 use Rattle.loading.specs.Loaded.{extent, nodes-in, nodes-all, nodes-any, alts-in, alts-any}
 use Rattle.loading.specs.Numbered.{numbered, numbered-all, numbered-any}
@@ -22,9 +22,9 @@ use Rattle.entering.specs.Taken.{Among, AmongAll, AmongAny}
 use Rattle.entering.specs.Ground.{Ground}
 
 pub ground : (w : List ℕ) (d e : Desc) (n : ℕ) → SIZE ≤ length w → WellFormed d depth-limit → WellFormed e depth-limit →
-    length (layout.words d) ≤ input-limit → length (layout.words e) ≤ input-limit → Stand (words w) d e n →
-    Ground n (words w) (universe d e)
-unfolding words
+    length (layout.words d) ≤ input-limit → length (layout.words e) ≤ input-limit → Stand (loaded-words w) d e n →
+    Ground n (loaded-words w) (universe d e)
+unfolding loaded-words
 ground w d e n long wd we fd fe s = record {
   few = omega (arith, nodes-room w d e n long wd we fd fe s);
   canonical = λ x i. good w d e n long wd we fd fe s x i .0;

@@ -4,7 +4,7 @@ use Prim.Native.Nat.{ℕ, _≤_}
 use mathlib.Core.Path.{_≡_, refl, _∙_}
 use mathlib.Core.List.{List}
 use lib.ListN.{length}
-use Rattle.area.specs.Region.{words}
+use Rattle.area.specs.Region.{loaded-words}
 use Rattle.area.proofs.Region.{words-same}
 use Rattle.marks.specs.Marked.{marking}
 use Rattle.classes.specs.Holds.{Holds}
@@ -22,11 +22,11 @@ moved-trans a u b v c w p q = record {
   since = since-trans a u b v c w (p .since) (q .since);
 }
 
-pub moved-words : (k : ℕ) (w : List ℕ) (k' : ℕ) (w' : List ℕ) → 16384 ≤ length w → Moved k w k' w' → words w' ≡ words w
+pub moved-words : (k : ℕ) (w : List ℕ) (k' : ℕ) (w' : List ℕ) → 16384 ≤ length w → Moved k w k' w' → loaded-words w' ≡ loaded-words w
 moved-words k w k' w' room m = words-same w w' room (m .len) (λ j a b. m .since .same j a b)
 
 -- the same graphs are pushed over the same words
-abbrev pub footing-as : {n k k' : ℕ} {w : List ℕ} {es : List Entry} → Footing n k w es → (v : List ℕ) → words v ≡ words w →
+abbrev pub footing-as : {n k k' : ℕ} {w : List ℕ} {es : List Entry} → Footing n k w es → (v : List ℕ) → loaded-words v ≡ loaded-words w →
     Holds n es k' v → Footing n k' v es
 footing-as s v e h = record {
   t = s .t;

@@ -18,7 +18,7 @@ use Rattle.theory.specs.Canonical.{Ctx, Fine}
 use Rattle.theory.proofs.Live.{Agrees}
 use Rattle.theory.proofs.Reading.{well-can}
 use Rattle.area.specs.Map.{SECOND, MARKS, SIZE}
-use Rattle.area.specs.Region.{words}
+use Rattle.area.specs.Region.{loaded-words}
 use Rattle.area.proofs.Region.{words-same}
 use Rattle.engine.specs.Placed.{Placed, place, strip, strip-all, own}
 use Rattle.engine.specs.Marks.{Marking, all-kept, keep}
@@ -27,7 +27,7 @@ use Rattle.engine.specs.Beside.{joined-placed}
 use Rattle.engine.proofs.Entail.{fine-cons}
 use Rattle.modes_by_marks.proofs.Proper.{Proper, proper-sure}
 use Rattle.modes_by_marks.proofs.Marks.{keep-all-marked}
-use Rattle.engine.specs.Stack.{Same}
+use Rattle.engine.specs.Stack.{Equivalent}
 use Rattle.engine.proofs.Joined.{joined-same}
 use Rattle.loading.specs.Entry.{Entry, graphs}
 use Rattle.loading.specs.Loaded.{nodes-in}
@@ -37,7 +37,7 @@ use Rattle.loading.proofs.Names.{alts-few, input-between}
 use Rattle.loading.proofs.Loads.{input-at}
 use Rattle.loading.proofs.Entries.{entries}
 use Rattle.marks.specs.Marked.{marking}
-use Rattle.counting.specs.Counted.{beside}
+use Rattle.counting.specs.Counted.{inner-both}
 use Rattle.counting.proofs.Whole.{well-nests}
 use Rattle.classes.specs.Holds.{Holds, Undoable}
 use Rattle.classes.proofs.Laws.{holds-agree, holds-frame, undoable-frame}
@@ -62,15 +62,15 @@ both-fine : (d e : Desc) (p q m n left : ℕ) → WellFormed d left → WellForm
 both-fine (desc g ds) (desc h es) p q m n left a b = fine-cons g (h ∷ []) (a .0) (b .0, tt)
 
 both-joined : (d e : Desc) (p q m n x y : ℕ) (G : Graph) → join (graphs (definite p m d ∷ definite q n e ∷ [])) ≡ some G →
-    joined-placed (numbered x d) (numbered y e) ≡ some (place G (beside (numbered x d) (numbered y e)))
+    joined-placed (numbered x d) (numbered y e) ≡ some (place G (inner-both (numbered x d) (numbered y e)))
 both-joined (desc g ds) (desc h es) p q m n x y G z =
     ap {B = Option Placed} (λ (o : Option Graph). elim o [
       | none ↦ none
-      | some k ↦ some (place k (beside (numbered x (desc g ds)) (numbered y (desc h es))))
+      | some k ↦ some (place k (inner-both (numbered x (desc g ds)) (numbered y (desc h es))))
     ]) z
 
 both-same : (d e : Desc) (p q m n left : ℕ) → WellFormed d left → WellFormed e left → (G : Graph) →
-    join (graphs (definite p m d ∷ definite q n e ∷ [])) ≡ some G → Same (graphs (definite p m d ∷ definite q n e ∷ [])) (G ∷ [])
+    join (graphs (definite p m d ∷ definite q n e ∷ [])) ≡ some G → Equivalent (graphs (definite p m d ∷ definite q n e ∷ [])) (G ∷ [])
 both-same (desc g ds) (desc h es) p q m n left a b G z = joined-same g h G [] [] (a .0) (b .0) tt tt z
 
 -- where every disjunction has two or more alternatives, its own graph is all that is certain
@@ -83,9 +83,9 @@ two-cases P x y a b o i = ⊎-elim (λ e. subst P (sym e) a)
     (λ j. ⊎-elim (λ e. subst P (sym e) b) (λ l. absurd (List·Memᴰ·not-nil l)) (List·Memᴰ·cases-cons j)) (List·Memᴰ·cases-cons i)
 
 module _ (w : List ℕ) (d e : Desc) (n : ℕ) (long : SIZE ≤ length w) (wd : WellFormed d depth-limit) (we : WellFormed e depth-limit)
-    (fd : length (layout.words d) ≤ input-limit) (fe : length (layout.words e) ≤ input-limit) (s : Stand (words w) d e n) where
+    (fd : length (layout.words d) ≤ input-limit) (fe : length (layout.words e) ≤ input-limit) (s : Stand (loaded-words w) d e n) where
   abbrev t : List ℕ
-  t = words w
+  t = loaded-words w
 
   abbrev half : ℕ
   half = nodes-in d
@@ -177,17 +177,18 @@ module _ (w : List ℕ) (d e : Desc) (n : ℕ) (long : SIZE ≤ length w) (wd : 
       inputs = inputs;
       first-is = refl;
       second-is = refl;
-      j = place (joins .0) (beside a b);
+      j = place (joins .0) (inner-both a b);
       joined = both-joined d e 0 SECOND 0 half 1 (half + 1) (joins .0) (joins .1);
     }
 
-    same : marking w ≡ all-kept → Same (graphs both) (flat (strip (keep (marking w) (pair .j))))
+    same : marking w ≡ all-kept → Equivalent (graphs both) (flat (strip (keep (marking w) (pair .j))))
     same every =
         let z : flat (strip (keep (marking w) (pair .j))) ≡ joins .0 ∷ [] = ap (λ (m : Marking). flat (strip (keep m (pair .j)))) every
         ∙ ap (λ (z : Placed). flat (strip z)) (keep-all-marked (pair .j)) ∙ flat-proper (pair .j) (whole-comes n t pair .1) in
-        subst (λ (l : Ctx). Same (graphs both) l) (sym z) (both-same d e 0 SECOND 0 half depth-limit wd we (joins .0) (joins .1))
+        subst (λ (l : Ctx). Equivalent (graphs both) l) (sym z) (both-same d e 0 SECOND 0 half depth-limit wd we (joins .0) (joins .1))
 
-    pub first-stage : Undoable n k w → marking w ≡ all-kept → (p : Pair n (words w)) × ((p .d ≡ d) × ((p .e ≡ e) × Stage n (words w) p k w))
+    pub first-stage : Undoable n k w → marking w ≡ all-kept → (p : Pair n (loaded-words w))
+        × ((p .d ≡ d) × ((p .e ≡ e) × Stage n (loaded-words w) p k w))
     first-stage undoable every = (pair, (refl, (refl, record { es = both; ready = ready; undoable = undoable; same = same every })))
 
 -- a stage is where it was when only marks have changed, and none of these for what is kept
@@ -203,5 +204,5 @@ stage-again n t p k w s w′ len same m = record {
     clear-second = subst (λ (z : Marking). ClearOf (s .es) z (p .inputs .second)) (sym m) (s .ready .clear-second);
   };
   undoable = undoable-frame n k w (s .undoable) w′ len same;
-  same = subst (λ (z : Marking). Same (graphs (s .es)) (flat (strip (keep z (p .j))))) (sym m) (s .same);
+  same = subst (λ (z : Marking). Equivalent (graphs (s .es)) (flat (strip (keep z (p .j))))) (sym m) (s .same);
 }

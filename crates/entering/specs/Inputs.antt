@@ -6,7 +6,7 @@ use mathlib.Core.List.{List}
 use Rattle.theory.specs.Limits.{depth-limit}
 use Rattle.modes_by_marks.specs.Names.{names}
 use Rattle.area.specs.Map.{SECOND}
-use Rattle.area.specs.Region.{words}
+use Rattle.area.specs.Region.{loaded-words}
 use Rattle.loading.specs.Entry.{Entry}
 use Rattle.loading.specs.Numbered.{Between}
 use Rattle.loading.specs.Lying.{Lying}
@@ -31,7 +31,7 @@ pub record Inputs (n : ℕ) (t : List ℕ) : Type 0 where
 
 -- the graphs es are pushed, among them what is certain in both
 pub record Ready (n : ℕ) (t : List ℕ) (i : Inputs n t) (k : ℕ) (w : List ℕ) (es : List Entry) : Type 0 where
-  pub loaded : words w ≡ t
+  pub loaded : loaded-words w ≡ t
   pub holds : Holds n es k w
   pub inside : Inside (i .U) es
   pub clear-first : ClearOf es (marking w) (i .first)

@@ -13,7 +13,7 @@ use Rattle.engine.specs.Placed.{Placed, strip}
 use Rattle.engine.specs.Marks.{keep}
 use Rattle.engine.specs.Certain.{flat}
 use Rattle.engine.specs.Beside.{joined-placed}
-use Rattle.engine.specs.Stack.{Same}
+use Rattle.engine.specs.Stack.{Equivalent}
 use Rattle.loading.specs.Entry.{Entry, graphs}
 use Rattle.loading.specs.Loaded.{nodes-in}
 use Rattle.loading.specs.Numbered.{input-numbered}
@@ -40,4 +40,4 @@ pub record Stage (n : ℕ) (t : List ℕ) (p : Pair n t) (k : ℕ) (w : List ℕ
   pub es : List Entry
   pub ready : Ready n t (p .inputs) k w es
   pub undoable : Undoable n k w
-  pub same : Same (graphs es) (flat (strip (keep (marking w) (p .j))))
+  pub same : Equivalent (graphs es) (flat (strip (keep (marking w) (p .j))))

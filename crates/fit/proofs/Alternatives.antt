@@ -14,13 +14,13 @@ use Rattle.theory.specs.FitTest.{FitsAny}
 use Rattle.layout.specs.Skipping.{descriptionEnd}
 use Rattle.layout.proofs.Standing.{stands-nil, stands-disjunction, stands-alternatives}
 use Rattle.layout.proofs.Ends.{description-ends}
-use Rattle.fit.specs.Testing.{Kind, a-description, a-disjunction, Asked, Answers, Skips}
-use Rattle.fit.specs.declared.sending.Answer.{Answer}
-use Rattle.fit.specs.declared.sending.Answer.the-variants as answer
+use Rattle.fit.specs.Testing.{Subject, description-subject, disjunction-subject, Testable, Answers, Skips}
+use Rattle.fit.specs.declared.sending.Trial.{Trial}
+use Rattle.fit.specs.declared.sending.Trial.the-variants as answer
 use Rattle.fit.proofs.Things.{Left, left-says, left-on}
 
 -- k alternatives under which others nest at most `left` deep
-abbrev pub its-alternatives : Graph → ℕ → ℕ → Kind
+abbrev pub its-alternatives : Graph → ℕ → ℕ → Subject
 its-alternatives H left k = record {
   Thing = Alts;
   Fine = λ a. (alts a ≡ k) × (left ≤ depth-limit) × WellAny a left;
@@ -42,22 +42,22 @@ module _ (ws : List ℕ) where
 
   module _ (H : Graph) where
     module _ (left p : ℕ) where
-      pub disjunction-there : Asked (a-disjunction H left) ws p → (0 < left) × (p < length ws)
+      pub disjunction-there : Testable (disjunction-subject H left) ws p → (0 < left) × (p < length ws)
       disjunction-there a = let b = a .1 in (b .2 .0, stands-disjunction ws (b .0) p (b .1) .0 (b .3) .0)
 
-      pub alternatives-start : Left ws (a-disjunction H left) p (its-alternatives H (left - 1) (getD ws p 0)) (p + 1)
+      pub alternatives-start : Left ws (disjunction-subject H left) p (its-alternatives H (left - 1) (getD ws p 0)) (p + 1)
       alternatives-start a q f s =
           let t = stands-disjunction ws a p q .0 s in
           let l = f .1 in
           record { rest = a; fine = (sym (t .1), omega arith, f .2); there = t .2; same = (λ h. h, λ h. h) }
 
     module _ (left count at : ℕ) where
-      pub alternative-next : 0 < count → Asked (its-alternatives H left count) ws at → Asked (a-description H left) ws at
+      pub alternative-next : 0 < count → Testable (its-alternatives H left count) ws at → Testable (description-subject H left) ws at
       alternative-next some (few, (fail, q, f, s)) = let z = f .0 in absurd (omega arith)
       alternative-next some (few, (d or a, q, f, s)) = let t = stands-alternatives ws d a at q .0 s in
           (few, (d, t .0, (f .1, f .2 .0), t .1))
 
-      module _ (r : Answer) (answers : Answers (a-description H left) ws at r) (some : 0 < count) where
+      module _ (r : Trial) (answers : Answers (description-subject H left) ws at r) (some : 0 < count) where
         others : (n : ℕ) → r ≡ answer.Fails → n ≡ descriptionEnd ws at →
             Left ws (its-alternatives H left count) at (its-alternatives H left (count - 1)) n
         others n e d fail q f s = let z = f .0 in absurd (omega arith)
@@ -65,7 +65,7 @@ module _ (ws : List ℕ) where
             let z = f .0 in
             let t = stands-alternatives ws x a at q .0 s in
             let y : n ≡ t .0 = d ∙ description-ends ws x left at (t .0) (f .1) (f .2 .0) (t .1) in
-            let lost = subst (Answers (a-description H left) ws at) e answers x (t .0) (f .1, f .2 .0) (t .1) in
+            let lost = subst (Answers (description-subject H left) ws at) e answers x (t .0) (f .1, f .2 .0) (t .1) in
             record {
               rest = a;
               fine = (omega arith, f .1, f .2 .1);
@@ -79,11 +79,11 @@ module _ (ws : List ℕ) where
         one n m e skips (x or a) q f s =
             let z = f .0 in
             let t = stands-alternatives ws x a at q .0 s in
-            let b = subst (Answers (a-description H left) ws at) e answers x (t .0) (f .1, f .2 .0) (t .1) in
+            let b = subst (Answers (description-subject H left) ws at) e answers x (t .0) (f .1, f .2 .0) (t .1) in
             let y = b .0 in
             (skips a left q (omega arith) (f .1) (f .2 .1) (rw y (t .2)), inl (b .1))
 
-        module _ (K : Kind) (p : ℕ) (going : Left ws K p (its-alternatives H left count) at) where
+        module _ (K : Subject) (p : ℕ) (going : Left ws K p (its-alternatives H left count) at) where
           pub alternatives-step : (n : ℕ) → r ≡ answer.Fails → n ≡ descriptionEnd ws at →
               Left ws K p (its-alternatives H left (count - 1)) n
           alternatives-step n e d = left-on ws K (its-alternatives H left count) (its-alternatives H left (count - 1)) p at n going
@@ -96,5 +96,6 @@ module _ (ws : List ℕ) where
       none h fail q f s = λ o. o
       none h (d or a) q f s = let z = f .0 in absurd (omega arith)
 
-      pub alternatives-end : (K : Kind) (p : ℕ) → Left ws K p (its-alternatives H left count) at → count ≤ 0 → Answers K ws p answer.Fails
+      pub alternatives-end : (K : Subject) (p : ℕ) → Left ws K p (its-alternatives H left count) at → count ≤ 0 →
+          Answers K ws p answer.Fails
       alternatives-end K p going h = left-says ws K (its-alternatives H left count) p at answer.Fails going (none h)

@@ -8,12 +8,12 @@ use mathlib.Core.List.{List, _∷_}
 use lib.ListN.{length, getD}
 use Rattle.theory.specs.Net.{Rising, InOrder, met}
 use Rattle.theory.proofs.Instance.{met-ge}
-use Rattle.fit.specs.Parts.{node-limit, arcsFrom, lastArcs}
-use Rattle.fit.specs.Sending.{SentArcs, Comes, Refused, Finds, Sendable, Steps, ArcsAsked, Sends}
-use Rattle.fit.specs.declared.sending.Found.{Found}
-use Rattle.fit.specs.declared.sending.Found.the-variants.{Target, Nowhere}
-use Rattle.fit.specs.declared.sending.Step.{Step}
-use Rattle.fit.specs.declared.sending.Step.the-variants.{Met, Stopped}
+use Rattle.fit.specs.Parts.{node-limit, arcsOfWords, lastArcs}
+use Rattle.fit.specs.Sending.{SentArcs, SameMaps, NoMap, FindsTarget, Sendable, Steps, ArcsAsked, Sends}
+use Rattle.fit.specs.declared.sending.Lookup.{Lookup}
+use Rattle.fit.specs.declared.sending.Lookup.the-variants.{Target, Nowhere}
+use Rattle.fit.specs.declared.sending.Mapped.{Mapped}
+use Rattle.fit.specs.declared.sending.Mapped.the-variants.{Met, Stopped}
 use Rattle.fit.proofs.Parts.{arcs-step, arcs-none}
 use Rattle.fit.proofs.Finding.{rising-all, sent-first}
 use Rattle.fit.proofs.Steps.{comes-start, comes-on, comes-end, comes-refused}
@@ -23,15 +23,15 @@ module _ (s : List ℕ) (e : ℕ) (ws : List ℕ) (B l : List (ℕ × ℕ)) (L :
   pub record Arcwise (more at left : ℕ) (M : List ℕ) (k : ℕ) : Type 0 where
     pub asked : ArcsAsked s e more ws at left k
     pub kept : length M ≡ length L
-    pub sum : met k (arcsFrom ws at left) ≡ met j l
-    pub comes : Comes L j (λ m. SentArcs B m l) M k (λ m. SentArcs (lastArcs s e more) m (arcsFrom ws at left))
+    pub sum : met k (arcsOfWords ws at left) ≡ met j l
+    pub comes : SameMaps L j (λ m. SentArcs B m l) M k (λ m. SentArcs (lastArcs s e more) m (arcsOfWords ws at left))
 
   module _ (more at left : ℕ) (M : List ℕ) (k : ℕ) (a : Arcwise more at left M k) where
     pub arcwise-end : left ≤ 0 → Sends B l L j M (Met k)
     arcwise-end h =
         let z = arcs-none ws at left h in
         let d : k ≡ met j l = subst (λ (x : List (ℕ × ℕ)). met k x ≡ met j l) z (a .sum) in
-        let c = comes-end L j (λ m. SentArcs B m l) M k (λ m. SentArcs (lastArcs s e more) m (arcsFrom ws at left)) (a .comes)
+        let c = comes-end L j (λ m. SentArcs B m l) M k (λ m. SentArcs (lastArcs s e more) m (arcsOfWords ws at left)) (a .comes)
         (λ m. rw z tt) in
         (d, rw d at c)
 
@@ -42,43 +42,43 @@ module _ (s : List ℕ) (e : ℕ) (ws : List ℕ) (B l : List (ℕ × ℕ)) (L :
       abbrev t : ℕ
       t = getD ws (at + 1) 0
 
-      split : arcsFrom ws at left ≡ (f, t) ∷ arcsFrom ws (at + 2) (left - 1)
+      split : arcsOfWords ws at left ≡ (f, t) ∷ arcsOfWords ws (at + 2) (left - 1)
       split = arcs-step ws at left some
 
-      order : InOrder k ((f, t) ∷ arcsFrom ws (at + 2) (left - 1))
+      order : InOrder k ((f, t) ∷ arcsOfWords ws (at + 2) (left - 1))
       order = subst (InOrder k) split (a .asked .order)
 
-      rising : Rising 0 ((f, t) ∷ arcsFrom ws (at + 2) (left - 1))
+      rising : Rising 0 ((f, t) ∷ arcsOfWords ws (at + 2) (left - 1))
       rising = subst (Rising 0) split (a .asked .rising)
 
-      few : met k ((f, t) ∷ arcsFrom ws (at + 2) (left - 1)) ≤ node-limit
+      few : met k ((f, t) ∷ arcsOfWords ws (at + 2) (left - 1)) ≤ node-limit
       few = rw split at (a .asked .few)
 
       pub arcwise-next : Sendable t k
       arcwise-next =
           let q = order .0 in
-          record { next = q; few = omega (arith, few, met-ge (max k (suc t)) (arcsFrom ws (at + 2) (left - 1))) }
+          record { next = q; few = omega (arith, few, met-ge (max k (suc t)) (arcsOfWords ws (at + 2) (left - 1))) }
 
-      pub arcwise-none : (r : Found) → r ≡ Nowhere → Finds s e more f r → Refused L j (λ m. SentArcs B m l)
+      pub arcwise-none : (r : Lookup) → r ≡ Nowhere → FindsTarget s e more f r → NoMap L j (λ m. SentArcs B m l)
       arcwise-none r is n =
-          comes-refused L j (λ m. SentArcs B m l) M k (λ m. SentArcs (lastArcs s e more) m (arcsFrom ws at left)) (a .comes)
-          (λ m g o. subst (Finds s e more f) is n (m t) (subst (SentArcs (lastArcs s e more) m) split o .0))
+          comes-refused L j (λ m. SentArcs B m l) M k (λ m. SentArcs (lastArcs s e more) m (arcsOfWords ws at left)) (a .comes)
+          (λ m g o. subst (FindsTarget s e more f) is n (m t) (subst (SentArcs (lastArcs s e more) m) split o .0))
 
-      module _ (z : Found) (u i : ℕ) (is : z ≡ Target u i) (finds : Finds s e more f z) where
-        found : Finds s e more f (Target u i)
-        found = subst (Finds s e more f) is finds
+      module _ (z : Lookup) (u i : ℕ) (is : z ≡ Target u i) (finds : FindsTarget s e more f z) where
+        found : FindsTarget s e more f (Target u i)
+        found = subst (FindsTarget s e more f) is finds
 
-        same : (m : ℕ → ℕ) → SentArcs (lastArcs s e more) m (arcsFrom ws at left)
-            ↔ ((m t ≡ u) × SentArcs (lastArcs s e i) m (arcsFrom ws (at + 2) (left - 1)))
-        same m = rw split (sent-first (lastArcs s e more) (lastArcs s e i) f u (found .1) m t (arcsFrom ws (at + 2) (left - 1)) rising)
+        same : (m : ℕ → ℕ) → SentArcs (lastArcs s e more) m (arcsOfWords ws at left)
+            ↔ ((m t ≡ u) × SentArcs (lastArcs s e i) m (arcsOfWords ws (at + 2) (left - 1)))
+        same m = rw split (sent-first (lastArcs s e more) (lastArcs s e i) f u (found .1) m t (arcsOfWords ws (at + 2) (left - 1)) rising)
 
-        pub arcwise-stop : (k′ : ℕ) (M′ : List ℕ) (y : Step) → y ≡ Stopped → Steps M k (λ m. m t ≡ u) k′ M′ y →
-            Refused L j (λ m. SentArcs B m l)
+        pub arcwise-stop : (k′ : ℕ) (M′ : List ℕ) (y : Mapped) → y ≡ Stopped → Steps M k (λ m. m t ≡ u) k′ M′ y →
+            NoMap L j (λ m. SentArcs B m l)
         arcwise-stop k′ M′ y d n =
-            comes-refused L j (λ m. SentArcs B m l) M k (λ m. SentArcs (lastArcs s e more) m (arcsFrom ws at left)) (a .comes)
+            comes-refused L j (λ m. SentArcs B m l) M k (λ m. SentArcs (lastArcs s e more) m (arcsOfWords ws at left)) (a .comes)
             (λ m g o. subst (Steps M k (λ m. m t ≡ u) k′ M′) d n m g (same m .0 o .0))
 
-        pub arcwise-step : (M′ : List ℕ) (y : Step) (r : ℕ) → y ≡ Met r → Steps M k (λ m. m t ≡ u) (max k (suc t)) M′ y →
+        pub arcwise-step : (M′ : List ℕ) (y : Mapped) (r : ℕ) → y ≡ Met r → Steps M k (λ m. m t ≡ u) (max k (suc t)) M′ y →
             length M′ ≡ length M → Arcwise i (at + 2) (left - 1) M′ r
         arcwise-step M′ y r d steps h =
             let g = subst (Steps M k (λ m. m t ≡ u) (max k (suc t)) M′) d steps in
@@ -88,17 +88,17 @@ module _ (s : List ℕ) (e : ℕ) (ws : List ℕ) (B l : List (ℕ × ℕ)) (L :
               asked = record {
                 findable = found .0;
                 there = omega arith;
-                rising = rising-all (suc f) (arcsFrom ws (at + 2) (left - 1)) (rising .1);
+                rising = rising-all (suc f) (arcsOfWords ws (at + 2) (left - 1)) (rising .1);
                 order = order .1;
                 few = few;
               };
               kept = h ∙ a .kept;
               sum = rw split at (a .sum);
-              comes = comes-on L j (λ m. SentArcs B m l) M k (λ m. SentArcs (lastArcs s e more) m (arcsFrom ws at left)) (a .comes)
-                  (λ m. m t ≡ u) M′ (max k (suc t)) (λ m. SentArcs (lastArcs s e i) m (arcsFrom ws (at + 2) (left - 1))) same (g .1);
+              comes = comes-on L j (λ m. SentArcs B m l) M k (λ m. SentArcs (lastArcs s e more) m (arcsOfWords ws at left)) (a .comes)
+                  (λ m. m t ≡ u) M′ (max k (suc t)) (λ m. SentArcs (lastArcs s e i) m (arcsOfWords ws (at + 2) (left - 1))) same (g .1);
             })
 
 pub arcwise-start : (s : List ℕ) (e more : ℕ) (ws : List ℕ) (at left : ℕ) (M : List ℕ) (k : ℕ) → ArcsAsked s e more ws at left k
-    → Arcwise s e ws (lastArcs s e more) (arcsFrom ws at left) M k more at left M k
+    → Arcwise s e ws (lastArcs s e more) (arcsOfWords ws at left) M k more at left M k
 arcwise-start s e more ws at left M k a =
-    record { asked = a; kept = refl; sum = refl; comes = comes-start M k (λ m. SentArcs (lastArcs s e more) m (arcsFrom ws at left)) }
+    record { asked = a; kept = refl; sum = refl; comes = comes-start M k (λ m. SentArcs (lastArcs s e more) m (arcsOfWords ws at left)) }

@@ -9,8 +9,8 @@ use lib.ListN.{getD}
 use Rattle.theory.specs.Net.{Rising}
 use Rattle.theory.proofs.Unique.{rising-above, Arcs, In}
 use Rattle.fit.specs.Parts.{lastArcs}
-use Rattle.fit.specs.Sending.{SentArcs, Findable, Beyond, Finds}
-use Rattle.fit.specs.declared.sending.Found.the-variants.{Target, Nowhere}
+use Rattle.fit.specs.Sending.{SentArcs, Findable, Beyond, FindsTarget}
+use Rattle.fit.specs.declared.sending.Lookup.the-variants.{Target, Nowhere}
 use Rattle.fit.proofs.Parts.{arcs-none, last-step}
 
 -- C has the arcs of B from feature f on
@@ -76,7 +76,7 @@ abbrev pub Looking : List ℕ → ℕ → ℕ → ℕ → ℕ → Type 0
 Looking s e count f left = Findable s e left × Behind (lastArcs s e count) f (lastArcs s e left)
 
 module _ (s : List ℕ) (e count f left : ℕ) (b : Looking s e count f left) where
-  pub look-none : left ≤ 0 → Finds s e count f Nowhere
+  pub look-none : left ≤ 0 → FindsTarget s e count f Nowhere
   look-none h = behind-none (lastArcs s e count) f (lastArcs s e left) (arcs-none s (e - 2 * left) left h) (b .1)
 
   module _ (at : ℕ) (is : at ≡ e - 2 * left) (some : 0 < left) where
@@ -93,11 +93,11 @@ module _ (s : List ℕ) (e count f left : ℕ) (b : Looking s e count f left) wh
               rising-all (suc (getD s at 0)) (lastArcs s e (left - 1)) (subst (Rising 0) split (b .0 .rising) .1);
         }
 
-    pub look-high : f < getD s at 0 → Finds s e count f Nowhere
+    pub look-high : f < getD s at 0 → FindsTarget s e count f Nowhere
     look-high h = behind-high (lastArcs s e count) f (getD s at 0) (getD s (at + 1) 0) (lastArcs s e (left - 1)) (lastArcs s e left) split h
         (b .0 .rising) (b .1)
 
-    pub look-hit : f ≡ getD s at 0 → Finds s e count f (Target (getD s (at + 1) 0) (left - 1))
+    pub look-hit : f ≡ getD s at 0 → FindsTarget s e count f (Target (getD s (at + 1) 0) (left - 1))
     look-hit h = (
       less,
       behind-hit (lastArcs s e count) f (lastArcs s e left) (getD s (at + 1) 0) (lastArcs s e (left - 1)) (split

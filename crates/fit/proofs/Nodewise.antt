@@ -10,18 +10,18 @@ use mathlib.Core.List.{List, _∷_}
 use lib.ListN.{length, getD}
 use Rattle.theory.specs.Net.{Node, Graph, arcsOf, InOrder, met, Numbered, Canonical}
 use Rattle.theory.proofs.Instance.{numbered-ge, numbered-target, met-ge, met-reach}
-use Rattle.fit.specs.Parts.{node-limit, after, nodeFrom, nodesFrom, nodesEnd, graphIn}
-use Rattle.fit.specs.Sending.{SentHere, SentAll, Comes, Turns, Refused, Low, NodeAsked, NodesAsked, Walks, SentNodes}
-use Rattle.fit.specs.declared.sending.Walk.{Walk}
-use Rattle.fit.specs.declared.sending.Walk.the-variants.{Went, Stuck}
-use Rattle.fit.specs.declared.sending.Answer.the-variants.{Fits}
+use Rattle.fit.specs.Parts.{node-limit, after-node, nodeFrom, nodesFrom, nodesEnd, graphIn}
+use Rattle.fit.specs.Sending.{SentHere, SentAll, SameMaps, Turns, NoMap, GivenBelow, NodeAsked, NodesAsked, Walks, SentNodes}
+use Rattle.fit.specs.declared.sending.MappedNode.{MappedNode}
+use Rattle.fit.specs.declared.sending.MappedNode.the-variants.{Went, Stuck}
+use Rattle.fit.specs.declared.sending.Trial.the-variants.{Fits}
 use Rattle.fit.proofs.Parts.{nodes-step, nodes-none, nodes-length, nodes-few, end-step, end-none, end-far}
 use Rattle.fit.proofs.Maps.{sent-arc}
 use Rattle.fit.proofs.Steps.{comes-start, comes-on, comes-refused}
 
 -- the nodes met are given nodes of the structure
-low-after : (H : Graph) → Canonical H → (v : Node) (i : ℕ) (M : List ℕ) (k : ℕ) → InOrder k (arcsOf v) → Low (length H) M k →
-    (M′ : List ℕ) → Turns M k (λ m. SentHere H m i v) M′ (met k (arcsOf v)) → Low (length H) M′ (met k (arcsOf v))
+low-after : (H : Graph) → Canonical H → (v : Node) (i : ℕ) (M : List ℕ) (k : ℕ) → InOrder k (arcsOf v) → GivenBelow (length H) M k →
+    (M′ : List ℕ) → Turns M k (λ m. SentHere H m i v) M′ (met k (arcsOf v)) → GivenBelow (length H) M′ (met k (arcsOf v))
 low-after H c v i M k order low M′ t =
     let b = t .back (λ j. getD M′ j 0) (λ j h. refl) tt in
     met-reach (λ j. getD M′ j 0 < length H) k (arcsOf v) order
@@ -44,8 +44,8 @@ module _ (s ws : List ℕ) (p nodes : ℕ) (L : List ℕ) where
     pub numbered : Numbered i k (nodesFrom ws at (nodes - i))
     pub ends : nodesEnd ws at (nodes - i) ≡ nodesEnd ws p nodes
     pub there : nodesEnd ws p nodes ≤ length ws
-    pub low : Low (length (graphIn s 0)) M k
-    pub comes : Comes L 1 All M k (λ m. SentAll (graphIn s 0) m i (nodesFrom ws at (nodes - i)))
+    pub low : GivenBelow (length (graphIn s 0)) M k
+    pub comes : SameMaps L 1 All M k (λ m. SentAll (graphIn s 0) m i (nodesFrom ws at (nodes - i)))
 
   pub nodewise-start : NodesAsked s ws p nodes L → Nodewise 0 p L 1
   nodewise-start a = record {
@@ -71,7 +71,7 @@ module _ (s ws : List ℕ) (p nodes : ℕ) (L : List ℕ) where
       v = nodeFrom ws at
 
       abbrev vs : Graph
-      vs = nodesFrom ws (after ws at) (nodes - (i + 1))
+      vs = nodesFrom ws (after-node ws at) (nodes - (i + 1))
 
       split : nodesFrom ws at (nodes - i) ≡ v ∷ vs
       split = nodes-step ws at nodes i some
@@ -84,10 +84,10 @@ module _ (s ws : List ℕ) (p nodes : ℕ) (L : List ℕ) where
           let n = numbers in
           let known = n .0 in
           let most = numbered-ge (suc i) (met k (arcsOf v)) vs (n .3) in
-          let size = nodes-length ws (after ws at) (nodes - (i + 1)) in
+          let size = nodes-length ws (after-node ws at) (nodes - (i + 1)) in
           let far = met-ge k (arcsOf v) in
           record {
-            there = omega (arith, a .there, a .ends, end-step ws at nodes i some, end-far ws (after ws at) (nodes - (i + 1)));
+            there = omega (arith, a .there, a .ends, end-step ws at nodes i some, end-far ws (after-node ws at) (nodes - (i + 1)));
             known = known;
             most = omega (arith, a .few);
             low = a .low;
@@ -101,12 +101,12 @@ module _ (s ws : List ℕ) (p nodes : ℕ) (L : List ℕ) where
       same m = rw split (subst (λ (j : ℕ). SentAll (graphIn s 0) m i (v ∷ vs)
           ↔ (SentHere (graphIn s 0) m i v × SentAll (graphIn s 0) m j vs)) (sym (add-one i)) (λ o. o, λ o. o))
 
-      pub nodewise-stop : (M′ : List ℕ) (r : Walk) → r ≡ Stuck → Walks (graphIn s 0) ws at i M k M′ r → Refused L 1 All
+      pub nodewise-stop : (M′ : List ℕ) (r : MappedNode) → r ≡ Stuck → Walks (graphIn s 0) ws at i M k M′ r → NoMap L 1 All
       nodewise-stop M′ r d n =
           comes-refused L 1 All M k (λ m. SentAll (graphIn s 0) m i (nodesFrom ws at (nodes - i))) (a .comes)
           (λ m g o. subst (Walks (graphIn s 0) ws at i M k M′) d n m g (same m .0 o .0))
 
-      pub nodewise-step : Canonical (graphIn s 0) → (M′ : List ℕ) (r : Walk) (q j : ℕ) → r ≡ Went q j →
+      pub nodewise-step : Canonical (graphIn s 0) → (M′ : List ℕ) (r : MappedNode) (q j : ℕ) → r ≡ Went q j →
           Walks (graphIn s 0) ws at i M k M′ r → length M′ ≡ length M → Nodewise (i + 1) q M′ j
       nodewise-step c M′ r q j d walks h =
           let w = subst (Walks (graphIn s 0) ws at i M k M′) d walks in

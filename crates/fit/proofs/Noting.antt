@@ -11,8 +11,8 @@ use lib.ListN.{length, getD, set, length-set, drop}
 use lib.Seq.{getD-set-same, getD-set-other, drop-cons}
 use Rattle.theory.specs.Net.{arcs, nodeAt}
 use Rattle.theory.proofs.Number.{TestLt, less, geq, test-lt}
-use Rattle.fit.specs.Parts.{node-limit, arcs-in, after, nodeFrom, nodesFrom, nodesEnd, graphIn}
-use Rattle.fit.specs.Sending.{NodeIn, Notable, Noted}
+use Rattle.fit.specs.Parts.{node-limit, arcs-in, after-node, nodeFrom, nodesFrom, nodesEnd, graphIn}
+use Rattle.fit.specs.Sending.{NodeStands, Notable, Noted}
 use Rattle.fit.proofs.Parts.{nodes-step, nodes-length, nodes-few, end-step, end-far}
 
 -- the first i nodes are noted, and the others stand from p on
@@ -20,7 +20,7 @@ pub record Noting (s P : List ℕ) (i p : ℕ) : Type 0 where
   pub part : i ≤ getD s 0 0
   pub few : getD s 0 0 ≤ node-limit
   pub size : getD s 0 0 ≤ length P
-  pub done : (x : ℕ) → x < i → NodeIn s (getD P x 0) (nodeAt (graphIn s 0) x)
+  pub done : (x : ℕ) → x < i → NodeStands s (getD P x 0) (nodeAt (graphIn s 0) x)
   pub others : drop i (graphIn s 0) ≡ nodesFrom s p (getD s 0 0 - i)
   pub there : nodesEnd s p (getD s 0 0 - i) ≤ length s
 
@@ -52,17 +52,17 @@ module _ (s : List ℕ) where
 
     module _ (h : i < n) where
       -- the words of the next node are there
-      within : after s p ≤ length s
-      within = omega (arith, a .there, end-step s p n i h, end-far s (after s p) (n - (i + 1)))
+      within : after-node s p ≤ length s
+      within = omega (arith, a .there, end-step s p n i h, end-far s (after-node s p) (n - (i + 1)))
 
-      pub noting-there : (q : ℕ) → q ≡ p → after s q ≤ length s
+      pub noting-there : (q : ℕ) → q ≡ p → after-node s q ≤ length s
       noting-there q is = rw is within
 
       split : drop i (graphIn s 0) ≡ nodeAt (graphIn s 0) i ∷ drop (i + 1) (graphIn s 0)
       split = drop-cons (graphIn s 0) i (arcs []) (omega (arith, nodes-length s 1 n))
           ∙ ap (λ (k : ℕ). nodeAt (graphIn s 0) i ∷ drop k (graphIn s 0)) (sym (add-one i))
 
-      both : nodeAt (graphIn s 0) i ∷ drop (i + 1) (graphIn s 0) ≡ nodeFrom s p ∷ nodesFrom s (after s p) (n - (i + 1))
+      both : nodeAt (graphIn s 0) i ∷ drop (i + 1) (graphIn s 0) ≡ nodeFrom s p ∷ nodesFrom s (after-node s p) (n - (i + 1))
       both = sym split ∙ a .others ∙ nodes-step s p n i h
 
       pub noting-step : (q k : ℕ) → q ≡ p → k ≡ arcs-in (getD s q 0) → Noting s (set P i p) (i + 1) (p + 1 + 2 * k)
@@ -78,7 +78,7 @@ module _ (s : List ℕ) where
             there = omega (arith, a .there, end-step s p n i h);
           })
         where
-          go : (x : ℕ) → x < i + 1 → {b : Bool} → TestLt x i b → NodeIn s (getD (set P i p) x 0) (nodeAt (graphIn s 0) x)
+          go : (x : ℕ) → x < i + 1 → {b : Bool} → TestLt x i b → NodeStands s (getD (set P i p) x 0) (nodeAt (graphIn s 0) x)
           go x l (less k) = let z = getD-set-other P i x p 0 (λ e. omega arith) in rw z (a .done x k)
           go x l (geq k) =
               let z : x ≡ i = omega arith in

@@ -11,11 +11,11 @@ use Rattle.theory.specs.Limits.{code-limit}
 use Rattle.theory.specs.Net.{atom, Graph, nodeAt, arcsOf, met}
 use Rattle.theory.proofs.Number.{TestLt, less, geq, test-lt}
 use Rattle.theory.proofs.Fit.{numbered-rising}
-use Rattle.fit.specs.Parts.{node-limit, arcs-in, after, arcsFrom, lastArcs, nodeFrom, graphIn}
-use Rattle.fit.specs.Sending.{SentArcs, Sent, SentHere, Agrees, Refused, Sends, ArcsAsked, NodeAsked, Walks, Noted}
-use Rattle.fit.specs.declared.sending.Step.{Step}
-use Rattle.fit.specs.declared.sending.Step.the-variants.{Met, Stopped}
-use Rattle.fit.specs.declared.sending.Walk.the-variants.{Went}
+use Rattle.fit.specs.Parts.{node-limit, arcs-in, after-node, arcsOfWords, lastArcs, nodeFrom, graphIn}
+use Rattle.fit.specs.Sending.{SentArcs, Sent, SentHere, Agrees, NoMap, Sends, ArcsAsked, NodeAsked, Walks, Noted}
+use Rattle.fit.specs.declared.sending.Mapped.{Mapped}
+use Rattle.fit.specs.declared.sending.Mapped.the-variants.{Met, Stopped}
+use Rattle.fit.specs.declared.sending.MappedNode.the-variants.{Went}
 use Rattle.fit.proofs.Parts.{arcs-in-low, arcs-in-high, node-arcs, node-atom, node-its}
 
 -- where the structure node of node i stands
@@ -42,7 +42,7 @@ module _ (s P ws : List ℕ) (p i : ℕ) (M : List ℕ) (k : ℕ) (noted : Noted
   given-low u v e d = let l = low in omega (arith, d ∙ ap (λ (x : ℕ). getD M x 0) e, noted .few)
 
   module _ (q : ℕ) (place : q ≡ getD P (getD M i 0) 0) where
-    pub inside : after s q ≤ length s
+    pub inside : after-node s q ≤ length s
     inside = rw place (noted .noted x low .0)
 
     is : nodeFrom s q ≡ nodeAt H x
@@ -75,7 +75,7 @@ module _ (s P ws : List ℕ) (p i : ℕ) (M : List ℕ) (k : ℕ) (noted : Noted
           let z : getD s q 0 - code-limit ≡ h - code-limit = cc in
           n (omega arith)
 
-      pub atom-other : (h ≡ getD s q 0 → ⊥) → Refused M k Here
+      pub atom-other : (h ≡ getD s q 0 → ⊥) → NoMap M k Here
       atom-other n m g o =
           let z : m i ≡ x = g i (asked .known) in
           let b = subst (SentHere H m i) (node-atom ws p high) o .1 in
@@ -85,7 +85,7 @@ module _ (s P ws : List ℕ) (p i : ℕ) (M : List ℕ) (k : ℕ) (noted : Noted
       ahead-is : lastArcs s e ahead ≡ arcsOf (nodeAt H x)
       ahead-is = let z : e - 2 * ahead ≡ q + 1 = omega arith in rw (z, count) (sym (node-its s q) ∙ ap arcsOf is)
 
-      its : arcsFrom ws (p + 1) h ≡ arcsOf (nodeFrom ws p)
+      its : arcsOfWords ws (p + 1) h ≡ arcsOf (nodeFrom ws p)
       its = sym (ap arcsOf (node-arcs ws p low))
 
       pub arcs-asked : ArcsAsked s e ahead ws (p + 1) h k
@@ -105,21 +105,22 @@ module _ (s P ws : List ℕ) (p i : ℕ) (M : List ℕ) (k : ℕ) (noted : Noted
             few = rw z (asked .few);
           }
 
-      same : (m : ℕ → ℕ) → Agrees M k m → Here m ↔ SentArcs (lastArcs s e ahead) m (arcsFrom ws (p + 1) h)
+      same : (m : ℕ → ℕ) → Agrees M k m → Here m ↔ SentArcs (lastArcs s e ahead) m (arcsOfWords ws (p + 1) h)
       same m g =
           let z : m i ≡ x = g i (asked .known) in
           let y = ahead-is in
           let v = node-arcs ws p low in
           rw (v, z, y) (λ o. o .1, λ o. (asked .low i (asked .known), o))
 
-      pub arcs-stuck : (M′ : List ℕ) (y : Step) → y ≡ Stopped → Sends (lastArcs s e ahead) (arcsFrom ws (p + 1) h) M k M′ y →
-          Refused M k Here
-      arcs-stuck M′ y d n m g o = subst (Sends (lastArcs s e ahead) (arcsFrom ws (p + 1) h) M k M′) d n m g (same m g .0 o)
+      pub arcs-stuck : (M′ : List ℕ) (y : Mapped) → y ≡ Stopped → Sends (lastArcs s e ahead) (arcsOfWords ws (p + 1) h) M k M′ y →
+          NoMap M k Here
+      arcs-stuck M′ y d n m g o = subst (Sends (lastArcs s e ahead) (arcsOfWords ws (p + 1) h) M k M′) d n m g (same m g .0 o)
 
-      pub arcs-went : (M′ : List ℕ) (y : Step) (r : ℕ) → y ≡ Met r → Sends (lastArcs s e ahead) (arcsFrom ws (p + 1) h) M k M′ y → (n : ℕ) →
+      pub arcs-went : (M′ : List ℕ) (y : Mapped) (r : ℕ) → y ≡ Met r → Sends (lastArcs s e ahead) (arcsOfWords ws (p + 1) h) M k M′ y →
+          (n : ℕ) →
           n ≡ p + 1 + 2 * h → Walks H ws p i M k M′ (Went n r)
       arcs-went M′ y r d sends n far =
-          let t = subst (Sends (lastArcs s e ahead) (arcsFrom ws (p + 1) h) M k M′) d sends in
+          let t = subst (Sends (lastArcs s e ahead) (arcsOfWords ws (p + 1) h) M k M′) d sends in
           let z = its in
           let a = arcs-in-low h low in (
             omega arith,

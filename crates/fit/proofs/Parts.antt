@@ -16,7 +16,7 @@ use Rattle.theory.proofs.Number.{TestLt, less, geq, test-lt}
 use Rattle.theory.proofs.Instance.{met-few}
 use Rattle.layout.specs.Standing.{Stands}
 use Rattle.layout.proofs.Standing.{stands-nil, stands-arc, stands-atom, stands-node, stands-nodes, stands-arcs}
-use Rattle.fit.specs.Parts.{arcs-in, after, arcsFrom, lastArcs, nodeFrom, nodesFrom, nodesEnd}
+use Rattle.fit.specs.Parts.{arcs-in, after-node, arcsOfWords, lastArcs, nodeFrom, nodesFrom, nodesEnd}
 
 pub arcs-in-low : (h : ℕ) → h < code-limit → h ≡ arcs-in h
 unfolding arcs-in
@@ -27,13 +27,13 @@ unfolding arcs-in
 arcs-in-high h l = simp (le-ltb _ _ l)
 
 module _ (ws : List ℕ) where
-  pub arcs-step : (p k : ℕ) → 0 < k → arcsFrom ws p k ≡ (getD ws p 0, getD ws (p + 1) 0) ∷ arcsFrom ws (p + 2) (k - 1)
-  unfolding arcsFrom
+  pub arcs-step : (p k : ℕ) → 0 < k → arcsOfWords ws p k ≡ (getD ws p 0, getD ws (p + 1) 0) ∷ arcsOfWords ws (p + 2) (k - 1)
+  unfolding arcsOfWords
   arcs-step p zero h = absurd (not-suc-le-zero h)
   arcs-step p (suc k) h = rw sub-one
 
-  pub arcs-none : (p k : ℕ) → k ≤ 0 → arcsFrom ws p k ≡ []
-  unfolding arcsFrom
+  pub arcs-none : (p k : ℕ) → k ≤ 0 → arcsOfWords ws p k ≡ []
+  unfolding arcsOfWords
   arcs-none p zero h = refl
   arcs-none p (suc k) h = absurd (not-suc-le-zero h)
 
@@ -41,7 +41,7 @@ module _ (ws : List ℕ) where
       lastArcs ws e k ≡ (getD ws (e - 2 * k) 0, getD ws (e - 2 * k + 1) 0) ∷ lastArcs ws e (k - 1)
   last-step e k h r = let z : e - 2 * k + 2 ≡ e - 2 * (k - 1) = omega arith in arcs-step (e - 2 * k) k h ∙ rw z
 
-  pub node-arcs : (p : ℕ) → getD ws p 0 < code-limit → nodeFrom ws p ≡ arcs (arcsFrom ws (p + 1) (getD ws p 0))
+  pub node-arcs : (p : ℕ) → getD ws p 0 < code-limit → nodeFrom ws p ≡ arcs (arcsOfWords ws (p + 1) (getD ws p 0))
   unfolding nodeFrom
   node-arcs p h = simp (lt-ltb _ _ h)
 
@@ -49,18 +49,18 @@ module _ (ws : List ℕ) where
   unfolding nodeFrom
   node-atom p h = simp (le-ltb _ _ h)
 
-  pub node-its : (p : ℕ) → arcsOf (nodeFrom ws p) ≡ arcsFrom ws (p + 1) (arcs-in (getD ws p 0))
+  pub node-its : (p : ℕ) → arcsOf (nodeFrom ws p) ≡ arcsOfWords ws (p + 1) (arcs-in (getD ws p 0))
   node-its p = go (test-lt (getD ws p 0) code-limit)
     where
-      go : {t : Bool} → TestLt (getD ws p 0) code-limit t → arcsOf (nodeFrom ws p) ≡ arcsFrom ws (p + 1) (arcs-in (getD ws p 0))
-      go (less l) = ap arcsOf (node-arcs p l) ∙ ap (arcsFrom ws (p + 1)) (arcs-in-low (getD ws p 0) l)
+      go : {t : Bool} → TestLt (getD ws p 0) code-limit t → arcsOf (nodeFrom ws p) ≡ arcsOfWords ws (p + 1) (arcs-in (getD ws p 0))
+      go (less l) = ap arcsOf (node-arcs p l) ∙ ap (arcsOfWords ws (p + 1)) (arcs-in-low (getD ws p 0) l)
       go (geq l) = ap arcsOf (node-atom p l) ∙ sym (arcs-none (p + 1) (arcs-in (getD ws p 0)) (omega (arith, arcs-in-high (getD ws p 0) l)))
 
-  pub nodes-step : (p k i : ℕ) → i < k → nodesFrom ws p (k - i) ≡ nodeFrom ws p ∷ nodesFrom ws (after ws p) (k - (i + 1))
+  pub nodes-step : (p k i : ℕ) → i < k → nodesFrom ws p (k - i) ≡ nodeFrom ws p ∷ nodesFrom ws (after-node ws p) (k - (i + 1))
   unfolding nodesFrom
   nodes-step p k i h = let z : k - i ≡ suc (k - (i + 1)) = omega arith in rw z
 
-  pub end-step : (p k i : ℕ) → i < k → nodesEnd ws p (k - i) ≡ nodesEnd ws (after ws p) (k - (i + 1))
+  pub end-step : (p k i : ℕ) → i < k → nodesEnd ws p (k - i) ≡ nodesEnd ws (after-node ws p) (k - (i + 1))
   unfolding nodesEnd
   end-step p k i h = let z : k - i ≡ suc (k - (i + 1)) = omega arith in rw z
 
@@ -75,15 +75,15 @@ module _ (ws : List ℕ) where
   pub nodes-length : (p k : ℕ) → length (nodesFrom ws p k) ≡ k
   unfolding nodesFrom
   nodes-length p zero = refl
-  nodes-length p (suc k) = ap suc (nodes-length (after ws p) k)
+  nodes-length p (suc k) = ap suc (nodes-length (after-node ws p) k)
 
   pub end-far : (p k : ℕ) → p + k ≤ nodesEnd ws p k
   unfolding nodesEnd
   end-far p zero = omega arith
-  end-far p (suc k) = omega (arith, end-far (after ws p) k)
+  end-far p (suc k) = omega (arith, end-far (after-node ws p) k)
 
-  arcs-length : (p k : ℕ) → length (arcsFrom ws p k) ≡ k
-  unfolding arcsFrom
+  arcs-length : (p k : ℕ) → length (arcsOfWords ws p k) ≡ k
+  unfolding arcsOfWords
   arcs-length p zero = refl
   arcs-length p (suc k) = ap suc (arcs-length (p + 2) k)
 
@@ -94,10 +94,14 @@ module _ (ws : List ℕ) where
   nodes-few p (suc n) k m c =
       let l : length (arcsOf (nodeFrom ws p)) ≡ arcs-in (getD ws p 0) = ap length (node-its p)
       ∙ arcs-length (p + 1) (arcs-in (getD ws p 0)) in
-      omega (arith, nodes-few (after ws p) n (suc k) (met m (arcsOf (nodeFrom ws p))) (c .3), met-few m (arcsOf (nodeFrom ws p)) (c .2))
+      omega (
+        arith,
+        nodes-few (after-node ws p) n (suc k) (met m (arcsOf (nodeFrom ws p))) (c .3),
+        met-few m (arcsOf (nodeFrom ws p)) (c .2),
+      )
 
-  arcs-stand : (l : List (ℕ × ℕ)) (p q : ℕ) → Stands ws p (arc-words l) q → arcsFrom ws p (length l) ≡ l
-  unfolding arcsFrom
+  arcs-stand : (l : List (ℕ × ℕ)) (p q : ℕ) → Stands ws p (arc-words l) q → arcsOfWords ws p (length l) ≡ l
+  unfolding arcsOfWords
   arcs-stand [] p q s = refl
   arcs-stand (e ∷ l) p q s =
       let t = stands-arc ws e l p q .0 s in
@@ -106,7 +110,7 @@ module _ (ws : List ℕ) where
       let r = arcs-stand l (p + 2) q (t .4) in
       rw (a, b, r)
 
-  node-stand : (v : Node) (p q : ℕ) → NodeFits v → Stands ws p (node-words v) q → (nodeFrom ws p ≡ v) × (after ws p ≡ q)
+  node-stand : (v : Node) (p q : ℕ) → NodeFits v → Stands ws p (node-words v) q → (nodeFrom ws p ≡ v) × (after-node ws p ≡ q)
   node-stand (atom a) p q f s =
       let t = stands-atom ws a p q .0 s in
       let e = t .1 in

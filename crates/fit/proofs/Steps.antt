@@ -10,18 +10,18 @@ use mathlib.Core.List.{List}
 use lib.ListN.{length, getD, set}
 use lib.Seq.{getD-set-same, getD-set-other}
 use Rattle.theory.proofs.Number.{TestLt, less, geq, test-lt}
-use Rattle.fit.specs.Sending.{Agrees, Comes, Turns, Refused, Steps}
-use Rattle.fit.specs.declared.sending.Step.the-variants.{Met, Stopped}
+use Rattle.fit.specs.Sending.{Agrees, SameMaps, Turns, NoMap, Steps}
+use Rattle.fit.specs.declared.sending.Mapped.the-variants.{Met, Stopped}
 
 abbrev Asks : Type 1
 Asks = (ℕ → ℕ) → Type 0
 
-pub comes-start : (M : List ℕ) (k : ℕ) (P : Asks) → Comes M k P M k P
+pub comes-start : (M : List ℕ) (k : ℕ) (P : Asks) → SameMaps M k P M k P
 comes-start M k P = record { onward = λ m a p. (a, p); back = λ m a p. (a, p) }
 
-module _ (L : List ℕ) (j : ℕ) (O : Asks) (M : List ℕ) (k : ℕ) (P : Asks) (c : Comes L j O M k P) where
+module _ (L : List ℕ) (j : ℕ) (O : Asks) (M : List ℕ) (k : ℕ) (P : Asks) (c : SameMaps L j O M k P) where
   -- a part of what is asked is done
-  pub comes-on : (Q : Asks) (N : List ℕ) (l : ℕ) (R : Asks) → ((m : ℕ → ℕ) → P m ↔ (Q m × R m)) → Turns M k Q N l → Comes L j O N l R
+  pub comes-on : (Q : Asks) (N : List ℕ) (l : ℕ) (R : Asks) → ((m : ℕ → ℕ) → P m ↔ (Q m × R m)) → Turns M k Q N l → SameMaps L j O N l R
   comes-on Q N l R same t = record {
     onward = λ m a o.
         let s = c .onward m a o in
@@ -34,7 +34,7 @@ module _ (L : List ℕ) (j : ℕ) (O : Asks) (M : List ℕ) (k : ℕ) (P : Asks)
   pub comes-end : ((m : ℕ → ℕ) → P m) → Turns L j O M k
   comes-end all = record { onward = λ m a o. (c .onward m a o .0, tt); back = λ m a _. c .back m a (all m) }
 
-  pub comes-refused : Refused M k P → Refused L j O
+  pub comes-refused : NoMap M k P → NoMap L j O
   comes-refused n m a o = let s = c .onward m a o in n m (s .0) (s .1)
 
 module _ (M : List ℕ) (k t u : ℕ) where

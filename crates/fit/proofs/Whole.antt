@@ -26,19 +26,19 @@ use Rattle.layout.proofs.Standing.{stands-whole, stands-graph, stands-descripti
 use Rattle.layout.proofs.Whole.{malformed-apart}
 use Rattle.layout.proofs.Ends.{graph-ends}
 use Rattle.fit.specs.Parts.{nodesEnd, graphIn}
-use Rattle.fit.specs.Testing.{a-description, Asked, Answers, TestAsked, Tested}
+use Rattle.fit.specs.Testing.{description-subject, Testable, Answers, TestAsked, Tested}
 use Rattle.fit.specs.Number.{number-of}
 use Rattle.fit.specs.declared.Verdict.{Verdict}
 use Rattle.fit.specs.declared.Verdict.the-variants.{Satisfies, Fails, TooLong, BadStructure, BadDescription, HasDisjunctions}
-use Rattle.fit.specs.declared.sending.Answer.{Answer}
-use Rattle.fit.specs.declared.sending.Answer.the-variants as answer
+use Rattle.fit.specs.declared.sending.Trial.{Trial}
+use Rattle.fit.specs.declared.sending.Trial.the-variants as answer
 use Rattle.fit.proofs.Parts.{nodes-stand}
 
 module _ (ws : List ℕ) where
-  pub whole-asked : (H : Graph) → length ws ≤ input-limit → Image ws → Asked (a-description H depth-limit) ws 0
+  pub whole-asked : (H : Graph) → length ws ≤ input-limit → Image ws → Testable (description-subject H depth-limit) ws 0
   whole-asked H few i = (few, (i .0, length ws, (omega arith, i .1), stands-whole ws (words (i .0)) .0 (i .2)))
 
-  pub whole-tested : (s : List ℕ) (r : Answer) → Answers (a-description (graphIn s 0) depth-limit) ws 0 r → Tested s ws r
+  pub whole-tested : (s : List ℕ) (r : Trial) → Answers (description-subject (graphIn s 0) depth-limit) ws 0 r → Tested s ws r
   whole-tested s r a d w e = a d (length ws) (omega arith, w) (stands-whole ws (words d) .0 e)
 
 -- words that are refused are no image
@@ -86,7 +86,7 @@ module _ (a : List ℕ) where
         let z = s .0 in
         record { structure = record { few = la; some = s .2; canonical = rw z (p .1 .0); there = s .1 }; few = lb; image = j }
 
-    module _ (r : Answer) (tested : Tested a b r) where
+    module _ (r : Trial) (tested : Tested a b r) where
       pub tested-fits : (q : ℕ) → r ≡ answer.Fits q → FitGiven a b 0
       tested-fits q d =
           let p = plain i n e h in

@@ -6,15 +6,15 @@ use mathlib.Core.List.{List, [], _∷_, List·Memᴰ}
 use lib.ListN.{length, getD}
 use Rattle.theory.specs.Limits.{input-limit}
 use Rattle.theory.specs.Net.{Node, atom, arcs, Graph, nodeAt, arcsOf, Rising, InOrder, met, Canonical}
-use Rattle.fit.specs.Parts.{node-limit, after, arcsFrom, lastArcs, nodeFrom, nodesFrom, nodesEnd, graphIn}
-use Rattle.fit.specs.declared.sending.Found.{Found}
-use Rattle.fit.specs.declared.sending.Found.the-variants.{Target, Nowhere}
-use Rattle.fit.specs.declared.sending.Step.{Step}
-use Rattle.fit.specs.declared.sending.Step.the-variants.{Met, Stopped}
-use Rattle.fit.specs.declared.sending.Walk.{Walk}
-use Rattle.fit.specs.declared.sending.Walk.the-variants.{Went, Stuck}
-use Rattle.fit.specs.declared.sending.Answer.{Answer}
-use Rattle.fit.specs.declared.sending.Answer.the-variants.{Fits, Fails}
+use Rattle.fit.specs.Parts.{node-limit, after-node, arcsOfWords, lastArcs, nodeFrom, nodesFrom, nodesEnd, graphIn}
+use Rattle.fit.specs.declared.sending.Lookup.{Lookup}
+use Rattle.fit.specs.declared.sending.Lookup.the-variants.{Target, Nowhere}
+use Rattle.fit.specs.declared.sending.Mapped.{Mapped}
+use Rattle.fit.specs.declared.sending.Mapped.the-variants.{Met, Stopped}
+use Rattle.fit.specs.declared.sending.MappedNode.{MappedNode}
+use Rattle.fit.specs.declared.sending.MappedNode.the-variants.{Went, Stuck}
+use Rattle.fit.specs.declared.sending.Trial.{Trial}
+use Rattle.fit.specs.declared.sending.Trial.the-variants.{Fits, Fails}
 
 -- "every arc goes to an arc of the same feature between the given nodes": into the arcs B, where m gives the nodes
 abbrev pub SentArcs : List (ℕ × ℕ) → (ℕ → ℕ) → List (ℕ × ℕ) → Type 0
@@ -40,20 +40,20 @@ abbrev pub Agrees : List ℕ → ℕ → (ℕ → ℕ) → Type 0
 Agrees M k m = (i : ℕ) → i < k → m i ≡ getD M i 0
 
 -- the maps that agree with M on k nodes and do what P asks are those that agree with M′ on k′ nodes and do what Q asks
-pub record Comes (M : List ℕ) (k : ℕ) (P : (ℕ → ℕ) → Type 0) (M′ : List ℕ) (k′ : ℕ) (Q : (ℕ → ℕ) → Type 0) : Type 0 where
+pub record SameMaps (M : List ℕ) (k : ℕ) (P : (ℕ → ℕ) → Type 0) (M′ : List ℕ) (k′ : ℕ) (Q : (ℕ → ℕ) → Type 0) : Type 0 where
   pub onward : (m : ℕ → ℕ) → Agrees M k m → P m → Agrees M′ k′ m × Q m
   pub back : (m : ℕ → ℕ) → Agrees M′ k′ m → Q m → Agrees M k m × P m
 
 abbrev pub Turns : List ℕ → ℕ → ((ℕ → ℕ) → Type 0) → List ℕ → ℕ → Type 0
-Turns M k P M′ k′ = Comes M k P M′ k′ (λ m. Unit {0})
+Turns M k P M′ k′ = SameMaps M k P M′ k′ (λ m. Unit {0})
 
 -- no map that agrees does what P asks
-abbrev pub Refused : List ℕ → ℕ → ((ℕ → ℕ) → Type 0) → Type 0
-Refused M k P = (m : ℕ → ℕ) → Agrees M k m → P m → ⊥
+abbrev pub NoMap : List ℕ → ℕ → ((ℕ → ℕ) → Type 0) → Type 0
+NoMap M k P = (m : ℕ → ℕ) → Agrees M k m → P m → ⊥
 
 -- the first k nodes are given numbers below n
-abbrev pub Low : ℕ → List ℕ → ℕ → Type 0
-Low n M k = (i : ℕ) → i < k → getD M i 0 < n
+abbrev pub GivenBelow : ℕ → List ℕ → ℕ → Type 0
+GivenBelow n M k = (i : ℕ) → i < k → getD M i 0 < n
 
 -- the last k arcs before e are there, and rise
 pub record Findable (s : List ℕ) (e k : ℕ) : Type 0 where
@@ -68,9 +68,9 @@ pub record Beyond (B : List (ℕ × ℕ)) (f u : ℕ) (C : List (ℕ × ℕ)) : 
   pub later : (g t : ℕ) → f < g → List·Memᴰ (g, t) B → List·Memᴰ (g, t) C
   pub among : (g t : ℕ) → List·Memᴰ (g, t) C → List·Memᴰ (g, t) B
 
-abbrev pub Finds : List ℕ → ℕ → ℕ → ℕ → Found → Type 0
-Finds s e k f (Target u j) = Findable s e j × Beyond (lastArcs s e k) f u (lastArcs s e j)
-Finds s e k f Nowhere = (u : ℕ) → List·Memᴰ (f, u) (lastArcs s e k) → ⊥
+abbrev pub FindsTarget : List ℕ → ℕ → ℕ → ℕ → Lookup → Type 0
+FindsTarget s e k f (Target u j) = Findable s e j × Beyond (lastArcs s e k) f u (lastArcs s e j)
+FindsTarget s e k f Nowhere = (u : ℕ) → List·Memᴰ (f, u) (lastArcs s e k) → ⊥
 
 -- a node that is known or the next
 pub record Sendable (node k : ℕ) : Type 0 where
@@ -78,49 +78,49 @@ pub record Sendable (node k : ℕ) : Type 0 where
   pub few : node < node-limit
 
 -- k′ nodes are given after what P asks, or no map does it
-abbrev pub Steps : List ℕ → ℕ → ((ℕ → ℕ) → Type 0) → ℕ → List ℕ → Step → Type 0
+abbrev pub Steps : List ℕ → ℕ → ((ℕ → ℕ) → Type 0) → ℕ → List ℕ → Mapped → Type 0
 Steps M k P k′ M′ (Met j) = (j ≡ k′) × Turns M k P M′ k′
-Steps M k P k′ M′ Stopped = Refused M k P
+Steps M k P k′ M′ Stopped = NoMap M k P
 
 pub record ArcsAsked (s : List ℕ) (e ahead : ℕ) (ws : List ℕ) (p count k : ℕ) : Type 0 where
   pub findable : Findable s e ahead
   pub there : p + 2 * count ≤ length ws
-  pub rising : Rising 0 (arcsFrom ws p count)
-  pub order : InOrder k (arcsFrom ws p count)
-  pub few : met k (arcsFrom ws p count) ≤ node-limit
+  pub rising : Rising 0 (arcsOfWords ws p count)
+  pub order : InOrder k (arcsOfWords ws p count)
+  pub few : met k (arcsOfWords ws p count) ≤ node-limit
 
-abbrev pub Sends : List (ℕ × ℕ) → List (ℕ × ℕ) → List ℕ → ℕ → List ℕ → Step → Type 0
+abbrev pub Sends : List (ℕ × ℕ) → List (ℕ × ℕ) → List ℕ → ℕ → List ℕ → Mapped → Type 0
 Sends B l M k M′ r = Steps M k (λ m. SentArcs B m l) (met k l) M′ r
 
 -- a node v, whose words are there, is met
 pub record NodeAsked (s ws : List ℕ) (p i : ℕ) (M : List ℕ) (k : ℕ) : Type 0 where
-  pub there : after ws p ≤ length ws
+  pub there : after-node ws p ≤ length ws
   pub known : i < k
   pub most : k ≤ node-limit
-  pub low : Low (length (graphIn s 0)) M k
+  pub low : GivenBelow (length (graphIn s 0)) M k
   pub rising : Rising 0 (arcsOf (nodeFrom ws p))
   pub order : InOrder k (arcsOf (nodeFrom ws p))
   pub few : met k (arcsOf (nodeFrom ws p)) ≤ node-limit
 
-abbrev pub Walks : Graph → List ℕ → ℕ → ℕ → List ℕ → ℕ → List ℕ → Walk → Type 0
+abbrev pub Walks : Graph → List ℕ → ℕ → ℕ → List ℕ → ℕ → List ℕ → MappedNode → Type 0
 Walks H ws p i M k M′ (Went q j) =
-    (q ≡ after ws p) × (j ≡ met k (arcsOf (nodeFrom ws p))) × Turns M k (λ m. SentHere H m i (nodeFrom ws p)) M′ j
-Walks H ws p i M k M′ Stuck = Refused M k (λ m. SentHere H m i (nodeFrom ws p))
+    (q ≡ after-node ws p) × (j ≡ met k (arcsOf (nodeFrom ws p))) × Turns M k (λ m. SentHere H m i (nodeFrom ws p)) M′ j
+Walks H ws p i M k M′ Stuck = NoMap M k (λ m. SentHere H m i (nodeFrom ws p))
 
 -- k nodes whose words are there, of which the root is given a structure node
 pub record NodesAsked (s ws : List ℕ) (p k : ℕ) (M : List ℕ) : Type 0 where
   pub few : length ws ≤ input-limit
   pub there : nodesEnd ws p k ≤ length ws
   pub canonical : Canonical (nodesFrom ws p k)
-  pub root : Low (length (graphIn s 0)) M 1
+  pub root : GivenBelow (length (graphIn s 0)) M 1
 
-abbrev pub SentNodes : Graph → List ℕ → ℕ → ℕ → List ℕ → Answer → Type 0
+abbrev pub SentNodes : Graph → List ℕ → ℕ → ℕ → List ℕ → Trial → Type 0
 SentNodes H ws p k M (Fits q) = (q ≡ nodesEnd ws p k) × ((m : ℕ → ℕ) × Agrees M 1 m × SentAll H m 0 (nodesFrom ws p k))
-SentNodes H ws p k M Fails = Refused M 1 (λ m. SentAll H m 0 (nodesFrom ws p k))
+SentNodes H ws p k M Fails = NoMap M 1 (λ m. SentAll H m 0 (nodesFrom ws p k))
 
 -- a node, whose words are there
-abbrev pub NodeIn : List ℕ → ℕ → Node → Type 0
-NodeIn s p v = (after s p ≤ length s) × (nodeFrom s p ≡ v)
+abbrev pub NodeStands : List ℕ → ℕ → Node → Type 0
+NodeStands s p v = (after-node s p ≤ length s) × (nodeFrom s p ≡ v)
 
 -- a structure, whose words are there
 pub record Notable (s : List ℕ) : Type 0 where
@@ -133,4 +133,4 @@ pub record Notable (s : List ℕ) : Type 0 where
 pub record Noted (s P : List ℕ) : Type 0 where
   pub few : length (graphIn s 0) ≤ node-limit
   pub canonical : Canonical (graphIn s 0)
-  pub noted : (x : ℕ) → x < length (graphIn s 0) → NodeIn s (getD P x 0) (nodeAt (graphIn s 0) x)
+  pub noted : (x : ℕ) → x < length (graphIn s 0) → NodeStands s (getD P x 0) (nodeAt (graphIn s 0) x)

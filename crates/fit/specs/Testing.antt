@@ -13,12 +13,12 @@ use Rattle.theory.specs.FitTest.{Map, Fits, FitsAny}
 use Rattle.layout.specs.Standing.{Stands, graph-words, disjunction-words}
 use Rattle.fit.specs.Parts.{graphIn}
 use Rattle.fit.specs.Sending.{Notable}
-use Rattle.fit.specs.declared.sending.Answer.{Answer}
-use Rattle.fit.specs.declared.sending.Answer.the-variants.{Fails}
-use Rattle.fit.specs.declared.sending.Answer.the-variants as answer
+use Rattle.fit.specs.declared.sending.Trial.{Trial}
+use Rattle.fit.specs.declared.sending.Trial.the-variants.{Fails}
+use Rattle.fit.specs.declared.sending.Trial.the-variants as answer
 
 -- a kind of thing: when it may come, its words, and when the structure satisfies it
-pub record Kind : Type 1 where
+pub record Subject : Type 1 where
   pub Thing : Type 0
   pub Fine : Thing → Type 0
   pub text : Thing → List ℕ
@@ -26,17 +26,17 @@ pub record Kind : Type 1 where
 
 -- "A structure satisfies a description when it satisfies its graph and, for each disjunction, at least one alternative."
 module _ (H : Graph) where
-  abbrev pub a-graph : Kind
-  a-graph = record { Thing = Graph; Fine = λ g. Canonical g × GraphFits g; text = graph-words; Holds = λ g. Map (graph g) (graph H) }
+  abbrev pub graph-subject : Subject
+  graph-subject = record { Thing = Graph; Fine = λ g. Canonical g × GraphFits g; text = graph-words; Holds = λ g. Map (graph g) (graph H) }
 
   -- under which alternatives nest at most `left` deep
   module _ (left : ℕ) where
-    abbrev pub a-description : Kind
-    a-description = record { Thing = Desc; Fine = λ d. (left ≤ depth-limit) × WellFormed d left; text = words; Holds = Fits H }
+    abbrev pub description-subject : Subject
+    description-subject = record { Thing = Desc; Fine = λ d. (left ≤ depth-limit) × WellFormed d left; text = words; Holds = Fits H }
 
     -- its own alternatives are one of the `left` levels
-    abbrev pub a-disjunction : Kind
-    a-disjunction = record {
+    abbrev pub disjunction-subject : Subject
+    disjunction-subject = record {
       Thing = Alts;
       Fine = λ a. (0 < left) × (left ≤ depth-limit) × WellAny a (left - 1);
       text = disjunction-words;
@@ -44,17 +44,17 @@ module _ (H : Graph) where
     }
 
 -- a thing of the kind stands at p
-abbrev pub Asked : Kind → List ℕ → ℕ → Type 0
-Asked K ws p = (length ws ≤ input-limit) × ((x : K .Thing) × (q : ℕ) × K .Fine x × Stands ws p (K .text x) q)
+abbrev pub Testable : Subject → List ℕ → ℕ → Type 0
+Testable K ws p = (length ws ≤ input-limit) × ((x : K .Thing) × (q : ℕ) × K .Fine x × Stands ws p (K .text x) q)
 
 -- what an answer says of a thing that ends at q
-abbrev pub Says : Type 0 → ℕ → Answer → Type 0
-Says X q (answer.Fits r) = (r ≡ q) × X
-Says X q Fails = ¬ X
+abbrev pub Decides : Type 0 → ℕ → Trial → Type 0
+Decides X q (answer.Fits r) = (r ≡ q) × X
+Decides X q Fails = ¬ X
 
 -- and of whatever thing of the kind stands at p
-abbrev pub Answers : Kind → List ℕ → ℕ → Answer → Type 0
-Answers K ws p r = (x : K .Thing) (q : ℕ) → K .Fine x → Stands ws p (K .text x) q → Says (K .Holds x) q r
+abbrev pub Answers : Subject → List ℕ → ℕ → Trial → Type 0
+Answers K ws p r = (x : K .Thing) (q : ℕ) → K .Fine x → Stands ws p (K .text x) q → Decides (K .Holds x) q r
 
 -- the k alternatives that stand at p end at r
 abbrev pub Skips : List ℕ → ℕ → ℕ → ℕ → Type 0
@@ -65,5 +65,5 @@ pub record TestAsked (s ws : List ℕ) : Type 0 where
   pub few : length ws ≤ input-limit
   pub image : Image ws
 
-abbrev pub Tested : List ℕ → List ℕ → Answer → Type 0
-Tested s ws r = (d : Desc) → WellFormed d depth-limit → ws ≡ words d → Says (Fits (graphIn s 0) d) (length ws) r
+abbrev pub Tested : List ℕ → List ℕ → Trial → Type 0
+Tested s ws r = (d : Desc) → WellFormed d depth-limit → ws ≡ words d → Decides (Fits (graphIn s 0) d) (length ws) r

@@ -2,7 +2,7 @@
 mod sending;
 mod testing;
 
-use crate::sending::Answer;
+use crate::sending::Trial;
 use crate::testing::satisfied;
 use layout::reading::Judgement;
 use layout::reading::judge;
@@ -60,7 +60,7 @@ pub fn fit(structure: &[u32], description: &[u32]) -> Verdict
     }
     let answer = satisfied(structure, description);
     match answer {
-        Answer::Fits(next) => Verdict::Satisfies,
-        Answer::Fails => Verdict::Fails,
+        Trial::Fits(next) => Verdict::Satisfies,
+        Trial::Fails => Verdict::Fails,
     }
 }

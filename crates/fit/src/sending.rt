@@ -4,33 +4,34 @@ use limits::wide;
 ghost use mathlib.Core.Path.{_≡_};
 ghost use Prim.Native.Nat.{_≤_, suc, max};
 ghost use lib.ListN.{length};
-ghost use Rattle.fit.specs.Parts.{node-limit, arcs-in, arcsFrom, lastArcs, graphIn};
-ghost use Rattle.fit.specs.Sending.{Finds, Steps, Sends, Walks, SentNodes, Findable, Sendable, ArcsAsked, NodeAsked, NodesAsked};
+ghost use Rattle.fit.specs.Parts.{node-limit, arcs-in, arcsOfWords, lastArcs, graphIn};
+ghost use Rattle.fit.specs.Sending.{FindsTarget, Steps, Sends, Walks, SentNodes, Findable, Sendable, ArcsAsked, NodeAsked};
+ghost use Rattle.fit.specs.Sending.{NodesAsked};
 ghost use Rattle.fit.specs.Sending.{Noted, Notable};
 
 // A graph in an input has at most so many nodes: each but the root has an arc to it, so it takes three words.
 pub const NODE_LIMIT: usize = 342;
 
 // What looking for a feature finds: the target of its arc and how many arcs come after that, or no such arc.
-pub enum Found {
+pub enum Lookup {
     Target { target: u32, left: u32 },
     Nowhere,
 }
 
 // How many nodes have their structure node after a step, or that there is no map.
-pub enum Step {
+pub enum Mapped {
     Met(u32),
     Stopped,
 }
 
 // The same after a node, with the position after it.
-pub enum Walk {
+pub enum MappedNode {
     Went { next: usize, met: u32 },
     Stuck,
 }
 
 // Whether there is a map of a part of the words, and the position after that part.
-pub enum Answer {
+pub enum Trial {
     Fits(usize),
     Fails,
 }
@@ -46,30 +47,30 @@ fn arcs_in(head: u32) -> u32
 }
 
 // Looks for a feature among the last `count` of a node's arcs, which end at `end`.
-fn find(structure: &[u32], end: usize, count: u32, feature: u32) -> Found
+fn find(structure: &[u32], end: usize, count: u32, feature: u32) -> Lookup
     requires { ⌜ Findable (now structure) end count ⌝ }
-    ensures { λ r. ⌜ Finds (now (structure .entry)) end count feature r ⌝ }
+    ensures { λ r. ⌜ FindsTarget (now (structure .entry)) end count feature r ⌝ }
 {
     let mut left = count;
     while 0 < left {
         let at = end - 2 * wide(left);
         let here = structure[at];
         if feature < here {
-            return Found::Nowhere;
+            return Lookup::Nowhere;
         }
         if feature == here {
-            return Found::Target {
+            return Lookup::Target {
                 target: structure[at + 1],
                 left: left - 1,
             };
         }
         left -= 1;
     }
-    Found::Nowhere
+    Lookup::Nowhere
 }
 
 // Gives a node its structure node, where the nodes below `met` have one.
-fn send(map: &mut [u32; NODE_LIMIT], node: u32, given: u32, met: u32) -> Step
+fn send(map: &mut [u32; NODE_LIMIT], node: u32, given: u32, met: u32) -> Mapped
     requires { ⌜ node-limit ≤ length (now map) ⌝ }
     requires { ⌜ Sendable node met ⌝ }
     ensures { λ r. ⌜ Steps (now (map .entry)) met (λ m. m node ≡ given) (max met (suc node)) (now (map .exit)) r ⌝ }
@@ -77,12 +78,12 @@ fn send(map: &mut [u32; NODE_LIMIT], node: u32, given: u32, met: u32) -> Step
 {
     if node < met {
         if map[wide(node)] == given {
-            return Step::Met(met);
+            return Mapped::Met(met);
         }
-        return Step::Stopped;
+        return Mapped::Stopped;
     }
     map[wide(node)] = given;
-    Step::Met(node + 1)
+    Mapped::Met(node + 1)
 }
 
 // Sends the `count` arcs of a node along the `ahead` arcs of its structure node, which end at `end`: both rise.
@@ -95,10 +96,10 @@ fn send_arcs(
     p: usize,
     count: u32,
     first: u32,
-) -> Step
+) -> Mapped
     requires { ⌜ node-limit ≤ length (now map) ⌝ }
     requires { ⌜ ArcsAsked (now structure) end ahead (now ws) p count first ⌝ }
-    ensures { λ r. ⌜ Sends (lastArcs (now (structure .entry)) end ahead) (arcsFrom (now (ws .entry)) p count) (now (map .entry)) first
+    ensures { λ r. ⌜ Sends (lastArcs (now (structure .entry)) end ahead) (arcsOfWords (now (ws .entry)) p count) (now (map .entry)) first
         (now (map .exit)) r ⌝ }
     ensures { λ _. ⌜ length (now (map .exit)) ≡ length (now (map .entry)) ⌝ }
 {
@@ -110,23 +111,23 @@ fn send_arcs(
         let feature = ws[at];
         let node = ws[at + 1];
         let found = find(structure, end, more, feature);
-        let Found::Target {
+        let Lookup::Target {
             target,
             left: others,
         } = found
         else {
-            return Step::Stopped;
+            return Mapped::Stopped;
         };
         let step = send(map, node, target, met);
-        let Step::Met(reached) = step else {
-            return Step::Stopped;
+        let Mapped::Met(reached) = step else {
+            return Mapped::Stopped;
         };
         met = reached;
         more = others;
         at += 2;
         left -= 1;
     }
-    Step::Met(met)
+    Mapped::Met(met)
 }
 
 // Sends node i to the structure node that it is given: its atom, or its arcs.
@@ -138,7 +139,7 @@ fn send_node(
     p: usize,
     i: u32,
     met: u32,
-) -> Walk
+) -> MappedNode
     requires { ⌜ node-limit ≤ length (now map) ⌝ }
     requires { ⌜ Noted (now structure) (now place) ⌝ }
     requires { ⌜ NodeAsked (now structure) (now ws) p i (now map) met ⌝ }
@@ -151,17 +152,17 @@ fn send_node(
     let other = structure[there];
     if CODE_LIMIT <= head {
         if head == other {
-            return Walk::Went { next: p + 1, met };
+            return MappedNode::Went { next: p + 1, met };
         }
-        return Walk::Stuck;
+        return MappedNode::Stuck;
     }
     let ahead = arcs_in(other);
     let end = there + 1 + 2 * wide(ahead);
     let step = send_arcs(map, structure, end, ahead, ws, p + 1, head, met);
-    let Step::Met(reached) = step else {
-        return Walk::Stuck;
+    let Mapped::Met(reached) = step else {
+        return MappedNode::Stuck;
     };
-    Walk::Went {
+    MappedNode::Went {
         next: p + 1 + 2 * wide(head),
         met: reached,
     }
@@ -175,7 +176,7 @@ pub fn send_nodes(
     ws: &[u32],
     p: usize,
     nodes: u32,
-) -> Answer
+) -> Trial
     requires { ⌜ node-limit ≤ length (now map) ⌝ }
     requires { ⌜ Noted (now structure) (now place) ⌝ }
     requires { ⌜ NodesAsked (now structure) (now ws) p nodes (now map) ⌝ }
@@ -187,14 +188,14 @@ pub fn send_nodes(
     let mut met: u32 = 1;
     while i < nodes {
         let node = send_node(map, place, structure, ws, at, i, met);
-        let Walk::Went { next, met: reached } = node else {
-            return Answer::Fails;
+        let MappedNode::Went { next, met: reached } = node else {
+            return Trial::Fails;
         };
         at = next;
         met = reached;
         i += 1;
     }
-    Answer::Fits(at)
+    Trial::Fits(at)
 }
 
 // Notes where each node of the structure stands.

@@ -1,6 +1,6 @@
 // Testing a description against a structure: its graph, and of each disjunction an alternative.
-use crate::sending::Answer;
 use crate::sending::NODE_LIMIT;
+use crate::sending::Trial;
 use crate::sending::note;
 use crate::sending::send_nodes;
 use layout::skipping::skip_description;
@@ -10,7 +10,8 @@ ghost use Prim.Native.Nat.{_≤_};
 ghost use lib.ListN.{length};
 ghost use Rattle.fit.specs.Parts.{node-limit, graphIn};
 ghost use Rattle.fit.specs.Sending.{Noted};
-ghost use Rattle.fit.specs.Testing.{a-graph, a-disjunction, a-description, Asked, Answers, Skips, Tested, TestAsked};
+ghost use Rattle.fit.specs.Testing.{graph-subject, disjunction-subject, description-subject, Testable, Answers, Skips, Tested};
+ghost use Rattle.fit.specs.Testing.{TestAsked};
 
 fn space() -> [u32; NODE_LIMIT]
     ensures { λ r. ⌜ node-limit ≡ length r ⌝ }
@@ -25,11 +26,11 @@ fn test_graph(
     structure: &[u32],
     ws: &[u32],
     p: usize,
-) -> Answer
+) -> Trial
     requires { ⌜ node-limit ≤ length (now map) ⌝ }
     requires { ⌜ Noted (now structure) (now place) ⌝ }
-    requires { ⌜ Asked (a-graph (graphIn (now structure) 0)) (now ws) p ⌝ }
-    ensures { λ r. ⌜ Answers (a-graph (graphIn (now (structure .entry)) 0)) (now (ws .entry)) p r ⌝ }
+    requires { ⌜ Testable (graph-subject (graphIn (now structure) 0)) (now ws) p ⌝ }
+    ensures { λ r. ⌜ Answers (graph-subject (graphIn (now (structure .entry)) 0)) (now (ws .entry)) p r ⌝ }
     ensures { λ _. ⌜ length (now (map .exit)) ≡ length (now (map .entry)) ⌝ }
 {
     let nodes = ws[p];
@@ -45,28 +46,28 @@ fn test_description(
     ws: &[u32],
     p: usize,
     left: u32,
-) -> Answer
+) -> Trial
     requires { ⌜ node-limit ≤ length (now map) ⌝ }
     requires { ⌜ Noted (now structure) (now place) ⌝ }
-    requires { ⌜ Asked (a-description (graphIn (now structure) 0) left) (now ws) p ⌝ }
-    ensures { λ r. ⌜ Answers (a-description (graphIn (now (structure .entry)) 0) left) (now (ws .entry)) p r ⌝ }
+    requires { ⌜ Testable (description-subject (graphIn (now structure) 0) left) (now ws) p ⌝ }
+    ensures { λ r. ⌜ Answers (description-subject (graphIn (now (structure .entry)) 0) left) (now (ws .entry)) p r ⌝ }
     ensures { λ _. ⌜ length (now (map .exit)) ≡ length (now (map .entry)) ⌝ }
 {
     let graph = test_graph(map, place, structure, ws, p);
-    let Answer::Fits(q) = graph else {
-        return Answer::Fails;
+    let Trial::Fits(q) = graph else {
+        return Trial::Fails;
     };
     let mut count = ws[q];
     let mut at = q + 1;
     while 0 < count {
         let disjunction = test_disjunction(map, place, structure, ws, at, left);
-        let Answer::Fits(next) = disjunction else {
-            return Answer::Fails;
+        let Trial::Fits(next) = disjunction else {
+            return Trial::Fails;
         };
         at = next;
         count -= 1;
     }
-    Answer::Fits(at)
+    Trial::Fits(at)
 }
 
 // Tests a disjunction whose own alternatives are one of the `left` levels: those after the first that fits are skipped.
@@ -77,24 +78,24 @@ fn test_disjunction(
     ws: &[u32],
     p: usize,
     left: u32,
-) -> Answer
+) -> Trial
     requires { ⌜ node-limit ≤ length (now map) ⌝ }
     requires { ⌜ Noted (now structure) (now place) ⌝ }
-    requires { ⌜ Asked (a-disjunction (graphIn (now structure) 0) left) (now ws) p ⌝ }
-    ensures { λ r. ⌜ Answers (a-disjunction (graphIn (now (structure .entry)) 0) left) (now (ws .entry)) p r ⌝ }
+    requires { ⌜ Testable (disjunction-subject (graphIn (now structure) 0) left) (now ws) p ⌝ }
+    ensures { λ r. ⌜ Answers (disjunction-subject (graphIn (now (structure .entry)) 0) left) (now (ws .entry)) p r ⌝ }
     ensures { λ _. ⌜ length (now (map .exit)) ≡ length (now (map .entry)) ⌝ }
 {
     let mut count = ws[p];
     let mut at = p + 1;
     while 0 < count {
         let alternative = test_description(map, place, structure, ws, at, left - 1);
-        if let Answer::Fits(next) = alternative {
-            return Answer::Fits(skip_alternatives(ws, next, count - 1));
+        if let Trial::Fits(next) = alternative {
+            return Trial::Fits(skip_alternatives(ws, next, count - 1));
         }
         at = skip_description(ws, at);
         count -= 1;
     }
-    Answer::Fails
+    Trial::Fails
 }
 
 // Where `count` alternatives end.
@@ -111,7 +112,7 @@ fn skip_alternatives(ws: &[u32], p: usize, count: u32) -> usize
 }
 
 // Tests all of a description.
-pub fn satisfied(structure: &[u32], description: &[u32]) -> Answer
+pub fn satisfied(structure: &[u32], description: &[u32]) -> Trial
     requires { ⌜ TestAsked (now structure) (now description) ⌝ }
     ensures { λ r. ⌜ Tested (now (structure .entry)) (now (description .entry)) r ⌝ }
 {

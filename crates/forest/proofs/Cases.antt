@@ -13,12 +13,13 @@ use lib.Seq.{getD-set-same, getD-set-other}
 use Rattle.area.specs.Map.{PARENT, NEXT, LOG, STACK, SIZE}
 use Rattle.area.specs.Region.{region}
 use Rattle.forest.proofs.Relabel.{relabelled}
-use Rattle.area.specs.Log.{Logged, Later, Put}
+use Rattle.area.specs.Log.{Logged, Later, Stores}
 use Rattle.forest.specs.declared.held.Held.{Held}
 use Rattle.forest.specs.declared.held.Held.the-variants.{Nothing, Arcs, Atom}
 use Rattle.forest.specs.Forest.{tops}
 use Rattle.forest.specs.Held.{last-arc, ChainCode, AtomCode, held-by, Covered}
-use Rattle.forest.specs.State.{Pile, Done, Same, Clashes, Chain, Seg, First, Near, Framed, Bears, State, Ready, Met, Grow, Last, Runs}
+use Rattle.forest.specs.State.{Pile, Done, Equal, ClashIn, Chain, Seg, First, Near, Framed, Bears, State, SomeState, Merged, Grow}
+use Rattle.forest.specs.State.{Last, Runs}
 use Rattle.forest.specs.State.{frames}
 use Rattle.area.proofs.Region.{length-region, region-ext}
 use Rattle.area.proofs.Undo.{later-refl, later-trans, later-scratch, put-at, put-off, put-region}
@@ -29,7 +30,7 @@ use Rattle.forest.proofs.Links.{frames-same}
 use Rattle.forest.proofs.Fuse.{fused, short, Fuses, Ma, Mb, Na, Ca, fuse-state}
 
 module _ (n k s : ℕ) (w : List ℕ) (a b : ℕ) (lt : a < b) (hb : b < n) (hn : n ≤ 1024) (hw : SIZE ≤ length w)
-    (ra : getD (region PARENT n w) a 0 ≡ a) (rb : getD (region PARENT n w) b 0 ≡ b) (g : Ready n k s w) where
+    (ra : getD (region PARENT n w) a 0 ≡ a) (rb : getD (region PARENT n w) b 0 ≡ b) (g : SomeState n k s w) where
   pub room : k + 3 ≤ 4096
   room =
       let l = length-region PARENT n w (omega arith) in
@@ -54,7 +55,7 @@ module _ (n k s : ℕ) (w : List ℕ) (a b : ℕ) (lt : a < b) (hb : b < n) (hn 
       rw e (tops-link 0 (region PARENT n w) b a (omega arith) (omega (arith, rb)) (λ z. omega arith))
 
   -- ---- the class b holds nothing, or the atom that a holds
-  module _ (r : ℕ) (w1 : List ℕ) (p : Put k w (PARENT + b) a r w1) where
+  module _ (r : ℕ) (w1 : List ℕ) (p : Stores k w (PARENT + b) a r w1) where
     pub off1 : (j : ℕ) → (j ≡ PARENT + b → ⊥) → (j < LOG) ⊎ (STACK ≤ j) → getD w1 j 0 ≡ getD w j 0
     off1 = let h = room in put-off k w (PARENT + b) a r w1 p (omega arith)
 
@@ -77,7 +78,7 @@ module _ (n k s : ℕ) (w : List ℕ) (a b : ℕ) (lt : a < b) (hb : b < n) (hn 
         List·Memᴰ q (getD (u .C) c []) → q < 2048
     below u c q h m = let b = u .arcs q (u .known q (u .home c q h m .0)) .0 in omega arith
 
-    pub plain : Covered (held-by w b) (held-by w a) → Met n k s w a b r s false w1
+    pub plain : Covered (held-by w b) (held-by w a) → Merged n k s w a b r s false w1
     plain covers = record {
       later = p .later;
       new = [];
@@ -126,7 +127,7 @@ module _ (n k s : ℕ) (w : List ℕ) (a b : ℕ) (lt : a < b) (hb : b < n) (hn 
                 (λ e. u .bare b hb mb (e .0) .0) d
 
     -- ---- the class a holds nothing
-    module _ (v t : ℕ) (w2 : List ℕ) (ev : v ≡ getD w b 0) (p2 : Put r w1 a v t w2) (e0 : getD w a 0 ≡ 0) where
+    module _ (v t : ℕ) (w2 : List ℕ) (ev : v ≡ getD w b 0) (p2 : Stores r w1 a v t w2) (e0 : getD w a 0 ≡ 0) where
       off2 : (j : ℕ) → (j ≡ PARENT + b → ⊥) → (j ≡ a → ⊥) → (j < LOG) ⊎ (STACK ≤ j) → getD w2 j 0 ≡ getD w j 0
       off2 j x y c = let h = room in let e = p .next in put-off r w1 a v t w2 p2 (omega arith) j y c ∙ off1 j x c
 
@@ -140,7 +141,7 @@ module _ (n k s : ℕ) (w : List ℕ) (a b : ℕ) (lt : a < b) (hb : b < n) (hn 
       at2 : getD w2 a 0 ≡ getD w b 0
       at2 = put-at r w1 a v t w2 p2 (omega arith) (omega (arith, p .later .len)) ∙ ev
 
-      pub moved : Met n k s w a b t s false w2
+      pub moved : Merged n k s w a b t s false w2
       moved = record {
         later = later-trans k w r w1 t w2 (p .later) (p2 .later);
         new = [];
@@ -192,7 +193,7 @@ module _ (n k s : ℕ) (w : List ℕ) (a b : ℕ) (lt : a < b) (hb : b < n) (hn 
     -- ---- both have chains: that of b goes before that of a
     module _ (x y z r2 r3 : ℕ) (w2 w3 w4 : List ℕ) (ex : x ≡ getD w b 0) (ey : y ≡ getD w a 0) (lx : (0 < x) × ChainCode x)
         (ly : (0 < y) × ChainCode y) (la : Last w x z)
-        (p2 : Put r w1 (NEXT + z) y r2 w2) (p3 : Put r2 w2 a x r3 w3) (e4 : w4 ≡ set w3 (STACK + s) (x + 4096 * y)) where
+        (p2 : Stores r w1 (NEXT + z) y r2 w2) (p3 : Stores r2 w2 a x r3 w3) (e4 : w4 ≡ set w3 (STACK + s) (x + 4096 * y)) where
       r1-is : r ≡ k + 1
       r1-is = p .next
 
@@ -262,7 +263,7 @@ module _ (n k s : ℕ) (w : List ℕ) (a b : ℕ) (lt : a < b) (hb : b < n) (hn 
           ∙ off3 j (λ e. omega arith) (λ e. let lz = la .below in omega arith) (λ e. omega arith) (inr b1)) in
           rw (add-one s, d1, d2, c3) refl
 
-      pub knitted : Met n k s w a b r3 (s + 1) false w4
+      pub knitted : Merged n k s w a b r3 (s + 1) false w4
       knitted = record {
         later = later4;
         new = (x, y) ∷ [];
@@ -362,7 +363,7 @@ module _ (n k s : ℕ) (w : List ℕ) (a b : ℕ) (lt : a < b) (hb : b < n) (hn 
 
   -- ---- a clash
   clashed : (getD w b 0 ≡ 0 → ⊥) → (getD w a 0 ≡ 0 → ⊥) → (getD w b 0 ≡ getD w a 0 → ⊥) →
-      AtomCode (getD w b 0) ⊎ AtomCode (getD w a 0) → Met n k s w a b k s true w
+      AtomCode (getD w b 0) ⊎ AtomCode (getD w a 0) → Merged n k s w a b k s true w
   clashed nb na ne big = record {
     later = later-refl k w logged;
     new = [];
@@ -374,8 +375,8 @@ module _ (n k s : ℕ) (w : List ℕ) (a b : ℕ) (lt : a < b) (hb : b < n) (hn 
     clash = λ z G H F T fs u same. told G H F T fs u same (decLt last-arc (getD w b 0)) (decLt last-arc (getD w a 0));
   }
     where
-      told : (G : Pile) (H : Done) (F T : List ℕ) (fs : List (ℕ × ℕ)) (u : State G H F T n k s fs w) → Same G F T a b →
-          Dec (AtomCode (getD w b 0)) → Dec (AtomCode (getD w a 0)) → Clashes G F T
+      told : (G : Pile) (H : Done) (F T : List ℕ) (fs : List (ℕ × ℕ)) (u : State G H F T n k s fs w) → Equal G F T a b →
+          Dec (AtomCode (getD w b 0)) → Dec (AtomCode (getD w a 0)) → ClashIn G F T
       told G H F T fs u same db da = go db da
         where
           ma : getD (u .M) a 0 ≡ a
@@ -384,7 +385,7 @@ module _ (n k s : ℕ) (w : List ℕ) (a b : ℕ) (lt : a < b) (hb : b < n) (hn 
           mb : getD (u .M) b 0 ≡ b
           mb = Mb G H F T n k s fs w (omega arith) hw u a b lt hb ra rb
 
-          node : (c : ℕ) → c < n → getD (u .M) c 0 ≡ c → (r : Bears G n (u .M) c (getD w c 0)) → Same G F T (r .i) c
+          node : (c : ℕ) → c < n → getD (u .M) c 0 ≡ c → (r : Bears G n (u .M) c (getD w c 0)) → Equal G F T (r .i) c
           node c h e r = u .sound (r .i) c (r .small) h (r .class ∙ sym e)
 
           head-of : (c : ℕ) → c < n → (getD w c 0 ≡ 0 → ⊥) → (l : List ℕ) → Chain w (getD w c 0) l → (e : ℕ) × List·Memᴰ e l
@@ -392,32 +393,33 @@ module _ (n k s : ℕ) (w : List ℕ) (a b : ℕ) (lt : a < b) (hb : b < n) (hn 
           head-of c h d (j ∷ l) e = (j, List·Memᴰ·head refl)
 
           arc : (c : ℕ) → c < n → getD (u .M) c 0 ≡ c → (getD w c 0 ≡ 0 → ⊥) → (AtomCode (getD w c 0) → ⊥) →
-              (e : ℕ) × (List·Memᴰ e (G .B) × Same G F T c (G .S e))
+              (e : ℕ) × (List·Memᴰ e (G .B) × Equal G F T c (G .S e))
           arc c h e d l =
               let t = head-of c h d (getD (u .C) c []) (u .chain c h e (omega arith)) in
               let m = u .known (t .0) (u .home c (t .0) h (t .1) .0) in
               (t .0, (m, u .sound c (G .S (t .0)) h (u .arcs (t .0) m .1 .0) (e ∙ sym (u .home c (t .0) h (t .1) .1))))
 
-          go : Dec (AtomCode (getD w b 0)) → Dec (AtomCode (getD w a 0)) → Clashes G F T
+          go : Dec (AtomCode (getD w b 0)) → Dec (AtomCode (getD w a 0)) → ClashIn G F T
           go (yes p) (yes q) =
               let x = u .bare b hb mb p .1 in
               let y = u .bare a (omega arith) ma q .1 in
-              Clashes.atoms (x .node) (y .node)
-              (Same.on (node b hb mb x) (Same.on (Same.back same) (Same.back (node a (omega arith) ma y)))) (λ e. nb (sym (x .is) ∙ e))
+              ClashIn.atoms (x .node) (y .node)
+              (Equal.on (node b hb mb x) (Equal.on (Equal.back same) (Equal.back (node a (omega arith) ma y)))) (λ e. nb (sym (x .is) ∙ e))
               (λ e. na (sym (y .is) ∙ e)) (λ e. ne (sym (x .is) ∙ e ∙ y .is))
           go (yes p) (no q) =
               let x = u .bare b hb mb p .1 in
               let y = arc a (omega arith) ma na q in
-              Clashes.mixed (x .node) (λ e. nb (sym (x .is) ∙ e)) (y .1 .0) (Same.on (node b hb mb x) (Same.on (Same.back same) (y .1 .1)))
+              ClashIn.mixed (x .node) (λ e. nb (sym (x .is) ∙ e)) (y .1 .0)
+              (Equal.on (node b hb mb x) (Equal.on (Equal.back same) (y .1 .1)))
           go (no p) (yes q) =
               let x = u .bare a (omega arith) ma q .1 in
               let y = arc b hb mb nb p in
-              Clashes.mixed (x .node) (λ e. na (sym (x .is) ∙ e)) (y .1 .0) (Same.on (node a (omega arith) ma x) (Same.on same (y .1 .1)))
+              ClashIn.mixed (x .node) (λ e. na (sym (x .is) ∙ e)) (y .1 .0) (Equal.on (node a (omega arith) ma x) (Equal.on same (y .1 .1)))
           go (no p) (no q) = absurd (⊎-elim (λ l. p l) (λ l. q l) big)
 
   -- what comes is not covered, something is there, and not both are arcs
   pub clash-met : (came there : Held) → came ≡ held-by w b → there ≡ held-by w a → (Covered came there → ⊥) → (there ≡ Nothing → ⊥) →
-      ((p q : ℕ) → came ≡ Arcs p → there ≡ Arcs q → ⊥) → Met n k s w a b k s true w
+      ((p q : ℕ) → came ≡ Arcs p → there ≡ Arcs q → ⊥) → Merged n k s w a b k s true w
   clash-met Nothing there eb ea new some mixed = absurd (new (inl refl))
   clash-met (Arcs p) Nothing eb ea new some mixed = absurd (some refl)
   clash-met (Arcs p) (Arcs q) eb ea new some mixed = absurd (mixed p q refl refl)

@@ -11,15 +11,16 @@ use Rattle.area.specs.Map.{PARENT, NEXT, STACK}
 use Rattle.area.specs.Region.{region}
 use Rattle.area.specs.Log.{Logged, Later}
 use Rattle.forest.specs.Forest.{tops}
-use Rattle.forest.specs.State.{Pile, Done, Same, Seg, Near, State, Calm, Met, frames, withPair, Walk, Working, ClashTold, Turned}
+use Rattle.forest.specs.State.{Pile, Done, Equal, Seg, Near, State, Calm, Merged, frames, withPair, FrameWalk, Working, ClashTold}
+use Rattle.forest.specs.State.{Turned}
 use Rattle.forest.specs.State.{Drained, Stacked, Settled, United}
 use Rattle.area.proofs.Undo.{later-refl, later-trans}
 
-pub walk-refl : (F T : List ℕ) (n k s : ℕ) (w : List ℕ) (x to : ℕ) → Logged k w → Walk F T n k s w x to k s w x
+pub walk-refl : (F T : List ℕ) (n k s : ℕ) (w : List ℕ) (x to : ℕ) → Logged k w → FrameWalk F T n k s w x to k s w x
 walk-refl F T n k s w x to g = record { later = later-refl k w g; new = []; stack = refl; count = omega arith; go = λ G H fs u. u }
 
 pub walk-trans : (F T : List ℕ) (n k s : ℕ) (w : List ℕ) (x to k1 s1 : ℕ) (w1 : List ℕ) (x1 k2 s2 : ℕ) (w2 : List ℕ) (x2 : ℕ) →
-    Walk F T n k s w x to k1 s1 w1 x1 → Walk F T n k1 s1 w1 x1 to k2 s2 w2 x2 → Walk F T n k s w x to k2 s2 w2 x2
+    FrameWalk F T n k s w x to k1 s1 w1 x1 → FrameWalk F T n k1 s1 w1 x1 to k2 s2 w2 x2 → FrameWalk F T n k s w x to k2 s2 w2 x2
 walk-trans F T n k s w x to k1 s1 w1 x1 k2 s2 w2 x2 p q = record {
   later = later-trans k w k1 w1 k2 w2 (p .later) (q .later);
   new = q .new ++ p .new;
@@ -30,34 +31,34 @@ walk-trans F T n k s w x to k1 s1 w1 x1 k2 s2 w2 x2 p q = record {
 }
 
 pub walk-working : (F T : List ℕ) (n k s : ℕ) (w : List ℕ) (x to k1 s1 : ℕ) (w1 : List ℕ) (x1 : ℕ) → Working F T n k s x to w →
-    Walk F T n k s w x to k1 s1 w1 x1 → Working F T n k1 s1 x1 to w1
+    FrameWalk F T n k s w x to k1 s1 w1 x1 → Working F T n k1 s1 x1 to w1
 walk-working F T n k s w x to k1 s1 w1 x1 g p =
     record { G = g .G; H = g .H; fs = p .new ++ g .fs; state = p .go (g .G) (g .H) (g .fs) (g .state) }
 
-pub walk-told : (F T : List ℕ) (n k s : ℕ) (w : List ℕ) (x to k1 s1 : ℕ) (w1 : List ℕ) (x1 : ℕ) → Walk F T n k s w x to k1 s1 w1 x1 →
+pub walk-told : (F T : List ℕ) (n k s : ℕ) (w : List ℕ) (x to k1 s1 : ℕ) (w1 : List ℕ) (x1 : ℕ) → FrameWalk F T n k s w x to k1 s1 w1 x1 →
     ClashTold F T n k1 s1 w1 x1 to → ClashTold F T n k s w x to
 walk-told F T n k s w x to k1 s1 w1 x1 p t = λ G H fs u. t G H (p .new ++ fs) (p .go G H fs u)
 
 -- ---- as `drain` has it
 pub drain-turn : (F T : List ℕ) (n k s : ℕ) (w : List ℕ) (x to k1 s1 : ℕ) (w1 : List ℕ) (x1 k2 s2 : ℕ) (bad : Bool) (w2 : List ℕ) (x2 : ℕ) →
-    Walk F T n k s w x to k1 s1 w1 x1 → Turned F T n k1 s1 w1 x1 to k2 s2 bad w2 → bad ≡ false → x2 ≡ getD w2 (NEXT + (x1 - 1)) 0 →
-    Walk F T n k s w x to k2 s2 w2 x2
+    FrameWalk F T n k s w x to k1 s1 w1 x1 → Turned F T n k1 s1 w1 x1 to k2 s2 bad w2 → bad ≡ false → x2 ≡ getD w2 (NEXT + (x1 - 1)) 0 →
+    FrameWalk F T n k s w x to k2 s2 w2 x2
 drain-turn F T n k s w x to k1 s1 w1 x1 k2 s2 bad w2 x2 p q b e =
     rw e (walk-trans F T n k s w x to k1 s1 w1 x1 k2 s2 w2 (getD w2 (NEXT + (x1 - 1)) 0) p (q .fine b))
 
 pub drained-bad : (F T : List ℕ) (n k s : ℕ) (w : List ℕ) (x to k1 s1 : ℕ) (w1 : List ℕ) (x1 k2 s2 : ℕ) (bad : Bool) (w2 : List ℕ) →
-    Walk F T n k s w x to k1 s1 w1 x1 → Turned F T n k1 s1 w1 x1 to k2 s2 bad w2 → bad ≡ true → Drained F T n k s w x to k2 s2 true w2
+    FrameWalk F T n k s w x to k1 s1 w1 x1 → Turned F T n k1 s1 w1 x1 to k2 s2 bad w2 → bad ≡ true → Drained F T n k s w x to k2 s2 true w2
 drained-bad F T n k s w x to k1 s1 w1 x1 k2 s2 bad w2 p q b = record {
   later = later-trans k w k1 w1 k2 w2 (p .later) (q .later);
   fine = λ z. let y : _≡_ {A = ℕ} 0 1 = cc in absurd (omega arith);
   clash = λ z. walk-told F T n k s w x to k1 s1 w1 x1 p (q .clash b);
 }
 
-pub drained-end : (F T : List ℕ) (n k s : ℕ) (w : List ℕ) (x to k1 s1 : ℕ) (w1 : List ℕ) (x1 : ℕ) → Walk F T n k s w x to k1 s1 w1 x1 →
+pub drained-end : (F T : List ℕ) (n k s : ℕ) (w : List ℕ) (x to k1 s1 : ℕ) (w1 : List ℕ) (x1 : ℕ) → FrameWalk F T n k s w x to k1 s1 w1 x1 →
     x1 ≡ to → Drained F T n k s w x to k1 s1 false w1
 drained-end F T n k s w x to k1 s1 w1 x1 p e = record {
   later = p .later;
-  fine = λ z. subst (λ (v : ℕ). Walk F T n k s w x to k1 s1 w1 v) e p;
+  fine = λ z. subst (λ (v : ℕ). FrameWalk F T n k s w x to k1 s1 w1 v) e p;
   clash = λ z. let y : _≡_ {A = ℕ} 0 1 = cc in absurd (omega arith);
 }
 
@@ -209,7 +210,7 @@ settled-end F T n k s w e h w' p z = record {
 
 -- ---- a union
 pub united : (F T : List ℕ) (n k : ℕ) (w : List ℕ) (x y k1 s1 : ℕ) (b1 : Bool) (w1 : List ℕ) (k2 : ℕ) (b2 : Bool) (w2 : List ℕ) →
-    Met n k 0 w x y k1 s1 b1 w1 → b1 ≡ false → Settled F T n k1 s1 w1 k2 b2 w2 → United F T n k w x y k2 b2 w2
+    Merged n k 0 w x y k1 s1 b1 w1 → b1 ≡ false → Settled F T n k1 s1 w1 k2 b2 w2 → United F T n k w x y k2 b2 w2
 unfolding frames
 united F T n k w x y k1 s1 b1 w1 k2 b2 w2 m z q = record {
   later = later-trans k w k1 w1 k2 w2 (m .later) (q .later);
@@ -218,10 +219,11 @@ united F T n k w x y k1 s1 b1 w1 k2 b2 w2 m z q = record {
   clash = λ v G H u r. q .clash v G (withPair H x y) (on G H u r);
 }
   where
-    on : (G : Pile) (H : Done) → State G H F T n k 0 [] w → Same G F T x y → State G (withPair H x y) F T n k1 s1 (frames w1 s1) w1
+    on : (G : Pile) (H : Done) → State G H F T n k 0 [] w → Equal G F T x y → State G (withPair H x y) F T n k1 s1 (frames w1 s1) w1
     on G H u r = subst (λ (f : List (ℕ × ℕ)). State G (withPair H x y) F T n k1 s1 f w1) (sym (m .stack)) (m .fine z G H F T [] u r)
 
-pub united-bad : (F T : List ℕ) (n k : ℕ) (w : List ℕ) (x y k1 s1 : ℕ) (b1 : Bool) (w1 : List ℕ) → Met n k 0 w x y k1 s1 b1 w1 → b1 ≡ true →
+pub united-bad : (F T : List ℕ) (n k : ℕ) (w : List ℕ) (x y k1 s1 : ℕ) (b1 : Bool) (w1 : List ℕ) → Merged n k 0 w x y k1 s1 b1 w1 →
+    b1 ≡ true →
     United F T n k w x y k1 true w1
 united-bad F T n k w x y k1 s1 b1 w1 m z = record {
   later = m .later;
@@ -232,7 +234,7 @@ united-bad F T n k w x y k1 s1 b1 w1 m z = record {
 
 -- what `settle` asks
 pub united-stacked : (F T : List ℕ) (n k : ℕ) (w : List ℕ) (x y k1 s1 : ℕ) (b1 : Bool) (w1 : List ℕ) (G : Pile) (H : Done) →
-    State G H F T n k 0 [] w → Same G F T x y → Met n k 0 w x y k1 s1 b1 w1 → b1 ≡ false → Stacked F T n k1 s1 w1
+    State G H F T n k 0 [] w → Equal G F T x y → Merged n k 0 w x y k1 s1 b1 w1 → b1 ≡ false → Stacked F T n k1 s1 w1
 unfolding frames
 united-stacked F T n k w x y k1 s1 b1 w1 G H u r m z =
     record {

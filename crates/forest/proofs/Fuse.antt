@@ -15,7 +15,7 @@ use Rattle.forest.proofs.Relabel.{relab, relabelled}
 use Rattle.area.specs.Log.{Logged}
 use Rattle.forest.specs.Forest.{Shape, Forest, tops}
 use Rattle.forest.specs.Held.{last-arc, ChainCode, AtomCode}
-use Rattle.forest.specs.State.{Pile, Done, Same, Chain, First, None, Near, Framed, Bears, State, Grow, total, withPair}
+use Rattle.forest.specs.State.{Pile, Done, Equal, Chain, First, None, Near, Framed, Bears, State, Grow, total-length, withPair}
 use Rattle.area.proofs.Region.{length-region}
 use Rattle.forest.proofs.Kernel.{relab-hit, relab-miss, relab-case}
 use Rattle.forest.proofs.Wood.{label, link-shape, link-forest, tops-link}
@@ -152,20 +152,21 @@ module _ (G : Pile) (H : Done) (F T : List ℕ) (n k s : ℕ) (fs : List (ℕ ×
         go z (no x) = subst (λ (c : ℕ). List·Memᴰ q (getD (fused (u .C) a b) c [])) (sym (z .1))
             (subst (List·Memᴰ q) (sym (Co (getD (u .M) i 0) x (z .0))) m)
 
-    fused-total : total (fused (u .C) a b) ≡ total (u .C)
+    fused-total : total-length (fused (u .C) a b) ≡ total-length (u .C)
     fused-total =
         let l = u .wide in
         let l1 : length (set (u .C) b []) ≡ length (u .C) = length-set (u .C) b [] in
-        let e1 : total (set (u .C) b []) + length (getD (u .C) b []) ≡ total (u .C) + 0 = total-set (u .C) b [] (omega arith) in
+        let e1 : total-length (set (u .C) b []) + length (getD (u .C) b [])
+        ≡ total-length (u .C) + 0 = total-set (u .C) b [] (omega arith) in
         let e0 : getD (set (u .C) b []) a [] ≡ getD (u .C) a [] = getD-set-other (u .C) b a [] [] (λ e. omega arith) in
-        let e2 : total (fused (u .C) a b) + length (getD (u .C) a [])
-        ≡ total (set (u .C) b []) + length (getD (u .C) b [] ++ getD (u .C) a []) =
+        let e2 : total-length (fused (u .C) a b) + length (getD (u .C) a [])
+        ≡ total-length (set (u .C) b []) + length (getD (u .C) b [] ++ getD (u .C) a []) =
         rw e0 at (total-set (set (u .C) b []) a (getD (u .C) b [] ++ getD (u .C) a []) (omega arith)) in
         let e3 : length (getD (u .C) b [] ++ getD (u .C) a []) ≡ length (getD (u .C) b []) + length (getD (u .C) a []) =
         length-append (getD (u .C) b []) (getD (u .C) a []) in
         omega arith
 
-    module _ (k' s' : ℕ) (new : List (ℕ × ℕ)) (w' : List ℕ) (same : Same G F T a b) (z : Fuses k' s' new w') where
+    module _ (k' s' : ℕ) (new : List (ℕ × ℕ)) (w' : List ℕ) (same : Equal G F T a b) (z : Fuses k' s' new w') where
       near : {i j : ℕ} → Near F T (u .M) w fs i j → Near F T N w' (new ++ fs) i j
       near {i} {j} (Near.old e) = Near.old (coarse i j e)
       near (Near.owe {x} {y} {q} q' zs js m sg mq wy) =
@@ -321,18 +322,18 @@ module _ (G : Pile) (H : Done) (F T : List ℕ) (n k s : ℕ) (fs : List (ℕ ×
               ∙ ap (λ (c : ℕ). getD w c 0) (sym e) ∙ o
           other p (no y) = z .first (getD (u .M) i 0) (low i (u .nodes i m .0)) y ∙ o
 
-      sounds : (i j : ℕ) → i < n → j < n → Eq N i j → Same G F T i j
+      sounds : (i j : ℕ) → i < n → j < n → Eq N i j → Equal G F T i j
       sounds i j hi hj e = ⊎-elim
           (λ p. ⊎-elim (λ q. u .sound i j hi hj (p .0 ∙ sym (q .0)))
-          (λ q. Same.on (to-b i hi (p .0)) (Same.on (Same.back same) (Same.back (from-a j hj (sym (q .1) ∙ sym e ∙ p .1))))) (split j))
-          (λ p. ⊎-elim (λ q. Same.on (from-a i hi (sym (p .1) ∙ e ∙ q .1)) (Same.on same (Same.back (to-b j hj (q .0)))))
+          (λ q. Equal.on (to-b i hi (p .0)) (Equal.on (Equal.back same) (Equal.back (from-a j hj (sym (q .1) ∙ sym e ∙ p .1))))) (split j))
+          (λ p. ⊎-elim (λ q. Equal.on (from-a i hi (sym (p .1) ∙ e ∙ q .1)) (Equal.on same (Equal.back (to-b j hj (q .0)))))
           (λ q. u .sound i j hi hj (sym (p .1) ∙ e ∙ q .1)) (split j))
           (split i)
         where
-          to-b : (i : ℕ) → i < n → getD (u .M) i 0 ≡ b → Same G F T i b
+          to-b : (i : ℕ) → i < n → getD (u .M) i 0 ≡ b → Equal G F T i b
           to-b i h p = u .sound i b h hb (p ∙ sym Mb)
 
-          from-a : (i : ℕ) → i < n → getD (u .M) i 0 ≡ a → Same G F T i a
+          from-a : (i : ℕ) → i < n → getD (u .M) i 0 ≡ a → Equal G F T i a
           from-a i h p = u .sound i a h ha (p ∙ sym Ma)
 
       tops-less : suc (tops 0 (region PARENT n w')) ≡ tops 0 (region PARENT n w)

@@ -8,7 +8,7 @@ use native.Mathlib.Decide.{ℕ-discrete}
 use lib.ListN.{length, set, getD}
 use borrow.Author.Tests.{eq-eqb, ne-eqb}
 use Rattle.area.specs.Map.{NEXT, STACK}
-use Rattle.forest.specs.State.{Chain, Seg, First, None, Way, hops, Grow, Calm, total, frames}
+use Rattle.forest.specs.State.{Chain, Seg, First, None, Way, hops, Grow, Calm, total-length, frames}
 use Rattle.forest.proofs.Steps.{steps}
 
 -- ---- a chain
@@ -207,18 +207,20 @@ hops-is w (suc f) b x (j ∷ xs) c h =
     rw (ne-eqb x b (λ z. c .1 .1 .0 (sym (c .0) ∙ z)), e) (ap suc (hops-is w f b (getD w (NEXT + j) 0) xs (c .1 .1 .1) (omega arith)))
 
 -- ---- all chains
-pub total-set : (C : List (List ℕ)) (i : ℕ) (v : List ℕ) → i < length C → total (set C i v) + length (getD C i []) ≡ total C + length v
-unfolding total
+pub total-set : (C : List (List ℕ)) (i : ℕ) (v : List ℕ) → i < length C →
+    total-length (set C i v) + length (getD C i []) ≡ total-length C + length v
+unfolding total-length
 total-set [] i v h = absurd (omega arith)
 total-set (x ∷ C) zero v h = omega arith
-total-set (x ∷ C) (suc i) v h = let r : total (set C i v) + length (getD C i []) ≡ total C + length v = total-set C i v (omega arith) in
+total-set (x ∷ C) (suc i) v h = let r : total-length (set C i v) + length (getD C i []) ≡ total-length C + length v = total-set C i v
+    (omega arith) in
     omega arith
 
-pub total-one : (C : List (List ℕ)) (i : ℕ) → length (getD C i []) ≤ total C
-unfolding total
+pub total-one : (C : List (List ℕ)) (i : ℕ) → length (getD C i []) ≤ total-length C
+unfolding total-length
 total-one [] i = omega arith
 total-one (x ∷ C) zero = omega arith
-total-one (x ∷ C) (suc i) = let r : length (getD C i []) ≤ total C = total-one C i in omega arith
+total-one (x ∷ C) (suc i) = let r : length (getD C i []) ≤ total-length C = total-one C i in omega arith
 
 -- ---- frames
 pub frames-same : (w w' : List ℕ) (s : ℕ) → ((j : ℕ) → STACK ≤ j → j < STACK + s → getD w' j 0 ≡ getD w j 0) → frames w' s ≡ frames w s

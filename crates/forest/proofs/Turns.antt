@@ -12,7 +12,8 @@ use Rattle.area.specs.Region.{region}
 use Rattle.forest.specs.Labels.{Eq}
 use Rattle.area.specs.Log.{Logged}
 use Rattle.forest.specs.Forest.{Root, tops}
-use Rattle.forest.specs.State.{Pile, Done, Same, Chain, Seg, First, Way, Near, Framed, State, Met, Grow, Looked, Runs, hops, withPair}
+use Rattle.forest.specs.State.{Pile, Done, Equal, Chain, Seg, First, Way, Near, Framed, State, Merged, Grow, Looked, Runs, hops}
+use Rattle.forest.specs.State.{withPair}
 use Rattle.forest.specs.State.{Working, Turned}
 use Rattle.area.proofs.Region.{length-region}
 use Rattle.area.proofs.Undo.{later-refl}
@@ -121,9 +122,9 @@ module _ (n k s : ℕ) (w : List ℕ) (x y : ℕ) (hx : x < n) (hy : y < n) (hn 
     y-b : Eq (u .M) y b
     y-b = let l = length-P in q .is (u .M) (u .forest) ∙ sym (u .forest .tops b (omega (arith, q .low)) (q .top))
 
-    pub same-roots : Same G F T x y → Same G F T a b
-    same-roots r = Same.on (Same.back (u .sound x a hx (omega (arith, p .low)) x-a))
-        (Same.on r (u .sound y b hy (omega (arith, q .low)) y-b))
+    pub same-roots : Equal G F T x y → Equal G F T a b
+    same-roots r = Equal.on (Equal.back (u .sound x a hx (omega (arith, p .low)) x-a))
+        (Equal.on r (u .sound y b hy (omega (arith, q .low)) y-b))
 
     pub noted : State G (withPair (withPair H x a) y b) F T n k s fs w
     noted = hold G H F T n k s fs w u ((y, b) ∷ ((x, a) ∷ H .E))
@@ -133,7 +134,7 @@ module _ (n k s : ℕ) (w : List ℕ) (x y : ℕ) (hx : x < n) (hy : y < n) (hn 
         pair : (i j c d : ℕ) → _≡_ {A = ℕ × ℕ} (i, j) (c, d) → Eq (u .M) c d → Eq (u .M) i j
         pair i j c d e f = ap (λ (v : ℕ × ℕ). getD (u .M) (v .0) 0) e ∙ f ∙ ap (λ (v : ℕ × ℕ). getD (u .M) (v .1) 0) (sym e)
 
-  pub joined-same : a ≡ b → Logged k w → Met n k s w x y k s false w
+  pub joined-same : a ≡ b → Logged k w → Merged n k s w x y k s false w
   joined-same e g = record {
     later = later-refl k w g;
     new = [];
@@ -162,7 +163,7 @@ module _ (n k s : ℕ) (w : List ℕ) (x y : ℕ) (hx : x < n) (hy : y < n) (hn 
         (λ r. ap (λ (t : ℕ × ℕ). getD (v .M) (t .0) 0) r ∙ e2 ∙ e4 ∙ sym e1 ∙ ap (λ (t : ℕ × ℕ). getD (v .M) (t .1) 0) (sym r))
         (λ r. v .held i j (List·Memᴰ·tail (List·Memᴰ·tail (List·Memᴰ·tail r)))) (List·Memᴰ·cases-cons m))
 
-    pub joined-up : Met n k s w a b k' s' bad w' → Met n k s w x y k' s' bad w'
+    pub joined-up : Merged n k s w a b k' s' bad w' → Merged n k s w x y k' s' bad w'
     joined-up m = record {
       later = m .later;
       new = m .new;
@@ -175,7 +176,7 @@ module _ (n k s : ℕ) (w : List ℕ) (x y : ℕ) (hx : x < n) (hy : y < n) (hn 
       clash = λ z G H F T fs u r. m .clash z G H F T fs u (same-roots G H F T fs u r);
     }
 
-    pub joined-down : Met n k s w b a k' s' bad w' → Met n k s w x y k' s' bad w'
+    pub joined-down : Merged n k s w b a k' s' bad w' → Merged n k s w x y k' s' bad w'
     joined-down m = record {
       later = m .later;
       new = m .new;
@@ -184,8 +185,8 @@ module _ (n k s : ℕ) (w : List ℕ) (x y : ℕ) (hx : x < n) (hy : y < n) (hn 
       grow = m .grow;
       calm = m .calm;
       fine = λ z G H F T fs u r. drawn G H F T (m .new ++ fs) b a (inr (refl, refl))
-          (m .fine z G (withPair (withPair H x a) y b) F T fs (noted G H F T fs u) (Same.back (same-roots G H F T fs u r)));
-      clash = λ z G H F T fs u r. m .clash z G H F T fs u (Same.back (same-roots G H F T fs u r));
+          (m .fine z G (withPair (withPair H x a) y b) F T fs (noted G H F T fs u) (Equal.back (same-roots G H F T fs u r)));
+      clash = λ z G H F T fs u r. m .clash z G H F T fs u (Equal.back (same-roots G H F T fs u r));
     }
 
 -- ---- a frame, and its first arc
@@ -267,12 +268,12 @@ module _ (G : Pile) (H : Done) (F T : List ℕ) (n k s x to : ℕ) (fs : List (�
     match-target r i l e = let h = here i (after .1 .1 .1 i (first-mem F (getD F (x - 1) 0) (after .0) i (match-in r i l e))) in
         (h .1 .1 .1 .0, h .1 .1 .1 .1)
 
-    pub match-same : (r i : ℕ) → Looked F w (getD F (x - 1) 0) to r → r ≡ suc i → Same G F T (getD T (x - 1) 0) (getD T i 0)
+    pub match-same : (r i : ℕ) → Looked F w (getD F (x - 1) 0) to r → r ≡ suc i → Equal G F T (getD T (x - 1) 0) (getD T i 0)
     match-same r i l e =
         let a = here (x - 1) mine in
         let f = match-in r i l e in
         let b = here i (after .1 .1 .1 i (first-mem F (getD F (x - 1) 0) (after .0) i f)) in
-        Same.along (a .0) (b .0) (sym (first-feature F (getD F (x - 1) 0) (after .0) i f))
+        Equal.along (a .0) (b .0) (sym (first-feature F (getD F (x - 1) 0) (after .0) i f))
         (u .sound (G .S (x - 1)) (G .S i) (a .1 .1 .0) (b .1 .1 .0) (a .1 .0 ∙ sym (b .1 .0)))
 
     -- the first arc is paid for
@@ -391,7 +392,7 @@ module _ (F T : List ℕ) (n k s x to : ℕ) (w : List ℕ) (hn : n ≤ 1024) (h
   }
 
   pub turned-hit : (r i k' s' : ℕ) (bad : Bool) (w' : List ℕ) → Looked F w (getD F (x - 1) 0) to r → r ≡ suc i →
-      Met n k s w (getD T (x - 1) 0) (getD T i 0) k' s' bad w' → Turned F T n k s w x to k' s' bad w'
+      Merged n k s w (getD T (x - 1) 0) (getD T i 0) k' s' bad w' → Turned F T n k s w x to k' s' bad w'
   turned-hit r i k' s' bad w' l e m = record {
     later = m .later;
     fine = λ z. record {

@@ -7,7 +7,7 @@ use lib.ListN.{length, getD}
 use Rattle.area.specs.Map.{WORDS, MARKS, SIZE}
 use Rattle.area.specs.Log.{Later}
 use Rattle.area.proofs.Region.{getD-region, region-ext, words-same}
-use Rattle.area.specs.Region.{words}
+use Rattle.area.specs.Region.{loaded-words}
 use Rattle.forest.specs.State.{targets}
 
 pub target-at : (w : List ℕ) (j : ℕ) → j < 2047 → getD (targets w) j 0 ≡ getD w (WORDS + 1 + j) 0
@@ -22,7 +22,7 @@ module _ (w w' : List ℕ) (hw : SIZE ≤ length w) (len : length w' ≡ length 
   targets-same = region-ext (WORDS + 1) 2047 w' w (omega arith) len (λ j h. same (WORDS + 1 + j) (omega arith) (omega arith))
 
 module _ (k : ℕ) (w : List ℕ) (k' : ℕ) (w' : List ℕ) (hw : SIZE ≤ length w) (l : Later k w k' w') where
-  pub words-later : words w' ≡ words w
+  pub words-later : loaded-words w' ≡ loaded-words w
   words-later = words-same w w' hw (l .len) (λ j a b. l .rest j a)
 
   pub targets-later : targets w' ≡ targets w

@@ -4,7 +4,7 @@ use mathlib.Core.Path.{_≡_}
 use mathlib.Core.List.{List, [], _∷_}
 use lib.Dec.{eqb}
 use lib.ListN.{length, getD}
-use Rattle.forest.specs.Labels.{pick}
+use Rattle.forest.specs.Labels.{by-test}
 
 pub record Shape (P : List ℕ) : Type 0 where
   pub down : (i : ℕ) → i < length P → getD P i 0 ≤ i
@@ -24,4 +24,4 @@ pub record Root (P : List ℕ) (i r : ℕ) : Type 0 where
 -- the roots of P, whose first node is i
 unfoldable pub tops : ℕ → List ℕ → ℕ
 tops i [] = 0
-tops i (x ∷ P) = pick (eqb x i) 1 0 + tops (suc i) P
+tops i (x ∷ P) = by-test (eqb x i) 1 0 + tops (suc i) P

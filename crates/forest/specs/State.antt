@@ -7,7 +7,7 @@ use mathlib.Core.List.{List, [], _∷_, _++_, List·Memᴰ}
 use lib.Dec.{eqb}
 use lib.ListN.{length, getD}
 use Rattle.area.specs.Map.{PARENT, NEXT, STACK, WORDS, TARGETS, LOADED, FRAME_STEP, ENTRIES, NODES}
-use Rattle.area.specs.Region.{region, words}
+use Rattle.area.specs.Region.{region, loaded-words}
 use Rattle.forest.specs.Labels.{Eq}
 use Rattle.area.specs.Log.{Logged, Later}
 use Rattle.forest.specs.Forest.{Shape, Forest, tops}
@@ -27,19 +27,19 @@ pub record Pile : Type 0 where
   pub A : ℕ → ℕ
 
 -- "The classes are the least equivalence in which all roots are equal and equal nodes have equal targets under an equal feature."
-pub data Same (G : Pile) (F T : List ℕ) : ℕ → ℕ → Type 0 where
-  root : {x y : ℕ} → List·Memᴰ x (G .R) → List·Memᴰ y (G .R) → Same G F T x y
-  self : (x : ℕ) → Same G F T x x
-  back : {x y : ℕ} → Same G F T x y → Same G F T y x
-  on : {x y z : ℕ} → Same G F T x y → Same G F T y z → Same G F T x z
-  along : {p q : ℕ} → List·Memᴰ p (G .B) → List·Memᴰ q (G .B) → getD F p 0 ≡ getD F q 0 → Same G F T (G .S p) (G .S q) →
-      Same G F T (getD T p 0) (getD T q 0)
+pub data Equal (G : Pile) (F T : List ℕ) : ℕ → ℕ → Type 0 where
+  root : {x y : ℕ} → List·Memᴰ x (G .R) → List·Memᴰ y (G .R) → Equal G F T x y
+  self : (x : ℕ) → Equal G F T x x
+  back : {x y : ℕ} → Equal G F T x y → Equal G F T y x
+  on : {x y z : ℕ} → Equal G F T x y → Equal G F T y z → Equal G F T x z
+  along : {p q : ℕ} → List·Memᴰ p (G .B) → List·Memᴰ q (G .B) → getD F p 0 ≡ getD F q 0 → Equal G F T (G .S p) (G .S q) →
+      Equal G F T (getD T p 0) (getD T q 0)
 
 -- "There is a clash when a class holds two different atoms, or an atom and an arc."
-pub data Clashes (G : Pile) (F T : List ℕ) : Type 0 where
-  atoms : {x y : ℕ} → List·Memᴰ x (G .N) → List·Memᴰ y (G .N) → Same G F T x y → (G .A x ≡ 0 → ⊥) → (G .A y ≡ 0 → ⊥) →
-      (G .A x ≡ G .A y → ⊥) → Clashes G F T
-  mixed : {x q : ℕ} → List·Memᴰ x (G .N) → (G .A x ≡ 0 → ⊥) → List·Memᴰ q (G .B) → Same G F T x (G .S q) → Clashes G F T
+pub data ClashIn (G : Pile) (F T : List ℕ) : Type 0 where
+  atoms : {x y : ℕ} → List·Memᴰ x (G .N) → List·Memᴰ y (G .N) → Equal G F T x y → (G .A x ≡ 0 → ⊥) → (G .A y ≡ 0 → ⊥) →
+      (G .A x ≡ G .A y → ⊥) → ClashIn G F T
+  mixed : {x q : ℕ} → List·Memᴰ x (G .N) → (G .A x ≡ 0 → ⊥) → List·Memᴰ q (G .B) → Equal G F T x (G .S q) → ClashIn G F T
 
 -- what is done: the arcs K are on chains or stand for one that is, the atoms of the nodes U are met, and the pairs E are in one class
 pub record Done : Type 0 where
@@ -86,9 +86,9 @@ pub record Runs (w : List ℕ) (x : ℕ) : Type 0 where
   pub chain : Chain w x xs
   pub short : length xs ≤ LOADED
 
-unfoldable pub total : List (List ℕ) → ℕ
-total [] = 0
-total (x ∷ C) = length x + total C
+unfoldable pub total-length : List (List ℕ) → ℕ
+total-length [] = 0
+total-length (x ∷ C) = length x + total-length C
 
 -- ---- frames
 unfoldable pub frames : List ℕ → ℕ → List (ℕ × ℕ)
@@ -140,7 +140,7 @@ pub record State (G : Pile) (H : Done) (F T : List ℕ) (n k s : ℕ) (fs : List
   -- C has the arcs on the chain of each class
   pub C : List (List ℕ)
   pub wide : length C ≡ n
-  pub all : total C ≤ length (H .K)
+  pub all : total-length C ≤ length (H .K)
   pub chain : (c : ℕ) → c < n → getD M c 0 ≡ c → ChainCode (getD w c 0) → Chain w (getD w c 0) (getD C c [])
   -- a class with an atom has no arcs
   pub bare : (c : ℕ) → c < n → getD M c 0 ≡ c → AtomCode (getD w c 0) → (getD C c [] ≡ []) × Bears G n M c (getD w c 0)
@@ -156,12 +156,12 @@ pub record State (G : Pile) (H : Done) (F T : List ℕ) (n k s : ℕ) (fs : List
   pub met : (i : ℕ) → List·Memᴰ i (H .U) → (G .A i ≡ 0 → ⊥) → getD w (getD M i 0) 0 ≡ G .A i
   -- classes are made of equal nodes, and the pairs E are in them
   pub held : (x y : ℕ) → List·Memᴰ (x, y) (H .E) → Eq M x y
-  pub sound : (i j : ℕ) → i < n → j < n → Eq M i j → Same G F T i j
+  pub sound : (i j : ℕ) → i < n → j < n → Eq M i j → Equal G F T i j
   -- the frames are parts of chains
   pub frame : (a b : ℕ) → List·Memᴰ (a, b) fs → Framed n M C w a b
 
 -- some state, whose part the code needs
-pub record Ready (n k s : ℕ) (w : List ℕ) : Type 0 where
+pub record SomeState (n k s : ℕ) (w : List ℕ) : Type 0 where
   pub G : Pile
   pub H : Done
   pub F : List ℕ
@@ -182,20 +182,20 @@ pub record Calm (w w' : List ℕ) : Type 0 where
   pub firsts : (c : ℕ) → c < NODES → (getD w c 0 ≡ 0 → ⊥) → getD w' c 0 ≡ getD w c 0
 
 -- a merge of the classes of x and y; only where two chains meet does it take three entries
-pub record Met (n k s : ℕ) (w : List ℕ) (x y k' s' : ℕ) (bad : Bool) (w' : List ℕ) : Type 0 where
+pub record Merged (n k s : ℕ) (w : List ℕ) (x y k' s' : ℕ) (bad : Bool) (w' : List ℕ) : Type 0 where
   pub later : Later k w k' w'
   pub new : List (ℕ × ℕ)
   pub stack : frames w' s' ≡ new ++ frames w s
   pub count : s' + tops 0 (region PARENT n w') ≤ s + tops 0 (region PARENT n w)
   pub grow : Grow w w'
   pub calm : k' ≤ k + 2 → (s' ≡ s) × Calm w w'
-  pub fine : bad ≡ false → (G : Pile) (H : Done) (F T : List ℕ) (fs : List (ℕ × ℕ)) → State G H F T n k s fs w → Same G F T x y →
+  pub fine : bad ≡ false → (G : Pile) (H : Done) (F T : List ℕ) (fs : List (ℕ × ℕ)) → State G H F T n k s fs w → Equal G F T x y →
       State G (withPair H x y) F T n k' s' (new ++ fs) w'
-  pub clash : bad ≡ true → (G : Pile) (H : Done) (F T : List ℕ) (fs : List (ℕ × ℕ)) → State G H F T n k s fs w → Same G F T x y →
-      Clashes G F T
+  pub clash : bad ≡ true → (G : Pile) (H : Done) (F T : List ℕ) (fs : List (ℕ × ℕ)) → State G H F T n k s fs w → Equal G F T x y →
+      ClashIn G F T
 
 -- a walk along a frame's part, from x to x'
-pub record Walk (F T : List ℕ) (n k s : ℕ) (w : List ℕ) (x to k' s' : ℕ) (w' : List ℕ) (x' : ℕ) : Type 0 where
+pub record FrameWalk (F T : List ℕ) (n k s : ℕ) (w : List ℕ) (x to k' s' : ℕ) (w' : List ℕ) (x' : ℕ) : Type 0 where
   pub later : Later k w k' w'
   pub new : List (ℕ × ℕ)
   pub stack : frames w' s' ≡ new ++ frames w s
@@ -211,17 +211,17 @@ pub record Working (F T : List ℕ) (n k s x to : ℕ) (w : List ℕ) : Type 0 w
   pub state : State G H F T n k s ((x, to) ∷ fs) w
 
 abbrev pub ClashTold : (F T : List ℕ) (n k s : ℕ) (w : List ℕ) (x to : ℕ) → Type 0
-ClashTold F T n k s w x to = (G : Pile) (H : Done) (fs : List (ℕ × ℕ)) → State G H F T n k s ((x, to) ∷ fs) w → Clashes G F T
+ClashTold F T n k s w x to = (G : Pile) (H : Done) (fs : List (ℕ × ℕ)) → State G H F T n k s ((x, to) ∷ fs) w → ClashIn G F T
 
 pub record Turned (F T : List ℕ) (n k s : ℕ) (w : List ℕ) (x to k' s' : ℕ) (bad : Bool) (w' : List ℕ) : Type 0 where
   pub later : Later k w k' w'
-  pub fine : bad ≡ false → Walk F T n k s w x to k' s' w' (getD w' (NEXT + (x - 1)) 0)
+  pub fine : bad ≡ false → FrameWalk F T n k s w x to k' s' w' (getD w' (NEXT + (x - 1)) 0)
   pub less : bad ≡ false → hops LOADED w' to (getD w' (NEXT + (x - 1)) 0) < hops LOADED w to x
   pub clash : bad ≡ true → ClashTold F T n k s w x to
 
 pub record Drained (F T : List ℕ) (n k s : ℕ) (w : List ℕ) (x to k' s' : ℕ) (bad : Bool) (w' : List ℕ) : Type 0 where
   pub later : Later k w k' w'
-  pub fine : bad ≡ false → Walk F T n k s w x to k' s' w' to
+  pub fine : bad ≡ false → FrameWalk F T n k s w x to k' s' w' to
   pub clash : bad ≡ true → ClashTold F T n k s w x to
 
 -- the stack holds all that is owed
@@ -234,13 +234,13 @@ pub record Settled (F T : List ℕ) (n k s : ℕ) (w : List ℕ) (k' : ℕ) (bad
   pub later : Later k w k' w'
   pub still : s ≡ 0 → w' ≡ w
   pub fine : bad ≡ false → (G : Pile) (H : Done) → State G H F T n k s (frames w s) w → State G H F T n k' 0 [] w'
-  pub clash : bad ≡ true → (G : Pile) (H : Done) → State G H F T n k s (frames w s) w → Clashes G F T
+  pub clash : bad ≡ true → (G : Pile) (H : Done) → State G H F T n k s (frames w s) w → ClashIn G F T
 
 pub record United (F T : List ℕ) (n k : ℕ) (w : List ℕ) (x y k' : ℕ) (bad : Bool) (w' : List ℕ) : Type 0 where
   pub later : Later k w k' w'
   pub calm : k' ≤ k + 2 → Calm w w'
-  pub fine : bad ≡ false → (G : Pile) (H : Done) → State G H F T n k 0 [] w → Same G F T x y → State G (withPair H x y) F T n k' 0 [] w'
-  pub clash : bad ≡ true → (G : Pile) (H : Done) → State G H F T n k 0 [] w → Same G F T x y → Clashes G F T
+  pub fine : bad ≡ false → (G : Pile) (H : Done) → State G H F T n k 0 [] w → Equal G F T x y → State G (withPair H x y) F T n k' 0 [] w'
+  pub clash : bad ≡ true → (G : Pile) (H : Done) → State G H F T n k 0 [] w → Equal G F T x y → ClashIn G F T
 
 -- ---- chains, as the code walks them
 pub record Last (w : List ℕ) (x r : ℕ) : Type 0 where
@@ -253,11 +253,11 @@ pub record Looked (F w : List ℕ) (f x r : ℕ) : Type 0 where
   pub hit : (i : ℕ) → r ≡ suc i → (xs : List ℕ) → Chain w x xs → First F f xs i
 
 -- what is asked of a union: the two are equal
-pub record Asked (F T : List ℕ) (n k : ℕ) (w : List ℕ) (x y : ℕ) : Type 0 where
+pub record Uniting (F T : List ℕ) (n k : ℕ) (w : List ℕ) (x y : ℕ) : Type 0 where
   pub G : Pile
   pub H : Done
   pub state : State G H F T n k 0 [] w
-  pub same : Same G F T x y
+  pub same : Equal G F T x y
 
 -- ---- one arc
 abbrev pub withArc : Done → ℕ → Done
@@ -279,7 +279,7 @@ pub record Coming (F T : List ℕ) (n k : ℕ) (w : List ℕ) (x t : ℕ) : Type
 pub record Visited (F T : List ℕ) (n k : ℕ) (w : List ℕ) (x t k' : ℕ) (bad : Bool) (w' : List ℕ) : Type 0 where
   pub later : Later k w k' w'
   pub fine : bad ≡ false → (G : Pile) (H : Done) → State G H F T n k 0 [] w → Fresh G H n x t → State G (withArc H t) F T n k' 0 [] w'
-  pub clash : bad ≡ true → (G : Pile) (H : Done) → State G H F T n k 0 [] w → Fresh G H n x t → Clashes G F T
+  pub clash : bad ≡ true → (G : Pile) (H : Done) → State G H F T n k 0 [] w → Fresh G H n x t → ClashIn G F T
 
 -- ---- one atom
 abbrev pub withNode : Done → ℕ → Done
@@ -300,7 +300,7 @@ pub record Heading (F T : List ℕ) (n k : ℕ) (w : List ℕ) (x v : ℕ) : Typ
 pub record Headed (F T : List ℕ) (n k : ℕ) (w : List ℕ) (x v k' : ℕ) (bad : Bool) (w' : List ℕ) : Type 0 where
   pub later : Later k w k' w'
   pub fine : bad ≡ false → (G : Pile) (H : Done) → State G H F T n k 0 [] w → Bearing G H n x v → State G (withNode H x) F T n k' 0 [] w'
-  pub clash : bad ≡ true → (G : Pile) (H : Done) → State G H F T n k 0 [] w → Bearing G H n x v → Clashes G F T
+  pub clash : bad ≡ true → (G : Pile) (H : Done) → State G H F T n k 0 [] w → Bearing G H n x v → ClashIn G F T
 
 -- all that is pushed is done
 pub record Full (G : Pile) (H : Done) : Type 0 where

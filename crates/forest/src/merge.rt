@@ -19,10 +19,10 @@ ghost use Rattle.area.specs.Map.{PARENT, SIZE, NODES};
 ghost use Rattle.area.specs.Region.{region};
 ghost use Rattle.forest.specs.declared.held.Held.the-variants.{Arcs};
 ghost use Rattle.forest.specs.Held.{held-by, Covered};
-ghost use Rattle.forest.specs.State.{Ready, Met};
+ghost use Rattle.forest.specs.State.{SomeState, Merged};
 
 // The log's entries and the frames on the stack after a step, and whether it met a clash.
-pub struct Made {
+pub struct Progress {
     pub k: usize,
     pub s: usize,
     pub bad: bool,
@@ -43,12 +43,21 @@ fn covered(came: Held, there: Held) -> bool
 }
 
 // The class b goes under the class a, where both have chains, from p and from q.
-fn knit(w: &mut [u32], k: usize, s: usize, n: usize, a: usize, b: usize, p: usize, q: usize) -> Made
+fn knit(
+    w: &mut [u32],
+    k: usize,
+    s: usize,
+    n: usize,
+    a: usize,
+    b: usize,
+    p: usize,
+    q: usize,
+) -> Progress
     requires { ⌜ (a < b) × ((b < n) × ((n ≤ NODES) × (SIZE ≤ length (now w)))) ⌝ }
     requires { ⌜ (getD (region PARENT n (now w)) a 0 ≡ a) × (getD (region PARENT n (now w)) b 0 ≡ b) ⌝ }
     requires { ⌜ (held-by (now w) b ≡ Arcs p) × (held-by (now w) a ≡ Arcs q) ⌝ }
-    requires { ⌜ Ready n k s (now w) ⌝ }
-    ensures { λ r. ⌜ Met n k s (now (w .entry)) a b (r .k) (r .s) (r .bad) (now (w .exit)) ⌝ }
+    requires { ⌜ SomeState n k s (now w) ⌝ }
+    ensures { λ r. ⌜ Merged n k s (now (w .entry)) a b (r .k) (r .s) (r .bad) (now (w .exit)) ⌝ }
 {
     let x = p as u32;
     let y = q as u32;
@@ -57,7 +66,7 @@ fn knit(w: &mut [u32], k: usize, s: usize, n: usize, a: usize, b: usize, p: usiz
     let d = put(w, e, NEXT + z, y);
     let c = put(w, d, HELD + a, x);
     w[STACK + s] = x + FRAME_STEP * y;
-    Made {
+    Progress {
         k: c,
         s: s + 1,
         bad: false,
@@ -65,16 +74,16 @@ fn knit(w: &mut [u32], k: usize, s: usize, n: usize, a: usize, b: usize, p: usiz
 }
 
 // The class b goes under the class a.
-fn fuse(w: &mut [u32], k: usize, s: usize, n: usize, a: usize, b: usize) -> Made
+fn fuse(w: &mut [u32], k: usize, s: usize, n: usize, a: usize, b: usize) -> Progress
     requires { ⌜ (a < b) × ((b < n) × ((n ≤ NODES) × (SIZE ≤ length (now w)))) ⌝ }
     requires { ⌜ (getD (region PARENT n (now w)) a 0 ≡ a) × (getD (region PARENT n (now w)) b 0 ≡ b) ⌝ }
-    requires { ⌜ Ready n k s (now w) ⌝ }
-    ensures { λ r. ⌜ Met n k s (now (w .entry)) a b (r .k) (r .s) (r .bad) (now (w .exit)) ⌝ }
+    requires { ⌜ SomeState n k s (now w) ⌝ }
+    ensures { λ r. ⌜ Merged n k s (now (w .entry)) a b (r .k) (r .s) (r .bad) (now (w .exit)) ⌝ }
 {
     let came = held_by(w, b);
     if let Held::Nothing = came {
         let e = put(w, k, PARENT + b, a as u32);
-        return Made {
+        return Progress {
             k: e,
             s: s,
             bad: false,
@@ -85,7 +94,7 @@ fn fuse(w: &mut [u32], k: usize, s: usize, n: usize, a: usize, b: usize) -> Made
         let h = w[HELD + b];
         let e = put(w, k, PARENT + b, a as u32);
         let d = put(w, e, HELD + a, h);
-        return Made {
+        return Progress {
             k: d,
             s: s,
             bad: false,
@@ -93,21 +102,21 @@ fn fuse(w: &mut [u32], k: usize, s: usize, n: usize, a: usize, b: usize) -> Made
     }
     if covered(came, there) {
         let e = put(w, k, PARENT + b, a as u32);
-        return Made {
+        return Progress {
             k: e,
             s: s,
             bad: false,
         };
     }
     let Held::Arcs(p) = came else {
-        return Made {
+        return Progress {
             k: k,
             s: s,
             bad: true,
         };
     };
     let Held::Arcs(q) = there else {
-        return Made {
+        return Progress {
             k: k,
             s: s,
             bad: true,
@@ -117,10 +126,10 @@ fn fuse(w: &mut [u32], k: usize, s: usize, n: usize, a: usize, b: usize) -> Made
 }
 
 // The classes of x and y become one.
-pub fn join(w: &mut [u32], k: usize, s: usize, n: usize, x: usize, y: usize) -> Made
+pub fn join(w: &mut [u32], k: usize, s: usize, n: usize, x: usize, y: usize) -> Progress
     requires { ⌜ (x < n) × ((y < n) × ((n ≤ NODES) × (SIZE ≤ length (now w)))) ⌝ }
-    requires { ⌜ Ready n k s (now w) ⌝ }
-    ensures { λ r. ⌜ Met n k s (now (w .entry)) x y (r .k) (r .s) (r .bad) (now (w .exit)) ⌝ }
+    requires { ⌜ SomeState n k s (now w) ⌝ }
+    ensures { λ r. ⌜ Merged n k s (now (w .entry)) x y (r .k) (r .s) (r .bad) (now (w .exit)) ⌝ }
 {
     let a = find(w, n, x);
     let b = find(w, n, y);
@@ -130,7 +139,7 @@ pub fn join(w: &mut [u32], k: usize, s: usize, n: usize, x: usize, y: usize) -> 
     if b < a {
         return fuse(w, k, s, n, b, a);
     }
-    Made {
+    Progress {
         k: k,
         s: s,
         bad: false,

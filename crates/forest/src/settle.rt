@@ -3,7 +3,7 @@ use crate::chain::loaded;
 use crate::chain::look;
 use crate::chain::next;
 use crate::chain::target;
-use crate::merge::Made;
+use crate::merge::Progress;
 use crate::merge::join;
 use area::map::STACK;
 use limits::wide;
@@ -12,22 +12,22 @@ ghost use mathlib.Core.Bool.{true, false};
 ghost use Prim.Native.Nat.{_+_, _-_, _≤_, _<_};
 ghost use lib.ListN.{length};
 ghost use Rattle.area.specs.Map.{SIZE, NODES};
-ghost use Rattle.area.specs.Region.{words};
-ghost use Rattle.forest.specs.State.{targets, Working, Turned, Drained, Stacked, Settled, Asked, United};
+ghost use Rattle.area.specs.Region.{loaded-words};
+ghost use Rattle.forest.specs.State.{targets, Working, Turned, Drained, Stacked, Settled, Uniting, United};
 
 // The first arc of what is left of a frame: its target joins that of the first arc from `to` on with its feature.
-fn step(w: &mut [u32], k: usize, s: usize, n: usize, x: usize, to: usize) -> Made
+fn step(w: &mut [u32], k: usize, s: usize, n: usize, x: usize, to: usize) -> Progress
     requires { ⌜ (n ≤ NODES) × (SIZE ≤ length (now w)) ⌝ }
     requires { ⌜ (x ≡ to → ⊥) ⌝ }
-    requires { ⌜ Working (words (now w)) (targets (now w)) n k s x to (now w) ⌝ }
-    ensures { λ r. ⌜ Turned (words (now (w .entry))) (targets (now (w .entry))) n k s (now (w .entry)) x to (r .k) (r .s) (r .bad)
+    requires { ⌜ Working (loaded-words (now w)) (targets (now w)) n k s x to (now w) ⌝ }
+    ensures { λ r. ⌜ Turned (loaded-words (now (w .entry))) (targets (now (w .entry))) n k s (now (w .entry)) x to (r .k) (r .s) (r .bad)
         (now (w .exit)) ⌝ }
 {
     let j = x - 1;
     let f = loaded(w, j);
     let r = look(w, to, f);
     if r == 0 {
-        return Made {
+        return Progress {
             k: k,
             s: s,
             bad: false,
@@ -40,10 +40,11 @@ fn step(w: &mut [u32], k: usize, s: usize, n: usize, x: usize, to: usize) -> Mad
 }
 
 // A frame, to its end.
-fn drain(w: &mut [u32], k: usize, s: usize, n: usize, from: usize, to: usize) -> Made
+fn drain(w: &mut [u32], k: usize, s: usize, n: usize, from: usize, to: usize) -> Progress
     requires { ⌜ (n ≤ NODES) × (SIZE ≤ length (now w)) ⌝ }
-    requires { ⌜ Working (words (now w)) (targets (now w)) n k s from to (now w) ⌝ }
-    ensures { λ r. ⌜ Drained (words (now (w .entry))) (targets (now (w .entry))) n k s (now (w .entry)) from to (r .k) (r .s) (r .bad)
+    requires { ⌜ Working (loaded-words (now w)) (targets (now w)) n k s from to (now w) ⌝ }
+    ensures { λ r. ⌜ Drained (loaded-words (now (w .entry))) (targets (now (w .entry))) n k s (now (w .entry)) from to (r .k) (r .s)
+        (r .bad)
         (now (w .exit)) ⌝ }
 {
     let mut e = k;
@@ -54,7 +55,7 @@ fn drain(w: &mut [u32], k: usize, s: usize, n: usize, from: usize, to: usize) ->
         e = m.k;
         h = m.s;
         if m.bad {
-            return Made {
+            return Progress {
                 k: e,
                 s: h,
                 bad: true,
@@ -62,7 +63,7 @@ fn drain(w: &mut [u32], k: usize, s: usize, n: usize, from: usize, to: usize) ->
         }
         x = next(w, x - 1);
     }
-    Made {
+    Progress {
         k: e,
         s: h,
         bad: false,
@@ -70,10 +71,11 @@ fn drain(w: &mut [u32], k: usize, s: usize, n: usize, from: usize, to: usize) ->
 }
 
 // All frames, until none is left.
-fn settle(w: &mut [u32], k: usize, s: usize, n: usize) -> Made
+fn settle(w: &mut [u32], k: usize, s: usize, n: usize) -> Progress
     requires { ⌜ (n ≤ NODES) × (SIZE ≤ length (now w)) ⌝ }
-    requires { ⌜ Stacked (words (now w)) (targets (now w)) n k s (now w) ⌝ }
-    ensures { λ r. ⌜ Settled (words (now (w .entry))) (targets (now (w .entry))) n k s (now (w .entry)) (r .k) (r .bad) (now (w .exit)) ⌝ }
+    requires { ⌜ Stacked (loaded-words (now w)) (targets (now w)) n k s (now w) ⌝ }
+    ensures { λ r. ⌜ Settled (loaded-words (now (w .entry))) (targets (now (w .entry))) n k s (now (w .entry)) (r .k) (r .bad)
+        (now (w .exit)) ⌝ }
 {
     let mut e = k;
     let mut h = s;
@@ -86,14 +88,14 @@ fn settle(w: &mut [u32], k: usize, s: usize, n: usize) -> Made
         e = m.k;
         h = m.s;
         if m.bad {
-            return Made {
+            return Progress {
                 k: e,
                 s: h,
                 bad: true,
             };
         }
     }
-    Made {
+    Progress {
         k: e,
         s: 0,
         bad: false,
@@ -101,17 +103,18 @@ fn settle(w: &mut [u32], k: usize, s: usize, n: usize) -> Made
 }
 
 // The classes of x and y become one, with all that follows.
-pub fn unite(w: &mut [u32], k: usize, n: usize, x: usize, y: usize) -> Made
+pub fn unite(w: &mut [u32], k: usize, n: usize, x: usize, y: usize) -> Progress
     requires { ⌜ (n ≤ NODES) × (SIZE ≤ length (now w)) ⌝ }
     requires { ⌜ (x < n) × (y < n) ⌝ }
-    requires { ⌜ Asked (words (now w)) (targets (now w)) n k (now w) x y ⌝ }
-    ensures { λ r. ⌜ United (words (now (w .entry))) (targets (now (w .entry))) n k (now (w .entry)) x y (r .k) (r .bad) (now (w .exit)) ⌝ }
+    requires { ⌜ Uniting (loaded-words (now w)) (targets (now w)) n k (now w) x y ⌝ }
+    ensures { λ r. ⌜ United (loaded-words (now (w .entry))) (targets (now (w .entry))) n k (now (w .entry)) x y (r .k) (r .bad)
+        (now (w .exit)) ⌝ }
 {
     let m = join(w, k, 0, n, x, y);
     let e = m.k;
     let h = m.s;
     if m.bad {
-        return Made {
+        return Progress {
             k: e,
             s: 0,
             bad: true,

@@ -14,7 +14,7 @@ use Rattle.theory.specs.Limits.{depth-limit, choice-limit, choice-stop}
 use Rattle.theory.specs.Descr.{Desc}
 use Rattle.theory.specs.Canonical.{Can}
 use Rattle.area.specs.Map.{SECOND}
-use Rattle.area.specs.Region.{words}
+use Rattle.area.specs.Region.{loaded-words}
 use Rattle.area.proofs.Region.{words-same}
 use Rattle.engine.specs.Placed.{Placed, strip}
 use Rattle.engine.specs.Marks.{Marking, keep}
@@ -129,7 +129,7 @@ module _ (n k : ℕ) (w : List ℕ) where
             room₁ : 16384 ≤ length w₁
             room₁ = omega (arith, v .moved .len, c .stage .ready .holds .long)
 
-            loaded₂ : words w₂ ≡ c .t
+            loaded₂ : loaded-words w₂ ≡ c .t
             loaded₂ = words-same w₁ w₂ room₁ (l .len) (λ j a b. l .rest j (inl b))
                 ∙ moved-words k w k w₁ (c .stage .ready .holds .long) (v .moved) ∙ c .stage .ready .loaded
 
@@ -172,7 +172,7 @@ module _ (n k : ℕ) (w : List ℕ) where
               left c =
                   let room₂ : 16384 ≤ length w₂ = omega (arith, l .len, room₁ c) in
                   let marks₃ : marking w₃ ≡ marking w₂ = marking-frame w₂ w₃ room₂ (q .len) (λ j a b. q .rest j (omega arith)) in
-                  let words₃ : words w₃ ≡ words w₂ = words-same w₂ w₃ room₂ (q .len) (λ j a b. q .rest j a) in
+                  let words₃ : loaded-words w₃ ≡ loaded-words w₂ = words-same w₂ w₃ room₂ (q .len) (λ j a b. q .rest j a) in
                   let same : keep (marking w₃) (c .p .j) ≡ keep (marking w₂) (c .p .j) = ap (λ (m : Marking). keep m (c .p .j)) marks₃ in
                   let (held, undoable₃) = q .pushed log z (restarting c) in
                   record {

@@ -9,7 +9,7 @@ use lib.ListN.{length}
 use Rattle.theory.specs.Limits.{depth-limit}
 use Rattle.theory.specs.Net.{Clash}
 use Rattle.area.specs.Map.{SECOND}
-use Rattle.area.specs.Region.{words}
+use Rattle.area.specs.Region.{loaded-words}
 use Rattle.area.proofs.Region.{words-same}
 use Rattle.engine.specs.Marks.{Marking}
 use Rattle.loading.specs.Entry.{Entry, graphs}
@@ -47,7 +47,7 @@ module _ (n k : ℕ) (w w₁ : List ℕ) (s : Backs 0 k w w₁) where
     marks₁ : marking w₁ ≡ marking w
     marks₁ = marking-frame w w₁ (c .room) (s .len) (λ j a b. s .rest j (omega arith))
 
-    loaded₁ : words w₁ ≡ c .t
+    loaded₁ : loaded-words w₁ ≡ c .t
     loaded₁ = words-same w w₁ (c .room) (s .len) (λ j a b. s .rest j a) ∙ c .loaded
 
     empty : Holds n [] 0 w₁
@@ -96,7 +96,7 @@ module _ (n k : ℕ) (w w₁ : List ℕ) (s : Backs 0 k w w₁) where
         marks₂ : marking w₂ ≡ marking w
         marks₂ = marking-frame w₁ w₂ room₁ (u .len) (λ j a b. u .rest j (omega arith)) ∙ marks₁ c
 
-        loaded₂ : words w₂ ≡ c .t
+        loaded₂ : loaded-words w₂ ≡ c .t
         loaded₂ = words-same w₁ w₂ room₁ (u .len) (λ j a b. u .rest j a) ∙ loaded₁ c
 
         abbrev second : Entering n j w₂ SECOND depth-limit

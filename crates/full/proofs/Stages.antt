@@ -12,14 +12,14 @@ use Rattle.theory.specs.Descr.{Desc, desc, agree}
 use Rattle.theory.specs.Canonical.{Ctx, Can}
 use Rattle.theory.proofs.Live.{Agrees, not-none}
 use Rattle.theory.proofs.Laws.{glue-joins}
-use Rattle.area.specs.Region.{words}
+use Rattle.area.specs.Region.{loaded-words}
 use Rattle.engine.specs.Placed.{Placed, place, Places, strip, strip-all, inner}
 use Rattle.engine.specs.Marks.{Marking, keep, keep-all}
 use Rattle.engine.specs.Certain.{flat, sure, certain}
 use Rattle.engine.specs.Beside.{_next_, joined-placed}
 use Rattle.engine.proofs.Entail.{agrees-says}
 use Rattle.engine.specs.Sane.{Sane}
-use Rattle.engine.specs.Stack.{Same}
+use Rattle.engine.specs.Stack.{Equivalent}
 use Rattle.engine.proofs.Stable.{sure-can}
 use Rattle.engine.proofs.Passes.{Agreeing, agreeing-view}
 use Rattle.modes_by_marks.proofs.Passes.{cannot}
@@ -42,14 +42,14 @@ use Rattle.full.proofs.Restarting.{certain-inside}
 
 -- ---- what is certain in both says what is certain in the joined description
 both-same : (a b j : Placed) → joined-placed a b ≡ some j → Can (strip a) → Can (strip b) → (m : Marking) →
-    Same (flat (strip (keep m a)) ++ flat (strip (keep m b))) (flat (strip (keep m j)))
+    Equivalent (flat (strip (keep m a)) ++ flat (strip (keep m b))) (flat (strip (keep m j)))
 both-same (place g ds) (place h es) j e ca cb m =
     let x = joined-is (place g ds) (place h es) j e in
     let cx = keep-can m (place g ds) ca .1 in
     let cy = keep-can m (place h es) cb .1 in
-    subst (λ (z : Placed). Same (flat (strip (keep m (place g ds))) ++ flat (strip (keep m (place h es)))) (flat (strip (keep m z))))
+    subst (λ (z : Placed). Equivalent (flat (strip (keep m (place g ds))) ++ flat (strip (keep m (place h es)))) (flat (strip (keep m z))))
     (x .is)
-    (subst (λ (l : List Graph). Same (flat (strip (keep m (place g ds))) ++ flat (strip (keep m (place h es)))) (x .k ∷ l))
+    (subst (λ (l : List Graph). Equivalent (flat (strip (keep m (place g ds))) ++ flat (strip (keep m (place h es)))) (x .k ∷ l))
     (sym (certain-next m ds es)) (joined-same g h (x .k) (certain m ds) (certain m es) (ca .0) (cb .0)
     (sure-can (strip-all (keep-all m ds)) cx) (sure-can (strip-all (keep-all m es)) cy) (x .joins)))
 
@@ -90,8 +90,8 @@ module _ (n : ℕ) (t : List ℕ) (p : Pair n t) where
         ∙ ap₂ {C = List Graph} _++_ (flat-of m (p .inputs .first))
         (flat-of m (p .inputs .second))
 
-    same : Same (graphs both) (flat (strip (keep m (p .j))))
-    same = subst (λ (l : List Graph). Same l (flat (strip (keep m (p .j))))) (sym both-graphs)
+    same : Equivalent (graphs both) (flat (strip (keep m (p .j))))
+    same = subst (λ (l : List Graph). Equivalent l (flat (strip (keep m (p .j))))) (sym both-graphs)
         (both-same (p .inputs .first .d) (p .inputs .second .d) (p .j) (p .joined) (first-can n t p) (second-can n t p) m)
 
     pub both-agrees : Can (strip (keep m (p .j))) → Sane (strip (keep m (p .j))) → Clash (graphs both) → ⊥
@@ -99,7 +99,7 @@ module _ (n : ℕ) (t : List ℕ) (p : Pair n t) where
         (agrees-says (flat (strip (keep m (p .j)))) (graphs both) (same .fine₂) (same .fine₁) (same .from)
         (sane-agrees (strip (keep m (p .j))) c s))
 
-    pub both-stage : (k : ℕ) (w : List ℕ) → words w ≡ t → marking w ≡ m → Holds n both k w → Undoable n k w → Stage n t p k w
+    pub both-stage : (k : ℕ) (w : List ℕ) → loaded-words w ≡ t → marking w ≡ m → Holds n both k w → Undoable n k w → Stage n t p k w
     both-stage k w loaded marks holds undoable = record {
       es = both;
       ready = record {
@@ -118,5 +118,5 @@ module _ (n : ℕ) (t : List ℕ) (p : Pair n t) where
             (List·Memᴰ·append-cases (taken-of m (p .inputs .first)) i)));
       };
       undoable = undoable;
-      same = subst (λ (x : Marking). Same (graphs both) (flat (strip (keep x (p .j))))) (sym marks) same;
+      same = subst (λ (x : Marking). Equivalent (graphs both) (flat (strip (keep x (p .j))))) (sym marks) same;
     }

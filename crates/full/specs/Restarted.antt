@@ -6,7 +6,7 @@ use mathlib.Core.List.{List, _++_}
 use lib.ListN.{length, getD}
 use Rattle.theory.specs.Net.{Clash}
 use Rattle.area.specs.Map.{WORDS, SIZE}
-use Rattle.area.specs.Region.{words}
+use Rattle.area.specs.Region.{loaded-words}
 use Rattle.loading.specs.Entry.{Entry, graphs}
 use Rattle.marks.specs.Marked.{marking}
 use Rattle.engine.specs.Marks.{Marking}
@@ -20,7 +20,7 @@ use Rattle.entering.specs.Inputs.{Inputs}
 pub record Restarting (n k : ℕ) (w : List ℕ) : Type 0 where
   pub room : SIZE ≤ length w
   pub t : List ℕ
-  pub loaded : words w ≡ t
+  pub loaded : loaded-words w ≡ t
   pub inputs : Inputs n t
   pub undoable : Undoable n k w
 

@@ -24,9 +24,9 @@ abbrev pub word : {A : Type 0} → List ℕ → ℕ → A → (ℕ → ℕ → A
 word ws p bad f = pick (ltb p (length ws)) (f (getD ws p 0) (p + 1)) bad
 
 -- go on where the arc is well placed, with the number of nodes met
-abbrev pub past : Arc → (ℕ → Walk) → Walk
-past (Meets met) f = f met
-past Misplaced f = Stopped
+abbrev pub onward : Arc → (ℕ → Walk) → Walk
+onward (Meets met) f = f met
+onward Misplaced f = Stopped
 
 -- go on where a node was read, with the position after it and the number of nodes met
 abbrev pub walk : Walk → (ℕ → ℕ → Read) → Read
@@ -44,7 +44,7 @@ readArc n low met f t =
 unfoldable pub arcsFrom : List ℕ → ℕ → ℕ → ℕ → ℕ → ℕ → Walk
 arcsFrom ws n zero low met p = Went p met
 arcsFrom ws n (suc k) low met p =
-    past (readArc n low met (getD ws p 0) (getD ws (p + 1) 0)) (λ after. arcsFrom ws n k (getD ws p 0 + 1) after (p + 2))
+    onward (readArc n low met (getD ws p 0) (getD ws (p + 1) 0)) (λ after. arcsFrom ws n k (getD ws p 0 + 1) after (p + 2))
 
 -- "An arc is two words": the k arcs of a node
 unfoldable pub readArcs : List ℕ → ℕ → ℕ → ℕ → ℕ → Walk

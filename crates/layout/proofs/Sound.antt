@@ -22,7 +22,7 @@ use Rattle.graphs.specs.declared.graph.Walk.the-variants.{Went, Stopped}
 use Rattle.graphs.specs.declared.graph.Read.{Read}
 use Rattle.graphs.specs.declared.graph.Read.the-variants.{Fine, Wrong}
 use Rattle.layout.specs.Reading.{then, times, disjunctionOf, descriptionOf, readDisjunction, readDescription}
-use Rattle.graphs.specs.Graph.{pick, past, walk, readArc, arcsFrom, readArcs, readNode, readNodes, readGraph}
+use Rattle.graphs.specs.Graph.{pick, onward, walk, readArc, arcsFrom, readArcs, readNode, readNodes, readGraph}
 use Rattle.layout.specs.Standing.{Stands, graph-words, disjunction-words}
 use Rattle.graphs.proofs.Laws.{pick-meets}
 use Rattle.layout.proofs.Standing.{stands-nil, stands-cons, stands-arc, stands-nodes, stands-description, stands-disjunctions}
@@ -43,7 +43,7 @@ pick-fine : (b : Bool) (x : Read) {q : ℕ} → pick b x Wrong ≡ Fine q → (b
 pick-fine true x e = (refl, e)
 pick-fine false x e = absurd (wrong e)
 
-past-went : (a : Arc) (f : ℕ → Walk) {q m : ℕ} → past a f ≡ Went q m → (k : ℕ) × (a ≡ Meets k)
+past-went : (a : Arc) (f : ℕ → Walk) {q m : ℕ} → onward a f ≡ Went q m → (k : ℕ) × (a ≡ Meets k)
 past-went (Meets k) f e = (k, refl)
 past-went Misplaced f e = absurd (stopped e)
 

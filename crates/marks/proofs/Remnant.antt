@@ -6,7 +6,7 @@ use mathlib.Core.Path.{_≡_, refl, sym, subst, _∙_}
 use mathlib.Core.Logic.{_⊎_, inl, inr}
 use mathlib.Core.List.{List}
 use denote.Enum.Declared.{tagOf}
-use Rattle.area.specs.Region.{words}
+use Rattle.area.specs.Region.{loaded-words}
 use Rattle.engine.specs.Marks.{kept-of}
 use Rattle.loading.specs.At.{AtAny}
 use Rattle.marks.specs.Marked.{marking}
@@ -79,6 +79,6 @@ module _ (w : List ℕ) {p count : ℕ} (s : Alternatives w p count) (which : Re
     kept-alone = alone-counts x _ _ (sym e ∙ tally .remnant-is) .0
 
     -- it stands at x
-    pub alone-at : (k : ℕ) × AtAny (words w) x k (from-kept (marking w) (s .lies .a)) (s .lies .end) (s .lies .to)
-    alone-at = subst (λ (f : ℕ). (k : ℕ) × AtAny (words w) f k (from-kept (marking w) (s .lies .a)) (s .lies .end) (s .lies .to))
+    pub alone-at : (k : ℕ) × AtAny (loaded-words w) x k (from-kept (marking w) (s .lies .a)) (s .lies .end) (s .lies .to)
+    alone-at = subst (λ (f : ℕ). (k : ℕ) × AtAny (loaded-words w) f k (from-kept (marking w) (s .lies .a)) (s .lies .end) (s .lies .to))
         (alone-counts x _ _ (sym e ∙ tally .remnant-is) .1) (tally .first-is)

@@ -6,7 +6,7 @@ use mathlib.Core.Path.{_≡_, refl, sym, subst, ap, _∙_}
 use mathlib.Core.Logic.{_⊎_, inl, inr, ⊎-elim}
 use mathlib.Core.Bool.{Bool, true, false}
 use mathlib.Core.List.{List}
-use Rattle.area.specs.Region.{words}
+use Rattle.area.specs.Region.{loaded-words}
 use Rattle.engine.specs.Placed.{Options, no-more, option}
 use Rattle.engine.specs.Marks.{Marking, kept-of}
 use Rattle.packing.specs.Packed.{number-step}
@@ -29,13 +29,14 @@ module _ (w : List ℕ) (p count : ℕ) (s : Alternatives w p count) where
   Before rest at first found = (found ≡ 0) × (first ≡ at) × (from-kept (marking w) (s .lies .a) ≡ from-kept (marking w) rest)
 
   abbrev Since : (first found : ℕ) → Type 0
-  Since first found = (0 < found) × ((k : ℕ) × AtAny (words w) first k (from-kept (marking w) (s .lies .a)) (s .lies .end) (s .lies .to))
+  Since first found = (0 < found) × ((k : ℕ) × AtAny (loaded-words w) first k (from-kept (marking w) (s .lies .a)) (s .lies .end)
+      (s .lies .to))
 
   -- `left` of the alternatives are still to be counted, from `at` on
   pub record Tallying (left at first found : ℕ) : Type 0 where
     pub rest : Options
     pub k : ℕ
-    pub stand : AtAny (words w) at k rest (s .lies .end) (s .lies .to)
+    pub stand : AtAny (loaded-words w) at k rest (s .lies .end) (s .lies .to)
     pub many : options rest ≡ left
     pub total : kept-of (marking w) (s .lies .a) ≡ found + kept-of (marking w) rest
     pub mark : Before rest at first found ⊎ Since first found
@@ -68,7 +69,7 @@ module _ (w : List ℕ) (p count : ℕ) (s : Alternatives w p count) where
       m : Marking
       m = marking w
 
-      go : (a : Options) → AtAny (words w) at (t .k) a (s .lies .end) (s .lies .to) → options a ≡ left →
+      go : (a : Options) → AtAny (loaded-words w) at (t .k) a (s .lies .end) (s .lies .to) → options a ≡ left →
           kept-of m (s .lies .a) ≡ found + kept-of m a →
           Before a at first found ⊎ Since first found → Tallying (left - 1) next first' found'
       go no-more o many total mark = absurd (omega arith)
@@ -78,7 +79,7 @@ module _ (w : List ℕ) (p count : ℕ) (s : Alternatives w p count) where
           record {
             rest = a;
             k = o .1;
-            stand = subst (λ (j : ℕ). AtAny (words w) j (o .1) a (s .lies .end) (s .lies .to)) far (o .4);
+            stand = subst (λ (j : ℕ). AtAny (loaded-words w) j (o .1) a (s .lies .end) (s .lies .to)) far (o .4);
             many = omega arith;
             total = totals turn;
             mark = marks turn mark;
@@ -98,9 +99,9 @@ module _ (w : List ℕ) (p count : ℕ) (s : Alternatives w p count) where
             omega arith,
             (
               t .k,
-              subst (λ (c : Options). AtAny (words w) first' (t .k) c (s .lies .end) (s .lies .to))
+              subst (λ (c : Options). AtAny (loaded-words w) first' (t .k) c (s .lies .end) (s .lies .to))
                   (sym (b .2 ∙ from-true m x d a (own true f)))
-                  (subst (λ (j : ℕ). AtAny (words w) j (t .k) (option x d a) (s .lies .end) (s .lies .to)) (sym (g ∙ b .1)) o),
+                  (subst (λ (j : ℕ). AtAny (loaded-words w) j (t .k) (option x d a) (s .lies .end) (s .lies .to)) (sym (g ∙ b .1)) o),
             ),
           )
           marks (one f g h) (inr b) = inr (omega arith, rw g (b .1))
@@ -113,7 +114,7 @@ module _ (w : List ℕ) (p count : ℕ) (s : Alternatives w p count) where
       Tallied w s told at
   tally-all left at first found t h told e = go (t .rest) (t .stand) (t .many) (t .total) (t .mark)
     where
-      go : (a : Options) → AtAny (words w) at (t .k) a (s .lies .end) (s .lies .to) → options a ≡ left →
+      go : (a : Options) → AtAny (loaded-words w) at (t .k) a (s .lies .end) (s .lies .to) → options a ≡ left →
           kept-of (marking w) (s .lies .a) ≡ found + kept-of (marking w) a → Before a at first found ⊎ Since first found →
           Tallied w s told at
       go no-more o many total mark = record {

@@ -4,7 +4,7 @@ use Prim.Native.Nat.{ℕ}
 use mathlib.Core.Path.{_≡_}
 use mathlib.Core.Bool.{true, false}
 use mathlib.Core.List.{List}
-use Rattle.area.specs.Region.{words}
+use Rattle.area.specs.Region.{loaded-words}
 use Rattle.descriptions.specs.Remnant.{remnant, nothing, alone, several}
 use Rattle.engine.specs.Placed.{Options, no-more, option}
 use Rattle.engine.specs.Marks.{Marking, kept-of}
@@ -26,6 +26,6 @@ remnant-of kept first = elim (remnant kept) [ nothing ↦ Nothing | alone ↦ On
 -- `which` is what is left of these alternatives, those from the first kept one on stand at `first`, and all end at `after`
 pub record Tallied (w : List ℕ) {p count : ℕ} (s : Alternatives w p count) (which : Remnant) (after : ℕ) : Type 0 where
   pub first : ℕ
-  pub first-is : (k : ℕ) × AtAny (words w) first k (from-kept (marking w) (s .lies .a)) (s .lies .end) (s .lies .to)
+  pub first-is : (k : ℕ) × AtAny (loaded-words w) first k (from-kept (marking w) (s .lies .a)) (s .lies .end) (s .lies .to)
   pub remnant-is : which ≡ remnant-of (kept-of (marking w) (s .lies .a)) first
   pub after-is : after ≡ s .lies .end

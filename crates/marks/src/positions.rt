@@ -10,13 +10,13 @@ ghost use mathlib.Core.Path.{_≡_};
 ghost use Prim.Native.Nat.{_≤_, _<_};
 ghost use lib.ListN.{length, getD};
 ghost use Rattle.area.specs.Map.{SIZE, LOADED, NODES};
-ghost use Rattle.area.specs.Region.{words};
+ghost use Rattle.area.specs.Region.{loaded-words};
 ghost use Rattle.marks.specs.Positions.{number-at, tail-at, mark-at, disjunctions-at, end-at, alternatives-at, after-at};
 
 // The loaded word at p.
 pub fn word_at(w: &[u32], p: usize) -> u32
     requires { ⌜ (p < LOADED) × (SIZE ≤ length (now w)) ⌝ }
-    ensures { λ r. ⌜ r ≡ getD (words (now (w .entry))) p 0 ⌝ }
+    ensures { λ r. ⌜ r ≡ getD (loaded-words (now (w .entry))) p 0 ⌝ }
 {
     w[WORDS + p]
 }

@@ -27,7 +27,7 @@ module _ {Graph : Type 0} {J : Joining Graph} (𝓛 : Laws J) where
 
   -- two stacks that join alike, whatever is pushed on them
   abbrev pub Same : (S T : List Graph) → Type 0
-  Same = Rattle.modes_by_marks.specs.Stack.Same J Canonical
+  Same = Rattle.modes_by_marks.specs.Stack.Equivalent J Canonical
 
   pub same-on : (S T X : List Graph) → Same S T → All Canonical X → Same (S ++ X) (T ++ X)
   same-on S T X s c = record {

@@ -13,7 +13,7 @@ module _ {Graph : Type 0} (J : Joining Graph) (Canonical : Graph → Type 0) whe
   abbrev pub SaysAll : List Graph → List Graph → Type 0
   SaysAll A B = (g : Graph) → List·Memᴰ g B → Says A g
 
-  pub record Same (S T : List Graph) : Type 0 where
+  pub record Equivalent (S T : List Graph) : Type 0 where
     pub fine₁ : Fine Canonical S
     pub fine₂ : Fine Canonical T
     pub to : SaysAll S T

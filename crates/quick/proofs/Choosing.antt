@@ -5,7 +5,7 @@ use native.Mathlib.Omega.{arith}
 use mathlib.Core.Path.{_≡_, refl, sym, ap, subst, _∙_}
 use mathlib.Core.Logic.{inl, inr, ⊎-elim}
 use mathlib.Core.List.{List, List·Memᴰ·append-cases, Memᴰ·append-left}
-use Rattle.area.specs.Region.{words}
+use Rattle.area.specs.Region.{loaded-words}
 use Rattle.engine.specs.Marks.{Marking, kept-of}
 use Rattle.engine.specs.Quickly.{fails, stands, any-at, settle-at}
 use Rattle.loading.specs.Entry.{graphs}
@@ -59,7 +59,7 @@ module _ (n k : ℕ) (w : List ℕ) (p count left : ℕ) where
       kept-one c = kept-alone w (chosen c) which after (tally (chosen c)) first one
 
       lone : (c : Choosing n k w p count left) → LoneOf (marking w) (c .lies) (c .s .U) first
-      lone c = lone-alone (c .s .U) (words w) (marking w) (c .lies) (c .among) (kept-one c) first
+      lone c = lone-alone (c .s .U) (loaded-words w) (marking w) (c .lies) (c .among) (kept-one c) first
           (alone-at w (chosen c) which after (tally (chosen c)) first one)
 
       abbrev goes : Choosing n k w p count left → Narrowing n k w first left
@@ -120,7 +120,7 @@ module _ (n k : ℕ) (w : List ℕ) (p count left : ℕ) where
       free c = clear-several (marking w) (c .es) (c .lies) (more c .0) (more c .1) (c .clear)
 
       -- where the graphs are still those of c
-      abbrev these : (c : Choosing n k w p count left) (v : List ℕ) → words v ≡ words w → Holds n (c .es) k v →
+      abbrev these : (c : Choosing n k w p count left) (v : List ℕ) → loaded-words v ≡ loaded-words w → Holds n (c .es) k v →
           Alternating n k v p count left
       these c v e h = record { es = c .es; s = footing-as (c .s) v e h; lies = c .lies; among = c .among; free = free c }
 
@@ -128,7 +128,7 @@ module _ (n k : ℕ) (w : List ℕ) (p count left : ℕ) where
       asks-sift c = these c w refl (c .s .holds)
 
       module _ (c₀ : Choosing n k w p count left) (drops : ℕ) (w₁ : List ℕ) (s : Sifts n k w p count left drops w₁) where
-        words₁ : words w₁ ≡ words w
+        words₁ : loaded-words w₁ ≡ loaded-words w
         words₁ = moved-words k w k w₁ (c₀ .s .holds .long) (s .moved)
 
         abbrev after-sift : Choosing n k w p count left → Alternating n k w₁ p count left

@@ -7,7 +7,7 @@ use mathlib.Core.Logic.{_⊎_, inl, inr, ⊎-elim}
 use mathlib.Core.List.{List, _++_, List·Memᴰ, Memᴰ·append-left, Memᴰ·append-right}
 use lib.ListN.{length}
 use Rattle.theory.specs.Net.{Graph}
-use Rattle.area.specs.Region.{words}
+use Rattle.area.specs.Region.{loaded-words}
 use Rattle.area.proofs.Region.{words-many}
 use Rattle.engine.specs.Placed.{Placed, place, Places, stop, _also_, Options}
 use Rattle.engine.specs.Marks.{Marking}
@@ -133,7 +133,7 @@ module _ (n k : ℕ) (w : List ℕ) (g left : ℕ) where
         go (a also ds) e f = absurd (omega arith)
 
     module _ (h : 0 < more) where
-      loaded₁ : words w₁ ≡ c .s .t
+      loaded₁ : loaded-words w₁ ≡ c .s .t
       loaded₁ = moved-words k w log w₁ (c .s .holds .long) m ∙ c .s .loaded
 
       -- the next disjunction

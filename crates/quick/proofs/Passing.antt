@@ -16,7 +16,7 @@ use Rattle.engine.specs.Quickly.{fails, stands, any-at, narrow-at, inside-at}
 use Rattle.loading.specs.Entry.{graphs}
 use Rattle.loading.proofs.Lying.{distinct-of}
 use Rattle.marks.specs.Marked.{marking}
-use Rattle.counting.specs.Counted.{beside}
+use Rattle.counting.specs.Counted.{inner-both}
 use Rattle.classes.specs.Holds.{Since, Backs, Remembers}
 use Rattle.classes.proofs.Laws.{since-trans}
 use Rattle.quick.specs.declared.step.Step.{Step}
@@ -47,7 +47,8 @@ narrow-next S m (a also ds) es = go (any-at S m a) (λ T n. narrow-next T n ds e
     go (fails n) on = refl
     go (stands T n) on = on T n
 
-narrow-both : (S : List Graph) (m : Marking) (a b : Placed) → narrow-at S m (beside a b) ≡ after (inside-at S m a) (λ T n. inside-at T n b)
+narrow-both : (S : List Graph) (m : Marking) (a b : Placed) →
+    narrow-at S m (inner-both a b) ≡ after (inside-at S m a) (λ T n. inside-at T n b)
 unfolding Rattle.modes_by_marks.specs.Quickly.narrow-at
 narrow-both S m (place g ds) (place h es) = narrow-next S m ds es
 
@@ -107,7 +108,7 @@ module _ (n k : ℕ) (w : List ℕ) where
 
       module _ (r₂ : Step) (w₂ : List ℕ) (u : Narrows n j w₁ SECOND depth-limit r₂ w₂) where
         through : (c : Passing n k w) (s : quickly.Step) → inside-at (graphs (told c .es')) (marking w₁) (c .inputs .second .d) ≡ s →
-            narrow-at (graphs (c .es)) (marking w) (beside (c .inputs .first .d) (c .inputs .second .d)) ≡ s
+            narrow-at (graphs (c .es)) (marking w) (inner-both (c .inputs .first .d) (c .inputs .second .d)) ≡ s
         unfolding after
         through c s e = narrow-both (graphs (c .es)) (marking w) (c .inputs .first .d) (c .inputs .second .d)
             ∙ ap (λ (s : quickly.Step). after s (λ T n. inside-at T n (c .inputs .second .d))) (told c .is) ∙ e

@@ -7,7 +7,7 @@ use mathlib.Core.Path.{_≡_, refl, sym, ap, subst, _∙_}
 use mathlib.Core.Bool.{Bool, true, false}
 use mathlib.Core.List.{List, [], _∷_, _++_}
 use lib.ListN.{getD}
-use Rattle.area.specs.Region.{words}
+use Rattle.area.specs.Region.{loaded-words}
 use Rattle.area.proofs.Region.{words-same}
 use Rattle.engine.specs.Quickly.{fails, stands, try-at}
 use Rattle.loading.specs.Entry.{graphs}
@@ -30,7 +30,7 @@ use Rattle.quick.proofs.Narrowing.{moved-start, narrow-begin, narrow-do
 use Rattle.entering.proofs.Bare.{told-enters, bare-one, bare-good}
 
 -- what is read of the same words
-none-same : (v w : List ℕ) (g : ℕ) → words v ≡ words w → disjunctions-at v (tail-at v g) ≡ disjunctions-at w (tail-at w g)
+none-same : (v w : List ℕ) (g : ℕ) → loaded-words v ≡ loaded-words w → disjunctions-at v (tail-at v g) ≡ disjunctions-at w (tail-at w g)
 unfolding disjunctions-at tail-at
 none-same v w g e = ap (λ (t : List ℕ). word-disjunctions (getD t (g + word-extent (getD t g 0)) 0)) e
 

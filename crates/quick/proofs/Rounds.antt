@@ -16,12 +16,12 @@ use Rattle.engine.specs.Certain.{flat, certain}
 use Rattle.engine.specs.Quickly.{quick-at, Leaves}
 use Rattle.modes_by_marks.specs.Names.{Distinct}
 use Rattle.modes_by_marks.proofs.Marks.{false-true}
-use Rattle.engine.specs.Stack.{Same}
+use Rattle.engine.specs.Stack.{Equivalent}
 use Rattle.engine.proofs.Loop.{Loop, loop-start, loop-pass, loop-still, loop-fails}
 use Rattle.engine.proofs.Joined.{joined-is}
 use Rattle.loading.specs.Entry.{Entry, graphs}
 use Rattle.marks.specs.Marked.{marking}
-use Rattle.counting.specs.Counted.{beside}
+use Rattle.counting.specs.Counted.{inner-both}
 use Rattle.classes.specs.Holds.{Since, Backs, Remembers, Undoable}
 use Rattle.classes.proofs.Laws.{holds-agree, since-refl, since-trans, undoable-on}
 use Rattle.quick.specs.declared.step.Step.{Step}
@@ -42,7 +42,7 @@ module _ (n : ℕ) (t : List ℕ) (p : Pair n t) where
   top = joined-is (p .inputs .first .d) (p .inputs .second .d) (p .j) (p .joined) .k
 
   abbrev pub both : Places
-  both = beside (p .inputs .first .d) (p .inputs .second .d)
+  both = inner-both (p .inputs .first .d) (p .inputs .second .d)
 
   pub is : p .j ≡ place top both
   is = sym (joined-is (p .inputs .first .d) (p .inputs .second .d) (p .j) (p .joined) .is)
@@ -68,11 +68,11 @@ module _ (n : ℕ) (t : List ℕ) (p : Pair n t) where
         (agree-joins (graphs (s .es)) (same .fine₁) (holds-agree n (s .es) k w (s .ready .holds))));
   }
     where
-      kept : Same (graphs (s .es)) (flat (strip (keep all-kept (p .j))))
-      kept = subst (λ (m : Marking). Same (graphs (s .es)) (flat (strip (keep m (p .j))))) e (s .same)
+      kept : Equivalent (graphs (s .es)) (flat (strip (keep all-kept (p .j))))
+      kept = subst (λ (m : Marking). Equivalent (graphs (s .es)) (flat (strip (keep m (p .j))))) e (s .same)
 
-      same : Same (graphs (s .es)) (top ∷ certain all-kept both)
-      same = subst (λ (z : Placed). Same (graphs (s .es)) (flat (strip (keep all-kept z)))) is kept
+      same : Equivalent (graphs (s .es)) (top ∷ certain all-kept both)
+      same = subst (λ (z : Placed). Equivalent (graphs (s .es)) (flat (strip (keep all-kept z)))) is kept
 
   pub stage : (k : ℕ) (w : List ℕ) → Between k w → Undoable n k w → Stage n t p k w
   stage k w o u = record {
@@ -80,7 +80,7 @@ module _ (n : ℕ) (t : List ℕ) (p : Pair n t) where
     ready = o .ready;
     undoable = u;
     same =
-        subst (λ (z : Placed). Same (graphs (o .es)) (flat (strip (keep (marking w) z)))) (sym is) (o .loop .same);
+        subst (λ (z : Placed). Equivalent (graphs (o .es)) (flat (strip (keep (marking w) z)))) (sym is) (o .loop .same);
   }
 
   module _ (k : ℕ) (w : List ℕ) (o : Between k w) where

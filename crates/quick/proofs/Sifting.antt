@@ -8,7 +8,7 @@ use mathlib.Core.List.{List, List·Memᴰ·head}
 use lib.ListN.{length}
 use lib.Dec.{eqb}
 use borrow.Author.Tests.{eqb-true, eqb-false}
-use Rattle.area.specs.Region.{words}
+use Rattle.area.specs.Region.{loaded-words}
 use Rattle.engine.specs.Placed.{Placed, Options, no-more, option}
 use Rattle.engine.specs.Marks.{Marking, drop}
 use Rattle.engine.specs.Quickly as quickly
@@ -154,7 +154,7 @@ module _ (n k : ℕ) (w : List ℕ) (p count left : ℕ) where
 
   module _ (c : Alternating n k w p count left) (rest at : ℕ) (w₁ : List ℕ) (m : Moved k w k w₁) (s : Sifting c rest at w₁)
       (h : 0 < rest) where
-    loaded₁ : words w₁ ≡ c .s .t
+    loaded₁ : loaded-words w₁ ≡ c .s .t
     loaded₁ = moved-words k w k w₁ (c .s .holds .long) m ∙ c .s .loaded
 
     -- the next alternative
@@ -180,7 +180,7 @@ module _ (n k : ℕ) (w : List ℕ) (p count left : ℕ) where
     low : c .lies .to < number-step
     low = omega (arith, c .lies .low, c .s .ground .few)
 
-    read : (w₂ : List ℕ) → 16384 ≤ length w₂ → words w₂ ≡ c .s .t → Read w₂ at (next .x) (next .o .0)
+    read : (w₂ : List ℕ) → 16384 ≤ length w₂ → loaded-words w₂ ≡ c .s .t → Read w₂ at (next .x) (next .o .0)
     read w₂ room e = read-option w₂ room (next .x) (next .d) (next .a) at (s .l) (c .lies .end) (c .lies .to)
         (subst (λ (t : List ℕ). AtAny t at (s .l) (option (next .x) (next .d) (next .a)) (c .lies .end) (c .lies .to)) (sym e)
         (next .o)) low .0

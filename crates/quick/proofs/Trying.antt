@@ -7,7 +7,7 @@ use mathlib.Core.Bool.{Bool, true, false}
 use mathlib.Core.List.{List, _∷_, _++_}
 use Rattle.theory.specs.Net.{Graph, Clash, Agree}
 use Rattle.theory.specs.Descr.{agree}
-use Rattle.area.specs.Region.{words}
+use Rattle.area.specs.Region.{loaded-words}
 use Rattle.area.proofs.Region.{words-same}
 use Rattle.engine.specs.Placed.{Placed, place, strip}
 use Rattle.engine.specs.Marks.{Marking, keep}
@@ -40,7 +40,7 @@ module _ (n k : ℕ) (w : List ℕ) (g left : ℕ) where
     marks₁ : marking w₁ ≡ marking w
     marks₁ = marking-frame w w₁ (c₀ .s .holds .long) (u .len) (λ j a b. u .rest j (omega arith))
 
-    loaded₁ : words w₁ ≡ words w
+    loaded₁ : loaded-words w₁ ≡ loaded-words w
     loaded₁ = words-same w w₁ (c₀ .s .holds .long) (u .len) (λ j a b. u .rest j a)
 
     pub tries-clash : o ≡ Clashed → Tries n k w g left Fails w₁

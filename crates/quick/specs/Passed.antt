@@ -7,7 +7,7 @@ use Rattle.engine.specs.Marks.{Marking}
 use Rattle.engine.specs.Quickly.{fails, stands, narrow-at}
 use Rattle.loading.specs.Entry.{Entry, graphs}
 use Rattle.marks.specs.Marked.{marking}
-use Rattle.counting.specs.Counted.{beside}
+use Rattle.counting.specs.Counted.{inner-both}
 use Rattle.classes.specs.Holds.{Holds}
 use Rattle.quick.specs.declared.step.Step.{Step}
 use Rattle.quick.specs.declared.step.Step.the-variants.{Stands, Fails}
@@ -24,7 +24,8 @@ pub record Passing (n k : ℕ) (w : List ℕ) : Type 0 where
 pub record PassStands (n k : ℕ) (w : List ℕ) (k' : ℕ) (w' : List ℕ) (c : Passing n k w) : Type 0 where
   pub es' : List Entry
   pub ready' : Ready n (c .t) (c .inputs) k' w' es'
-  pub is : narrow-at (graphs (c .es)) (marking w) (beside (c .inputs .first .d) (c .inputs .second .d)) ≡ stands (graphs es') (marking w')
+  pub is : narrow-at (graphs (c .es)) (marking w) (inner-both (c .inputs .first .d) (c .inputs .second .d))
+      ≡ stands (graphs es') (marking w')
 
 -- "The disjunctions are those of the first input, then those of the second, in order.": engine's `narrow-at` on these
 pub record Passes (n k : ℕ) (w : List ℕ) (r : Step) (w' : List ℕ) : Type 0 where
@@ -32,4 +33,4 @@ pub record Passes (n k : ℕ) (w : List ℕ) (r : Step) (w' : List ℕ) : Type 0
       Moved k w k' w' × Fewer i (marking w) (marking w') × ((c : Passing n k w) → PassStands n k w k' w' c)
   pub failing : r ≡ Fails → Moved k w k w'
       × ((c : Passing n k w) → Holds n (c .es) k w'
-      × ((m : Marking) × (narrow-at (graphs (c .es)) (marking w) (beside (c .inputs .first .d) (c .inputs .second .d)) ≡ fails m)))
+      × ((m : Marking) × (narrow-at (graphs (c .es)) (marking w) (inner-both (c .inputs .first .d) (c .inputs .second .d)) ≡ fails m)))

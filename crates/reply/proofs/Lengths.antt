@@ -25,7 +25,7 @@ use Rattle.theory.proofs.Laws.{laws}
 use Rattle.descriptions.proofs.Modes.{mode-readings-kept}
 use Rattle.descriptions.proofs.Table.{unified-given}
 use Rattle.call_text.specs.Token.{largest}
-use Rattle.call_text.specs.Call.{Asked, heard}
+use Rattle.call_text.specs.Call.{Typed, heard}
 use Rattle.answer_text.specs.Answer.{bad-text, Wrote}
 use Rattle.answer_text.specs.declared.line.Written.{Written}
 use Rattle.answer_text.specs.declared.line.Written.the-variants.{Bytes}
@@ -199,7 +199,7 @@ pub printed-small : (text : List ℕ) → length (printed text) ≤ 23000
 unfolding printed
 printed-small text = go (heard text)
   where
-    go : (o : Option Asked) → length {A = ℕ}
+    go : (o : Option Typed) → length {A = ℕ}
         (elim o [ none ↦ bad-text | some c ↦ spoken (record { mode = c .mode; first = c .first; second = c .second }) ]) ≤ 23000
     go none = omega arith
     go (some c) = spoken-small (record { mode = c .mode; first = c .first; second = c .second })

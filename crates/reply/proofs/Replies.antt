@@ -15,13 +15,13 @@ use Rattle.theory.specs.Outcome.{Areas, Outcome, Row}
 use Rattle.theory.proofs.Areas.{given-writes}
 use Rattle.descriptions.proofs.Areas.{Writes, nothing, result}
 use Rattle.theory.proofs.Table.{outcome-answer}
-use Rattle.call_text.specs.Call.{Asked, heard, heard-in, upon, Heard}
+use Rattle.call_text.specs.Call.{Typed, heard, heard-in, upon, Heard}
 use Rattle.call_text.specs.declared.call.Counts.{Counts}
 use Rattle.call_text.specs.declared.call.Counts.the-variants.{Good, BadInput}
 use Rattle.answer_text.specs.Answer.{second-line, answer-text, bad-text, Wrote}
 use Rattle.answer_text.specs.declared.line.Written.{Written}
 use Rattle.call_text.proofs.Calls.{with-room}
-use Rattle.reply.specs.Printed.{in-words, spoken, printed}
+use Rattle.reply.specs.Printed.{in-text, spoken, printed}
 
 -- only number 0 has a second line
 no-words : (n l r : ℕ) (xs ys : List ℕ) → (n ≡ 0 → ⊥) → answer-text n l r xs ≡ answer-text n l r ys
@@ -30,9 +30,9 @@ no-words n l r xs ys h = let e : eqb n 0 ≡ false = ne-eqb n 0 h in rw (e, seco
 
 module _ (c : theory.Call) (before after : Areas) (r : Row) (ls : length (before .result) ≡ 2048) (lw : length (before .working) ≡ 16384)
     (o : Outcome c before r after) where
-  said : spoken c ≡ in-words (o .answer)
+  said : spoken c ≡ in-text (o .answer)
   unfolding spoken
-  said = ap₂ {C = List ℕ} (λ (x y : ℕ). in-words (unified c x y)) (sym ls) (sym lw) ∙ ap in-words (outcome-answer c before r after o)
+  said = ap₂ {C = List ℕ} (λ (x y : ℕ). in-text (unified c x y)) (sym ls) (sym lw) ∙ ap in-text (outcome-answer c before r after o)
 
   wrote : Writes (length (before .result)) (o .answer)
   wrote = given-writes c (length (before .result)) (length (before .working)) (o .answer) (o .given)
@@ -76,11 +76,11 @@ abbrev asked : ℕ → List ℕ → List ℕ → theory.Call
 asked mode a b = record { mode = mode; first = a; second = b }
 
 -- what is printed for a call, or for bad input
-abbrev replied : Option Asked → List ℕ
+abbrev replied : Option Typed → List ℕ
 replied none = bad-text
 replied (some c) = spoken (asked (c .mode) (c .first) (c .second))
 
-replied-is : (o : Option Asked) → replied o ≡ elim o [ none ↦ bad-text | some c ↦ spoken (asked (c .mode) (c .first) (c .second)) ]
+replied-is : (o : Option Typed) → replied o ≡ elim o [ none ↦ bad-text | some c ↦ spoken (asked (c .mode) (c .first) (c .second)) ]
 replied-is none = refl
 replied-is (some c) = refl
 
@@ -100,13 +100,13 @@ module _ (text first second first′ second′ : List ℕ) (r : Counts) (lf : le
   -- there is room for every call
   is-heard : Heard (heard text) first second first′ second′ r
   is-heard =
-      subst (λ (o : Option Asked). Heard o first second first′ second′ r)
+      subst (λ (o : Option Typed). Heard o first second first′ second′ r)
       (with-room (length first) (length second) text (omega arith) (omega arith)) h
 
   pub printed-bad : r ≡ BadInput → bad-text ≡ printed text
   printed-bad q = go (heard text) is-heard ∙ printed-is text
     where
-      go : (o : Option Asked) → Heard o first second first′ second′ r → bad-text ≡ replied o
+      go : (o : Option Typed) → Heard o first second first′ second′ r → bad-text ≡ replied o
       go none k = refl
       go (some c) k = let e = k .answer in let z : _≡_ {A = ℕ} 0 1 = cc in absurd (omega arith)
 
@@ -118,7 +118,7 @@ module _ (text first second first′ second′ : List ℕ) (r : Counts) (lf : le
     good : Says (replied (heard text))
     good = go (heard text) is-heard
       where
-        go : (o : Option Asked) → Heard o first second first′ second′ r → Says (replied o)
+        go : (o : Option Typed) → Heard o first second first′ second′ r → Says (replied o)
         go none k = let e = k .answer in let z : _≡_ {A = ℕ} 0 1 = cc in absurd (omega arith)
         go (some c) k =
             let e : Good mode n m ≡ Good (c .mode) (length (c .first)) (length (c .second)) = sym q ∙ k .answer in

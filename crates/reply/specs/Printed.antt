@@ -9,12 +9,12 @@ use Rattle.call_text.specs.Call.{heard}
 use Rattle.answer_text.specs.Answer.{answer-text, bad-text}
 
 -- "It prints `answer` number `words` length `readings` count and, after 0 only, a second line of result words"
-abbrev pub in-words : Answer → List ℕ
-in-words r = answer-text (r .number) (r .extent) (r .readings) (r .result)
+abbrev pub in-text : Answer → List ℕ
+in-text r = answer-text (r .number) (r .extent) (r .readings) (r .result)
 
 -- "Its result area has 2,048 words, its working area 16,384."
 unfoldable pub spoken : Call → List ℕ
-spoken c = in-words (unified c 2048 16384)
+spoken c = in-text (unified c 2048 16384)
 
 -- "… prints `bad input` alone"
 unfoldable pub printed : List ℕ → List ℕ

@@ -22,7 +22,7 @@ use Rattle.engine.specs.Search as engine
 use Rattle.engine.specs.Agenda.{resume-at}
 use Rattle.engine.proofs.Passes.{Agreeing, agreeing-view}
 use Rattle.modes_by_marks.proofs.Passes.{can}
-use Rattle.engine.specs.Stack.{Same}
+use Rattle.engine.specs.Stack.{Equivalent}
 use Rattle.engine.proofs.Joined.{keep-can, joined-is, resume-at-after, resume-at-next}
 use Rattle.engine.proofs.SearchStack.{search-standing}
 use Rattle.loading.specs.Entry.{graphs}
@@ -48,11 +48,12 @@ agreed-true gs e = go (agree gs) (agreeing-view gs) e
     go true (can a) e = a
     go false v e = let z : _≡_ {A = ℕ} 0 1 = cc in absurd (omega arith)
 
-both-found : (a b j : Placed) → joined-placed a b ≡ some j → (m : Marking) → Can (strip j) → (T : Ctx) → Same T (flat (strip (keep m j))) →
+both-found : (a b j : Placed) → joined-placed a b ≡ some j → (m : Marking) → Can (strip j) → (T : Ctx) →
+    Equivalent T (flat (strip (keep m j))) →
     Agrees T → engine.search (keep m j) ≡ resume-at m (inner a ∷ inner b ∷ []) T
 both-found (place g ds) (place h es) j e m c T s w =
     let k = joined-is (place g ds) (place h es) j e in
-    subst (λ (x : Placed). Can (strip x) → Same T (flat (strip (keep m x))) →
+    subst (λ (x : Placed). Can (strip x) → Equivalent T (flat (strip (keep m x))) →
     engine.search (keep m x) ≡ resume-at m (ds ∷ es ∷ []) T) (k .is)
     (λ c s. search-standing (k .k) (ds next es) m (keep-can m (place (k .k) (ds next es)) c) T s w ∙ resume-at-next m ds es [] T) c s
 

@@ -8,7 +8,7 @@ use mathlib.Core.List.{List, [], _++_, append-nil, append-assoc}
 use lib.ListN.{length}
 use Rattle.theory.specs.Limits.{choice-stop}
 use Rattle.theory.specs.Net.{Graph}
-use Rattle.area.specs.Region.{words}
+use Rattle.area.specs.Region.{loaded-words}
 use Rattle.engine.specs.Placed.{Placed, Places, Options, no-more, option}
 use Rattle.engine.specs.Marks.{Marking}
 use Rattle.engine.specs.Search.{Found, taking}
@@ -121,7 +121,7 @@ module _ (n k : ℕ) (w : List ℕ) (p count : ℕ) (a : Agenda) where
     last : (next .o .0 ≤ c .lies .end) × (c .lies .end ≤ length (c .s .t)) × (next .o .1 ≤ c .lies .to)
     last = any-bounds (c .s .t) (next .b) (next .o .0) (next .o .1) (c .lies .end) (c .lies .to) (first .1) (next .o .4)
 
-    read : (v : List ℕ) → 16384 ≤ length v → words v ≡ c .s .t → Read v at (next .x) (next .o .0)
+    read : (v : List ℕ) → 16384 ≤ length v → loaded-words v ≡ c .s .t → Read v at (next .x) (next .o .0)
     read v room e = read-option v room (next .x) (next .d) (next .b) at (s .l) (c .lies .end) (c .lies .to)
         (subst (λ (t : List ℕ). AtAny t at (s .l) (option (next .x) (next .d) (next .b)) (c .lies .end) (c .lies .to)) (sym e)
         (next .o)) low .0
@@ -129,10 +129,10 @@ module _ (n k : ℕ) (w : List ℕ) (p count : ℕ) (a : Agenda) where
     room₁ : 16384 ≤ length w₁
     room₁ = omega (arith, mv .len, c .s .holds .long)
 
-    words₁ : words w₁ ≡ words w
+    words₁ : loaded-words w₁ ≡ loaded-words w
     words₁ = moved-words k w k w₁ (c .s .holds .long) mv
 
-    loaded₁ : words w₁ ≡ c .s .t
+    loaded₁ : loaded-words w₁ ≡ c .s .t
     loaded₁ = words₁ ∙ c .s .loaded
 
     pub choose-here : ((at < 2048) × (16384 ≤ length w₁)) × (tail-at w₁ at < 2048)
@@ -206,7 +206,7 @@ module _ (n k : ℕ) (w : List ℕ) (p count : ℕ) (a : Agenda) where
         room₂ : 16384 ≤ length w₂
         room₂ = omega (arith, turn-moved .len, c .s .holds .long)
 
-        loaded₂ : words w₂ ≡ c .s .t
+        loaded₂ : loaded-words w₂ ≡ c .s .t
         loaded₂ = moved-words k w k w₂ (c .s .holds .long) turn-moved ∙ c .s .loaded
 
         pub turn-inside : ((at < 2048) × (16384 ≤ length w₂)) × (tail-at w₂ at < 2048)

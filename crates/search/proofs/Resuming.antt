@@ -8,7 +8,7 @@ use mathlib.Core.List.{List, [], _∷_}
 use lib.ListN.{length}
 use Rattle.theory.specs.Net.{Graph}
 use Rattle.theory.specs.Descr.{alts}
-use Rattle.area.specs.Region.{words}
+use Rattle.area.specs.Region.{loaded-words}
 use Rattle.area.proofs.Region.{words-many}
 use Rattle.engine.specs.Placed.{Placed, place, Places, stop, _also_, Options, no-more, option, strip-any, inner}
 use Rattle.engine.specs.Marks.{Marking, kept-of, keep, keep-any}
@@ -268,9 +268,9 @@ module _ (n k : ℕ) (w : List ℕ) (a : Agenda) where
               lone : (c : Resuming n k w a) → LoneOf (c .s .m) (lies c) (c .s .U) first
               lone c =
                   let stands = alone-at w (counted c) which after (told c) first one in
-                  lone-alone (c .s .U) (words w) (c .s .m) (lies c) (next c .among) (kept-one c) first (
+                  lone-alone (c .s .U) (loaded-words w) (c .s .m) (lies c) (next c .among) (kept-one c) first (
                     stands .0,
-                    subst (λ (m : Marking). AtAny (words w) first (stands .0) (from-kept m (lies c .a)) (lies c .end) (lies c .to))
+                    subst (λ (m : Marking). AtAny (loaded-words w) first (stands .0) (from-kept m (lies c .a)) (lies c .end) (lies c .to))
                         (c .s .marks) (stands .1),
                   )
 
@@ -297,7 +297,8 @@ module _ (n k : ℕ) (w : List ℕ) (a : Agenda) where
               abbrev own : Resuming n k w a → ℕ
               own c = mark-of (lone c .lies)
 
-              read : (c : Resuming n k w a) (v : List ℕ) → 16384 ≤ length v → words v ≡ c .s .t → Read v first (own c) (lone c .lies .end)
+              read : (c : Resuming n k w a) (v : List ℕ) → 16384 ≤ length v → loaded-words v ≡ c .s .t →
+                  Read v first (own c) (lone c .lies .end)
               read c v room f = reads-lying v room f (c .s .ground .few) (lying-more (lies c .low) (lone c .lies))
 
               module _ (b : Agenda) (lists : (l : List Slot) → Lists rest l →
@@ -335,7 +336,7 @@ module _ (n k : ℕ) (w : List ℕ) (a : Agenda) where
                   room₁ : 16384 ≤ length w₁
                   room₁ = omega (arith, v .moved .len, c₀ .s .holds .long)
 
-                  words₁ : words w₁ ≡ words w
+                  words₁ : loaded-words w₁ ≡ loaded-words w
                   words₁ = moved-words k w k w₁ (c₀ .s .holds .long) (v .moved)
 
                   pub one-notes : Noting w₁ first

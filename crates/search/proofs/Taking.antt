@@ -11,7 +11,7 @@ use lib.ListN.{length}
 use Rattle.theory.specs.Limits.{depth-limit}
 use Rattle.theory.specs.Net.{Graph, Clash, Agree}
 use Rattle.theory.specs.Descr.{agree}
-use Rattle.area.specs.Region.{words}
+use Rattle.area.specs.Region.{loaded-words}
 use Rattle.area.proofs.Region.{words-same, words-many}
 use Rattle.engine.specs.Placed.{Placed, place, Places, strip, inner}
 use Rattle.engine.specs.Marks.{Marking, keep}
@@ -79,7 +79,7 @@ module _ (n k : ℕ) (w : List ℕ) (g : ℕ) (a : Agenda) where
         ap (taking (mark-of (c .lies))) (dive-clashed (c .s .m) (graphs (c .es)) (c .lies .d) left-of bad)
 
     -- what is read of it
-    pub read : (v : List ℕ) → 16384 ≤ length v → words v ≡ c .s .t → Read v g (mark-of (c .lies)) (c .lies .end)
+    pub read : (v : List ℕ) → 16384 ≤ length v → loaded-words v ≡ c .s .t → Read v g (mark-of (c .lies)) (c .lies .end)
     read v room e = reads-lying v room e (c .s .ground .few) (c .lies)
 
   module _ (o : Pushed) (w₁ : List ℕ) (u : Enters n k w g depth-limit o w₁) (c₀ : Taking n k w g a) where
@@ -89,7 +89,7 @@ module _ (n k : ℕ) (w : List ℕ) (g : ℕ) (a : Agenda) where
     lights₁ : lights w₁ ≡ lights w
     lights₁ = lights-frame w w₁ (c₀ .s .holds .long) (u .len) (λ j x y. u .rest j (omega arith))
 
-    words₁ : words w₁ ≡ words w
+    words₁ : loaded-words w₁ ≡ loaded-words w
     words₁ = words-same w w₁ (c₀ .s .holds .long) (u .len) (λ j x y. u .rest j x)
 
     room₁ : 16384 ≤ length w₁
@@ -210,7 +210,7 @@ module _ (n k : ℕ) (w : List ℕ) (g : ℕ) (a : Agenda) where
             room₃ : 16384 ≤ length w₃
             room₃ = omega (arith, q .len, room₂)
 
-            words₃ : words w₃ ≡ words w
+            words₃ : loaded-words w₃ ≡ loaded-words w
             words₃ = moved-words k w k w₃ (c₀ .s .holds .long) moved₃
 
             pub take-notes : Noting w₃ g

@@ -8,7 +8,7 @@ use lib.ListN.{length, getD, set, length-set, length-append}
 use Rattle.theory.specs.Net.{Node, Graph}
 use Rattle.theory.specs.Layout.{node-words, nodes-words}
 use Rattle.area.specs.Map.{RESULT}
-use Rattle.area.specs.Region.{words}
+use Rattle.area.specs.Region.{loaded-words}
 use Rattle.area.proofs.Region.{words-many}
 use Rattle.layout.specs.Standing.{Stands, graph-words}
 use Rattle.layout.proofs.Standing.{stands-append, stands-length, stands-within}
@@ -22,16 +22,16 @@ use Rattle.loading.proofs.Putting.{put-nil, put-append, put-one}
 use Rattle.loading.proofs.Walking.{at-header, at-counts}
 use Rattle.marks.specs.Positions.{number-at}
 use Rattle.marks.proofs.Reading.{number-is, reads}
-use Rattle.showing.specs.Copying.{a-node, its-nodes, Copying, Copies, Graphing}
+use Rattle.showing.specs.Copying.{node-piece, nodes-piece, Copying, Copies, Graphing}
 use Rattle.showing.proofs.Nodes.{put-words, put-end}
 
-module _ (w : List ℕ) (number p count o : ℕ) (c : Copying (its-nodes count) w number p o) where
+module _ (w : List ℕ) (number p count o : ℕ) (c : Copying (nodes-piece count) w number p o) where
   -- `left` nodes are still to be copied, from `at` to `out`
   pub record Nodes (left at out : ℕ) (w₁ : List ℕ) : Type 0 where
     pub vs : Graph
     pub many : length vs ≡ left
-    pub within : at ≤ length (words w)
-    pub stand : Stands (words w) at (located number vs) (c .q)
+    pub within : at ≤ length (loaded-words w)
+    pub stand : Stands (loaded-words w) at (located number vs) (c .q)
     pub done : List ℕ
     pub put : Put w w₁ (RESULT + o) done (RESULT + out)
     pub is : nodes-words (c .x) ≡ done ++ nodes-words vs
@@ -66,18 +66,18 @@ module _ (w : List ℕ) (number p count o : ℕ) (c : Copying (its-nodes count) 
         vs : Graph
         later : length vs + 1 ≡ left
         q : ℕ
-        first : Stands (words w) at (node-words (moved-node number x)) q
-        stand : Stands (words w) q (located number vs) (c .q)
+        first : Stands (loaded-words w) at (node-words (moved-node number x)) q
+        stand : Stands (loaded-words w) q (located number vs) (c .q)
         whole : nodes-words (c .x) ≡ (v .done ++ node-words x) ++ nodes-words vs
 
       next : Next
       next = go (v .vs) (v .many) (v .stand) (v .is)
         where
-          go : (vs : Graph) → length vs ≡ left → Stands (words w) at (located number vs) (c .q) →
+          go : (vs : Graph) → length vs ≡ left → Stands (loaded-words w) at (located number vs) (c .q) →
               nodes-words (c .x) ≡ v .done ++ nodes-words vs → Next
           go [] e s f = absurd (omega arith)
           go (x ∷ vs) e s f =
-              let parts = stands-append (words w) (node-words (moved-node number x)) (located number vs) at (c .q) .0 s in
+              let parts = stands-append (loaded-words w) (node-words (moved-node number x)) (located number vs) at (c .q) .0 s in
               record {
                 x = x;
                 vs = vs;
@@ -89,10 +89,10 @@ module _ (w : List ℕ) (number p count o : ℕ) (c : Copying (its-nodes count) 
                     ∙ sym (append-assoc (v .done) (node-words x) (nodes-words vs));
               }
 
-      loaded : words w₁ ≡ words w
+      loaded : loaded-words w₁ ≡ loaded-words w
       loaded = put-words w w₁ o (v .done) (RESULT + out) (c .long) (v .put)
 
-      pub nodes-asks : Copying a-node w₁ number at out
+      pub nodes-asks : Copying node-piece w₁ number at out
       nodes-asks =
           let x = next in
           let long = c .long in
@@ -114,7 +114,7 @@ module _ (w : List ℕ) (number p count o : ℕ) (c : Copying (its-nodes count) 
             );
           }
 
-      module _ (r : ℕ) (w₂ : List ℕ) (u : Copies a-node w₁ number at out r w₂) where
+      module _ (r : ℕ) (w₂ : List ℕ) (u : Copies node-piece w₁ number at out r w₂) where
         told : Put w₁ w₂ (RESULT + out) (node-words (next .x)) (RESULT + r)
         unfolding nodes-asks
         told = u nodes-asks
@@ -122,13 +122,13 @@ module _ (w : List ℕ) (number p count o : ℕ) (c : Copying (its-nodes count) 
         far : next .q ≡ at + (r - out)
         far = omega (
           arith,
-          stands-length (words w) (node-words (moved-node number (next .x))) at (next .q) (next .first),
+          stands-length (loaded-words w) (node-words (moved-node number (next .x))) at (next .q) (next .first),
           put-end w₁ w₂ out (node-words (next .x)) r told,
           node-length number (next .x),
         )
 
-        inside : next .q ≤ length (words w)
-        inside = stands-within (words w) (node-words (moved-node number (next .x))) at (next .q) (v .within) (next .first)
+        inside : next .q ≤ length (loaded-words w)
+        inside = stands-within (loaded-words w) (node-words (moved-node number (next .x))) at (next .q) (v .within) (next .first)
 
         pub nodes-near : (out ≤ r) × (at + (r - out) ≤ 2048)
         nodes-near = (omega (arith, put-end w₁ w₂ out (node-words (next .x)) r told), omega (arith, far, inside, words-many w (c .long)))
@@ -149,20 +149,21 @@ module _ (w : List ℕ) (number p count o : ℕ) (c : Copying (its-nodes count) 
 
 -- ---- a graph
 module _ (w : List ℕ) (g o : ℕ) (c : Graphing w g o) where
-  abbrev lies : Lying (c .read .n) (words w) g (c .left)
+  abbrev lies : Lying (c .read .n) (loaded-words w) g (c .left)
   lies = c .read .lies
 
   -- what is read of its header
-  pub graph-here : (g + 1 < 2048) × (number-at w g ≡ lies .from) × (getD (words w) g 0 % number-step ≡ length (own (lies .d)))
+  pub graph-here : (g + 1 < 2048) × (number-at w g ≡ lies .from) × (getD (loaded-words w) g 0 % number-step ≡ length (own (lies .d)))
       × (lies .from < number-step) × (length (own (lies .d)) < number-step)
   graph-here = go (lies .d) (lies .at)
     where
       go : (d : Placed) → Here lies d →
-          (g + 1 < 2048) × (number-at w g ≡ lies .from) × (getD (words w) g 0 % number-step ≡ length (own d)) × (lies .from < number-step)
+          (g + 1 < 2048) × (number-at w g ≡ lies .from) × (getD (loaded-words w) g 0 % number-step ≡ length (own d))
+          × (lies .from < number-step)
           × (length (own d) < number-step)
       go (place K ds) at =
           let r = reads (c .read) in
-          let counts = at-counts (words w) K ds g (lies .from) (lies .end) (lies .to) at in
+          let counts = at-counts (loaded-words w) K ds g (lies .from) (lies .end) (lies .to) at in
           let few = counts .2 in
           let near = counts .1 in
           let end = r .end in
@@ -170,7 +171,7 @@ module _ (w : List ℕ) (g o : ℕ) (c : Graphing w g o) where
           let all = c .read .few in (
             omega arith,
             number-is w (c .read .room) K ds g (lies .from) (lies .end) (lies .to) at (omega arith),
-            at-header (words w) K ds g (lies .from) (lies .end) (lies .to) at
+            at-header (loaded-words w) K ds g (lies .from) (lies .end) (lies .to) at
                 (omega arith) .0,
             omega arith,
             omega arith,
@@ -186,14 +187,14 @@ module _ (w : List ℕ) (g o : ℕ) (c : Graphing w g o) where
         let end : RESULT + o + 1 ≡ RESULT + (o + 1) = omega arith in
         subst (λ (j : ℕ). Put w (set w (RESULT + o) count) (RESULT + o) (count ∷ []) j) end (put-one w count (RESULT + o) far)
 
-    stand : Stands (words w) (g + 1) (located (lies .from) (own (lies .d))) (g + extent (own (lies .d)))
+    stand : Stands (loaded-words w) (g + 1) (located (lies .from) (own (lies .d))) (g + extent (own (lies .d)))
     stand = go (lies .d) (lies .at)
       where
         go : (d : Placed) → Here lies d →
-            Stands (words w) (g + 1) (located (lies .from) (own d)) (g + extent (own d))
+            Stands (loaded-words w) (g + 1) (located (lies .from) (own d)) (g + extent (own d))
         go (place K ds) at = at .3
 
-    pub graph-asks : (number : ℕ) → number ≡ lies .from → Copying (its-nodes count) (set w (RESULT + o) count) number (g + 1) (o + 1)
+    pub graph-asks : (number : ℕ) → number ≡ lies .from → Copying (nodes-piece count) (set w (RESULT + o) count) number (g + 1) (o + 1)
     graph-asks number e =
         let long = c .read .room in
         let room = c .room in
@@ -204,7 +205,7 @@ module _ (w : List ℕ) (g o : ℕ) (c : Graphing w g o) where
           fine = sym is;
           q = g + extent (own (lies .d));
           within = (let h = graph-here .0 in omega arith);
-          stands = subst (λ (n : ℕ). Stands (words (set w (RESULT + o) count)) (g + 1) (located n (own (lies .d)))
+          stands = subst (λ (n : ℕ). Stands (loaded-words (set w (RESULT + o) count)) (g + 1) (located n (own (lies .d)))
               (g + extent (own (lies .d))))
               (sym e)
               (subst (λ (u : List ℕ). Stands u (g + 1) (located (lies .from) (own (lies .d))) (g + extent (own (lies .d))))
@@ -213,7 +214,7 @@ module _ (w : List ℕ) (g o : ℕ) (c : Graphing w g o) where
         }
 
     pub graph-copied : (number : ℕ) → number ≡ lies .from → (r : ℕ) (w₁ : List ℕ) →
-        Copies (its-nodes count) (set w (RESULT + o) count) number (g + 1) (o + 1) r w₁ →
+        Copies (nodes-piece count) (set w (RESULT + o) count) number (g + 1) (o + 1) r w₁ →
         Put w w₁ (RESULT + o) (graph-words (own (lies .d))) (RESULT + r)
     unfolding graph-asks
     graph-copied number e r w₁ u =

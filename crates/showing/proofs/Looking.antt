@@ -7,7 +7,7 @@ use mathlib.Core.List.{List, [], _++_}
 use lib.ListN.{length}
 use Rattle.theory.specs.Net.{Graph}
 use Rattle.theory.specs.Descr.{Alts, fail, _or_, alts}
-use Rattle.area.specs.Region.{words}
+use Rattle.area.specs.Region.{loaded-words}
 use Rattle.area.proofs.Region.{words-many}
 use Rattle.engine.specs.Placed.{Placed, place, Places, stop, _also_, Options, strip-all, strip-any}
 use Rattle.engine.specs.Marks.{Marking, keep-all, keep-any}
@@ -48,7 +48,7 @@ module _ (w : List ℕ) (g left : ℕ) (c : Readable w g left) where
     pub ds : Places
     pub from : ℕ
     pub stand : Rest (c .lies) at from ds
-    pub within : at ≤ length (words w)
+    pub within : at ≤ length (loaded-words w)
     pub many : places ds ≡ more
     pub nests : NestsAll ds left
     pub is : sure (left-all m (c .lies .d)) ≡ certain-of ds
@@ -88,10 +88,10 @@ module _ (w : List ℕ) (g left : ℕ) (c : Readable w g left) where
         ds : Places
         q : ℕ
         l : ℕ
-        there : at < length (words w)
-        any : AtAny (words w) (at + 1) (v .from) a q l
+        there : at < length (loaded-words w)
+        any : AtAny (loaded-words w) (at + 1) (v .from) a q l
         all : Rest (c .lies) q l ds
-        within : q ≤ length (words w)
+        within : q ≤ length (loaded-words w)
         high : l ≤ c .lies .to
         count-are : alternatives-at w at ≡ options a
         many-later : places ds + 1 ≡ more
@@ -106,7 +106,7 @@ module _ (w : List ℕ) (g left : ℕ) (c : Readable w g left) where
           go stop s e nests f = absurd (omega arith)
           go (a also ds) s e nests f =
               let there = s .2 in
-              let first = any-bounds (words w) a (at + 1) (v .from) (s .0) (s .1) (omega arith) (s .4) in
+              let first = any-bounds (loaded-words w) a (at + 1) (v .from) (s .0) (s .1) (omega arith) (s .4) in
               record {
                 a = a;
                 ds = ds;
@@ -117,7 +117,7 @@ module _ (w : List ℕ) (g left : ℕ) (c : Readable w g left) where
                 all = s .5;
                 within = first .1;
                 high =
-                    all-bounds (words w) ds (s .0) (s .1) (c .lies .end) (c .lies .to) (first .1) (s .5) .2;
+                    all-bounds (loaded-words w) ds (s .0) (s .1) (c .lies .end) (c .lies .to) (first .1) (s .5) .2;
                 count-are =
                     alternatives-is w a ds at (v .from) (c .lies .end) (c .lies .to) s;
                 many-later = omega arith;

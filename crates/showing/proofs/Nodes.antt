@@ -11,7 +11,7 @@ use Rattle.theory.specs.Net.{Node, atom, arcs}
 use Rattle.theory.specs.Layout.{arc-words, node-words}
 use Rattle.theory.proofs.Weight.{arc-length}
 use Rattle.area.specs.Map.{RESULT, SIZE}
-use Rattle.area.specs.Region.{words}
+use Rattle.area.specs.Region.{loaded-words}
 use Rattle.area.proofs.Region.{words-same, words-many}
 use Rattle.layout.specs.Standing.{Stands}
 use Rattle.layout.proofs.Standing.{stands-length, stands-within, stands-atom, stands-node, stands-arc}
@@ -19,23 +19,24 @@ use Rattle.loading.specs.Loaded.{moved-arcs, moved-node}
 use Rattle.loading.specs.Loading.{Put}
 use Rattle.loading.proofs.Sizes.{moved-length}
 use Rattle.loading.proofs.Putting.{put-nil, put-append, put-one, put-then}
-use Rattle.showing.specs.Copying.{its-arcs, a-node, Copying, Copies}
+use Rattle.showing.specs.Copying.{arcs-piece, node-piece, Copying, Copies}
 use Rattle.engine.specs.Placed.{own}
 
 -- the loaded words stay
-pub put-words : (w w₁ : List ℕ) (o : ℕ) (xs : List ℕ) (q : ℕ) → SIZE ≤ length w → Put w w₁ (RESULT + o) xs q → words w₁ ≡ words w
+pub put-words : (w w₁ : List ℕ) (o : ℕ) (xs : List ℕ) (q : ℕ) → SIZE ≤ length w → Put w w₁ (RESULT + o) xs q →
+    loaded-words w₁ ≡ loaded-words w
 put-words w w₁ o xs q long a = words-same w w₁ long (a .same) (λ j h k. a .rest j (inl (omega arith)))
 
 pub put-end : (w w₁ : List ℕ) (o : ℕ) (xs : List ℕ) (r : ℕ) → Put w w₁ (RESULT + o) xs (RESULT + r) → r ≡ o + length xs
 put-end w w₁ o xs r a = omega (arith, stands-length w₁ xs (RESULT + o) (RESULT + r) (a .stands))
 
 -- ---- the arcs of a node
-module _ (w : List ℕ) (number p count o : ℕ) (c : Copying (its-arcs count) w number p o) where
+module _ (w : List ℕ) (number p count o : ℕ) (c : Copying (arcs-piece count) w number p o) where
   -- `left` arcs are still to be copied, from `at` to `out`
   pub record Arcs (left at out : ℕ) (w₁ : List ℕ) : Type 0 where
     pub l : List (ℕ × ℕ)
     pub many : length l ≡ left
-    pub stand : Stands (words w) at (arc-words (moved-arcs number l)) (c .q)
+    pub stand : Stands (loaded-words w) at (arc-words (moved-arcs number l)) (c .q)
     pub done : List ℕ
     pub put : Put w w₁ (RESULT + o) done (RESULT + out)
     pub is : arc-words (c .x) ≡ done ++ arc-words l
@@ -62,20 +63,20 @@ module _ (w : List ℕ) (number p count o : ℕ) (c : Copying (its-arcs count) w
         t : ℕ
         l : List (ℕ × ℕ)
         later : length l + 1 ≡ left
-        here : at + 1 < length (words w)
-        feature : getD (words w) at 0 ≡ f
-        target : getD (words w) (at + 1) 0 ≡ number + t
-        stand : Stands (words w) (at + 2) (arc-words (moved-arcs number l)) (c .q)
+        here : at + 1 < length (loaded-words w)
+        feature : getD (loaded-words w) at 0 ≡ f
+        target : getD (loaded-words w) (at + 1) 0 ≡ number + t
+        stand : Stands (loaded-words w) (at + 2) (arc-words (moved-arcs number l)) (c .q)
         whole : arc-words (c .x) ≡ (v .done ++ f ∷ t ∷ []) ++ arc-words l
 
       next : Next
       next = go (v .l) (v .many) (v .stand) (v .is)
         where
-          go : (l : List (ℕ × ℕ)) → length l ≡ left → Stands (words w) at (arc-words (moved-arcs number l)) (c .q) →
+          go : (l : List (ℕ × ℕ)) → length l ≡ left → Stands (loaded-words w) at (arc-words (moved-arcs number l)) (c .q) →
               arc-words (c .x) ≡ v .done ++ arc-words l → Next
           go [] e s q = absurd (omega arith)
           go (x ∷ l) e s q =
-              let parts = stands-arc (words w) (x .0, number + x .1) (moved-arcs number l) at (c .q) .0 s in
+              let parts = stands-arc (loaded-words w) (x .0, number + x .1) (moved-arcs number l) at (c .q) .0 s in
               record {
                 f = x .0;
                 t = x .1;
@@ -89,7 +90,7 @@ module _ (w : List ℕ) (number p count o : ℕ) (c : Copying (its-arcs count) w
                 whole = q ∙ sym (append-assoc (v .done) (x .0 ∷ x .1 ∷ []) (arc-words l));
               }
 
-      loaded : words w₁ ≡ words w
+      loaded : loaded-words w₁ ≡ loaded-words w
       loaded = put-words w w₁ o (v .done) (RESULT + out) (c .long) (v .put)
 
       pub arcs-here : (at + 1 < 2048) × (out + 2 ≤ 2048) × (16384 ≤ length w₁)
@@ -110,7 +111,7 @@ module _ (w : List ℕ) (number p count o : ℕ) (c : Copying (its-arcs count) w
             omega arith,
           )
 
-      module _ (f t : ℕ) (ef : f ≡ getD (words w₁) at 0) (et : t ≡ getD (words w₁) (at + 1) 0) where
+      module _ (f t : ℕ) (ef : f ≡ getD (loaded-words w₁) at 0) (et : t ≡ getD (loaded-words w₁) (at + 1) 0) where
         feature-is : f ≡ next .f
         feature-is = ef ∙ ap (λ (u : List ℕ). getD u at 0) loaded ∙ next .feature
 
@@ -146,19 +147,19 @@ module _ (w : List ℕ) (number p count o : ℕ) (c : Copying (its-arcs count) w
             }
 
 -- ---- a node
-module _ (w : List ℕ) (number p o : ℕ) (c : Copying a-node w number p o) where
+module _ (w : List ℕ) (number p o : ℕ) (c : Copying node-piece w number p o) where
   -- a node is there, and has room
   pub node-here : (p < 2048) × (o < 2048) × (RESULT + o < length w)
   node-here = go (c .x) (c .stands) (c .room)
     where
-      go : (v : Node) → Stands (words w) p (node-words (moved-node number v)) (c .q) → o + length (node-words v) ≤ 2048 →
+      go : (v : Node) → Stands (loaded-words w) p (node-words (moved-node number v)) (c .q) → o + length (node-words v) ≤ 2048 →
           (p < 2048) × (o < 2048) × (RESULT + o < length w)
-      go (atom a) s r = let there = stands-atom (words w) a p (c .q) .0 s .0 in
+      go (atom a) s r = let there = stands-atom (loaded-words w) a p (c .q) .0 s .0 in
           (omega (arith, words-many w (c .long)), omega arith, omega (arith, c .long))
-      go (arcs l) s r = let there = stands-node (words w) (moved-arcs number l) p (c .q) .0 s .0 in
+      go (arcs l) s r = let there = stands-node (loaded-words w) (moved-arcs number l) p (c .q) .0 s .0 in
           (omega (arith, words-many w (c .long)), omega arith, omega (arith, c .long))
 
-  module _ (head : ℕ) (e : head ≡ getD (words w) p 0) where
+  module _ (head : ℕ) (e : head ≡ getD (loaded-words w) p 0) where
     one : Put w (set w (RESULT + o) head) (RESULT + o) (head ∷ []) (RESULT + (o + 1))
     one =
         let far = node-here .2 in
@@ -168,19 +169,19 @@ module _ (w : List ℕ) (number p o : ℕ) (c : Copying a-node w number p o) whe
     pub node-atom : code-limit ≤ head → Put w (set w (RESULT + o) head) (RESULT + o) (node-words (c .x)) (RESULT + (o + 1))
     node-atom h = go (c .x) (c .stands)
       where
-        go : (v : Node) → Stands (words w) p (node-words (moved-node number v)) (c .q) →
+        go : (v : Node) → Stands (loaded-words w) p (node-words (moved-node number v)) (c .q) →
             Put w (set w (RESULT + o) head) (RESULT + o) (node-words v) (RESULT + (o + 1))
         go (atom a) s = subst (λ (k : ℕ). Put w (set w (RESULT + o) head) (RESULT + o) (k ∷ []) (RESULT + (o + 1))) (e
-            ∙ stands-atom (words w) a p (c .q) .0 s .1) one
+            ∙ stands-atom (loaded-words w) a p (c .q) .0 s .1) one
         go (arcs l) s =
-            let parts = stands-node (words w) (moved-arcs number l) p (c .q) .0 s in
+            let parts = stands-node (loaded-words w) (moved-arcs number l) p (c .q) .0 s in
             let there = parts .0 in
             let count = parts .1 in
-            let far = stands-within (words w) (arc-words (moved-arcs number l)) (p + 1) (c .q) (omega arith) (parts .2) in
+            let far = stands-within (loaded-words w) (arc-words (moved-arcs number l)) (p + 1) (c .q) (omega arith) (parts .2) in
             absurd (omega (
               arith,
               words-many w (c .long),
-              stands-length (words w) (arc-words (moved-arcs number l)) (p + 1) (c .q) (parts .2),
+              stands-length (loaded-words w) (arc-words (moved-arcs number l)) (p + 1) (c .q) (parts .2),
               arc-length (moved-arcs number l),
             ))
 
@@ -190,21 +191,21 @@ module _ (w : List ℕ) (number p o : ℕ) (c : Copying a-node w number p o) whe
         l : List (ℕ × ℕ)
         is : c .x ≡ arcs l
         many : length l ≡ head
-        stand : Stands (words w) (p + 1) (arc-words (moved-arcs number l)) (c .q)
+        stand : Stands (loaded-words w) (p + 1) (arc-words (moved-arcs number l)) (c .q)
 
       fan : Fan
       fan = go (c .x) (c .stands) refl
         where
-          go : (v : Node) → Stands (words w) p (node-words (moved-node number v)) (c .q) → c .x ≡ v → Fan
-          go (atom a) s f = let k = stands-atom (words w) a p (c .q) .0 s .1 in absurd (omega arith)
+          go : (v : Node) → Stands (loaded-words w) p (node-words (moved-node number v)) (c .q) → c .x ≡ v → Fan
+          go (atom a) s f = let k = stands-atom (loaded-words w) a p (c .q) .0 s .1 in absurd (omega arith)
           go (arcs l) s f =
-              let parts = stands-node (words w) (moved-arcs number l) p (c .q) .0 s in
+              let parts = stands-node (loaded-words w) (moved-arcs number l) p (c .q) .0 s in
               record { l = l; is = f; many = sym (e ∙ parts .1 ∙ moved-length number l); stand = parts .2 }
 
-      loaded-still : words (set w (RESULT + o) head) ≡ words w
+      loaded-still : loaded-words (set w (RESULT + o) head) ≡ loaded-words w
       loaded-still = put-words w (set w (RESULT + o) head) o (head ∷ []) (RESULT + (o + 1)) (c .long) one
 
-      pub node-asks : Copying (its-arcs head) (set w (RESULT + o) head) number (p + 1) (o + 1)
+      pub node-asks : Copying (arcs-piece head) (set w (RESULT + o) head) number (p + 1) (o + 1)
       node-asks =
           let long = c .long in
           let room = c .room in
@@ -221,7 +222,7 @@ module _ (w : List ℕ) (number p o : ℕ) (c : Copying a-node w number p o) whe
             room = omega arith;
           }
 
-      pub node-arcs : (r : ℕ) (w₁ : List ℕ) → Copies (its-arcs head) (set w (RESULT + o) head) number (p + 1) (o + 1) r w₁ →
+      pub node-arcs : (r : ℕ) (w₁ : List ℕ) → Copies (arcs-piece head) (set w (RESULT + o) head) number (p + 1) (o + 1) r w₁ →
           Put w w₁ (RESULT + o) (node-words (c .x)) (RESULT + r)
       unfolding node-asks
       node-arcs r w₁ u =

@@ -10,7 +10,7 @@ use Rattle.theory.specs.Descr.{Alts, _or_}
 use Rattle.theory.specs.Layout.{alts-words}
 use Rattle.theory.specs.Layout as layout
 use Rattle.theory.specs.Canonical.{CanAny}
-use Rattle.area.specs.Region.{words}
+use Rattle.area.specs.Region.{loaded-words}
 use Rattle.engine.specs.Placed.{Placed, Options, no-more, option, strip, strip-any}
 use Rattle.engine.specs.Marks.{Marking, keep, keep-any}
 use Rattle.engine.specs.Shown.{shown, shown-any}
@@ -122,7 +122,7 @@ module _ (n : ℕ) (w : List ℕ) (p of left o : ℕ) (c : Offering n w p of lef
           go (option x d a) s e f u k l q =
               record { x = x; d = d; a = a; stand = s; nests = f; among = u; later = omega arith; can = k; sane = l; whole = q }
 
-      read : (w₂ : List ℕ) → 16384 ≤ length w₂ → words w₂ ≡ t → Read w₂ at (next .x) (next .stand .0)
+      read : (w₂ : List ℕ) → 16384 ≤ length w₂ → loaded-words w₂ ≡ t → Read w₂ at (next .x) (next .stand .0)
       read w₂ room e = read-option w₂ room (next .x) (next .d) (next .a) at (v .l) (c .lies .end) (c .lies .to)
           (subst (λ (s : List ℕ). AtAny s at (v .l) (option (next .x) (next .d) (next .a)) (c .lies .end) (c .lies .to)) (sym e)
           (next .stand)) low .0

@@ -16,7 +16,7 @@ use Rattle.theory.specs.Layout as layout
 use Rattle.theory.specs.Canonical.{CanAll}
 use Rattle.theory.proofs.Laws.{joined-of}
 use Rattle.area.specs.Map.{RESULT, SECOND, SIZE}
-use Rattle.area.specs.Region.{words}
+use Rattle.area.specs.Region.{loaded-words}
 use Rattle.area.proofs.Region.{words-same}
 use Rattle.layout.specs.Standing.{Stands, graph-words}
 use Rattle.layout.proofs.Standing.{stands-append, stands-nil, stands-cons, stands-length}
@@ -153,7 +153,7 @@ module _ (n k : ℕ) (w : List ℕ) (c : Showing n k w) where
     long₁ : 16384 ≤ length w₁
     long₁ = omega (arith, long, u .kept .len)
 
-    loaded₁ : words w₁ ≡ c .t
+    loaded₁ : loaded-words w₁ ≡ c .t
     loaded₁ = words-same w w₁ long (u .kept .len) (λ i h l. u .kept .mid i h (omega arith)) ∙ c .stage .ready .loaded
 
     abbrev read-a : Readable w₁ 0 depth-limit

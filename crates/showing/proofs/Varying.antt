@@ -11,7 +11,7 @@ use Rattle.theory.specs.Descr.{Disjs, end, _and_, Alts, disjs, alts}
 use Rattle.theory.specs.Layout.{disjs-words, alts-words}
 use Rattle.theory.specs.Canonical.{CanAny}
 use Rattle.area.specs.Map.{RESULT}
-use Rattle.area.specs.Region.{words}
+use Rattle.area.specs.Region.{loaded-words}
 use Rattle.area.proofs.Region.{words-many}
 use Rattle.engine.specs.Placed.{Options, no-more, option, strip-any}
 use Rattle.engine.specs.Marks.{Marking, kept-of, keep-any}
@@ -72,9 +72,9 @@ module _ (n : ℕ) (w : List ℕ) (p of left o : ℕ) (c : Varying n w p of left
       lone =
           let stands = alone-at w counted which after told first one in
           let kept-one = kept-marks ∙ kept-alone w counted which after told first one in
-          lone-alone (c .base .U) (words w) m (c .lies) (c .among) kept-one first (
+          lone-alone (c .base .U) (loaded-words w) m (c .lies) (c .among) kept-one first (
             stands .0,
-            subst (λ (k : Marking). AtAny (words w) first (stands .0) (from-kept k (c .lies .a)) (c .lies .end) (c .lies .to))
+            subst (λ (k : Marking). AtAny (loaded-words w) first (stands .0) (from-kept k (c .lies .a)) (c .lies .end) (c .lies .to))
                 (c .base .marks) (stands .1),
           )
 

@@ -7,7 +7,7 @@ use mathlib.Core.List.{List, [], _∷_, _++_}
 use lib.ListN.{length, getD, set, length-set}
 use lib.Seq.{getD-set-same, getD-set-other}
 use Rattle.area.specs.Map.{RESULT}
-use Rattle.area.specs.Region.{words}
+use Rattle.area.specs.Region.{loaded-words}
 use Rattle.area.proofs.Region.{words-same}
 use Rattle.layout.specs.Standing.{Stands}
 use Rattle.layout.proofs.Standing.{stands-append, stands-nil, stands-cons, stands-order, stands-length}
@@ -98,7 +98,7 @@ module _ (n : ℕ) (w : List ℕ) where
 
   -- what is loaded and marked stays
   pub written-same : (o : ℕ) (xs : List ℕ) (r : ℕ) (w₁ : List ℕ) → 16384 ≤ length w → Written n w o xs r w₁ →
-      (words w₁ ≡ words w) × (marking w₁ ≡ marking w)
+      (loaded-words w₁ ≡ loaded-words w) × (marking w₁ ≡ marking w)
   written-same o xs r w₁ long a = (
     words-same w w₁ long (a .len) (λ j h k. a .mid j h (omega arith)),
     marking-frame w w₁ long (a .len) (λ j h k. a .mid j (omega arith) (omega arith)),

@@ -4,12 +4,12 @@ use limits::CODE_LIMIT;
 use marks::positions::number_at;
 use marks::positions::word_at;
 use packing::nodes_of;
-ghost use Rattle.showing.specs.Copying.{its-arcs, a-node, its-nodes, Copying, Copies, Graphing, Graphs};
+ghost use Rattle.showing.specs.Copying.{arcs-piece, node-piece, nodes-piece, Copying, Copies, Graphing, Graphs};
 
 // Copies the `count` arcs at p of the loaded words to o of the result. Where they end.
 fn copy_arcs(w: &mut [u32], number: u32, p: usize, count: u32, o: usize) -> usize
-    requires { ⌜ Copying (its-arcs count) (now w) number p o ⌝ }
-    ensures { λ r. ⌜ Copies (its-arcs count) (now (w .entry)) number p o r (now (w .exit)) ⌝ }
+    requires { ⌜ Copying (arcs-piece count) (now w) number p o ⌝ }
+    ensures { λ r. ⌜ Copies (arcs-piece count) (now (w .entry)) number p o r (now (w .exit)) ⌝ }
 {
     let mut left = count;
     let mut at = p;
@@ -28,8 +28,8 @@ fn copy_arcs(w: &mut [u32], number: u32, p: usize, count: u32, o: usize) -> usiz
 
 // Copies a node: its head as it is, and its arcs.
 fn copy_node(w: &mut [u32], number: u32, p: usize, o: usize) -> usize
-    requires { ⌜ Copying a-node (now w) number p o ⌝ }
-    ensures { λ r. ⌜ Copies a-node (now (w .entry)) number p o r (now (w .exit)) ⌝ }
+    requires { ⌜ Copying node-piece (now w) number p o ⌝ }
+    ensures { λ r. ⌜ Copies node-piece (now (w .entry)) number p o r (now (w .exit)) ⌝ }
 {
     let head = word_at(w, p);
     w[RESULT + o] = head;
@@ -41,8 +41,8 @@ fn copy_node(w: &mut [u32], number: u32, p: usize, o: usize) -> usize
 
 // Copies the `count` nodes of a graph.
 fn copy_nodes(w: &mut [u32], number: u32, p: usize, count: usize, o: usize) -> usize
-    requires { ⌜ Copying (its-nodes count) (now w) number p o ⌝ }
-    ensures { λ r. ⌜ Copies (its-nodes count) (now (w .entry)) number p o r (now (w .exit)) ⌝ }
+    requires { ⌜ Copying (nodes-piece count) (now w) number p o ⌝ }
+    ensures { λ r. ⌜ Copies (nodes-piece count) (now (w .entry)) number p o r (now (w .exit)) ⌝ }
 {
     let mut left = count;
     let mut at = p;

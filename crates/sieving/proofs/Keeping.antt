@@ -7,7 +7,7 @@ use Prim.Native.Nat.{ℕ, zero, suc, _+_, _-_, _%_, _≤_, _<_}
 use native.Mathlib.Omega.{arith}
 use lib.ListN.{length, getD, replicate}
 use Rattle.area.specs.Map.{PARENT, NEXT, LOG, SIZE}
-use Rattle.area.specs.Region.{region, words}
+use Rattle.area.specs.Region.{region, loaded-words}
 use Rattle.area.specs.Log.{body, back, past}
 use Rattle.area.proofs.Region.{region-ext, words-same}
 use Rattle.area.proofs.Undo.{word}
@@ -44,11 +44,11 @@ module _ (w t : List ℕ) (x : ℕ) (s : Sieves w t x) (f g : ℕ) (e : g ≡ f)
   pub through-runs : Runs w x → Runs w y
   through-runs r = ⊎-elim (λ u. subst (Runs w) (sym (there (u .1))) (s .runs f (low (u .0)))) (λ u. subst (Runs w) (sym u) r) o
 
-  pub through-same : (r : ℕ) → Looked (words w) w f y r → Looked (words w) w f x r
+  pub through-same : (r : ℕ) → Looked (loaded-words w) w f y r → Looked (loaded-words w) w f x r
   through-same r k = ⊎-elim (λ u. s .same f r (low (u .0)) (at (there (u .1)) k)) (λ u. at u k) o
     where
-      at : {i j : ℕ} → i ≡ j → Looked (words w) w f i r → Looked (words w) w f j r
-      at q = subst (λ (z : ℕ). Looked (words w) w f z r) q
+      at : {i j : ℕ} → i ≡ j → Looked (loaded-words w) w f i r → Looked (loaded-words w) w f j r
+      at q = subst (λ (z : ℕ). Looked (loaded-words w) w f z r) q
 
 -- ---- the same words before the log, and the same loaded words
 chain-same : (w w' : List ℕ) → ((j : ℕ) → j < LOG → getD w' j 0 ≡ getD w j 0) → (x : ℕ) (xs : List ℕ) → Chain w x xs → Chain w' x xs
@@ -63,8 +63,8 @@ chain-same w w' f x (j ∷ xs) c =
       ),
     )
 
-looked-same : (w w' : List ℕ) → ((j : ℕ) → j < LOG → getD w' j 0 ≡ getD w j 0) → words w' ≡ words w → (i x r : ℕ) →
-    Looked (words w) w i x r → Looked (words w') w' i x r
+looked-same : (w w' : List ℕ) → ((j : ℕ) → j < LOG → getD w' j 0 ≡ getD w j 0) → loaded-words w' ≡ loaded-words w → (i x r : ℕ) →
+    Looked (loaded-words w) w i x r → Looked (loaded-words w') w' i x r
 looked-same w w' f e i x r k = rw e (record { miss = λ q xs c. k .miss q xs (back xs c); hit = λ j q xs c. k .hit j q xs (back xs c) })
   where
     back : (xs : List ℕ) → Chain w' x xs → Chain w x xs
@@ -84,14 +84,14 @@ sieved-since n k w w' t b h p s = record { tells = λ c root. tells c (root .low
     parents : region PARENT n w' ≡ region PARENT n w
     parents = region-ext PARENT n w' w (omega (arith, p .len)) (p .len) (λ j l. body-same (PARENT + j) (omega arith))
 
-    loaded-same : words w' ≡ words w
+    loaded-same : loaded-words w' ≡ loaded-words w
     loaded-same = words-same w w' h (p .len) (p .same)
 
     tells : (c : ℕ) → c ≤ 0 → Sieves w t (getD w c 0) → Sieves w' t (getD w' c 0)
     tells c low u = record {
       runs = λ i l. let r = u .runs i l in
           record { xs = r .xs; chain = chain-same w w' body-same (getD t (i % 256) 0) (r .xs) (r .chain); short = r .short };
-      same = λ i r l k. subst (λ (z : ℕ). Looked (words w') w' i z r) (sym (body-same c (omega arith)))
+      same = λ i r l k. subst (λ (z : ℕ). Looked (loaded-words w') w' i z r) (sym (body-same c (omega arith)))
           (looked-same w w' body-same loaded-same i (getD w c 0) r
           (u .same i r l (looked-same w' w (λ j l. sym (body-same j l)) (sym loaded-same) i (getD t (i % 256) 0) r k)));
     }

@@ -4,7 +4,7 @@ use mathlib.Core.List.{List}
 use Prim.Native.Nat.{ℕ, _%_, _<_}
 use lib.ListN.{length, getD}
 use Rattle.area.specs.Map.{PARENT}
-use Rattle.area.specs.Region.{region, words}
+use Rattle.area.specs.Region.{region, loaded-words}
 use Rattle.forest.specs.Forest.{Root}
 use Rattle.forest.specs.State.{Runs, Looked}
 
@@ -15,7 +15,7 @@ Blank t = (i : ℕ) → getD t i 0 ≡ 0
 -- t has an arc for the feature f, or 0, and what is found from there on is what is found on the whole chain from the code x
 pub record Sieves (w t : List ℕ) (x : ℕ) : Type 0 where
   pub runs : (f : ℕ) → f % 256 < length t → Runs w (getD t (f % 256) 0)
-  pub same : (f r : ℕ) → f % 256 < length t → Looked (words w) w f (getD t (f % 256) 0) r → Looked (words w) w f x r
+  pub same : (f r : ℕ) → f % 256 < length t → Looked (loaded-words w) w f (getD t (f % 256) 0) r → Looked (loaded-words w) w f x r
 
 -- c is the class of all roots, with which the number 0 is united
 abbrev pub OfRoots : ℕ → List ℕ → ℕ → Type 0

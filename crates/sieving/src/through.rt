@@ -4,7 +4,7 @@ use limits::wide;
 ghost use Prim.Native.Nat.{_≤_};
 ghost use lib.ListN.{length};
 ghost use Rattle.area.specs.Map.{SIZE};
-ghost use Rattle.area.specs.Region.{words};
+ghost use Rattle.area.specs.Region.{loaded-words};
 ghost use Rattle.forest.specs.State.{Runs, Looked};
 ghost use Rattle.sieving.specs.Sieved.{Sieves};
 
@@ -14,7 +14,7 @@ pub fn look_through(w: &[u32], x: usize, f: u32, t: &[u32]) -> usize
     requires { ⌜ SIZE ≤ length (now w) ⌝ }
     requires { ⌜ Runs (now w) x ⌝ }
     requires { ⌜ Sieves (now w) (now t) x ⌝ }
-    ensures { λ r. ⌜ Looked (words (now (w .entry))) (now (w .entry)) f x r ⌝ }
+    ensures { λ r. ⌜ Looked (loaded-words (now (w .entry))) (now (w .entry)) f x r ⌝ }
 {
     let i = wide(f) % 256;
     let mut y = x;

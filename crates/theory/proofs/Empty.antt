@@ -21,7 +21,7 @@ use Rattle.theory.specs.Layout.{words, WellFormed}
 use Rattle.theory.specs.Reading.{decode}
 use Rattle.theory.specs.Answer.{Answer, Call, refuse, consistent}
 use Rattle.theory.specs.Unified.{unified, in-mode, complete, deliver}
-use Rattle.theory.specs.Demands.{Unifier, Demand2, Step, start, with-words, call, reached, ways, items, Demand3}
+use Rattle.theory.specs.Demands.{Unifier, Demand2, ListCall, start, with-words, call, reached, ways, items, Demand3}
 use Rattle.theory.specs.Rules.{Given}
 use Rattle.theory.specs.Outcome.{Areas}
 use Rattle.theory.specs.Programs.{Program, in-words, blank, Meets}
@@ -90,7 +90,7 @@ wF =
       ),
     )
 
-abbrev step : (d : Desc) → WellFormed d 4 → ℕ → Step
+abbrev step : (d : Desc) → WellFormed d 4 → ℕ → ListCall
 step d w m = record { item = d; fine = w; in-hand-first = true; mode = m; room = 2048; work = 16384 }
 
 -- the structure of one bare node
@@ -343,10 +343,10 @@ leaves-refused = silent-areas leaves-result (with-words 0 dN dN) (blank 3 16384)
 
 -- the third demand speaks of something: three calls in three modes that succeed, the words in hand once the second input, with two
 -- readings, and a fourth that clashes
-abbrev behind : (d : Desc) → WellFormed d 4 → ℕ → Step
+abbrev behind : (d : Desc) → WellFormed d 4 → ℕ → ListCall
 behind d w m = record { item = d; fine = w; in-hand-first = false; mode = m; room = 2048; work = 16384 }
 
-trail : List Step
+trail : List ListCall
 trail = step dP wP 0 ∷ behind dP wP 1 ∷ step dP wP 2 ∷ []
 
 trail-reached : reached unified start trail
@@ -378,7 +378,7 @@ refuse-meets-2 = record {
   clash = λ mode a b p q room work z. let k : _≡_ {A = ℕ} 1 6 = z in absurd (omega arith);
 }
 
-refused : (ws : List ℕ) (s : Step) → call always-refuse ws s .number ≡ 1
+refused : (ws : List ℕ) (s : ListCall) → call always-refuse ws s .number ≡ 1
 unfolding always-refuse
 refused ws s = refl
 
@@ -390,7 +390,7 @@ refuse-meets-3 = record {
   counted = λ l ws s h m z. let k = refused ws s in absurd (omega (arith, k, z));
 }
   where
-    counts : (l : List Step) (ws : List ℕ) → reached always-refuse start l ≡ some ws →
+    counts : (l : List ListCall) (ws : List ℕ) → reached always-refuse start l ≡ some ws →
         (d : Desc) × WellFormed d 4 × (ws ≡ words d) × (readings d ≡ ways (items l))
     counts [] ws h = let e : start ≡ ws = cc in (dN, wN, sym e, readings-nothing ∙ sym ways-none)
     counts (s ∷ l) ws h = go (call always-refuse start s .number) (refused start s) h

@@ -13,8 +13,8 @@ pub use Rattle.descriptions.specs.Demands.{Unifier}
 abbrev pub Demand2 : (U : Unifier) → Type 1
 Demand2 = Rattle.descriptions.specs.Demands.Demand2 joining-one structures layout-one
 
-abbrev pub Step : Type 0
-Step = Rattle.descriptions.specs.Demands.Step layout-one
+abbrev pub ListCall : Type 0
+ListCall = Rattle.descriptions.specs.Demands.ListCall layout-one
 
 abbrev pub start : List ℕ
 start = Rattle.descriptions.specs.Demands.start joining-one layout-one
@@ -22,16 +22,16 @@ start = Rattle.descriptions.specs.Demands.start joining-one layout-one
 abbrev pub with-words : ℕ → Desc → Desc → Call
 with-words = Rattle.descriptions.specs.Demands.with-words layout-one
 
-abbrev pub call : Unifier → List ℕ → Step → Answer
+abbrev pub call : Unifier → List ℕ → ListCall → Answer
 call = Rattle.descriptions.specs.Demands.call layout-one
 
-abbrev pub reached : Unifier → List ℕ → List Step → Option (List ℕ)
+abbrev pub reached : Unifier → List ℕ → List ListCall → Option (List ℕ)
 reached = Rattle.descriptions.specs.Demands.reached layout-one
 
 abbrev pub ways : List Desc → ℕ
 ways = Rattle.descriptions.specs.Demands.ways joining-one
 
-abbrev pub items : List Step → List Desc
+abbrev pub items : List ListCall → List Desc
 items = Rattle.descriptions.specs.Demands.items layout-one
 
 abbrev pub Demand3 : (U : Unifier) → Type 0

@@ -12,18 +12,18 @@ use Rattle.theory.specs.Net.{Node, atom, Graph, nodeAt, arcsOf, beside, Rising,
 use Rattle.theory.specs.Structure.{Structure, Into, Satisfies, SatisfiesAll}
 use Rattle.theory.proofs.Meaning.{beside-all, clash-unsatisfied}
 use Rattle.theory.proofs.Fit.{numbered-rising, rising-one}
-use Rattle.area.specs.Region.{words}
+use Rattle.area.specs.Region.{loaded-words}
 use Rattle.loading.specs.Entry.{Entry, graphs}
 use Rattle.forest.specs.Held.{ChainCode}
 use Rattle.forest.specs.State.{targets, Chain, First, None}
-use Rattle.classes.specs.Entry.{Spots, number-of, Comes}
+use Rattle.classes.specs.Entry.{Spots, spot-number, Comes}
 use Rattle.classes.specs.Holds.{Holds, class}
 use Rattle.classes.proofs.Content.{Content}
 use Rattle.forest.proofs.Links.{first-case, first-det, none-first}
 use Rattle.forest.proofs.Places.{chain-det}
 use Rattle.classes.proofs.Added.{arcs-find}
 use Rattle.classes.proofs.Writer.{spot-low, class-low, class-top, class-root, content}
-use Rattle.trying.specs.Leaf.{feature, leaf-head, Leaves}
+use Rattle.trying.specs.Leaf.{feature, leaf-head, FirstLeaves}
 use Rattle.trying.proofs.Suiting.{root-chain}
 use Rattle.trying.proofs.Flatness.{head, Bare, head-none, head-atom, fits-at, Flat, head-is, arc-is}
 
@@ -32,10 +32,10 @@ satisfies-append S [] b s t = t
 satisfies-append S (g ∷ a) b s t = (s .0, satisfies-append S a b (s .1) t)
 
 module _ (n : ℕ) (es : List Entry) (k : ℕ) (w : List ℕ) (e : Entry) (h : Holds n es k w) (c : Comes n es e w) (d : ℕ)
-    (fl : Flat (words w) (targets w) (e .number) (e .at + 1) d (e .graph))
-    (some : length (e .graph) ≡ suc d) (ls : Leaves n w (e .at) (e .number) d d) (low : ChainCode (getD w (class h 0) 0)) where
+    (fl : Flat (loaded-words w) (targets w) (e .number) (e .at + 1) d (e .graph))
+    (some : length (e .graph) ≡ suc d) (ls : FirstLeaves n w (e .at) (e .number) d d) (low : ChainCode (getD w (class h 0) 0)) where
   abbrev F : List ℕ
-  F = words w
+  F = loaded-words w
 
   abbrev T : List ℕ
   T = targets w
@@ -126,15 +126,15 @@ module _ (n : ℕ) (es : List Entry) (k : ℕ) (w : List ℕ) (e : Entry) (h : H
   }
 
   -- ---- it satisfies the graphs that are pushed
-  holding : (s : Spots es) → Content es (class h) w (class h (number-of es s))
+  holding : (s : Spots es) → Content es (class h) w (class h (spot-number es s))
   holding s =
       let l = spot-low n es k w h s in
-      let m = class-low n es k w h (number-of es s) l in
-      content n es k w h (class h (number-of es s)) (omega arith) (class-top n es k w h (number-of es s) l)
+      let m = class-low n es k w h (spot-number es s) l in
+      content n es k w h (class h (spot-number es s)) (omega arith) (class-top n es k w h (spot-number es s) l)
 
   pushed : Into (beside (graphs es)) model
   pushed = record {
-    to = λ s. inl (class h (number-of es s));
+    to = λ s. inl (class h (spot-number es s));
     root-to = λ s r. ap {B = Place} inl (class-root n es k w h s r);
     atom-to = λ s a u. holding s .atom-in s a u refl;
     arc-to = λ s f t u.

@@ -8,17 +8,17 @@ use native.Mathlib.Omega.{arith}
 use lib.ListN.{length, getD}
 use Rattle.theory.specs.Limits.{code-limit}
 use Rattle.theory.specs.Net.{Node, nodeAt, arcsOf, Clash}
-use Rattle.area.specs.Region.{words}
+use Rattle.area.specs.Region.{loaded-words}
 use Rattle.loading.specs.Entry.{Entry, graphs}
 use Rattle.forest.specs.Held.{last-arc, ChainCode, AtomCode}
-use Rattle.forest.specs.State.{targets, Pile, Same, Clashes, Chain}
+use Rattle.forest.specs.State.{targets, Pile, Equal, ClashIn, Chain}
 use Rattle.classes.specs.Entry.{Comes}
 use Rattle.classes.specs.Holds.{Holds, class, code}
 use Rattle.forest.proofs.Links.{first-mem, first-feature}
 use Rattle.classes.proofs.Grown.{same-extends}
 use Rattle.classes.proofs.Comings.{pile, extends, same', some', tied', clash'}
 use Rattle.classes.proofs.Writer.{class-low, class-top}
-use Rattle.trying.specs.Leaf.{Under, held, feature, leaf-head, Next}
+use Rattle.trying.specs.Leaf.{Under, target-code, feature, leaf-head, Next}
 use Rattle.trying.proofs.Flatness.{head, Bare, head-atom, fits-at, Flat, head-is, arc-there, arc-is}
 
 -- a chain that is not empty has a first arc
@@ -27,9 +27,9 @@ chain-some w x [] t z = absurd (z t)
 chain-some w x (j ∷ xs) t z = (j, List·Memᴰ·head refl)
 
 module _ (n : ℕ) (es : List Entry) (k : ℕ) (w : List ℕ) (e : Entry) (h : Holds n es k w) (c : Comes n es e w) (d : ℕ)
-    (fl : Flat (words w) (targets w) (e .number) (e .at + 1) d (e .graph)) where
+    (fl : Flat (loaded-words w) (targets w) (e .number) (e .at + 1) d (e .graph)) where
   abbrev F : List ℕ
-  F = words w
+  F = loaded-words w
 
   abbrev T : List ℕ
   T = targets w
@@ -44,21 +44,21 @@ module _ (n : ℕ) (es : List Entry) (k : ℕ) (w : List ℕ) (e : Entry) (h : H
   mine = Memᴰ·append-right es (List·Memᴰ·head refl)
 
   -- nodes of one class are equal
-  equal : (i j : ℕ) → i < n → j < n → class h i ≡ class h j → Same G F T i j
+  equal : (i j : ℕ) → i < n → j < n → class h i ≡ class h j → Equal G F T i j
   equal i j a b z = same-extends (h .G) G F T (extends n es k w e h c) (h .state .sound i j a b z)
 
   -- an arc of the root
   root-arc : (f t : ℕ) → List·Memᴰ (f, t) (fl .l) →
-      (q : ℕ) × (List·Memᴰ q (G .B) × (Same G F T 0 (G .S q) × ((getD F q 0 ≡ f) × (getD T q 0 ≡ e .number + t))))
+      (q : ℕ) × (List·Memᴰ q (G .B) × (Equal G F T 0 (G .S q) × ((getD F q 0 ≡ f) × (getD T q 0 ≡ e .number + t))))
   root-arc f t m =
       let r = tied' n es k w e h c .arc e mine 0 f t (some' n es k w e h c)
       (subst (λ (v : Node). List·Memᴰ (f, t) (arcsOf v)) (sym (fl .root)) m) in
       let z : e .number ≡ G .S (r .0) = omega (arith, r .1 .1 .0) in
-      (r .0, (r .1 .0, (subst (Same G F T 0) z (same' n es k w e h c), r .1 .1 .1)))
+      (r .0, (r .1 .0, (subst (Equal G F T 0) z (same' n es k w e h c), r .1 .1 .1)))
 
   -- what bears an atom in a class
   bearer : (x : ℕ) → x < n → AtomCode (getD w (class h x) 0) →
-      (i : ℕ) × (List·Memᴰ i (G .N) × ((G .A i ≡ getD w (class h x) 0) × Same G F T i x))
+      (i : ℕ) × (List·Memᴰ i (G .N) × ((G .A i ≡ getD w (class h x) 0) × Equal G F T i x))
   bearer x hx l =
       let m = class-low n es k w h x hx in
       let b = h .state .bare (class h x) (omega arith) (class-top n es k w h x hx) l .1 in (
@@ -71,7 +71,7 @@ module _ (n : ℕ) (es : List Entry) (k : ℕ) (w : List ℕ) (e : Entry) (h : H
 
   -- what has an arc in a class
   owner : (x q : ℕ) → x < n → List·Memᴰ q (getD (h .state .C) (class h x) []) →
-      List·Memᴰ q (G .B) × (Same G F T (G .S q) x × (getD T q 0 < n))
+      List·Memᴰ q (G .B) × (Equal G F T (G .S q) x × (getD T q 0 < n))
   owner x q hx m =
       let l = class-low n es k w h x hx in
       let o = h .state .home (class h x) q (omega arith) m in
@@ -79,7 +79,7 @@ module _ (n : ℕ) (es : List Entry) (k : ℕ) (w : List ℕ) (e : Entry) (h : H
       let a = h .state .arcs q b in (
         extends n es k w e h c .arcs q b,
         (
-          subst (λ (z : ℕ). Same G F T z x) (sym (extends n es k w e h c .sources q b)) (equal (h .G .S q) x (a .1 .0) hx (o .1)),
+          subst (λ (z : ℕ). Equal G F T z x) (sym (extends n es k w e h c .sources q b)) (equal (h .G .S q) x (a .1 .0) hx (o .1)),
           a .1 .1,
         ),
       )
@@ -91,7 +91,7 @@ module _ (n : ℕ) (es : List Entry) (k : ℕ) (w : List ℕ) (e : Entry) (h : H
       let r = arc-there w e d fl 0 some in
       let q = root-arc (feature w (e .at) 0) (r .0) (r .1 .0) in
       let z : G .A (b .0) ≡ getD w (class h 0) 0 = b .1 .1 .0 in
-      clash' n es k w e h c (Clashes.mixed (b .1 .0) (λ y. omega arith) (q .1 .0) (Same.on (b .1 .1 .1) (q .1 .1 .0)))
+      clash' n es k w e h c (ClashIn.mixed (b .1 .0) (λ y. omega arith) (q .1 .0) (Equal.on (b .1 .1 .1) (q .1 .1 .0)))
 
   -- ---- a leaf says something else
   module _ (i : ℕ) (below : i < d) (many : length (e .graph) ≡ suc d) (before : (j : ℕ) → j < i →
@@ -103,7 +103,8 @@ module _ (n : ℕ) (es : List Entry) (k : ℕ) (w : List ℕ) (e : Entry) (h : H
         let r = tied' n es k w e h c .node e mine (suc i) (omega arith) in
         (r .0, r .1 ∙ ap code (a .1) ∙ sym (ap head (a .1)) ∙ y)
 
-    module _ (q : ℕ) (under : Under h (feature w (e .at) i) q) (other : held h q ≢ leaf-head w (e .at) d i) (some : held h q ≢ 0)
+    module _ (q : ℕ) (under : Under h (feature w (e .at) i) q) (other : target-code h q ≢ leaf-head w (e .at) d i)
+        (some : target-code h q ≢ 0)
         (low : ChainCode (getD w (class h 0) 0)) where
       on-chain : List·Memᴰ q (getD (h .state .C) (class h 0) []) × (getD F q 0 ≡ feature w (e .at) i)
       on-chain =
@@ -120,28 +121,28 @@ module _ (n : ℕ) (es : List Entry) (k : ℕ) (w : List ℕ) (e : Entry) (h : H
       to-low : to < n
       to-low = owner 0 q first (on-chain .0) .1 .1
 
-      joined : Same G F T to (e .number + suc i)
+      joined : Equal G F T to (e .number + suc i)
       joined =
           let o = owner 0 q first (on-chain .0) in
           let r = root-arc (feature w (e .at) i) (suc i) (arc-is w e d fl i below next) in
-          subst (Same G F T to) (r .1 .1 .1 .1)
-          (Same.along (o .0) (r .1 .0) (on-chain .1 ∙ sym (r .1 .1 .1 .0)) (Same.on (o .1 .0) (r .1 .1 .0)))
+          subst (Equal G F T to) (r .1 .1 .1 .1)
+          (Equal.along (o .0) (r .1 .0) (on-chain .1 ∙ sym (r .1 .1 .1 .0)) (Equal.on (o .1 .0) (r .1 .1 .0)))
 
-      go : Dec (AtomCode (held h q)) → Clashes G F T
+      go : Dec (AtomCode (target-code h q)) → ClashIn G F T
       go (yes l) =
           let b = bearer to to-low l in
-          let z : G .A (b .0) ≡ held h q = b .1 .1 .0 in
+          let z : G .A (b .0) ≡ target-code h q = b .1 .1 .0 in
           let y : G .A (e .number + suc i) ≡ leaf-head w (e .at) d i = leaf .1 in
-          Clashes.atoms (b .1 .0) (leaf .0) (Same.on (b .1 .1 .1) joined) (λ x. some (sym z ∙ x)) (λ x. omega (arith, bears, y, x))
+          ClashIn.atoms (b .1 .0) (leaf .0) (Equal.on (b .1 .1 .1) joined) (λ x. some (sym z ∙ x)) (λ x. omega (arith, bears, y, x))
           (λ x. other (sym z ∙ x ∙ y))
       go (no l) =
           let m = class-low n es k w h to to-low in
           let t = to-low in
-          let j = chain-some w (held h q) (getD (h .state .C) (class h to) [])
+          let j = chain-some w (target-code h q) (getD (h .state .C) (class h to) [])
           (h .state .chain (class h to) (omega arith) (class-top n es k w h to to-low) (omega arith)) some in
           let o = owner to (j .0) to-low (j .1) in
           let y : G .A (e .number + suc i) ≡ leaf-head w (e .at) d i = leaf .1 in
-          Clashes.mixed (leaf .0) (λ x. omega (arith, bears, y, x)) (o .0) (Same.on (Same.back joined) (Same.back (o .1 .0)))
+          ClashIn.mixed (leaf .0) (λ x. omega (arith, bears, y, x)) (o .0) (Equal.on (Equal.back joined) (Equal.back (o .1 .0)))
 
       pub leaf-clash : Clash (graphs es ++ e .graph ∷ [])
-      leaf-clash = clash' n es k w e h c (go (decLt last-arc (held h q)))
+      leaf-clash = clash' n es k w e h c (go (decLt last-arc (target-code h q)))

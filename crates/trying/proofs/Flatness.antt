@@ -8,7 +8,7 @@ use lib.ListN.{length, getD}
 use Rattle.theory.specs.Limits.{code-limit}
 use Rattle.theory.specs.Net.{Node, atom, arcs, Graph, nodeAt}
 use Rattle.theory.specs.Layout.{NodeFits, GraphFits}
-use Rattle.area.specs.Region.{words}
+use Rattle.area.specs.Region.{loaded-words}
 use Rattle.loading.specs.Entry.{Entry}
 use Rattle.forest.specs.State.{targets}
 use Rattle.classes.specs.Nodes.{spans}
@@ -90,7 +90,7 @@ module _ (F T : List ℕ) (b : ℕ) where
       }
 
 -- the same of a graph as it lies in the area
-module _ (w : List ℕ) (e : Entry) (d : ℕ) (fl : Flat (words w) (targets w) (e .number) (e .at + 1) d (e .graph)) (i : ℕ)
+module _ (w : List ℕ) (e : Entry) (d : ℕ) (fl : Flat (loaded-words w) (targets w) (e .number) (e .at + 1) d (e .graph)) (i : ℕ)
     (below : i < d) where
   -- the head of the leaf i, after leaves
   pub head-is : ((j : ℕ) → j < i → Bare (leaf-head w (e .at) d j)) → head (nodeAt (e .graph) (suc i)) ≡ leaf-head w (e .at) d i
@@ -103,7 +103,7 @@ module _ (w : List ℕ) (e : Entry) (d : ℕ) (fl : Flat (words w) (targets w) (
   arc-there =
       let p : e .at + 1 + 1 + 2 * i ≡ e .at + 2 + 2 * i = omega arith in
       let m = fl .many in
-      rw p at (arcs-at (words w) (targets w) (λ z. z) (e .number) (fl .l) (e .at + 1 + 1) (fl .arcs-lie) i (omega arith))
+      rw p at (arcs-at (loaded-words w) (targets w) (λ z. z) (e .number) (fl .l) (e .at + 1 + 1) (fl .arcs-lie) i (omega arith))
 
   -- it leads to the leaf i
   pub arc-is : Next w (e .at) (e .number) i → List·Memᴰ (feature w (e .at) i, suc i) (fl .l)

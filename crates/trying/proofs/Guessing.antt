@@ -6,7 +6,7 @@ use Prim.Native.Nat.{ℕ, suc, _+_, _*_, _≤_, _<_}
 use native.Mathlib.Omega.{arith}
 use lib.ListN.{length, getD}
 use Rattle.packing.specs.Packed.{word-nodes, word-number}
-use Rattle.area.specs.Region.{words}
+use Rattle.area.specs.Region.{loaded-words}
 use Rattle.loading.specs.Entry.{Entry}
 use Rattle.forest.specs.Held.{ChainCode, AtomCode}
 use Rattle.forest.specs.State.{targets}
@@ -17,7 +17,7 @@ use Rattle.classes.proofs.Added.{weight-spans}
 use Rattle.classes.proofs.Comings.{lie, some'}
 use Rattle.classes.proofs.Pushings.{parts}
 use Rattle.sieving.specs.Sieved.{OfRoots}
-use Rattle.trying.specs.Leaf.{Anchored, Leaves, Torn, LeavesTold}
+use Rattle.trying.specs.Leaf.{Anchored, FirstLeaves, Torn, LeavesTold}
 use Rattle.trying.specs.Guessed.{Guesses}
 use Rattle.trying.specs.declared.told.Guess.{Guess}
 use Rattle.trying.specs.declared.told.Guess.the-variants.{Clashes, Unsure}
@@ -41,8 +41,8 @@ guess-low n k w g p =
     (omega arith, (omega arith, record { k = k; es = p .es; holds = p .holds }))
 
 -- the header, and the root's head: it has an arc to each other node
-module _ (n k : ℕ) (w : List ℕ) (g head base count d : ℕ) (is : head ≡ getD (words w) g 0) (first : base ≡ word-number head)
-    (nodes : count ≡ word-nodes head) (root : d ≡ getD (words w) (g + 1) 0) (one : d + 1 ≡ count) where
+module _ (n k : ℕ) (w : List ℕ) (g head base count d : ℕ) (is : head ≡ getD (loaded-words w) g 0) (first : base ≡ word-number head)
+    (nodes : count ≡ word-nodes head) (root : d ≡ getD (loaded-words w) (g + 1) 0) (one : d + 1 ≡ count) where
   module _ (es : List Entry) (e : Entry) (i : e .at ≡ g) (h : Holds n es k w) (c : Comes n es e w) where
     number : e .number ≡ base
     number = parts n k w g head base count is first nodes es e i c .0
@@ -50,11 +50,11 @@ module _ (n k : ℕ) (w : List ℕ) (g head base count d : ℕ) (is : head ≡ g
     many : length (e .graph) ≡ suc d
     many = let m = parts n k w g head base count is first nodes es e i c .1 in omega arith
 
-    level : Flat (words w) (targets w) (e .number) (e .at + 1) d (e .graph)
+    level : Flat (loaded-words w) (targets w) (e .number) (e .at + 1) d (e .graph)
     level =
         let m = many in let l = c .lies .few in
-        flat (words w) (targets w) (e .number) (e .graph) (e .at + 1) d (lie n es k w e h c) (c .fits) many (omega arith)
-        (ap (λ (z : ℕ). getD (words w) (z + 1) 0) i ∙ sym root)
+        flat (loaded-words w) (targets w) (e .number) (e .graph) (e .at + 1) d (lie n es k w e h c) (c .fits) many (omega arith)
+        (ap (λ (z : ℕ). getD (loaded-words w) (z + 1) 0) i ∙ sym root)
 
   -- the words of its arcs and leaves
   pub guess-room : Pushing n k w g → g + 2 + 3 * d ≤ 2048
@@ -98,5 +98,5 @@ module _ (n k : ℕ) (w : List ℕ) (g head base count d : ℕ) (is : head ≡ g
         low es h = subst ChainCode (held es h) l
 
         leaves : (es : List Entry) (e : Entry) (i : e .at ≡ g) (h : Holds n es k w) (c : Comes n es e w) (j : ℕ) →
-            Leaves n w g base d j → Leaves n w (e .at) (e .number) d j
+            FirstLeaves n w g base d j → FirstLeaves n w (e .at) (e .number) d j
         leaves es e i h c j o = rw (i, number es e i h c) o

@@ -6,7 +6,7 @@ use Prim.Native.Nat.{ℕ, _+_, _≤_, _<_}
 use native.Mathlib.Decide.{decLt}
 use native.Mathlib.Omega.{arith}
 use Rattle.theory.specs.Limits.{code-limit}
-use Rattle.trying.specs.Leaf.{feature, leaf-head, Next, Leaf, Suits, LeafTold, Leaves, LeavesTold}
+use Rattle.trying.specs.Leaf.{feature, leaf-head, Next, Leaf, Suits, LeafTold, FirstLeaves, LeavesTold}
 use Rattle.trying.specs.declared.told.Guess.{Guess}
 use Rattle.trying.specs.declared.told.Guess.the-variants.{Agrees, Unsure}
 
@@ -34,23 +34,23 @@ module _ (n : ℕ) (w : List ℕ) (g b d : ℕ) where
       }
 
   -- ---- all arcs
-  pub leaves-none : Leaves n w g b d 0
+  pub leaves-none : FirstLeaves n w g b d 0
   leaves-none j h = absurd (omega arith)
 
-  pub leaves-more : (i : ℕ) → Leaves n w g b d i → LeafTold n w g b d i Agrees → Leaves n w g b d (i + 1)
+  pub leaves-more : (i : ℕ) → FirstLeaves n w g b d i → LeafTold n w g b d i Agrees → FirstLeaves n w g b d (i + 1)
   leaves-more i l s j h = go (decLt j i)
     where
       go : Dec (j < i) → Leaf n w g b d j
       go (yes z) = l j z
       go (no z) = let e : i ≡ j = omega arith in subst (Leaf n w g b d) e (s .agrees refl)
 
-  pub all-agree : Leaves n w g b d d → LeavesTold n w g b d Agrees
+  pub all-agree : FirstLeaves n w g b d d → LeavesTold n w g b d Agrees
   all-agree l = record {
     agrees = λ y. l;
     clashes = λ y. let i : _≡_ {A = ℕ} 0 1 = cc in absurd (omega arith);
   }
 
-  pub all-stop : (i : ℕ) (r : Guess) → i < d → Leaves n w g b d i → LeafTold n w g b d i r → (r ≡ Agrees → ⊥) → LeavesTold n w g b d r
+  pub all-stop : (i : ℕ) (r : Guess) → i < d → FirstLeaves n w g b d i → LeafTold n w g b d i r → (r ≡ Agrees → ⊥) → LeavesTold n w g b d r
   all-stop i r h l s z = record {
     agrees = λ y. absurd (z y);
     clashes = λ y. (i, (h, (l, s .clashes y)));

@@ -4,7 +4,7 @@ use mathlib.Core.List.{List, []}
 use Prim.Native.Nat.{ℕ, suc, _-_, _≤_, _<_}
 use native.Mathlib.Omega.{arith}
 use lib.ListN.{getD}
-use Rattle.area.specs.Region.{words}
+use Rattle.area.specs.Region.{loaded-words}
 use Rattle.loading.specs.Entry.{Entry}
 use Rattle.forest.specs.Held.{ChainCode}
 use Rattle.forest.specs.State.{targets, Chain, Runs, Looked}
@@ -13,7 +13,7 @@ use Rattle.forest.proofs.Links.{first-det, none-first}
 use Rattle.classes.proofs.Answers.{root-classed, asked-low, target-low}
 use Rattle.classes.proofs.Writer.{class-low, class-top}
 use Rattle.sieving.proofs.Keeping.{roots-run}
-use Rattle.trying.specs.Leaf.{Anchored, Under, held, Suits}
+use Rattle.trying.specs.Leaf.{Anchored, Under, target-code, Suits}
 use Rattle.trying.specs.declared.told.Guess.the-variants.{Agrees, Clashes, Unsure}
 
 -- a chain begins with what the class of all roots holds
@@ -33,16 +33,16 @@ module _ (n : ℕ) (w : List ℕ) (x : ℕ) (a : Anchored n w x) where
   head-is : (es : List Entry) (k : ℕ) (h : Holds n es k w) → x ≡ getD w (class h 0) 0
   head-is es k h = a .is ∙ ap (λ (z : ℕ). getD w z 0) (classed .is es k h)
 
-  module _ (f v r : ℕ) (m : Looked (words w) w f x r) where
-    chained : (es : List Entry) (k : ℕ) (h : Holds n es k w) → Looked (words w) w f (getD w (class h 0) 0) r
-    chained es k h = subst (λ (z : ℕ). Looked (words w) w f z r) (head-is es k h) m
+  module _ (f v r : ℕ) (m : Looked (loaded-words w) w f x r) where
+    chained : (es : List Entry) (k : ℕ) (h : Holds n es k w) → Looked (loaded-words w) w f (getD w (class h 0) 0) r
+    chained es k h = subst (λ (z : ℕ). Looked (loaded-words w) w f z r) (head-is es k h) m
 
     pub suits-free : r ≡ 0 → Suits n w f v Agrees
     suits-free z = record {
       agrees = λ y es k h q p.
           let e = head-is es k h in
           let t = root-chain n es k w h (a .some) (omega (arith, a .low)) in
-          absurd (none-first (words w) f (t .0) q (chained es k h .miss z (t .0) (t .1)) (p (t .0) (t .1)));
+          absurd (none-first (loaded-words w) f (t .0) q (chained es k h .miss z (t .0) (t .1)) (p (t .0) (t .1)));
       clashes = λ y. let i : _≡_ {A = ℕ} 0 1 = cc in absurd (omega arith);
     }
 
@@ -55,10 +55,11 @@ module _ (n : ℕ) (w : List ℕ) (x : ℕ) (a : Anchored n w x) where
           let l = a .low in let e = a .is in
           let z : r ≡ suc (r - 1) = omega arith in
           target-low n w 0 (a .some) (a .c) classed f (omega arith) (r - 1)
-          (subst (Looked (words w) w f (getD w (a .c) 0)) z (subst (λ (z : ℕ). Looked (words w) w f z r) (a .is) m)) (a .labelled)
+          (subst (Looked (loaded-words w) w f (getD w (a .c) 0)) z (subst (λ (z : ℕ). Looked (loaded-words w) w f z r) (a .is) m))
+          (a .labelled)
 
       module _ (c : ℕ) (cl : Classed n w (getD (targets w) (r - 1) 0) c) where
-        held-is : (es : List Entry) (k : ℕ) (h : Holds n es k w) → held h (r - 1) ≡ getD w c 0
+        held-is : (es : List Entry) (k : ℕ) (h : Holds n es k w) → target-code h (r - 1) ≡ getD w c 0
         held-is es k h = ap (λ (z : ℕ). getD w z 0) (sym (cl .is es k h))
 
         pub suits-inside : c < n
@@ -69,8 +70,8 @@ module _ (n : ℕ) (w : List ℕ) (x : ℕ) (a : Anchored n w x) where
           agrees = λ y es k h q p.
               let e = head-is es k h in
               let t = root-chain n es k w h (a .some) (omega (arith, a .low)) in
-              let d : q ≡ r - 1 = first-det (words w) f (t .0) q (r - 1) (p (t .0) (t .1)) (found es k h (t .0) (t .1)) in
-              ap (λ (i : ℕ). held h i) d ∙ held-is es k h ∙ z;
+              let d : q ≡ r - 1 = first-det (loaded-words w) f (t .0) q (r - 1) (p (t .0) (t .1)) (found es k h (t .0) (t .1)) in
+              ap (λ (i : ℕ). target-code h i) d ∙ held-is es k h ∙ z;
           clashes = λ y. let i : _≡_ {A = ℕ} 0 1 = cc in absurd (omega arith);
         }
 

@@ -14,7 +14,7 @@ use Rattle.theory.specs.Join.{join}
 use Rattle.theory.specs.Modes.{joined}
 use Rattle.theory.proofs.Instance.{none-join}
 use Rattle.area.specs.Map.{WORDS, SIZE}
-use Rattle.area.specs.Region.{region, words}
+use Rattle.area.specs.Region.{region, loaded-words}
 use Rattle.area.proofs.Region.{words-same}
 use Rattle.classes.proofs.Laws.{holds-frame, undoable-frame}
 use Rattle.marks.specs.Marked.{Cleared}
@@ -29,8 +29,8 @@ unfolding Rattle.descriptions.specs.Modes.joined
 clash-none (desc g ds) (desc h es) p q w c = let z : join (g ∷ h ∷ []) ≡ none = none-join g (h ∷ []) (p .0, (q .0, tt)) c in
     rw (z, Rattle.descriptions.specs.Modes.joined) refl
 
-loaded-again : (w w′ : List ℕ) → SIZE ≤ length w → Cleared w w′ → region WORDS 2048 w ≡ words w′
-unfolding words
+loaded-again : (w w′ : List ℕ) → SIZE ≤ length w → Cleared w w′ → region WORDS 2048 w ≡ loaded-words w′
+unfolding loaded-words
 loaded-again w w′ h c = sym (words-same w w′ h (c .len) (λ j a b. c .rest j (inl b)))
 
 module _ (w a b : List ℕ) (o : Opening w a b) (r : Opened) (w₁ : List ℕ) (p : Opens w a b r w₁) (w₂ : List ℕ) (c : Cleared w₁ w₂) where
@@ -48,7 +48,7 @@ module _ (w a b : List ℕ) (o : Opening w a b) (r : Opened) (w₁ : List ℕ) (
       go Clashed d e q t = clash-none d e (q .first-well) (q .second-well) w₁ t
       go (Joined n k) d e q t =
           let l = c .len in let h = long in
-          let s : Stand (words w₂) d e n = subst (λ (z : List ℕ). Stand z d e n) (loaded-again w₁ w₂ long c) (t .0) in
+          let s : Stand (loaded-words w₂) d e n = subst (λ (z : List ℕ). Stand z d e n) (loaded-again w₁ w₂ long c) (t .0) in
           let f = holds-frame n _ k w₁ (t .1) w₂ (c .len) (λ j m. c .rest j (inl m)) in
           let u = undoable-frame n k w₁ (t .2) w₂ (c .len) (λ j m. c .rest j (inl m)) in
           let x = first-stage w₂ d e n (omega arith) (q .first-well) (q .second-well) (few a d (q .first-is) (o .inputs .first-few))

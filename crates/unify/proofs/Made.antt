@@ -7,7 +7,7 @@ use Rattle.theory.specs.Descr.{Desc}
 use mathlib.Core.Option.{none}
 use Rattle.engine.specs.Marks.{all-kept}
 use Rattle.engine.specs.Quickly.{quick-at, Leaves}
-use Rattle.area.specs.Region.{words}
+use Rattle.area.specs.Region.{loaded-words}
 use Rattle.marks.specs.Marked.{marking}
 use Rattle.opening.specs.Opening.{Read, Opening}
 use Rattle.opening.specs.declared.Opened.{Opened}
@@ -66,7 +66,7 @@ module _ (mode : ℕ) (a b w : List ℕ) (r : Opened) (w₁ : List ℕ) (g : Beg
 
     -- ---- modes 1 and 2
     pub asks-quick : Opening w a b → Quickening n k w₁
-    asks-quick o = let x = begun (one o) (two o) (reads o) in record { t = words w₁; p = x .0; stage = x .3; every = x .4 }
+    asks-quick o = let x = begun (one o) (two o) (reads o) in record { t = loaded-words w₁; p = x .0; stage = x .3; every = x .4 }
 
     module _ (s : Step) (w₂ : List ℕ) (f : Quickens n k w₁ s w₂) where
       pub makes-quick-fails : 1 ≤ mode → s ≡ Fails → Makes mode w a b QuickFails w₂
@@ -83,18 +83,18 @@ module _ (mode : ℕ) (a b w : List ℕ) (r : Opened) (w₁ : List ℕ) (g : Beg
               ((t : List ℕ) (p : Pair n t) → Stage n t p k w₁ → marking w₁ ≡ all-kept → quick-at (p .j) ≡ none) →
               Meant mode d e w₂ QuickFails
           told d e x c =
-              meant-of (x .0) mode w₂ QuickFails d e (x .1) (x .2) (meant-fails (x .0) mode w₂ h (c (words w₁) (x .0) (x .3) (x .4)))
+              meant-of (x .0) mode w₂ QuickFails d e (x .1) (x .2) (meant-fails (x .0) mode w₂ h (c (loaded-words w₁) (x .0) (x .3) (x .4)))
 
       module _ (k′ i : ℕ) (e : s ≡ Stands k′ i) where
         moved : Moved k w₁ k′ w₂
         moved = f .standing k′ i e .0
 
-        left : (d e : Desc) (x : Begun d e w₁ (Joined n k)) → Leaves (x .0 .j) (marking w₂) × Stage n (words w₁) (x .0) k′ w₂
-        left d z x = f .standing k′ i e .1 (words w₁) (x .0) (x .3) (x .4)
+        left : (d e : Desc) (x : Begun d e w₁ (Joined n k)) → Leaves (x .0 .j) (marking w₂) × Stage n (loaded-words w₁) (x .0) k′ w₂
+        left d z x = f .standing k′ i e .1 (loaded-words w₁) (x .0) (x .3) (x .4)
 
         pub asks-show-quick : Opening w a b → Showing n k′ w₂
         asks-show-quick o = let x = begun (one o) (two o) (reads o) in let y = left (one o) (two o) x in
-            quick-showing n (words w₁) (x .0) k′ w₂ (y .1) (y .0)
+            quick-showing n (loaded-words w₁) (x .0) k′ w₂ (y .1) (y .0)
 
         pub makes-quick : mode ≡ 1 → (l : ℕ) (w₃ : List ℕ) → Shows n k′ w₂ l w₃ → Makes mode w a b (Ready l 0) w₃
         makes-quick z l w₃ v = record {
@@ -106,12 +106,12 @@ module _ (mode : ℕ) (a b w : List ℕ) (r : Opened) (w₁ : List ℕ) (g : Beg
             told : (d e : Desc) → Begun d e w₁ (Joined n k) → Meant 1 d e w₃ (Ready l 0)
             told d e x =
                 let y = left d e x in
-                let u = v .told (quick-showing n (words w₁) (x .0) k′ w₂ (y .1) (y .0)) in
+                let u = v .told (quick-showing n (loaded-words w₁) (x .0) k′ w₂ (y .1) (y .0)) in
                 meant-of (x .0) 1 w₃ (Ready l 0) d e (x .1) (x .2) (meant-quick (x .0) (marking w₂) (y .0) w₃ l (u .0) (u .1))
 
         pub asks-complete : Opening w a b → Completing n k′ w₂
         asks-complete o = let x = begun (one o) (two o) (reads o) in let y = left (one o) (two o) x in
-            record { t = words w₁; p = x .0; stage = y .1; left = y .0 }
+            record { t = loaded-words w₁; p = x .0; stage = y .1; left = y .0 }
 
         pub makes-full : mode ≡ 2 → (v : Made) (w₃ : List ℕ) → Completes n k′ w₂ v w₃ → Makes mode w a b v w₃
         makes-full z v w₃ c = record {
@@ -121,4 +121,4 @@ module _ (mode : ℕ) (a b w : List ℕ) (r : Opened) (w₁ : List ℕ) (g : Beg
         }
           where
             told : (d e : Desc) → Begun d e w₁ (Joined n k) → Meant 2 d e w₃ v
-            told d e x = let y = left d e x in meant-of (x .0) 2 w₃ v d e (x .1) (x .2) (c .told (words w₁) (x .0) (y .1) (y .0))
+            told d e x = let y = left d e x in meant-of (x .0) 2 w₃ v d e (x .1) (x .2) (c .told (loaded-words w₁) (x .0) (y .1) (y .0))

@@ -29,7 +29,7 @@ use Rattle.answering.specs.declared.answer.Answer.the-variants.{Done, Clash, To
 use Rattle.answering.specs.Number.{row-of}
 use Rattle.unify.specs.Making.{Makes, Meant}
 use Rattle.unify.proofs.Made as inputs
-use Rattle.answering.specs.Handing.{Room, Handed}
+use Rattle.answering.specs.Handing.{ResultInside, Handed}
 
 -- words that stand at a place are the region there
 stands-region : (ws xs : List ℕ) (p q : ℕ) → Stands ws p xs q → region p (length xs) ws ≡ xs
@@ -127,10 +127,10 @@ module _ (mode : ℕ) (a b w : List ℕ) (m : mode ≤ 2) (o : Opening w a b) wh
     within : RESULT ≤ length w₁
     within = let l = k .len in let h = o .long in omega arith
 
-    pub made-room : Room w₁ r
+    pub made-room : ResultInside w₁ r
     made-room = go r (k .told d e read)
       where
-        go : (r : Made) → Meant mode d e w₁ r → Room w₁ r
+        go : (r : Made) → Meant mode d e w₁ r → ResultInside w₁ r
         go made.Clash h = tt
         go made.QuickFails h = tt
         go made.TooMany h = tt

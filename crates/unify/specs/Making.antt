@@ -27,7 +27,8 @@ use Rattle.answering.specs.declared.hand.Made.the-variants.{Ready, Clash, Quick
 -- "0, join. The graph is the join of both definite graphs (a clash there is a clash in all modes).": both stand loaded with all
 -- alternatives kept, or they clash
 abbrev pub Begun : Desc → Desc → List ℕ → Opened → Type 0
-Begun d e w (Joined n k) = (p : Pair n (area.words w)) × (p .d ≡ d) × (p .e ≡ e) × Stage n (area.words w) p k w × (marking w ≡ all-kept)
+Begun d e w (Joined n k) = (p : Pair n (area.loaded-words w)) × (p .d ≡ d) × (p .e ≡ e) × Stage n (area.loaded-words w) p k w
+    × (marking w ≡ all-kept)
 Begun d e w Clashed = joined d e ≡ none
 
 pub record Begins (w a b : List ℕ) (r : Opened) (w′ : List ℕ) : Type 0 where

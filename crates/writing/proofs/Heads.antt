@@ -14,7 +14,7 @@ use Rattle.layout.proofs.Standing.{stands-append, stands-length}
 use Rattle.area.specs.Map.{LOG, RESULT, SIZE}
 use Rattle.forest.specs.Held.{ChainCode, AtomCode}
 use Rattle.writing.specs.Classes.{Fan, Classes, Met}
-use Rattle.writing.specs.Writing.{Kept, Arcing, Arced, Noding, Noded, Listing, Listed}
+use Rattle.writing.specs.Writing.{Kept, Arcing, Arced, NodeWriting, NodeWritten, NodesWriting, NodesWritten}
 use Rattle.writing.proofs.Keeping.{kept-refl, kept-trans, kept-both, kept-wider, kept-put, kept-stands, kept-classes, met-kept}
 use Rattle.loading.proofs.Putting.{stands-frame}
 
@@ -27,16 +27,16 @@ module _ (n k : ℕ) (w : List ℕ) (i at m c : ℕ) (e : c ≡ getD w (LOG + k 
   class-is : (ord : List ℕ) → Met k m ord w → i < m → c ≡ getD ord i 0
   class-is ord a h = e ∙ a .order i h
 
-  pub noding-low : Noding n k w i at m → (c < 1024) × ((SIZE ≤ length w) × ((at < 2048) × (k ≤ 4096)))
+  pub noding-low : NodeWriting n k w i at m → (c < 1024) × ((SIZE ≤ length w) × ((at < 2048) × (k ≤ 4096)))
   noding-low p =
       let h = p .below in let f = p .marks .few in let s = p .classes in let q = class-is (p .ord) (p .marks) h in
       let a = s .low i (omega arith) in let b = s .below in let r = s .room in
       let z = node-some (nodeAt (p .G) i) in let y = p .fits in
       (omega arith, (s .long, (omega arith, omega arith)))
 
-  module _ (p : Noding n k w i at m) where
+  module _ (p : NodeWriting n k w i at m) where
     -- an atom
-    pub noded-atom : AtomCode (getD w c 0) → Noded n k w i at m (at + 1) m (set w (RESULT + at) (getD w c 0))
+    pub noded-atom : AtomCode (getD w c 0) → NodeWritten n k w i at m (at + 1) m (set w (RESULT + at) (getD w c 0))
     unfolding Stands
     noded-atom b =
         let low = noding-low p in let long = low .1 .0 in let fits = low .1 .1 .0 in let few = low .1 .1 .1 in
@@ -128,7 +128,7 @@ module _ (n k : ℕ) (w : List ℕ) (i at m c : ℕ) (e : c ≡ getD w (LOG + k 
             let z = ends (p .G) o in let f = arcs-fit in
             (omega arith, (r .kept .len, omega arith))
 
-        pub noded-arcs : Noded n k w i at m at' m' (set v (RESULT + at) ((at' - at) / 2))
+        pub noded-arcs : NodeWritten n k w i at m at' m' (set v (RESULT + at) ((at' - at) / 2))
         unfolding Stands
         noded-arcs =
             let low = noding-low p in let long = low .1 .0 in let fits = low .1 .1 .0 in let few = low .1 .1 .1 in
@@ -190,7 +190,7 @@ going-start n k w from = record {
 }
 
 module _ (n k : ℕ) (w : List ℕ) (from at met' i : ℕ) (w' : List ℕ) (d : Going n k w from at met' i w') where
-  pub gone : (p : Listing n k w from) → Gone n k from (p .G) (p .lab) (p .ord) at met' i w'
+  pub gone : (p : NodesWriting n k w from) → Gone n k from (p .G) (p .lab) (p .ord) at met' i w'
   gone p = d .told (p .G) (p .lab) (p .ord) (p .classes) (p .marks) (p .canonical)
 
   module _ (h : i < met') where
@@ -209,7 +209,7 @@ module _ (n k : ℕ) (w : List ℕ) (from at met' i : ℕ) (w' : List ℕ) (d : 
     heavy G l = ap (λ (g : Graph). length (nodes-words g)) (next G l)
         ∙ length-append (node-words (nodeAt G i)) (nodes-words (drop (suc i) G))
 
-    pub going-noding : Listing n k w from → Noding n k w' i at met'
+    pub going-noding : NodesWriting n k w from → NodeWriting n k w' i at met'
     going-noding p =
         let s = gone p in
         let x = split (p .G) (p .lab) (p .ord) s in
@@ -226,7 +226,7 @@ module _ (n k : ℕ) (w : List ℕ) (from at met' i : ℕ) (w' : List ℕ) (d : 
           fits = omega arith;
         }
 
-    pub going-turn : (at2 met2 : ℕ) (w2 : List ℕ) → Noded n k w' i at met' at2 met2 w2 → Going n k w from at2 met2 (i + 1) w2
+    pub going-turn : (at2 met2 : ℕ) (w2 : List ℕ) → NodeWritten n k w' i at met' at2 met2 w2 → Going n k w from at2 met2 (i + 1) w2
     going-turn at2 met2 w2 e = record {
       kept = kept-trans k from at at2 w w' w2 (d .kept) (e .kept);
       told = λ G lab ord g a c.
@@ -255,7 +255,7 @@ module _ (n k : ℕ) (w : List ℕ) (from at met' i : ℕ) (w' : List ℕ) (d : 
           };
     }
 
-  pub going-end : met' ≤ i → Listed n k w from at met' w'
+  pub going-end : met' ≤ i → NodesWritten n k w from at met' w'
   going-end h = record {
     kept = d .kept;
     told = λ G lab ord g a c.

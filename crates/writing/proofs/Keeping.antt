@@ -9,7 +9,7 @@ use lib.Seq.{getD-set-same, getD-set-other}
 use Rattle.theory.specs.Net.{Graph}
 use Rattle.layout.specs.Standing.{Stands}
 use Rattle.area.specs.Map.{PARENT, NEXT, LOG, STACK, WORDS, RESULT}
-use Rattle.area.specs.Region.{region, words}
+use Rattle.area.specs.Region.{region, loaded-words}
 use Rattle.area.proofs.Region.{region-ext, words-same}
 use Rattle.forest.specs.Held.{ChainCode}
 use Rattle.forest.specs.State.{targets, Chain}
@@ -17,7 +17,7 @@ use Rattle.forest.proofs.Words.{targets-same}
 use Rattle.forest.proofs.Links.{chain-same}
 use Rattle.forest.proofs.Places.{chain-low}
 use Rattle.writing.specs.Classes.{Fan, Classes, Met}
-use Rattle.writing.specs.Writing.{Kept, Cleared}
+use Rattle.writing.specs.Writing.{Kept, Unnumbered}
 use Rattle.loading.proofs.Putting.{stands-frame}
 
 pub kept-refl : (k at : ℕ) (w : List ℕ) → Kept k at at w w
@@ -71,7 +71,7 @@ kept-chain k at at' w w' r x xs c = chain-same w' w x xs (λ q m. sym (r .low (N
 
 module _ (n k at at' : ℕ) (w w' : List ℕ) (r : Kept k at at' w w') (lab : ℕ → ℕ) (ord : List ℕ) where
   module _ (G : Graph) (c : Classes n k w G lab ord) where
-    pub kept-words : words w' ≡ words w
+    pub kept-words : loaded-words w' ≡ loaded-words w
     kept-words = words-same w w' (c .long) (r .len) (λ j a b. r .mid j a (omega arith))
 
     et : targets w' ≡ targets w
@@ -126,10 +126,10 @@ met-kept n k m w w' G lab ord c f s =
     }
 
 -- ---- clearing
-pub cleared-none : (w : List ℕ) → Cleared 0 w w
+pub cleared-none : (w : List ℕ) → Unnumbered 0 w w
 cleared-none w = record { len = refl; is = λ i h. absurd (omega arith); low = λ j h. refl; high = λ j h. refl }
 
-pub cleared-more : (i : ℕ) (w w' : List ℕ) → i < 1024 → WORDS ≤ length w → Cleared i w w' → Cleared (i + 1) w (set w' (STACK + i) 0)
+pub cleared-more : (i : ℕ) (w w' : List ℕ) → i < 1024 → WORDS ≤ length w → Unnumbered i w w' → Unnumbered (i + 1) w (set w' (STACK + i) 0)
 cleared-more i w w' h g c = record {
   len = simp length-set (c .len);
   is = λ j l. go j l (ℕ-discrete j i);

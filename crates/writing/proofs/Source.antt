@@ -15,13 +15,13 @@ use Rattle.theory.proofs.Meaning.{joined-root}
 use Rattle.theory.proofs.Weight.{distinct-length, range, range-length}
 use Rattle.descriptions.proofs.Tests.{Distinct}
 use Rattle.area.specs.Map.{PARENT}
-use Rattle.area.specs.Region.{region, words}
+use Rattle.area.specs.Region.{region, loaded-words}
 use Rattle.area.proofs.Region.{length-region}
 use Rattle.loading.specs.Entry.{Entry, graphs}
-use Rattle.forest.specs.Labels.{pick}
+use Rattle.forest.specs.Labels.{by-test}
 use Rattle.forest.specs.Forest.{tops}
 use Rattle.forest.specs.Held.{last-arc, ChainCode, AtomCode}
-use Rattle.classes.specs.Entry.{Spots, number-of}
+use Rattle.classes.specs.Entry.{Spots, spot-number}
 use Rattle.classes.specs.Holds.{Holds, class}
 use Rattle.classes.proofs.Content.{Content}
 use Rattle.forest.proofs.Links.{first-mem, first-feature}
@@ -63,7 +63,7 @@ roots-length i [] = refl
 roots-length i (x ∷ P) = go (eqb x i) (roots-length (suc i) P)
   where
     go : (b : Bool) → length (roots-from (suc i) P) ≡ tops (suc i) P →
-        length {A = ℕ} (elim b [ true ↦ i ∷ roots-from (suc i) P | false ↦ roots-from (suc i) P ]) ≡ pick b 1 0 + tops (suc i) P
+        length {A = ℕ} (elim b [ true ↦ i ∷ roots-from (suc i) P | false ↦ roots-from (suc i) P ]) ≡ by-test b 1 0 + tops (suc i) P
     go true e = omega arith
     go false e = omega arith
 
@@ -87,7 +87,7 @@ roots-in i (x ∷ P) (suc a) h e =
 module _ (n : ℕ) (es : List Entry) (k : ℕ) (w : List ℕ) (h : Holds n es k w) (G : Graph) (j : Joined (graphs es) G) where
   -- the class of the node i
   class-at : (i : ℕ) → Dec (i < length G) → ℕ
-  class-at i (yes l) = class h (number-of es (j .onto i l .0))
+  class-at i (yes l) = class h (spot-number es (j .onto i l .0))
   class-at i (no l) = 0
 
   pub ord : List ℕ
@@ -97,7 +97,7 @@ module _ (n : ℕ) (es : List Entry) (k : ℕ) (w : List ℕ) (h : Holds n es k 
   unfolding ord
   many = length-map (range 0 (length G)) (λ (i : ℕ). class-at i (decLt i (length G))) ∙ range-length 0 (length G)
 
-  spot-at : (i : ℕ) → i < length G → (s : Spots es) × ((j .class s ≡ i) × (getD ord i 0 ≡ class h (number-of es s)))
+  spot-at : (i : ℕ) → i < length G → (s : Spots es) × ((j .class s ≡ i) × (getD ord i 0 ≡ class h (spot-number es s)))
   unfolding ord class-at
   spot-at i l =
       let p = go (decLt i (length G)) in (
@@ -109,18 +109,18 @@ module _ (n : ℕ) (es : List Entry) (k : ℕ) (w : List ℕ) (h : Holds n es k 
         ),
       )
     where
-      go : (d : Dec (i < length G)) → (s : Spots es) × ((j .class s ≡ i) × (class-at i d ≡ class h (number-of es s)))
+      go : (d : Dec (i < length G)) → (s : Spots es) × ((j .class s ≡ i) × (class-at i d ≡ class h (spot-number es s)))
       go (yes m) = let o = j .onto i m in (o .0, (o .1, refl))
       go (no m) = absurd (m l)
 
   -- one class, one number
-  same-number : (s t : Spots es) → class h (number-of es s) ≡ class h (number-of es t) → j .class s ≡ j .class t
+  same-number : (s t : Spots es) → class h (spot-number es s) ≡ class h (spot-number es t) → j .class s ≡ j .class t
   same-number s t e = j .together s t (class-same n es k w h s t e)
 
-  number-same : (s t : Spots es) → j .class s ≡ j .class t → class h (number-of es s) ≡ class h (number-of es t)
+  number-same : (s t : Spots es) → j .class s ≡ j .class t → class h (spot-number es s) ≡ class h (spot-number es t)
   number-same s t e = same-class n es k w h s t (j .apart s t e)
 
-  spot-class : (s : Spots es) → getD ord (j .class s) 0 ≡ class h (number-of es s)
+  spot-class : (s : Spots es) → getD ord (j .class s) 0 ≡ class h (spot-number es s)
   spot-class s = let p = spot-at (j .class s) (j .inside s) in p .1 .1 ∙ number-same (p .0) s (p .1 .0)
 
   own : (a b : ℕ) → a < length ord → b < length ord → getD ord a 0 ≡ getD ord b 0 → a ≡ b
@@ -134,13 +134,13 @@ module _ (n : ℕ) (es : List Entry) (k : ℕ) (w : List ℕ) (h : Holds n es k 
       let m = many in
       let p = spot-at i (omega arith) in
       let a = spot-low n es k w h (p .0) in
-      let b = class-low n es k w h (number-of es (p .0)) a in
+      let b = class-low n es k w h (spot-number es (p .0)) a in
       let e = p .1 .1 in
       omega arith
 
   top : (i : ℕ) → i < length ord → class h (getD ord i 0) ≡ getD ord i 0
   top i l = let m = many in let p = spot-at i (omega arith) in
-      rw (p .1 .1) (class-top n es k w h (number-of es (p .0)) (spot-low n es k w h (p .0)))
+      rw (p .1 .1) (class-top n es k w h (spot-number es (p .0)) (spot-low n es k w h (p .0)))
 
   abbrev P : List ℕ
   P = region PARENT n w
@@ -173,10 +173,10 @@ module _ (n : ℕ) (es : List Entry) (k : ℕ) (w : List ℕ) (h : Holds n es k 
 
   module _ (i : ℕ) (l : i < length ord) where
     -- a spot of the class, by its number and by its label
-    labelled : (s : Spots es) → j .class s ≡ i → class h (number-of es s) ≡ getD ord i 0
+    labelled : (s : Spots es) → j .class s ≡ i → class h (spot-number es s) ≡ getD ord i 0
     labelled s e = sym (spot-class s) ∙ ap (λ (z : ℕ). getD ord z 0) e
 
-    numbered : (s : Spots es) → class h (number-of es s) ≡ getD ord i 0 → j .class s ≡ i
+    numbered : (s : Spots es) → class h (spot-number es s) ≡ getD ord i 0 → j .class s ≡ i
     numbered s e = let m = many in let a = j .inside s in own (j .class s) i (omega arith) l (spot-class s ∙ e)
 
     atom-head : (a : ℕ) → nodeAt G i ≡ atom a → getD w (getD ord i 0) 0 ≡ code-limit + a
@@ -209,11 +209,11 @@ module _ (n : ℕ) (es : List Entry) (k : ℕ) (w : List ℕ) (h : Holds n es k 
             let p = held i l .arc-from q m in
             let s = p .1 .0 in
             let t = p .1 .1 .0 in
-            let x : List·Memᴰ (getD (words w) q 0, j .class t) (arcsOf (nodeAt G (j .class s))) =
-            j .arc-in s (getD (words w) q 0) t (p .1 .1 .1 .1 .1) in (
+            let x : List·Memᴰ (getD (loaded-words w) q 0, j .class t) (arcsOf (nodeAt G (j .class s))) =
+            j .arc-in s (getD (loaded-words w) q 0) t (p .1 .1 .1 .1 .1) in (
               j .class t,
               (
-                subst (λ (z : List (ℕ × ℕ)). List·Memᴰ (getD (words w) q 0, j .class t) z)
+                subst (λ (z : List (ℕ × ℕ)). List·Memᴰ (getD (loaded-words w) q 0, j .class t) z)
                     (ap (λ (z : ℕ). arcsOf (nodeAt G z)) (numbered s (p .1 .1 .1 .0)) ∙ arcs-there) x,
                 ((let y = j .inside t in let z = many in omega arith), ap (class h) (sym (p .1 .1 .1 .1 .0)) ∙ sym (spot-class t)),
               ),
@@ -223,8 +223,8 @@ module _ (n : ℕ) (es : List Entry) (k : ℕ) (w : List ℕ) (h : Holds n es k 
             let o = held i l .arc-in (p .0) f (p .1) (p .4) (labelled (p .0) (p .2)) .1 in (
               o .0,
               (
-                first-mem (words w) f (held i l .chain) (o .0) (o .1 .0),
-                first-feature (words w) f (held i l .chain) (o .0) (o .1 .0),
+                first-mem (loaded-words w) f (held i l .chain) (o .0) (o .1 .0),
+                first-feature (loaded-words w) f (held i l .chain) (o .0) (o .1 .0),
               ),
             );
       }

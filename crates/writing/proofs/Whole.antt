@@ -16,7 +16,7 @@ use Rattle.forest.specs.Forest.{Shape, Root}
 use Rattle.classes.specs.Holds.{class}
 use Rattle.classes.proofs.Laws.{holds-few, holds-again, since-again}
 use Rattle.writing.specs.Classes.{Classes, Met}
-use Rattle.writing.specs.Writing.{Kept, Cleared, Numbering, Numbers, Listing, Listed, Writing, Writes}
+use Rattle.writing.specs.Writing.{Kept, Unnumbered, Numbering, Numbers, NodesWriting, NodesWritten, Writing, Writes}
 use Rattle.writing.proofs.Keeping.{kept-trans, kept-both, kept-wider, kept-put, kept-classes}
 use Rattle.writing.proofs.Source.{ord, source}
 use Rattle.loading.proofs.Putting.{stands-frame}
@@ -28,7 +28,7 @@ module _ (n k : ℕ) (w : List ℕ) (o : ℕ) (p : Writing n k w o) where
   s : Classes n k w (p .G) (class (p .holds)) (ord n (p .es) k w (p .holds) (p .G) (p .joined))
   s = source n (p .es) k w (p .holds) (p .G) (p .joined)
 
-  module _ (w1 : List ℕ) (z : Cleared n w w1) where
+  module _ (w1 : List ℕ) (z : Unnumbered n w w1) where
     cleared-kept : (at : ℕ) → Kept k at at w w1
     cleared-kept at =
         let f = few in
@@ -102,7 +102,7 @@ module _ (n k : ℕ) (w : List ℕ) (o : ℕ) (p : Writing n k w o) where
               let e : m ≡ 1 = q .1 .0 ∙ omega arith in
               subst (λ (i : ℕ). Met k i ord w2) e (q .0)
 
-        pub writing-nodes : Listing n k w2 (o + 1)
+        pub writing-nodes : NodesWriting n k w2 (o + 1)
         unfolding weight
         writing-nodes =
             let lab = class (p .holds) in
@@ -118,7 +118,7 @@ module _ (n k : ℕ) (w : List ℕ) (o : ℕ) (p : Writing n k w o) where
               fits = omega arith;
             }
 
-        module _ (at m' : ℕ) (w3 : List ℕ) (v : Listed n k w2 (o + 1) at m' w3) where
+        module _ (at m' : ℕ) (w3 : List ℕ) (v : NodesWritten n k w2 (o + 1) at m' w3) where
           pub writing-small : (m' ≤ 4096) × (length w3 ≡ length w)
           writing-small =
               let t = v .told G (class (p .holds)) (ord n (p .es) k w (p .holds) G (p .joined))

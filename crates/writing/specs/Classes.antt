@@ -6,7 +6,7 @@ use lib.ListN.{length, getD}
 use Rattle.theory.specs.Limits.{code-limit}
 use Rattle.theory.specs.Net.{Graph, atom, arcs, nodeAt}
 use Rattle.area.specs.Map.{PARENT, LOG, STACK, SIZE, LOADED, TARGETS, NODES, ENTRIES}
-use Rattle.area.specs.Region.{region, words}
+use Rattle.area.specs.Region.{region, loaded-words}
 use Rattle.forest.specs.Forest.{Shape, Root}
 use Rattle.forest.specs.Held.{ChainCode}
 use Rattle.forest.specs.State.{targets, Chain}
@@ -18,9 +18,9 @@ pub record Fan (n : ℕ) (w : List ℕ) (lab : ℕ → ℕ) (ord : List ℕ) (x 
   pub linked : Chain w x chain
   pub short : length chain ≤ LOADED
   pub inside : (q : ℕ) → List·Memᴰ q chain → (q < TARGETS) × (getD (targets w) q 0 < n)
-  pub from : (q : ℕ) → List·Memᴰ q chain → low ≤ getD (words w) q 0
-      → (t : ℕ) × (List·Memᴰ (getD (words w) q 0, t) l × ((t < length ord) × (lab (getD (targets w) q 0) ≡ getD ord t 0)))
-  pub to : (f t : ℕ) → List·Memᴰ (f, t) l → (q : ℕ) × (List·Memᴰ q chain × (getD (words w) q 0 ≡ f))
+  pub from : (q : ℕ) → List·Memᴰ q chain → low ≤ getD (loaded-words w) q 0
+      → (t : ℕ) × (List·Memᴰ (getD (loaded-words w) q 0, t) l × ((t < length ord) × (lab (getD (targets w) q 0) ≡ getD ord t 0)))
+  pub to : (f t : ℕ) → List·Memᴰ (f, t) l → (q : ℕ) × (List·Memᴰ q chain × (getD (loaded-words w) q 0 ≡ f))
 
 -- "Without a clash the classes form the joined graph.": the classes of w are the nodes of G; ord lists them in the order of their
 -- numbers, lab has the class of each number below n

@@ -10,7 +10,7 @@ use Rattle.theory.specs.Weight.{weight}
 use Rattle.layout.specs.Standing.{Stands, graph-words}
 use Rattle.loading.specs.Entry.{Entry, graphs}
 use Rattle.area.specs.Map.{LOG, STACK, WORDS, RESULT, TARGETS, LONGEST}
-use Rattle.area.specs.Region.{words}
+use Rattle.area.specs.Region.{loaded-words}
 use Rattle.forest.specs.State.{targets, Chain}
 use Rattle.classes.specs.Holds.{Holds, Since}
 use Rattle.writing.specs.Classes.{Fan, Classes, Met}
@@ -40,7 +40,7 @@ pub record Passed (F : List ℕ) (low : ℕ) (chain rest : List ℕ) (best : ℕ
 
 -- the arc r, counted from 1, has the least feature from low on of the chain from x; 0 where there is none
 pub record LeastArc (w : List ℕ) (x low r : ℕ) : Type 0 where
-  pub is : (chain : List ℕ) → Chain w x chain → Passed (words w) low chain [] r
+  pub is : (chain : List ℕ) → Chain w x chain → Passed (loaded-words w) low chain [] r
 
 -- what a number asks: the class c has one, or is the next to get one
 pub record Numbering (n k m c : ℕ) (w : List ℕ) : Type 0 where
@@ -81,7 +81,8 @@ pub record Pointed (n k : ℕ) (w : List ℕ) (q at m m' : ℕ) (w' : List ℕ) 
   pub kept : Kept k at (at + 2) w w'
   pub told : (G : Graph) (lab : ℕ → ℕ) (ord : List ℕ) → Classes n k w G lab ord → Met k m ord w → (t : ℕ) → t < length ord → t ≤ m →
       lab (getD (targets w) q 0) ≡ getD ord t 0
-      → Met k m' ord w' × ((m' ≡ max m (suc t)) × ((getD w' (RESULT + at) 0 ≡ getD (words w) q 0) × (getD w' (RESULT + at + 1) 0 ≡ t)))
+      → Met k m' ord w' × ((m' ≡ max m (suc t)) × ((getD w' (RESULT + at) 0 ≡ getD (loaded-words w) q 0)
+      × (getD w' (RESULT + at + 1) 0 ≡ t)))
 
 -- what the arcs of a node ask: the chain from x has the arcs l, and there is room for them
 pub record Arcing (n k : ℕ) (w : List ℕ) (x at m : ℕ) : Type 0 where
@@ -105,14 +106,14 @@ pub record Arced (n k : ℕ) (w : List ℕ) (x at m at' m' : ℕ) (w' : List ℕ
 
 -- ---- the nodes
 -- no class below n has a number, and no other word has changed
-pub record Cleared (n : ℕ) (w w' : List ℕ) : Type 0 where
+pub record Unnumbered (n : ℕ) (w w' : List ℕ) : Type 0 where
   pub len : length w' ≡ length w
   pub is : (i : ℕ) → i < n → getD w' (STACK + i) 0 ≡ 0
   pub low : (j : ℕ) → j < STACK → getD w' j 0 ≡ getD w j 0
   pub high : (j : ℕ) → WORDS ≤ j → getD w' j 0 ≡ getD w j 0
 
 -- what a node asks: its class is met, and there is room for it
-pub record Noding (n k : ℕ) (w : List ℕ) (i at m : ℕ) : Type 0 where
+pub record NodeWriting (n k : ℕ) (w : List ℕ) (i at m : ℕ) : Type 0 where
   pub G : Graph
   pub lab : ℕ → ℕ
   pub ord : List ℕ
@@ -124,14 +125,14 @@ pub record Noding (n k : ℕ) (w : List ℕ) (i at m : ℕ) : Type 0 where
   pub fits : at + length (node-words (nodeAt G i)) ≤ LONGEST
 
 -- "a head, then its arcs": the words of the node i stand in the result
-pub record Noded (n k : ℕ) (w : List ℕ) (i at m at' m' : ℕ) (w' : List ℕ) : Type 0 where
+pub record NodeWritten (n k : ℕ) (w : List ℕ) (i at m at' m' : ℕ) (w' : List ℕ) : Type 0 where
   pub kept : Kept k at at' w w'
   pub told : (G : Graph) (lab : ℕ → ℕ) (ord : List ℕ) → Classes n k w G lab ord → Met k m ord w → i < m → Rising 0 (arcsOf (nodeAt G i)) →
       InOrder m (arcsOf (nodeAt G i))
       → Met k m' ord w' × ((m' ≡ met m (arcsOf (nodeAt G i))) × Stands w' (RESULT + at) (node-words (nodeAt G i)) (RESULT + at'))
 
 -- what all nodes ask: the class of the root is met, and there is room for them
-pub record Listing (n k : ℕ) (w : List ℕ) (at : ℕ) : Type 0 where
+pub record NodesWriting (n k : ℕ) (w : List ℕ) (at : ℕ) : Type 0 where
   pub G : Graph
   pub lab : ℕ → ℕ
   pub ord : List ℕ
@@ -141,7 +142,7 @@ pub record Listing (n k : ℕ) (w : List ℕ) (at : ℕ) : Type 0 where
   pub fits : at + length (nodes-words G) ≤ LONGEST
 
 -- "then each node in order": the words of all nodes of G stand in the result
-pub record Listed (n k : ℕ) (w : List ℕ) (at at' m' : ℕ) (w' : List ℕ) : Type 0 where
+pub record NodesWritten (n k : ℕ) (w : List ℕ) (at at' m' : ℕ) (w' : List ℕ) : Type 0 where
   pub kept : Kept k at at' w w'
   pub told : (G : Graph) (lab : ℕ → ℕ) (ord : List ℕ) → Classes n k w G lab ord → Met k 1 ord w → Canonical G
       → (m' ≡ length G) × Stands w' (RESULT + at) (nodes-words G) (RESULT + at')

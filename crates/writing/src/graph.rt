@@ -13,12 +13,12 @@ ghost use mathlib.Core.Path.{_≡_};
 ghost use Prim.Native.Nat.{ℕ, _+_, _≤_, _<_};
 ghost use lib.ListN.{length, getD};
 ghost use Rattle.area.specs.Map.{STACK, SIZE, NODES};
-ghost use Rattle.writing.specs.Writing.{Noding, Noded, Listing, Listed, Cleared, Writing, Writes};
+ghost use Rattle.writing.specs.Writing.{NodeWriting, NodeWritten, NodesWriting, NodesWritten, Unnumbered, Writing, Writes};
 
 // No class has a number.
 fn clear(w: &mut [u32], n: usize)
     requires { ⌜ (n ≤ NODES) × (SIZE ≤ length (now w)) ⌝ }
-    ensures { λ _. ⌜ Cleared n (now (w .entry)) (now (w .exit)) ⌝ }
+    ensures { λ _. ⌜ Unnumbered n (now (w .entry)) (now (w .exit)) ⌝ }
 {
     let mut i: usize = 0;
     while i < n {
@@ -29,8 +29,8 @@ fn clear(w: &mut [u32], n: usize)
 
 // Writes the node with the number i at `at` of the result, where m classes are met.
 fn node(w: &mut [u32], k: usize, n: usize, i: usize, at: usize, m: usize) -> Place
-    requires { ⌜ Noding n k (now w) i at m ⌝ }
-    ensures { λ r. ⌜ Noded n k (now (w .entry)) i at m (r .at) (r .met) (now (w .exit)) ⌝ }
+    requires { ⌜ NodeWriting n k (now w) i at m ⌝ }
+    ensures { λ r. ⌜ NodeWritten n k (now (w .entry)) i at m (r .at) (r .met) (now (w .exit)) ⌝ }
 {
     let c = wide(w[LOG + k + i]);
     let held = held_by(w, c);
@@ -50,8 +50,8 @@ fn node(w: &mut [u32], k: usize, n: usize, i: usize, at: usize, m: usize) -> Pla
 
 // Writes all nodes from `from` of the result on, where the class of the root is met.
 fn nodes(w: &mut [u32], k: usize, n: usize, from: usize) -> Place
-    requires { ⌜ Listing n k (now w) from ⌝ }
-    ensures { λ r. ⌜ Listed n k (now (w .entry)) from (r .at) (r .met) (now (w .exit)) ⌝ }
+    requires { ⌜ NodesWriting n k (now w) from ⌝ }
+    ensures { λ r. ⌜ NodesWritten n k (now (w .entry)) from (r .at) (r .met) (now (w .exit)) ⌝ }
 {
     let mut at = from;
     let mut met: usize = 1;

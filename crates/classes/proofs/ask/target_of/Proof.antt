@@ -4,7 +4,7 @@ use mathlib.Core.Path.{_≡_, sym, _∙_, subst}
 use mathlib.Core.Logic.{⊎-elim}
 use native.Mathlib.Omega.{arith}
 use lib.ListN.{getD}
-use Rattle.area.specs.Region.{words}
+use Rattle.area.specs.Region.{loaded-words}
 use Rattle.forest.specs.State.{Runs, Looked}
 use Rattle.classes.specs.Holds.{Classed}
 use Rattle.forest.proofs.Contents.{told-arcs, told-other}
@@ -61,13 +61,13 @@ returns-2 c =
     let if1 = c .if1 in
     let a = s .args in
     let wn = a .w .now in
-    let k : Looked (words wn) wn (a .f) (getD wn (class-of .result) 0)
-    (look .result) = subst (λ (z : ℕ). Looked (words wn) wn (a .f) z (look .result))
+    let k : Looked (loaded-words wn) wn (a .f) (getD wn (class-of .result) 0)
+    (look .result) = subst (λ (z : ℕ). Looked (loaded-words wn) wn (a .f) z (look .result))
     (chain .0) (look .ensures) in
     target-none (a .n) wn (a .x) (s .pre .0)
     (class-of .result) (class-of .ensures) (a .f)
     (omega arith)
-    (subst (Looked (words wn) wn (a .f) (getD wn (class-of .result) 0)) (if1 .taken) k)
+    (subst (Looked (loaded-words wn) wn (a .f) (getD wn (class-of .result) 0)) (if1 .taken) k)
 
 sub-target : tie.Need-sub-target
 sub-target c =
@@ -86,13 +86,13 @@ target-requires c κs =
     let wn = a .w .now in
     let p = some (look .result) (if1 .left) in
     let e : look .result ≡ suc (look .result - 1) = omega arith in
-    let k : Looked (words wn) wn (a .f) (getD wn (class-of .result) 0)
-    (look .result) = subst (λ (z : ℕ). Looked (words wn) wn (a .f) z (look .result))
+    let k : Looked (loaded-words wn) wn (a .f) (getD wn (class-of .result) 0)
+    (look .result) = subst (λ (z : ℕ). Looked (loaded-words wn) wn (a .f) z (look .result))
     (chain .0) (look .ensures) in (
       target-low (a .n) wn (a .x) (s .pre .0)
           (class-of .result) (class-of .ensures) (a .f)
           (omega arith) (look .result - 1)
-          (subst (Looked (words wn) wn (a .f) (getD wn (class-of .result) 0)) e k)
+          (subst (Looked (loaded-words wn) wn (a .f) (getD wn (class-of .result) 0)) e k)
           (s .pre .1) .0,
       s .pre .1 .holds .long,
     )
@@ -109,15 +109,15 @@ class-of-requires-2 c κs =
     let wn = a .w .now in
     let p = some (look .result) (if1 .left) in
     let e : look .result ≡ suc (look .result - 1) = omega arith in
-    let k : Looked (words wn) wn (a .f) (getD wn (class-of .result) 0)
+    let k : Looked (loaded-words wn) wn (a .f) (getD wn (class-of .result) 0)
     (look .result) =
-    subst (λ (z : ℕ). Looked (words wn) wn (a .f) z (look .result)) (chain .0)
+    subst (λ (z : ℕ). Looked (loaded-words wn) wn (a .f) z (look .result)) (chain .0)
     (look .ensures) in
     let l = target-low (a .n) wn (a .x) (s .pre .0)
     (class-of .result)
     (class-of .ensures) (a .f) (omega arith)
     (look .result - 1)
-    (subst (Looked (words wn) wn (a .f) (getD wn (class-of .result) 0)) e k)
+    (subst (Looked (loaded-words wn) wn (a .f) (getD wn (class-of .result) 0)) e k)
     (s .pre .1) .1 in
     let t = target .ensures in
     (omega arith, s .pre .1)
@@ -135,16 +135,16 @@ returns-3 c =
     let wn = a .w .now in
     let p = some (look .result) (if1 .left) in
     let e : look .result ≡ suc (look .result - 1) = omega arith in
-    let k : Looked (words wn) wn (a .f) (getD wn (class-of .result) 0)
+    let k : Looked (loaded-words wn) wn (a .f) (getD wn (class-of .result) 0)
     (look .result) =
-    subst (λ (z : ℕ). Looked (words wn) wn (a .f) z (look .result))
+    subst (λ (z : ℕ). Looked (loaded-words wn) wn (a .f) z (look .result))
     (chain .0) (look .ensures) in
     let v = subst (λ (z : ℕ). Classed (a .n) wn z (class-of2 .result)) (target .ensures) (class-of2 .ensures) in
     target-there (a .n) wn (a .x) (s .pre .0)
     (class-of .result)
     (class-of .ensures) (a .f)
     (omega arith) (look .result - 1)
-    (subst (Looked (words wn) wn (a .f) (getD wn (class-of .result) 0)) e k)
+    (subst (Looked (loaded-words wn) wn (a .f) (getD wn (class-of .result) 0)) e k)
     (class-of2 .result) v
 
 pub target-of-spec : {M : Type 1} → statement M

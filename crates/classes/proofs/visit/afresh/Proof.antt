@@ -2,7 +2,7 @@
 use mathlib.Core.Path.{sym, _∙_, subst}
 use Prim.Native.Nat.{ℕ}
 use native.Mathlib.Omega.{arith}
-use Rattle.area.specs.Region.{words}
+use Rattle.area.specs.Region.{loaded-words}
 use Rattle.forest.specs.State.{Runs}
 use Rattle.forest.specs.Order.{Risen}
 use Rattle.forest.proofs.Contents.{told-nothing, told-arcs}
@@ -45,14 +45,14 @@ returns c =
     let a = s .args in
     let find = c .before .before .before .find in
     let none = told-nothing _ _ (sym (c .before .before .held-by .ensures) ∙ c .enum-told .given .1) in
-    ordered-hint (words (a .w .now)) (a .n) (a .k) (a .w .now) (a .x) (find .result) 1 (s .pre .1) (find .ensures)
-    (hint-none (words (a .w .now)) (a .w .now) (find .result) none)
+    ordered-hint (loaded-words (a .w .now)) (a .n) (a .k) (a .w .now) (a .x) (find .result) 1 (s .pre .1) (find .ensures)
+    (hint-none (loaded-words (a .w .now)) (a .w .now) (find .result) none)
 
 returns-2 : tie.Need-returns-2
 returns-2 c =
     let s = c .before .before .before .before .before .before .before .before in
     let a = s .args in
-    let F = words (a .w .now) in
+    let F = loaded-words (a .w .now) in
     let find = c .before .before .before .before .before .before .find in
     let rises = c .before .rises in
     let chain = told-arcs _ _ _ (sym (c .before .before .before .before .before .held-by .ensures) ∙ c .before .before .before .held .given .1) in
@@ -63,10 +63,10 @@ returns-2 c =
 returns-3 : tie.Need-returns-3
 returns-3 c =
     let a = c .before .before .before .before .before .before .before .before .args in
-    ordered-none (words (a .w .now)) (a .n) (a .w .now) (a .x)
+    ordered-none (loaded-words (a .w .now)) (a .n) (a .w .now) (a .x)
 
 returns-4 : tie.Need-returns-4
-returns-4 c = let a = c .before .before .before .before .before .args in ordered-none (words (a .w .now)) (a .n) (a .w .now) (a .x)
+returns-4 c = let a = c .before .before .before .before .before .args in ordered-none (loaded-words (a .w .now)) (a .n) (a .w .now) (a .x)
 
 pub afresh-spec : {M : Type 1} → statement M
 afresh-spec =

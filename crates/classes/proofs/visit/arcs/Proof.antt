@@ -3,7 +3,7 @@ use Prim.Native.Nat.{_-_}
 use mathlib.Core.Path.{_≡_, _∙_}
 use native.Mathlib.Omega.{arith}
 use lib.ListN.{length}
-use Rattle.area.specs.Region.{words}
+use Rattle.area.specs.Region.{loaded-words}
 use Rattle.forest.specs.State.{targets}
 use Rattle.forest.proofs.Words.{words-later, targets-later}
 use Rattle.classes.proofs.Runs.{Stringing, stringing-start, stringing-coming, stringing-turn, run-bad, run-end}
@@ -12,7 +12,7 @@ use Rattle.classes.proofs.visit.arcs.Statement.{statement}
 use Rattle.classes.proofs.visit.arcs.Tie as tie
 
 abbrev Inv-loop : tie.InvT-loop
-Inv-loop w₀ k n x from d e₀ at₀ done₀ w e at done = Stringing (words w₀) (targets w₀) n k w₀ x from d done e at w
+Inv-loop w₀ k n x from d e₀ at₀ done₀ w e at done = Stringing (loaded-words w₀) (targets w₀) n k w₀ x from d done e at w
 
 abbrev μ-loop : tie.MeasureT-loop
 μ-loop w₀ k n x from d e₀ at₀ done₀ w e at done = d - done
@@ -21,13 +21,13 @@ outset-requires : tie.Need-outset-requires Inv-loop μ-loop
 outset-requires c κs =
     let wn = c .before .before .args .w .now in
     let g = c .before .before .pre .1 .1 in
-    ((omega arith, (omega arith, omega arith)), record { G = g .G; H = g .H; F = words wn; T = targets wn; state = g .state })
+    ((omega arith, (omega arith, omega arith)), record { G = g .G; H = g .H; F = loaded-words wn; T = targets wn; state = g .state })
 
 loop-holds : tie.Need-loop-holds Inv-loop μ-loop
 loop-holds c =
     let a = c .before .before .before .args in
     let wn = a .w .now in
-    stringing-start (words wn) (targets wn) (a .n) (a .k) wn (a .x) (a .from) (a .d) (c .outset .result)
+    stringing-start (loaded-words wn) (targets wn) (a .n) (a .k) wn (a .x) (a .from) (a .d) (c .outset .result)
     (c .before .before .before .pre .1 .1 .state .logged) (c .outset .ensures)
 
 mul-visit : tie.Need-mul-visit Inv-loop μ-loop
@@ -40,7 +40,7 @@ visit-requires : tie.Need-visit-requires Inv-loop μ-loop
 visit-requires c κs =
     let a = c .before .before .before .before .before .before .args in
     let wn = a .w .now in
-    let F = words wn in
+    let F = loaded-words wn in
     let T = targets wn in
     let o = c .before .before .loop in
     let le : length (o .w) ≡ length wn = o .inv .later .len in
@@ -65,7 +65,7 @@ returns : tie.Need-returns Inv-loop μ-loop
 returns c =
     let a = c .before .before .before .before .before .before .before .before .before .before .args in
     let wn = a .w .now in
-    let F = words wn in
+    let F = loaded-words wn in
     let T = targets wn in
     let o = c .before .before .before .before .before .before .loop in
     let v = c .before .before .before .visit in
@@ -86,7 +86,7 @@ loop-again : tie.Need-loop-again Inv-loop μ-loop
 loop-again c =
     let a = c .before .before .before .before .before .before .before .before .before .before .args in
     let wn = a .w .now in
-    let F = words wn in
+    let F = loaded-words wn in
     let T = targets wn in
     let o = c .before .before .before .before .before .before .loop in
     let v = c .before .before .before .visit in
@@ -105,7 +105,7 @@ returns-2 c =
     let a = c .before .before .before .before .before .args in
     let wn = a .w .now in
     let o = c .before .loop in
-    run-end (words wn) (targets wn) (a .n) (a .k) wn (a .x) (a .from) (a .d) (o .done) (o .e) (o .at) (o .w) (o .inv) (let h =
+    run-end (loaded-words wn) (targets wn) (a .n) (a .k) wn (a .x) (a .from) (a .d) (o .done) (o .e) (o .at) (o .w) (o .inv) (let h =
     c .loop-test .left in omega arith)
 
 pub arcs-spec : {M : Type 1} → statement M

@@ -2,8 +2,8 @@
 use Prim.Native.Nat.{ℕ}
 use mathlib.Core.Path.{sym, _∙_, subst}
 use native.Mathlib.Omega.{arith}
-use Rattle.area.specs.Region.{words}
-use Rattle.area.specs.Log.{Put}
+use Rattle.area.specs.Region.{loaded-words}
+use Rattle.area.specs.Log.{Stores}
 use Rattle.area.proofs.Region.{held-at}
 use Rattle.forest.specs.State.{targets}
 use Rattle.forest.proofs.Contents.{told-nothing, told-arcs, told-atom}
@@ -49,9 +49,9 @@ returns c =
     let q = g .state .room in
     let none = told-nothing _ _
     (sym (c .before .before .before .before .before .before .held-by .ensures) ∙ c .before .before .before .before .enum-told .given .1) in
-    mark-new (words wn) (targets wn) (a .n) (a .k) wn (omega arith) (omega arith) (a .x) (omega arith) (find .result) (find .ensures)
+    mark-new (loaded-words wn) (targets wn) (a .n) (a .k) wn (omega arith) (omega arith) (a .x) (omega arith) (find .result) (find .ensures)
     (a .v) (s .pre .1 .0 .0) none (omega arith) (put .result) (put .last .0)
-    (subst (λ (i : ℕ). Put (a .k) wn i (a .v) (put .result) (put .last .0)) (held-at (find .result)) (put .ensures))
+    (subst (λ (i : ℕ). Stores (a .k) wn i (a .v) (put .result) (put .last .0)) (held-at (find .result)) (put .ensures))
 
 enum-told-2 : tie.Need-enum-told-2
 enum-told-2 c = search needs
@@ -69,7 +69,8 @@ returns-2 c =
     let a = s .args in
     let wn = a .w .now in
     let chain = told-arcs _ _ _ (sym (c .before .before .held-by .ensures) ∙ c .enum-told2 .given .1) in
-    mark-clash (words wn) (targets wn) (a .n) (a .k) wn (omega arith) (omega arith) (a .x) (omega arith) (find .result) (find .ensures)
+    mark-clash (loaded-words wn) (targets wn) (a .n) (a .k) wn (omega arith) (omega arith) (a .x) (omega arith) (find .result)
+    (find .ensures)
     (a .v) (s .pre .1 .0 .0) (s .pre .1 .1 .state .logged) (λ e. omega (arith, chain)) (λ e. omega (arith, chain, s .pre .1 .0 .0))
 
 same-length-3 : tie.Need-same-length-3
@@ -82,7 +83,8 @@ returns-3 c =
     let a = s .args in
     let wn = a .w .now in
     let bears = told-atom _ _ _ (sym (c .before .before .before .held-by .ensures) ∙ c .before .held .given .1) in
-    mark-told (words wn) (targets wn) (a .n) (a .k) wn (omega arith) (omega arith) (a .x) (omega arith) (find .result) (find .ensures)
+    mark-told (loaded-words wn) (targets wn) (a .n) (a .k) wn (omega arith) (omega arith) (a .x) (omega arith) (find .result)
+    (find .ensures)
     (a .v) (s .pre .1 .0 .0) (s .pre .1 .1 .state .logged) _ (bears .0) (bears .1)
 
 pub mark-spec : {M : Type 1} → statement M

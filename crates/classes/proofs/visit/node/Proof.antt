@@ -2,7 +2,7 @@
 use mathlib.Core.Path.{_≡_, _∙_}
 use native.Mathlib.Omega.{arith}
 use lib.ListN.{getD}
-use Rattle.area.specs.Region.{words}
+use Rattle.area.specs.Region.{loaded-words}
 use Rattle.forest.specs.State.{targets}
 use Rattle.classes.proofs.Runs.{node-low, node-marking, node-batched, noded-mark, noded-run}
 use borrow.Author.Needs.{needs}
@@ -14,7 +14,7 @@ loaded-requires c κs =
     let s = c .before .before in
     let a = s .args in
     let wn = a .w .now in
-    let F = words wn in
+    let F = loaded-words wn in
     let g = s .pre .1 in
     let lo = node-low F (g .G) (a .n) (a .x) (a .p) (g .v) (g .node) in
     let lp = lo .0 in
@@ -27,7 +27,7 @@ mark-requires c κs =
     let s = c .before .before .before .before .before in
     let a = s .args in
     let wn = a .w .now in
-    let F = words wn in
+    let F = loaded-words wn in
     let T = targets wn in
     let g = s .pre .1 in
     let lo = node-low F (g .G) (a .n) (a .x) (a .p) (g .v) (g .node) in
@@ -48,7 +48,7 @@ returns c =
     let s = c .before .before .before .before .before .before .before .before in
     let a = s .args in
     let wn = a .w .now in
-    let F = words wn in
+    let F = loaded-words wn in
     let T = targets wn in
     let g = s .pre .1 in
     let lo = node-low F (g .G) (a .n) (a .x) (a .p) (g .v) (g .node) in
@@ -63,7 +63,7 @@ add-arcs c =
     let s = c .before .before .before .before .before in
     let a = s .args in
     let wn = a .w .now in
-    let F = words wn in
+    let F = loaded-words wn in
     let g = s .pre .1 in
     let lo = node-low F (g .G) (a .n) (a .x) (a .p) (g .v) (g .node) in
     let lp = lo .0 in
@@ -79,7 +79,7 @@ arcs-requires c κs =
     let s = c .before .before .before .before .before .before in
     let a = s .args in
     let wn = a .w .now in
-    let F = words wn in
+    let F = loaded-words wn in
     let T = targets wn in
     let g = s .pre .1 in
     let lo = node-low F (g .G) (a .n) (a .x) (a .p) (g .v) (g .node) in
@@ -102,7 +102,7 @@ returns-2 c =
     let s = c .before .before .before .before .before .before .before .before .before in
     let a = s .args in
     let wn = a .w .now in
-    let F = words wn in
+    let F = loaded-words wn in
     let T = targets wn in
     let g = s .pre .1 in
     let lo = node-low F (g .G) (a .n) (a .x) (a .p) (g .v) (g .node) in

@@ -5,7 +5,7 @@ use mathlib.Core.Path.{_≡_, ap, _∙_}
 use mathlib.Core.List.{List}
 use native.Mathlib.Omega.{arith}
 use lib.ListN.{length, getD}
-use Rattle.area.specs.Region.{words}
+use Rattle.area.specs.Region.{loaded-words}
 use Rattle.forest.specs.State.{targets}
 use Rattle.forest.proofs.Words.{words-later, targets-later}
 use Rattle.forest.proofs.Walks.{some}
@@ -16,7 +16,7 @@ use Rattle.classes.proofs.visit.nodes.Statement.{statement}
 use Rattle.classes.proofs.visit.nodes.Tie as tie
 
 abbrev Inv-loop : tie.InvT-loop
-Inv-loop w₀ k n x p c e₀ y₀ at₀ left₀ w e y at left = Marching (words w₀) (targets w₀) n k w₀ x p c e y at left w
+Inv-loop w₀ k n x p c e₀ y₀ at₀ left₀ w e y at left = Marching (loaded-words w₀) (targets w₀) n k w₀ x p c e y at left w
 
 abbrev μ-loop : tie.MeasureT-loop
 μ-loop w₀ k n x p c e₀ y₀ at₀ left₀ w e y at left = left
@@ -26,7 +26,7 @@ loop-holds c =
     let s = c .before in
     let a = s .args in
     let wn = a .w .now in
-    let F = words wn in
+    let F = loaded-words wn in
     let T = targets wn in
     let g = s .pre .1 in
     marching-start F T (a .n) (a .k) wn (a .x) (a .p) (a .c) (g .state .logged)
@@ -36,7 +36,7 @@ node-requires c κs =
     let s = c .before .before .before .before in
     let a = s .args in
     let wn = a .w .now in
-    let F = words wn in
+    let F = loaded-words wn in
     let T = targets wn in
     let g = s .pre .1 in
     let o = c .before .before .loop in
@@ -59,7 +59,7 @@ returns c =
     let s = c .before .before .before .before .before .before .before .before in
     let a = s .args in
     let wn = a .w .now in
-    let F = words wn in
+    let F = loaded-words wn in
     let T = targets wn in
     let o = c .before .before .before .before .before .before .loop in
     let le : length (o .w) ≡ length wn = o .inv .later .len in
@@ -74,7 +74,7 @@ loaded-requires c κs =
     let s = c .before .before .before .before .before .before .before .before .before in
     let a = s .args in
     let wn = a .w .now in
-    let F = words wn in
+    let F = loaded-words wn in
     let T = targets wn in
     let g = s .pre .1 in
     let o = c .before .before .before .before .before .before .before .loop in
@@ -96,7 +96,7 @@ add-at c =
     let s = c .before .before .before .before .before .before .before .before .before .before .before in
     let a = s .args in
     let wn = a .w .now in
-    let F = words wn in
+    let F = loaded-words wn in
     let T = targets wn in
     let g = s .pre .1 in
     let o = c .before .before .before .before .before .before .before .before .before .loop in
@@ -118,7 +118,7 @@ add-y c =
     let s = c .before .before .before .before .before .before .before .before .before .before .before in
     let a = s .args in
     let wn = a .w .now in
-    let F = words wn in
+    let F = loaded-words wn in
     let T = targets wn in
     let g = s .pre .1 in
     let o = c .before .before .before .before .before .before .before .before .before .loop in
@@ -157,7 +157,7 @@ loop-again c =
     let s = c .before .before .before .before .before .before .before .before .before .before .before in
     let a = s .args in
     let wn = a .w .now in
-    let F = words wn in
+    let F = loaded-words wn in
     let T = targets wn in
     let o = c .before .before .before .before .before .before .before .before .before .loop in
     let le : length (o .w) ≡ length wn = o .inv .later .len in
@@ -178,7 +178,7 @@ returns-2 c =
     let s = c .before .before .before in
     let a = s .args in
     let wn = a .w .now in
-    let F = words wn in
+    let F = loaded-words wn in
     let T = targets wn in
     let o = c .before .loop in
     let le : length (o .w) ≡ length wn = o .inv .later .len in

@@ -3,7 +3,7 @@ use Prim.Native.Nat.{ℕ, _+_, _-_}
 use mathlib.Core.Path.{subst}
 use native.Mathlib.Omega.{arith}
 use Rattle.area.specs.Map.{PARENT, NEXT}
-use Rattle.area.specs.Region.{region, words}
+use Rattle.area.specs.Region.{region, loaded-words}
 use Rattle.forest.specs.Forest.{Root}
 use Rattle.forest.proofs.Walks.{some}
 use Rattle.classes.proofs.Visits.{ordered-none, ordered-hint}
@@ -12,7 +12,7 @@ use Rattle.classes.proofs.visit.onward.Statement.{statement}
 use Rattle.classes.proofs.visit.onward.Tie as tie
 
 returns : tie.Need-returns
-returns c = let a = c .before .before .args in ordered-none (words (a .w .now)) (a .n) (a .w .now) (a .x)
+returns c = let a = c .before .before .args in ordered-none (loaded-words (a .w .now)) (a .n) (a .w .now) (a .x)
 
 find-requires : tie.Need-find-requires
 find-requires c κs = ((omega arith, (omega arith, omega arith)), c .before .before .pre .1 .1 .steady .state .shape)
@@ -31,7 +31,7 @@ returns-2 c =
     let a = c .before .before .before .before .before .args in
     let wn = a .w .now in
     let g = c .before .before .before .before .before .pre .1 .1 in
-    ordered-hint (words wn) (a .n) (a .e) wn (a .x) (a .c) (NEXT + (a .r - 1)) (g .steady)
+    ordered-hint (loaded-words wn) (a .n) (a .e) wn (a .x) (a .c) (NEXT + (a .r - 1)) (g .steady)
     (subst (λ (z : ℕ). Root (region PARENT (a .n) wn) (a .x) z) (c .before .if2 .taken) (c .before .before .find .ensures))
     (g .kept (c .if3 .taken) (some (a .at) (c .before .before .before .if1 .left)))
 

@@ -1,11 +1,11 @@
 -- `classes::visit::outset` meets its contract. Assumes nothing.
-use Rattle.area.specs.Region.{words}
+use Rattle.area.specs.Region.{loaded-words}
 use Rattle.classes.proofs.Visits.{ordered-none}
 use Rattle.classes.proofs.visit.outset.Statement.{statement}
 use Rattle.classes.proofs.visit.outset.Tie as tie
 
 returns : tie.Need-returns
-returns c = let a = c .before .before .args in ordered-none (words (a .w .now)) (a .n) (a .w .now) (a .x)
+returns c = let a = c .before .before .args in ordered-none (loaded-words (a .w .now)) (a .n) (a .w .now) (a .x)
 
 afresh-requires : tie.Need-afresh-requires
 afresh-requires c κs = (c .before .before .pre .0, c .before .before .pre .1)

@@ -3,7 +3,7 @@ use Prim.Native.Nat.{ℕ, suc, _-_, _<_}
 use mathlib.Core.Path.{_≡_, refl, sym, _∙_}
 use native.Mathlib.Omega.{arith}
 use lib.ListN.{getD}
-use Rattle.area.specs.Region.{words}
+use Rattle.area.specs.Region.{loaded-words}
 use Rattle.forest.specs.State.{targets, Looked, withPair}
 use Rattle.forest.specs.Order.{Located}
 use Rattle.forest.proofs.Contents.{told-bears, told-bare}
@@ -36,7 +36,7 @@ returns c =
     let wn = a .w .now in
     let g = s .pre .1 .1 .0 in
     record {
-      visited = visit-clash (words wn) (targets wn) (a .n) (a .k) wn (omega arith) (omega arith) (a .x) (omega arith)
+      visited = visit-clash (loaded-words wn) (targets wn) (a .n) (a .k) wn (omega arith) (omega arith) (a .x) (omega arith)
           (find .result) (find .ensures) (a .t) (g .state .logged) (omega arith);
       next = λ z. let y : _≡_ {A = ℕ} 0 1 = cc in absurd (omega arith);
     }
@@ -56,7 +56,7 @@ locate-requires c κs =
     let lw = find .ensures .low in (
       (omega arith, omega arith),
       (
-        class-runs (words wn) (targets wn) (a .n) (a .k) wn (omega arith) (omega arith) (a .x) (omega arith)
+        class-runs (loaded-words wn) (targets wn) (a .n) (a .k) wn (omega arith) (omega arith) (a .x) (omega arith)
             (find .result) (find .ensures) (g .G) (g .H)
             (g .state) chained,
         λ z. s .pre .1 .1 .1 .hint z
@@ -130,7 +130,7 @@ returns-2 c =
     let bx = s .pre .1 .0 in
     let a = s .args in
     let wn = a .w .now in
-    let F = words wn in
+    let F = loaded-words wn in
     let T = targets wn in
     let g = s .pre .1 .1 .0 in
     let rr = g .fresh .room in
@@ -172,7 +172,7 @@ returns-3 c =
     let bx = s .pre .1 .0 in
     let a = s .args in
     let wn = a .w .now in
-    let F = words wn in
+    let F = loaded-words wn in
     let T = targets wn in
     let g = s .pre .1 .1 .0 in
     let rr = g .fresh .room in
@@ -224,7 +224,7 @@ target-requires-2 c κs =
     let bx = s .pre .1 .0 in
     let a = s .args in
     let wn = a .w .now in
-    let F = words wn in
+    let F = loaded-words wn in
     let T = targets wn in
     let g = s .pre .1 .1 .0 in
     let lk : Looked F wn (getD F (a .t) 0)
@@ -259,7 +259,7 @@ unite-requires c κs =
     .1 .0 in
     let a = s .args in
     let wn = a .w .now in
-    let F = words wn in
+    let F = loaded-words wn in
     let T = targets wn in
     let g = s .pre
     .1 .1 .0 in
@@ -318,7 +318,7 @@ returns-4 c =
     let bx = s .pre .1 .0 in
     let a = s .args in
     let wn = a .w .now in
-    let F = words wn in
+    let F = loaded-words wn in
     let T = targets wn in
     let lk : Looked F wn (getD F (a .t) 0)
     (getD wn (find .result) 0) (locate .result .arc) =
@@ -357,7 +357,7 @@ onward-requires c κs =
     let bx = s .pre .1 .0 in
     let a = s .args in
     let wn = a .w .now in
-    let F = words wn in
+    let F = loaded-words wn in
     let T = targets wn in
     let g = s .pre .1 .1 .0 in
     let lw = find .ensures .low in
@@ -428,7 +428,7 @@ returns-5 c =
     let bx = s .pre .1 .0 in
     let a = s .args in
     let wn = a .w .now in
-    let F = words wn in
+    let F = loaded-words wn in
     let T = targets wn in
     let lk : Looked F wn (getD F (a .t) 0)
     (getD wn (find .result) 0)

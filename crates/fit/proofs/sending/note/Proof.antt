@@ -5,7 +5,7 @@ use Prim.Native.Nat.{_-_, _≤_}
 use mathlib.Core.Path.{_≡_}
 use native.Mathlib.Omega.{arith}
 use lib.ListN.{length, getD}
-use Rattle.fit.specs.Parts.{after}
+use Rattle.fit.specs.Parts.{after-node}
 use Rattle.fit.proofs.Noting.{Noting, noting-start, noting-there, noting-step, noting-end}
 use Rattle.fit.proofs.sending.note.Statement.{statement}
 use Rattle.fit.proofs.sending.note.Tie as tie
@@ -27,7 +27,7 @@ loop-holds c = (c .wide .ensures, noting-start _ _ (c .before .before .before .p
 
 -- the words of the next node are there
 there : (c : tie.After-wide2 Inv-loop μ-loop) →
-    after (c .before .before .before .before .before .before .args .structure .now) (c .wide2 .result)
+    after-node (c .before .before .before .before .before .before .args .structure .now) (c .wide2 .result)
     ≤ length (c .before .before .before .before .before .before .args .structure .now)
 there c = noting-there _ _ _ _ (c .before .before .loop .inv .1) (omega arith) _ (c .wide2 .ensures)
 

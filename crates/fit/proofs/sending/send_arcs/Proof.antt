@@ -3,14 +3,14 @@
 use borrow.Author.Needs.{needs}
 use native.Mathlib.Omega.{arith}
 use mathlib.Core.Path.{_∙_}
-use Rattle.fit.specs.Parts.{arcsFrom, lastArcs}
+use Rattle.fit.specs.Parts.{arcsOfWords, lastArcs}
 use Rattle.fit.proofs.Arcwise.{Arcwise, arcwise-start, arcwise-end, arcwise-next, arcwise-none, arcwise-stop, arcwise-step}
 use Rattle.fit.proofs.sending.send_arcs.Statement.{statement}
 use Rattle.fit.proofs.sending.send_arcs.Tie as tie
 
 abbrev Inv-loop : tie.InvT-loop
 Inv-loop map₀ structure end ahead ws p count first at₀ left₀ more₀ met₀ map at left more met =
-    Arcwise structure end ws (lastArcs structure end ahead) (arcsFrom ws p count) map₀ first more at left map met
+    Arcwise structure end ws (lastArcs structure end ahead) (arcsOfWords ws p count) map₀ first more at left map met
 
 abbrev μ-loop : tie.MeasureT-loop
 μ-loop map₀ structure end ahead ws p count first at₀ left₀ more₀ met₀ map at left more met = left

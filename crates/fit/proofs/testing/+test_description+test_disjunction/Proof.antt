@@ -6,7 +6,7 @@ use native.Mathlib.Omega.{arith}
 use mathlib.Core.Path.{_≡_, refl, _∙_}
 use lib.ListN.{length}
 use Rattle.fit.specs.Parts.{graphIn}
-use Rattle.fit.specs.Testing.{a-description, a-disjunction}
+use Rattle.fit.specs.Testing.{description-subject, disjunction-subject}
 use Rattle.fit.proofs.Things.{Left, left-asked, graph-first, graph-fails, after-graph, disjunctions-start, disjunction-next}
 use Rattle.fit.proofs.Things.{disjunctions-step, disjunctions-stop, disjunctions-end, its-disjunctions}
 use Rattle.fit.proofs.Alternatives.{disjunction-there, alternatives-start, alternative-next, alternatives-step, alternatives-fit}
@@ -66,7 +66,8 @@ test-disjunction-below t =
 
 abbrev test-description-Inv-loop : test-description-lts.InvT-loop
 test-description-Inv-loop map₀ place structure ws p left q count₀ at₀ map count at =
-    (length map ≡ length map₀) × Left ws (a-description (graphIn structure 0) left) p (its-disjunctions (graphIn structure 0) left count) at
+    (length map ≡ length map₀) × Left ws (description-subject (graphIn structure 0) left) p
+    (its-disjunctions (graphIn structure 0) left count) at
 
 abbrev test-description-μ-loop : test-description-lts.MeasureT-loop
 test-description-μ-loop map₀ place structure ws p left q count₀ at₀ map count at = count
@@ -202,7 +203,7 @@ test-description-test-disjunction-requires t c κs =
         (
           c .before .before .before .before .before .before .before .before .before .before .before .pre .1 .1 .0,
           disjunction-next _ H left (c .before .before .loop .count) _ (omega arith)
-              (left-asked _ (a-description H left) (its-disjunctions H left (c .before .before .loop .count)) _ _
+              (left-asked _ (description-subject H left) (its-disjunctions H left (c .before .before .loop .count)) _ _
               (c .before .before .before .before .before .before .before .before .before .before .before .pre .1 .1 .1)
               (c .before .before .loop .inv .1)),
         ),
@@ -241,7 +242,7 @@ test-description-returns-2 t c =
     .structure .now) 0 in
     let left = c .before .before .before .before .before .before .before .before .before .before .before .before .before .before .args
     .left in (
-      disjunctions-stop _ H _ _ _ (a-description H left) _ (c .before .before .before .before .before .loop .inv .1)
+      disjunctions-stop _ H _ _ _ (description-subject H left) _ (c .before .before .before .before .before .loop .inv .1)
           (c .before .before .test-disjunction .result) (cc) (c .before .before .test-disjunction .ensures .0) (omega arith),
       c .before .before .test-disjunction .ensures .1 ∙ c .before .before .before .before .before .loop .inv .0
           ∙ c .before .before .before .before .before .before .before .before .before .before .test-graph .ensures .1,
@@ -275,7 +276,7 @@ test-description-loop-again t c =
     let left = c .before .before .before .before .before .before .before .before .before .before .before .before .before .before .before
     .args .left in (
       c .before .before .before .test-disjunction .ensures .1 ∙ c .before .before .before .before .before .before .loop .inv .0,
-      disjunctions-step _ H _ _ _ (a-description H left) _ (c .before .before .before .before .before .before .loop .inv .1)
+      disjunctions-step _ H _ _ _ (description-subject H left) _ (c .before .before .before .before .before .before .loop .inv .1)
           (c .before .before .before .test-disjunction .result) _ (c .before .disjunction .given .1)
           (c .before .before .before .test-disjunction .ensures .0) (omega arith),
     )
@@ -289,14 +290,14 @@ test-description-returns-3 : (t : ℕ) → test-description-lts.Need-returns-3 (
 test-description-returns-3 t c =
     let H = graphIn (c .before .before .before .before .before .before .before .before .before .before .args .structure .now) 0 in
     let left = c .before .before .before .before .before .before .before .before .before .before .args .left in (
-      disjunctions-end _ H _ _ _ (a-description H left) _ (c .before .loop .inv .1) (omega arith),
+      disjunctions-end _ H _ _ _ (description-subject H left) _ (c .before .loop .inv .1) (omega arith),
       c .before .loop .inv .0
           ∙ c .before .before .before .before .before .before .test-graph .ensures .1,
     )
 
 abbrev test-disjunction-Inv-loop : test-disjunction-lts.InvT-loop
 test-disjunction-Inv-loop map₀ place structure ws p left count₀ at₀ map count at =
-    (length map ≡ length map₀) × Left ws (a-disjunction (graphIn structure 0) left) p
+    (length map ≡ length map₀) × Left ws (disjunction-subject (graphIn structure 0) left) p
     (its-alternatives (graphIn structure 0) (left - 1) count) at
 
 abbrev test-disjunction-μ-loop : test-disjunction-lts.MeasureT-loop
@@ -393,7 +394,7 @@ test-disjunction-test-description-requires t c κs =
         (
           c .before .before .before .before .before .before .pre .1 .1 .0,
           alternative-next _ H (left - 1) (c .before .before .loop .count) _ (omega arith)
-              (left-asked _ (a-disjunction H left) (its-alternatives H (left - 1) (c .before .before .loop .count)) _ _
+              (left-asked _ (disjunction-subject H left) (its-alternatives H (left - 1) (c .before .before .loop .count)) _ _
               (c .before .before .before .before .before .before .pre .1 .1 .1) (c .before .before .loop .inv .1)),
         ),
       ),
@@ -451,7 +452,7 @@ test-disjunction-returns t c =
     let H = graphIn (c .before .before .before .before .before .before .before .before .before .before .before .args .structure .now) 0 in
     let left = c .before .before .before .before .before .before .before .before .before .before .before .args .left in (
       alternatives-fit _ H _ _ _ (c .before .before .before .before .test-description .result)
-          (c .before .before .before .before .test-description .ensures .0) (omega arith) (a-disjunction H left) _
+          (c .before .before .before .before .test-description .ensures .0) (omega arith) (disjunction-subject H left) _
           (c .before .before .before .before .before .before .before .loop .inv .1) _ _ (c .before .before .alternative .given .1)
           (c .skip-alternatives .ensures),
       c .before .before .before .before .test-description .ensures .1
@@ -516,7 +517,7 @@ test-disjunction-loop-again t c =
     let left = c .before .before .before .before .before .before .before .before .before .before .args .left in (
       c .before .before .before .test-description .ensures .1 ∙ c .before .before .before .before .before .before .loop .inv .0,
       alternatives-step _ H _ _ _ (c .before .before .before .test-description .result)
-          (c .before .before .before .test-description .ensures .0) (omega arith) (a-disjunction H left) _
+          (c .before .before .before .test-description .ensures .0) (omega arith) (disjunction-subject H left) _
           (c .before .before .before .before .before .before .loop .inv .1) _ (cc) (c .skip-description .ensures),
     )
 
@@ -531,7 +532,7 @@ test-disjunction-returns-2 : (t : ℕ) → test-disjunction-lts.Need-returns-2 (
 test-disjunction-returns-2 t c =
     let H = graphIn (c .before .before .before .before .before .args .structure .now) 0 in
     let left = c .before .before .before .before .before .args .left in
-    (alternatives-end _ H _ _ _ (a-disjunction H left) _ (c .before .loop .inv .1) (omega arith), c .before .loop .inv .0)
+    (alternatives-end _ H _ _ _ (disjunction-subject H left) _ (c .before .loop .inv .1) (omega arith), c .before .loop .inv .0)
 
 pub +test-description+test-disjunction-spec : {M : Type 1} → statement M
 +test-description+test-disjunction-spec =

@@ -6,7 +6,7 @@ use native.Mathlib.Omega.{arith}
 use lib.ListN.{getD}
 use denote.Enum.Declared.{tagOf}
 use Rattle.area.specs.Map.{HELD}
-use Rattle.area.specs.Log.{Put}
+use Rattle.area.specs.Log.{Stores}
 use Rattle.area.proofs.Region.{held-at}
 use Rattle.forest.specs.declared.held.Held.{Held}
 use Rattle.forest.specs.declared.held.Held.the-variants.{Nothing, Arcs}
@@ -121,7 +121,7 @@ returns-2 c =
     moved (a .n) (a .k) (a .s) (a .w .now) (a .a) (a .b) (omega arith) (omega arith) (omega arith) (omega arith) (p .0 .0)
     (p .0 .1) (p .1) (put .result) (put .last .0) (put .ensures) h (put2 .result) (put2 .last .0)
     (ap (λ (i : ℕ). getD (a .w .now) i 0) (held-at (a .b)))
-    (subst (λ (i : ℕ). Put (put .result) (put .last .0) i h (put2 .result) (put2 .last .0)) (held-at (a .a)) (put2 .ensures))
+    (subst (λ (i : ℕ). Stores (put .result) (put .last .0) i h (put2 .result) (put2 .last .0)) (held-at (a .a)) (put2 .ensures))
     (told-nothing (a .w .now) (a .a) none)
 
 covered-requires : tie.Need-covered-requires

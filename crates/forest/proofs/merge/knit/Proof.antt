@@ -4,7 +4,7 @@ use mathlib.Core.Path.{refl, sym, _∙_, subst}
 use native.Mathlib.Omega.{arith}
 use lib.ListN.{set, length-set}
 use Rattle.area.specs.Map.{STACK}
-use Rattle.area.specs.Log.{Put}
+use Rattle.area.specs.Log.{Stores}
 use Rattle.area.proofs.Region.{held-at}
 use Rattle.forest.specs.State.{Runs}
 use Rattle.forest.proofs.Contents.{told-arcs}
@@ -149,7 +149,7 @@ returns c =
     (p .1 .1) (put .result) (put .last .0) (put .ensures) (a .p) (a .q) (last .result) (put2 .result) (put3 .result) (put2 .last .0)
     (put3 .last .0) (set (put3 .last .0) (STACK + a .s) (a .p + 4096 * a .q)) (came .0) (there .0) (came .1) (there .1) (last .ensures)
     (put2 .ensures)
-    (subst (λ (i : ℕ). Put (put2 .result) (put2 .last .0) i (a .p) (put3 .result) (put3 .last .0)) (held-at (a .a)) (put3 .ensures)) refl
+    (subst (λ (i : ℕ). Stores (put2 .result) (put2 .last .0) i (a .p) (put3 .result) (put3 .last .0)) (held-at (a .a)) (put3 .ensures)) refl
 
 pub knit-spec : {M : Type 1} → statement M
 knit-spec =

@@ -2,8 +2,8 @@
 use mathlib.Core.Path.{_≡_, _∙_}
 use native.Mathlib.Omega.{arith}
 use lib.ListN.{length}
-use Rattle.area.specs.Region.{words}
-use Rattle.forest.specs.State.{targets, Walk, hops}
+use Rattle.area.specs.Region.{loaded-words}
+use Rattle.forest.specs.State.{targets, FrameWalk, hops}
 use Rattle.forest.proofs.Words.{words-later, targets-later}
 use Rattle.forest.proofs.Turns.{arc-pos, arc-low}
 use Rattle.forest.proofs.Drain.{walk-refl, walk-working, drain-turn, drained-bad, drained-end}
@@ -12,7 +12,7 @@ use Rattle.forest.proofs.settle.drain.Statement.{statement}
 use Rattle.forest.proofs.settle.drain.Tie as tie
 
 abbrev Inv-loop : tie.InvT-loop
-Inv-loop w₀ k s n from to e₀ h₀ x₀ w e h x = Walk (words w₀) (targets w₀) n k s w₀ from to e h w x
+Inv-loop w₀ k s n from to e₀ h₀ x₀ w e h x = FrameWalk (loaded-words w₀) (targets w₀) n k s w₀ from to e h w x
 
 abbrev μ-loop : tie.MeasureT-loop
 μ-loop w₀ k s n from to e₀ h₀ x₀ w e h x = hops 2048 w to x
@@ -22,7 +22,7 @@ loop-holds c =
     let s = c .before in
     let a = s .args in
     let wn = a .w .now in
-    let F = words wn in
+    let F = loaded-words wn in
     let T = targets wn in
     let g = s .pre .1 in
     walk-refl F T (a .n) (a .k) (a .s) wn (a .from) (a .to) (g .state .logged)
@@ -32,7 +32,7 @@ step-requires c κs =
     let s = c .before .before .before .before in
     let a = s .args in
     let wn = a .w .now in
-    let F = words wn in
+    let F = loaded-words wn in
     let T = targets wn in
     let g = s .pre .1 in
     let o = c .before .before .loop in
@@ -52,7 +52,7 @@ returns c =
     let s = c .before .before .before .before .before .before .before .before in
     let a = s .args in
     let wn = a .w .now in
-    let F = words wn in
+    let F = loaded-words wn in
     let T = targets wn in
     let o = c .before .before .before .before .before .before .loop in
     let le : length (o .w) ≡ length wn = o .inv .later .len in
@@ -66,7 +66,7 @@ sub-next c =
     let s = c .before .before .before .before .before .before .before .before .before in
     let a = s .args in
     let wn = a .w .now in
-    let F = words wn in
+    let F = loaded-words wn in
     let T = targets wn in
     let g = s .pre .1 in
     let o = c .before .before .before .before .before .before .before .loop in
@@ -81,7 +81,7 @@ next-requires c κs =
     let s = c .before .before .before .before .before .before .before .before .before in
     let a = s .args in
     let wn = a .w .now in
-    let F = words wn in
+    let F = loaded-words wn in
     let T = targets wn in
     let g = s .pre .1 in
     let o = c .before .before .before .before .before .before .before .loop in
@@ -100,7 +100,7 @@ loop-again c =
     let s = c .before .before .before .before .before .before .before .before .before .before in
     let a = s .args in
     let wn = a .w .now in
-    let F = words wn in
+    let F = loaded-words wn in
     let T = targets wn in
     let o = c .before .before .before .before .before .before .before .before .loop in
     let le : length (o .w) ≡ length wn = o .inv .later .len in
@@ -118,7 +118,7 @@ returns-2 c =
     let s = c .before .before .before in
     let a = s .args in
     let wn = a .w .now in
-    let F = words wn in
+    let F = loaded-words wn in
     let T = targets wn in
     let o = c .before .loop in
     let le : length (o .w) ≡ length wn = o .inv .later .len in

@@ -4,7 +4,7 @@ use mathlib.Core.Path.{_≡_, ap, _∙_}
 use native.Mathlib.Omega.{arith}
 use lib.ListN.{length}
 use Rattle.area.specs.Map.{PARENT}
-use Rattle.area.specs.Region.{region, words}
+use Rattle.area.specs.Region.{region, loaded-words}
 use Rattle.forest.specs.Forest.{tops}
 use Rattle.forest.specs.State.{targets}
 use Rattle.forest.proofs.Words.{words-later, targets-later}
@@ -16,7 +16,7 @@ use Rattle.forest.proofs.settle.settle.Statement.{statement}
 use Rattle.forest.proofs.settle.settle.Tie as tie
 
 abbrev Inv-loop : tie.InvT-loop
-Inv-loop w₀ k s n e₀ h₀ w e h = Settling (words w₀) (targets w₀) n k s w₀ e h w
+Inv-loop w₀ k s n e₀ h₀ w e h = Settling (loaded-words w₀) (targets w₀) n k s w₀ e h w
 
 abbrev μ-loop : tie.MeasureT-loop
 μ-loop w₀ k s n e₀ h₀ w e h = h + tops 0 (region PARENT n w)
@@ -26,7 +26,7 @@ loop-holds c =
     let s = c .before in
     let a = s .args in
     let wn = a .w .now in
-    let F = words wn in
+    let F = loaded-words wn in
     let T = targets wn in
     let g = s .pre .1 in
     settle-start F T (a .n) (a .k) (a .s) wn (g .state .logged)
@@ -36,7 +36,7 @@ sub-i c =
     let s = c .before .before .before in
     let a = s .args in
     let wn = a .w .now in
-    let F = words wn in
+    let F = loaded-words wn in
     let T = targets wn in
     let g = s .pre .1 in
     let o = c .before .loop in
@@ -50,7 +50,7 @@ add-wide c =
     let s = c .before .before .before in
     let a = s .args in
     let wn = a .w .now in
-    let F = words wn in
+    let F = loaded-words wn in
     let T = targets wn in
     let g = s .pre .1 in
     let o = c .before .loop in
@@ -64,7 +64,7 @@ mul-wide c =
     let s = c .before .before .before in
     let a = s .args in
     let wn = a .w .now in
-    let F = words wn in
+    let F = loaded-words wn in
     let T = targets wn in
     let g = s .pre .1 in
     let o = c .before .loop in
@@ -78,7 +78,7 @@ slice-read-wide c =
     let s = c .before .before .before .before in
     let a = s .args in
     let wn = a .w .now in
-    let F = words wn in
+    let F = loaded-words wn in
     let T = targets wn in
     let g = s .pre .1 in
     let o = c .before .before .loop in
@@ -96,7 +96,7 @@ drain-requires c κs =
     let s = c .before .before .before .before .before .before in
     let a = s .args in
     let wn = a .w .now in
-    let F = words wn in
+    let F = loaded-words wn in
     let T = targets wn in
     let g = s .pre .1 in
     let o = c .before .before .before .before .loop in
@@ -122,7 +122,7 @@ returns c =
     let s = c .before .before .before .before .before .before .before .before .before .before in
     let a = s .args in
     let wn = a .w .now in
-    let F = words wn in
+    let F = loaded-words wn in
     let T = targets wn in
     let g = s .pre .1 in
     let o = c .before .before .before .before .before .before .before .before .loop in
@@ -142,7 +142,7 @@ loop-less c =
     let s = c .before .before .before .before .before .before .before .before .before .before in
     let a = s .args in
     let wn = a .w .now in
-    let F = words wn in
+    let F = loaded-words wn in
     let T = targets wn in
     let g = s .pre .1 in
     let o = c .before .before .before .before .before .before .before .before .loop in
@@ -161,7 +161,7 @@ loop-again c =
     let s = c .before .before .before .before .before .before .before .before .before .before in
     let a = s .args in
     let wn = a .w .now in
-    let F = words wn in
+    let F = loaded-words wn in
     let T = targets wn in
     let g = s .pre .1 in
     let o = c .before .before .before .before .before .before .before .before .loop in
@@ -182,7 +182,7 @@ returns-2 c =
     let s = c .before .before .before in
     let a = s .args in
     let wn = a .w .now in
-    let F = words wn in
+    let F = loaded-words wn in
     let T = targets wn in
     let o = c .before .loop in
     let le : length (o .w) ≡ length wn = o .inv .later .len in

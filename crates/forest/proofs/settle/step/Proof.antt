@@ -3,7 +3,7 @@ use Prim.Native.Nat.{ℕ, suc, _-_, _<_}
 use mathlib.Core.Path.{_≡_, subst}
 use native.Mathlib.Omega.{arith}
 use lib.ListN.{getD}
-use Rattle.area.specs.Region.{words}
+use Rattle.area.specs.Region.{loaded-words}
 use Rattle.forest.specs.State.{targets, Looked}
 use Rattle.forest.proofs.Walks.{some}
 use Rattle.forest.proofs.Turns.{after-runs, arc-pos, arc-low, arc-target, match-target, turned-miss, turned-hit}
@@ -16,7 +16,7 @@ sub-j c =
     let s = c .before in
     let a = s .args in
     let wn = a .w .now in
-    let F = words wn in
+    let F = loaded-words wn in
     let T = targets wn in
     let g = s .pre .1 .1 in
     let ps = arc-pos (g .G) (g .H) F T (a .n) (a .k) (a .s) (a .x) (a .to) (g .fs) wn (omega arith) (omega arith) (g .state)
@@ -30,7 +30,7 @@ loaded-requires c κs =
     let s = c .before .before in
     let a = s .args in
     let wn = a .w .now in
-    let F = words wn in
+    let F = loaded-words wn in
     let T = targets wn in
     let g = s .pre .1 .1 in
     let ps = arc-pos (g .G) (g .H) F T (a .n) (a .k) (a .s) (a .x) (a .to) (g .fs) wn (omega arith) (omega arith) (g .state)
@@ -44,7 +44,7 @@ look-requires c κs =
     let s = c .before .before .before .before in
     let a = s .args in
     let wn = a .w .now in
-    let F = words wn in
+    let F = loaded-words wn in
     let T = targets wn in
     let g = s .pre .1 .1 in
     (omega arith, after-runs (g .G) (g .H) F T (a .n) (a .k) (a .s) (a .x) (a .to) (g .fs) wn (omega arith) (omega arith) (g .state))
@@ -58,7 +58,7 @@ returns c =
     let s = c .before .before .before .before .before .before in
     let a = s .args in
     let wn = a .w .now in
-    let F = words wn in
+    let F = loaded-words wn in
     let T = targets wn in
     let g = s .pre .1 .1 in
     let lk : Looked F wn (getD F (a .x - 1) 0) (a .to) (look .result) =
@@ -75,7 +75,7 @@ target-requires c κs =
     let s = c .before .before .before .before .before .before .before in
     let a = s .args in
     let wn = a .w .now in
-    let F = words wn in
+    let F = loaded-words wn in
     let T = targets wn in
     let g = s .pre .1 .1 in
     let ps = arc-pos (g .G) (g .H) F T (a .n) (a .k) (a .s) (a .x) (a .to) (g .fs) wn (omega arith) (omega arith) (g .state)
@@ -90,7 +90,7 @@ target-requires-2 c κs =
     let s = c .before .before .before .before .before .before .before .before .before in
     let a = s .args in
     let wn = a .w .now in
-    let F = words wn in
+    let F = loaded-words wn in
     let T = targets wn in
     let g = s .pre .1 .1 in
     let lk : Looked F wn (getD F (a .x - 1) 0) (a .to) (look .result) =
@@ -110,7 +110,7 @@ join-requires c κs =
     let s = c .before .before .before .before .before .before .before .before .before .before .before in
     let a = s .args in
     let wn = a .w .now in
-    let F = words wn in
+    let F = loaded-words wn in
     let T = targets wn in
     let g = s .pre .1 .1 in
     let lk : Looked F wn (getD F (a .x - 1) 0) (a .to) (look .result) =
@@ -143,7 +143,7 @@ returns-2 c =
     let s = c .before .before .before .before .before .before .before .before .before .before .before .before .before .before in
     let a = s .args in
     let wn = a .w .now in
-    let F = words wn in
+    let F = loaded-words wn in
     let T = targets wn in
     let g = s .pre .1 .1 in
     let lk : Looked F wn (getD F (a .x - 1) 0) (a .to) (look .result) =

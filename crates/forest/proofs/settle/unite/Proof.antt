@@ -1,7 +1,7 @@
 -- `forest::settle::unite` meets its contract. Assumes nothing.
 use mathlib.Core.Path.{_∙_}
 use native.Mathlib.Omega.{arith}
-use Rattle.area.specs.Region.{words}
+use Rattle.area.specs.Region.{loaded-words}
 use Rattle.forest.specs.State.{targets}
 use Rattle.forest.proofs.Words.{words-later, targets-later}
 use Rattle.forest.proofs.Drain.{united, united-bad, united-stacked}
@@ -13,7 +13,7 @@ join-requires c κs =
     let s = c .before .before in
     let a = s .args in
     let wn = a .w .now in
-    let F = words wn in
+    let F = loaded-words wn in
     let T = targets wn in
     let g = s .pre .1 .1 in
     ((omega arith, (omega arith, (omega arith, omega arith))), record { G = g .G; H = g .H; F = F; T = T; fs = _; state = g .state })
@@ -27,7 +27,7 @@ returns c =
     let s = c .before .before .before .before .before .before in
     let a = s .args in
     let wn = a .w .now in
-    let F = words wn in
+    let F = loaded-words wn in
     let T = targets wn in
     united-bad F T (a .n) (a .k) wn (a .x) (a .y) (join .result .k) (join .result .s) (join .result .bad) (join .last .0) (join .ensures)
     (c .if1 .taken)
@@ -38,7 +38,7 @@ settle-requires c κs =
     let s = c .before .before .before .before .before .before .before in
     let a = s .args in
     let wn = a .w .now in
-    let F = words wn in
+    let F = loaded-words wn in
     let T = targets wn in
     let g = s .pre .1 .1 in
     let wl = words-later (a .k) wn (join .result .k) (join .last .0) (omega arith) (join .ensures .later) in
@@ -58,7 +58,7 @@ returns-2 c =
     let s = c .before .before .before .before .before .before .before .before .before .before in
     let a = s .args in
     let wn = a .w .now in
-    let F = words wn in
+    let F = loaded-words wn in
     let T = targets wn in
     let wl = words-later (a .k) wn (join .result .k) (join .last .0) (omega arith) (join .ensures .later) in
     let tl = targets-later (a .k) wn (join .result .k) (join .last .0) (omega arith) (join .ensures .later) in

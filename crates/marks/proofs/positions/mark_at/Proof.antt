@@ -4,7 +4,7 @@ use native.Mathlib.Omega.{arith}
 use mathlib.Core.Path.{ap, _∙_}
 use Prim.Native.Nat.{ℕ}
 use lib.ListN.{getD}
-use Rattle.area.specs.Region.{words}
+use Rattle.area.specs.Region.{loaded-words}
 use Rattle.packing.specs.Packed.{word-mark}
 use Rattle.packing.proofs.Packed.{mark-low}
 use Rattle.marks.specs.Positions.{mark-at}
@@ -25,7 +25,8 @@ unfolding mark-at
 returns c =
     let e = c .mark-of .ensures in (
       e ∙ ap word-mark (c .before .word-at .ensures
-          ∙ ap (λ (k : ℕ). getD (words (c .before .before .before .before .args .w .now)) k 0) (c .before .before .tail-at .ensures)),
+          ∙ ap (λ (k : ℕ). getD (loaded-words (c .before .before .before .before .args .w .now)) k 0)
+          (c .before .before .tail-at .ensures)),
       omega (arith, mark-low (c .before .word-at .result)),
     )
 

@@ -4,14 +4,14 @@ use Prim.Native.Nat.{_+_}
 use native.Mathlib.Omega.{arith}
 use lib.ListN.{length-set}
 use Rattle.area.specs.Map.{RESULT}
-use Rattle.showing.specs.Copying.{its-arcs, Copying}
+use Rattle.showing.specs.Copying.{arcs-piece, Copying}
 use Rattle.showing.proofs.Nodes.{Arcs, arcs-start, arcs-done, arcs-same, arcs-here, arcs-above, arcs-on}
 use Rattle.showing.proofs.copy.copy_arcs.Statement.{statement}
 use Rattle.showing.proofs.copy.copy_arcs.Tie as tie
 use Rattle.marks.proofs.positions.word_at.Reads as word-at-reads
 
 abbrev Inv-loop : tie.InvT-loop
-Inv-loop w₀ number p count o left₀ at₀ out₀ w left at out = (d : Copying (its-arcs count) w₀ number p o) →
+Inv-loop w₀ number p count o left₀ at₀ out₀ w left at out = (d : Copying (arcs-piece count) w₀ number p o) →
     Arcs w₀ number p count o d left at out w
 
 abbrev μ-loop : tie.MeasureT-loop

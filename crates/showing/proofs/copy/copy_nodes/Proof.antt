@@ -1,14 +1,14 @@
 -- `showing::copy::copy_nodes` meets its contract: what is left to copy goes on to the whole.
 -- Assumes nothing.
 use native.Mathlib.Omega.{arith}
-use Rattle.showing.specs.Copying.{its-nodes, Copying}
+use Rattle.showing.specs.Copying.{nodes-piece, Copying}
 use Rattle.showing.proofs.Copying.{Nodes, nodes-start, nodes-done, nodes-same, nodes-asks, nodes-near, nodes-on}
 use Rattle.showing.proofs.copy.copy_nodes.Statement.{statement}
 use Rattle.showing.proofs.copy.copy_nodes.Tie as tie
 use Rattle.showing.proofs.copy.copy_node.Reads as copy-node-reads
 
 abbrev Inv-loop : tie.InvT-loop
-Inv-loop w₀ number p count o left₀ at₀ out₀ w left at out = (d : Copying (its-nodes count) w₀ number p o) →
+Inv-loop w₀ number p count o left₀ at₀ out₀ w left at out = (d : Copying (nodes-piece count) w₀ number p o) →
     Nodes w₀ number p count o d left at out w
 
 abbrev μ-loop : tie.MeasureT-loop

@@ -4,14 +4,14 @@ use Prim.Native.Nat.{ℕ, _-_, _≤_}
 use mathlib.Core.Path.{_≡_, subst}
 use mathlib.Core.Logic.{⊎-elim}
 use native.Mathlib.Omega.{arith}
-use Rattle.trying.specs.Leaf.{LeafTold, Leaves}
+use Rattle.trying.specs.Leaf.{LeafTold, FirstLeaves}
 use Rattle.trying.proofs.Leading.{leaves-none, leaves-more, all-agree, all-stop}
 use borrow.Author.Needs.{needs}
 use Rattle.trying.proofs.guess.lead_all.Statement.{statement}
 use Rattle.trying.proofs.guess.lead_all.Tie as tie
 
 abbrev Inv-loop : tie.InvT-loop
-Inv-loop w n g base d x t i₀ i = (i ≤ d) × Leaves n w g base d i
+Inv-loop w n g base d x t i₀ i = (i ≤ d) × FirstLeaves n w g base d i
 
 abbrev μ-loop : tie.MeasureT-loop
 μ-loop w n g base d x t i₀ i = d - i
@@ -53,7 +53,7 @@ returns-2 c =
     let a = c .before .before .before .before .args in
     let o = c .before .loop in
     let e : o .i ≡ a .d = omega arith in
-    all-agree (a .n) (a .w .now) (a .g) (a .base) (a .d) (subst (Leaves (a .n) (a .w .now) (a .g) (a .base) (a .d)) e (o .inv .1))
+    all-agree (a .n) (a .w .now) (a .g) (a .base) (a .d) (subst (FirstLeaves (a .n) (a .w .now) (a .g) (a .base) (a .d)) e (o .inv .1))
 
 pub lead-all-spec : {M : Type 1} → statement M
 lead-all-spec =

@@ -2,14 +2,14 @@
 use mathlib.Core.Path.{_≡_, subst}
 use Prim.Native.Nat.{ℕ, _-_, _≤_}
 use native.Mathlib.Omega.{arith}
-use Rattle.writing.specs.Writing.{Cleared}
+use Rattle.writing.specs.Writing.{Unnumbered}
 use Rattle.writing.proofs.Keeping.{cleared-none, cleared-more}
 use borrow.Author.Needs.{needs}
 use Rattle.writing.proofs.graph.clear.Statement.{statement}
 use Rattle.writing.proofs.graph.clear.Tie as tie
 
 abbrev Inv-loop : tie.InvT-loop
-Inv-loop w₀ n i₀ w i = (i ≤ n) × Cleared i w₀ w
+Inv-loop w₀ n i₀ w i = (i ≤ n) × Unnumbered i w₀ w
 
 abbrev μ-loop : tie.MeasureT-loop
 μ-loop w₀ n i₀ w i = n - i
@@ -43,7 +43,7 @@ returns : tie.Need-returns Inv-loop μ-loop
 returns c =
     let o = c .before .loop in
     let e : o .i ≡ c .before .before .args .n = omega arith in
-    subst (λ (z : ℕ). Cleared z (c .before .before .args .w .now) (o .w)) e (o .inv .1)
+    subst (λ (z : ℕ). Unnumbered z (c .before .before .args .w .now) (o .w)) e (o .inv .1)
 
 pub clear-spec : {M : Type 1} → statement M
 clear-spec =

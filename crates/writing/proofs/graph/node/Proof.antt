@@ -6,7 +6,7 @@ use native.Mathlib.Omega.{arith}
 use lib.ListN.{set}
 use Rattle.area.specs.Map.{RESULT}
 use Rattle.forest.proofs.Contents.{told-atom, told-code}
-use Rattle.writing.specs.Writing.{Arcing, Arced, Noded}
+use Rattle.writing.specs.Writing.{Arcing, Arced, NodeWritten}
 use Rattle.writing.proofs.Heads.{noding-low, noded-atom, noding-arcs, noded-small, noded-arcs}
 use borrow.Author.Needs.{needs}
 use Rattle.writing.proofs.graph.node.Statement.{statement}
@@ -65,7 +65,7 @@ returns c =
     let a = s .args in
     let wide = c .before .before .before .before .before .wide in
     let bears = told-atom _ _ _ (sym (c .before .before .before .held-by .ensures) ∙ c .before .held2 .given .1) in
-    subst (λ (h : ℕ). Noded (a .n) (a .k) (a .w .now) (a .i) (a .at) (a .m) (a .at + 1) (a .m) (set (a .w .now) (RESULT + a .at) h))
+    subst (λ (h : ℕ). NodeWritten (a .n) (a .k) (a .w .now) (a .i) (a .at) (a .m) (a .at + 1) (a .m) (set (a .w .now) (RESULT + a .at) h))
     (sym (bears .0))
     (noded-atom (a .n) (a .k) (a .w .now) (a .i) (a .at) (a .m) (wide .result) (wide .ensures) (s .pre) (omega arith))
 
