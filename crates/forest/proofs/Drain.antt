@@ -6,14 +6,15 @@ use mathlib.Core.Logic.{⊎-elim}
 use Prim.Native.Nat.{ℕ, zero, suc, _+_, _-_, _/_, _%_, _≤_, _<_}
 use native.Mathlib.Nat.{le-trans}
 use native.Mathlib.Omega.{arith}
-use lib.ListN.{getD}
-use Rattle.area.specs.Map.{PARENT, NEXT, STACK}
-use Rattle.area.specs.Region.{region}
+use lib.ListN.{getD, length}
+use Rattle.area.specs.Map.{PARENT, NEXT, STACK, SIZE}
+use Rattle.area.specs.Region.{region, loaded-words}
 use Rattle.area.specs.Log.{Logged, Later}
 use Rattle.forest.specs.Forest.{tops}
 use Rattle.forest.specs.State.{Pile, Done, Equal, Seg, Near, State, Calm, Merged, frames, withPair, FrameWalk, Working, ClashTold}
 use Rattle.forest.specs.State.{Turned}
-use Rattle.forest.specs.State.{Drained, Stacked, Settled, United}
+use Rattle.forest.specs.State.{Drained, Stacked, Settled, United, targets}
+use Rattle.forest.proofs.Words.{words-later, targets-later}
 use Rattle.area.proofs.Undo.{later-refl, later-trans}
 
 pub walk-refl : (F T : List ℕ) (n k s : ℕ) (w : List ℕ) (x to : ℕ) → Logged k w → FrameWalk F T n k s w x to k s w x
@@ -182,6 +183,13 @@ settle-turn F T n k s w e h w' from to e2 h2 bad w2 p l a b q z =
           (finish G H F T n e2 h2 to (y .new ++ frames w' (h - 1)) w2
           (y .go G H (frames w' (h - 1)) (pop G H F T n e h w' from to l a b (p .go G H u))));
     }
+
+-- what is drained after some frames, by the words as they were at first
+pub drained-here : {n k s e h : ℕ} {w w' : List ℕ} {i from to e2 h2 : ℕ} {bad : Bool} {w2 : List ℕ} → SIZE ≤ length w →
+    Settling (loaded-words w) (targets w) n k s w e h w' → Drained (loaded-words w') (targets w') n e i w' from to e2 h2 bad w2 →
+    Drained (loaded-words w) (targets w) n e i w' from to e2 h2 bad w2
+drained-here {k = k} {e = e} {w = w} {w' = w'} hw p d =
+    rw (words-later k w e w' hw (p .later), targets-later k w e w' hw (p .later)) at d
 
 pub settle-less : (F T : List ℕ) (n : ℕ) (e h : ℕ) (w' : List ℕ) (from to e2 h2 : ℕ) (bad : Bool) (w2 : List ℕ) → 0 < h →
     Drained F T n e (h - 1) w' from to e2 h2 bad w2 → bad ≡ false → h2 + tops 0 (region PARENT n w2) < h + tops 0 (region PARENT n w')

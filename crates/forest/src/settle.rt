@@ -5,6 +5,7 @@ use crate::chain::next;
 use crate::chain::target;
 use crate::merge::Progress;
 use crate::merge::join;
+use area::map::FRAME_STEP;
 use area::map::STACK;
 use limits::wide;
 ghost use mathlib.Core.Path.{_≡_};
@@ -43,9 +44,8 @@ fn step(w: &mut [u32], k: usize, s: usize, n: usize, x: usize, to: usize) -> Pro
 fn drain(w: &mut [u32], k: usize, s: usize, n: usize, from: usize, to: usize) -> Progress
     requires { ⌜ (n ≤ NODES) × (SIZE ≤ length (now w)) ⌝ }
     requires { ⌜ Working (loaded-words (now w)) (targets (now w)) n k s from to (now w) ⌝ }
-    ensures { λ r. ⌜ Drained (loaded-words (now (w .entry))) (targets (now (w .entry))) n k s (now (w .entry)) from to (r .k) (r .s)
-        (r .bad)
-        (now (w .exit)) ⌝ }
+    ensures { λ r. ⌜ Drained (loaded-words (now (w .entry))) (targets (now (w .entry))) n k s (now (w .entry)) from to (r .k)
+        (r .s) (r .bad) (now (w .exit)) ⌝ }
 {
     let mut e = k;
     let mut h = s;
@@ -81,9 +81,9 @@ fn settle(w: &mut [u32], k: usize, s: usize, n: usize) -> Progress
     let mut h = s;
     while h != 0 {
         let i = h - 1;
-        let frame = wide(w[STACK + i]);
-        let from = frame % 4096;
-        let to = frame / 4096;
+        let frame = w[STACK + i];
+        let from = wide(frame % FRAME_STEP);
+        let to = wide(frame / FRAME_STEP);
         let m = drain(w, e, i, n, from, to);
         e = m.k;
         h = m.s;

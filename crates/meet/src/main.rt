@@ -9,17 +9,19 @@ ghost use Rattle.answer_text.specs.declared.line.Written.the-variants.{Bytes};
 ghost use Rattle.reply.specs.Printed.{printed};
 
 // "input over 65,536 bytes" is bad input: room for one byte more is enough to tell.
-fn text_space() -> [u8; 65537]
-    ensures { λ r. ⌜ length r ≡ 65537 ⌝ }
-{
-    [0; 65537]
+const TEXT_ROOM: usize = 65537;
+
+fn text_space() -> [u8; TEXT_ROOM] {
+    [0; TEXT_ROOM]
 }
 
 // What is printed has at most 23,000 bytes (`printed-small`).
-fn out_space() -> [u8; 32768]
+const OUT_ROOM: usize = 32768;
+
+fn out_space() -> [u8; OUT_ROOM]
     ensures { λ r. ⌜ length r ≡ 32768 ⌝ }
 {
-    [0; 32768]
+    [0; OUT_ROOM]
 }
 
 // Writes what comes of the text to the start of out, and answers how many bytes that is. There is always room.

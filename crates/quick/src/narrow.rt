@@ -14,6 +14,7 @@ use marks::positions::mark_at;
 use marks::positions::tail_at;
 use marks::tally::Remnant;
 use marks::tally::count_kept;
+use sieving::gather::SIEVE_SIZE;
 use sieving::gather::gather;
 use sieving::gather::renew;
 ghost use Prim.Native.Nat.{ℕ};
@@ -59,7 +60,7 @@ pub fn narrow(w: &mut [u32], k: usize, n: usize, g: usize, left: u32) -> Step
     if more == 0 {
         return Step::Stands(k, 0);
     }
-    let mut t: [u32; 256] = [0; 256];
+    let mut t: [u32; SIEVE_SIZE] = [0; SIEVE_SIZE];
     gather(w, n, &mut t);
     let mut at = e + 1;
     let mut log = k;

@@ -1,19 +1,24 @@
 // The areas of a call: what stands in them before it, and whether they are right after it.
+use area::map::SIZE;
 ghost use Prim.Native.Nat.{_≤_};
 ghost use lib.ListN.{length};
 
-// Room for an input or a result.
-pub fn space() -> [u32; 4096]
+// An input or a result area has at most so many words here.
+pub const MOST_ROOM: usize = 4096;
+
+// And a working area.
+pub const MOST_WORK: usize = 20000;
+
+pub fn space() -> [u32; MOST_ROOM]
     ensures { λ r. ⌜ 4096 ≤ length r ⌝ }
 {
-    [0; 4096]
+    [0; MOST_ROOM]
 }
 
-// Room for a working area.
-pub fn work_space() -> [u32; 20000]
+pub fn work_space() -> [u32; MOST_WORK]
     ensures { λ r. ⌜ 20000 ≤ length r ⌝ }
 {
-    [0; 20000]
+    [0; MOST_WORK]
 }
 
 // What stands at i before a call: never 0.
@@ -79,8 +84,8 @@ pub fn working_right(number: u32, w: &[u32]) -> bool {
             return untouched(w, 0);
         }
     }
-    if zeroed(w, 16384) {
-        return untouched(w, 16384);
+    if zeroed(w, SIZE) {
+        return untouched(w, SIZE);
     }
     false
 }

@@ -5,6 +5,8 @@
 mod areas;
 mod joining;
 
+use crate::areas::MOST_ROOM;
+use crate::areas::MOST_WORK;
 use crate::areas::prepare;
 use crate::areas::result_right;
 use crate::areas::space;
@@ -18,17 +20,20 @@ use vectors::Run;
 use vectors::Word;
 ghost use Prim.Native.Nat.{_≤_};
 
-// A result area has at most so many words here.
-const MOST_ROOM: usize = 4096;
-
-// And a working area.
-const MOST_WORK: usize = 20000;
-
 // How many kinds of vectors there are; another word ends them.
 const KINDS: u32 = 3;
 
 // A kind has so many counts: a count for each number, 0 to 9, that came out as stored, and one of what came out otherwise.
 const COUNTS: usize = 11;
+
+// The counts of all kinds.
+const ALL_COUNTS: usize = 33;
+
+// Before its words a vector has its kind and so many words more.
+const ROW: usize = 6;
+
+// At most so many vectors are run.
+const MOST_TURNS: u32 = 1000000;
 
 // What is stored of a vector, but for its words.
 struct Vector {
@@ -162,7 +167,7 @@ fn turn(counts: &mut [u32]) -> bool {
     if KINDS <= kind {
         return false;
     }
-    let mut row: [u32; 6] = [0; 6];
+    let mut row: [u32; ROW] = [0; ROW];
     let filled = vectors::fill(0, &mut row);
     let v = Vector {
         kind,
@@ -177,9 +182,9 @@ fn turn(counts: &mut [u32]) -> bool {
     filled
 }
 
-// Runs all vectors, at most a million.
+// Runs all vectors.
 fn all(counts: &mut [u32]) {
-    let mut turns: u32 = 1000000;
+    let mut turns = MOST_TURNS;
     while 0 < turns {
         let more = turn(counts);
         if !more {
@@ -195,7 +200,7 @@ fn say_count(label: &[u8], n: u32) {
 }
 
 // Says the counts of a kind, which stand from `from` on.
-fn say(label: &[u8], counts: &[u32; 33], from: usize)
+fn say(label: &[u8], counts: &[u32; ALL_COUNTS], from: usize)
     requires { ⌜ from ≤ 22 ⌝ }
 {
     io::write_all(1, label);
@@ -209,7 +214,7 @@ fn say(label: &[u8], counts: &[u32; 33], from: usize)
 }
 
 fn main() {
-    let mut counts: [u32; 33] = [0; 33];
+    let mut counts: [u32; ALL_COUNTS] = [0; ALL_COUNTS];
     all(&mut counts);
     say(b"unified, as stored with numbers 0 to 9:", &counts, 0);
     say(

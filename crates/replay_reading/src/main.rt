@@ -22,10 +22,19 @@ struct Tally {
     longest: u32,
 }
 
-fn space() -> [u32; 1024]
+// An input has at most so many words.
+const MOST_WORDS: usize = 1024;
+
+// At most so many vectors are run.
+const MOST_TURNS: u32 = 1000000;
+
+// The length that ends the vectors, and the most that a count can be.
+const LAST: u32 = 4294967295;
+
+fn space() -> [u32; MOST_WORDS]
     ensures { λ r. ⌜ 1024 ≡ length r ⌝ }
 {
-    [0; 1024]
+    [0; MOST_WORDS]
 }
 
 // Compares a verdict with the stored one.
@@ -66,20 +75,20 @@ fn one() -> Seen {
     let Word::Is(len) = first else {
         return Seen::End;
     };
-    if len == 4294967295 {
+    if len == LAST {
         return Seen::End;
     }
-    if 1024 < len {
+    let n = len as usize;
+    if MOST_WORDS < n {
         return Seen::Otherwise;
     }
-    let n = len as usize;
     let mut room = space();
     let words: &mut [u32] = &mut room;
     rest(&mut words[..n], len)
 }
 
 fn more(x: u32) -> u32 {
-    if x < 4294967295 {
+    if x < LAST {
         return x + 1;
     }
     x
@@ -124,7 +133,7 @@ fn ended(seen: Seen) -> bool {
     }
 }
 
-// All vectors, at most a million.
+// All vectors.
 fn all() -> Tally {
     let mut t = Tally {
         accepted: 0,
@@ -132,7 +141,7 @@ fn all() -> Tally {
         otherwise: 0,
         longest: 0,
     };
-    let mut turns: u32 = 1000000;
+    let mut turns = MOST_TURNS;
     while 0 < turns {
         let seen = one();
         if ended(seen) {

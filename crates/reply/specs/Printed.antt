@@ -3,6 +3,7 @@
 use Prim.Native.Nat.{ℕ}
 use mathlib.Core.Option.{none, some}
 use mathlib.Core.List.{List}
+use Rattle.theory.specs.Limits.{working-size}
 use Rattle.theory.specs.Answer.{Answer, Call}
 use Rattle.theory.specs.Unified.{unified}
 use Rattle.call_text.specs.Call.{heard}
@@ -13,8 +14,11 @@ abbrev pub in-text : Answer → List ℕ
 in-text r = answer-text (r .number) (r .extent) (r .readings) (r .result)
 
 -- "Its result area has 2,048 words, its working area 16,384."
+abbrev pub result-size : ℕ
+result-size = 2048
+
 unfoldable pub spoken : Call → List ℕ
-spoken c = in-text (unified c 2048 16384)
+spoken c = in-text (unified c result-size working-size)
 
 -- "… prints `bad input` alone"
 unfoldable pub printed : List ℕ → List ℕ

@@ -9,20 +9,25 @@ use unify::unify;
 ghost use mathlib.Core.Path.{_≡_};
 ghost use lib.ListN.{length};
 ghost use Rattle.answer_text.specs.Answer.{Wrote};
-ghost use Rattle.reply.specs.Printed.{spoken, printed};
+ghost use Rattle.reply.specs.Printed.{result-size, spoken, printed};
+ghost use Rattle.theory.specs.Limits.{working-size};
 
 // "Its result area has 2,048 words", and so have the inputs at most.
-fn space() -> [u32; 2048]
-    ensures { λ r. ⌜ length r ≡ 2048 ⌝ }
+const RESULT_SIZE: usize = 2048;
+
+fn space() -> [u32; RESULT_SIZE]
+    ensures { λ r. ⌜ length r ≡ result-size ⌝ }
 {
-    [0; 2048]
+    [0; RESULT_SIZE]
 }
 
 // "its working area 16,384"
-fn working_space() -> [u32; 16384]
-    ensures { λ r. ⌜ length r ≡ 16384 ⌝ }
+const WORKING_SIZE: usize = 16384;
+
+fn working_space() -> [u32; WORKING_SIZE]
+    ensures { λ r. ⌜ length r ≡ working-size ⌝ }
 {
-    [0; 16384]
+    [0; WORKING_SIZE]
 }
 
 // Unifies two inputs in these areas, and writes the answer to the start of out.
@@ -34,7 +39,7 @@ fn answer_in(
     working: &mut [u32],
     out: &mut [u8],
 ) -> Written
-    requires { ⌜ (length (now result) ≡ 2048) × (length (now working) ≡ 16384) ⌝ }
+    requires { ⌜ (length (now result) ≡ result-size) × (length (now working) ≡ working-size) ⌝ }
     ensures { λ r. ⌜ Wrote (spoken (record { mode = mode; first = now (first .entry); second = now (second .entry) }))
         (now (out .entry)) (now (out .exit)) r ⌝ }
 {
@@ -61,7 +66,7 @@ fn answer(mode: u32, first: &[u32], second: &[u32], out: &mut [u8]) -> Written
 
 // Answers the call that the text is, whose inputs are read into these, and writes what `meet` prints to the start of out.
 fn reply_in(text: &[u8], first: &mut [u32], second: &mut [u32], out: &mut [u8]) -> Written
-    requires { ⌜ (length (now first) ≡ 2048) × (length (now second) ≡ 2048) ⌝ }
+    requires { ⌜ (length (now first) ≡ result-size) × (length (now second) ≡ result-size) ⌝ }
     ensures { λ r. ⌜ Wrote (printed (now (text .entry))) (now (out .entry)) (now (out .exit)) r ⌝ }
 {
     let call = read_call(text, first, second);

@@ -1,4 +1,5 @@
 // A feature is looked for through the sieve.
+use crate::gather::SIEVE_SIZE;
 use forest::chain::look;
 use limits::wide;
 ghost use Prim.Native.Nat.{_≤_};
@@ -16,7 +17,7 @@ pub fn look_through(w: &[u32], x: usize, f: u32, t: &[u32]) -> usize
     requires { ⌜ Sieves (now w) (now t) x ⌝ }
     ensures { λ r. ⌜ Looked (loaded-words (now (w .entry))) (now (w .entry)) f x r ⌝ }
 {
-    let i = wide(f) % 256;
+    let i = wide(f) % SIEVE_SIZE;
     let mut y = x;
     if i < t.len() {
         y = wide(t[i]);

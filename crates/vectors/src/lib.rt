@@ -16,6 +16,13 @@ pub enum Run {
     Broken,
 }
 
+// At most so many words are read at once, and a word has so many bytes.
+const MOST_WORDS: usize = 4096;
+
+const WORD_BYTES: usize = 4;
+
+const MOST_BYTES: usize = 16384;
+
 fn wide(x: u8) -> u32
     ensures { λ r. ⌜ r < 256 ⌝ }
 {
@@ -31,9 +38,9 @@ fn joined(a: u8, b: u8, c: u8, d: u8) -> u32 {
 
 // The next word.
 pub fn next(fd: i32) -> Word {
-    let mut bytes: [u8; 4] = [0; 4];
+    let mut bytes: [u8; WORD_BYTES] = [0; WORD_BYTES];
     let got = io::read_full(fd, &mut bytes);
-    if got < 4 {
+    if got < WORD_BYTES {
         return Word::End;
     }
     Word::Is(joined(bytes[0], bytes[1], bytes[2], bytes[3]))
@@ -41,10 +48,10 @@ pub fn next(fd: i32) -> Word {
 
 // The word whose bytes stand from p on, or 0 where they do not.
 fn word_at(bytes: &[u8], p: usize) -> u32 {
-    if bytes.len() < 4 {
+    if bytes.len() < WORD_BYTES {
         return 0;
     }
-    if bytes.len() - 4 < p {
+    if bytes.len() - WORD_BYTES < p {
         return 0;
     }
     joined(bytes[p], bytes[p + 1], bytes[p + 2], bytes[p + 3])
@@ -54,27 +61,27 @@ fn word_at(bytes: &[u8], p: usize) -> u32 {
 fn decode(bytes: &[u8], dst: &mut [u32]) {
     let mut i: usize = 0;
     while i < dst.len() {
-        if 4096 <= i {
+        if MOST_WORDS <= i {
             return;
         }
-        dst[i] = word_at(bytes, i * 4);
+        dst[i] = word_at(bytes, i * WORD_BYTES);
         i += 1;
     }
 }
 
 // Room for the bytes of 4,096 words.
-fn byte_space() -> [u8; 16384]
+fn byte_space() -> [u8; MOST_BYTES]
     ensures { λ r. ⌜ 16384 ≤ length r ⌝ }
 {
-    [0; 16384]
+    [0; MOST_BYTES]
 }
 
 // Fills dst, which has at most 4,096 words, with the next words: false where the run ends before or dst is longer.
 pub fn fill(fd: i32, dst: &mut [u32]) -> bool {
-    if 4096 < dst.len() {
+    if MOST_WORDS < dst.len() {
         return false;
     }
-    let n = dst.len() * 4;
+    let n = dst.len() * WORD_BYTES;
     let mut space = byte_space();
     let bytes: &mut [u8] = &mut space;
     let got = io::read_full(fd, &mut bytes[..n]);

@@ -52,8 +52,8 @@ one-spec =
     enum-told
     returns
     returns-2
-    returns-3
     cast-n
+    returns-3
     space-requires
     slice-aggregate-words
     slice-aggregate-rest
