@@ -25,7 +25,6 @@ pub record Read (w : List ℕ) (p x q : ℕ) : Type 0 where
   pub mark : mark-at w p ≡ x
   pub inside : tail-at w p < 2048
   pub after : after-at w p ≡ q
-  pub on : p < q
   pub end : q ≤ 2048
 
 module _ (w : List ℕ) (room : 16384 ≤ length w) where
@@ -67,16 +66,7 @@ module _ (w : List ℕ) (room : 16384 ≤ length w) where
     read-place =
         let e = tail-is in
         let there = within .0 in
-        let tail = within .1 in
-        record {
-          here = omega arith;
-          mark = mark-is;
-          inside = omega arith;
-          after = after-is;
-          on = omega arith;
-          end =
-              within .2;
-        }
+        record { here = omega arith; mark = mark-is; inside = omega arith; after = after-is; end = within .2 }
 
   pub read-at : (d : Placed) (p n q m : ℕ) → At (loaded-words w) p n d q m → m < number-step → Read w p (marked (loaded-words w) p d) q
   read-at (place g ds) p n q m at low = read-place g ds p n q m at low

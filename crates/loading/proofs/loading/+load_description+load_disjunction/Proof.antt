@@ -33,36 +33,16 @@ abbrev μ-disjoin : Measures 2 load-disjunction-kinds.ps ℕ
 μ-disjoin κs a = 2 * a .1 .1 .1 .1 .1 .1 .0
 
 abbrev describe-at : ℕ → In 2 load-description-kinds.ps
-describe-at t =
-    and
-    2
-    load-description-kinds.ps
-    (is 2 load-description-kinds.ps μ-describe t)
-    load-description.Pre
+describe-at t = and 2 load-description-kinds.ps (is 2 load-description-kinds.ps μ-describe t) load-description.Pre
 
 abbrev describe-below : ℕ → In 2 load-description-kinds.ps
-describe-below t =
-    and
-    2
-    load-description-kinds.ps
-    (falls 2 load-description-kinds.ps _<_ μ-describe t)
-    load-description.Pre
+describe-below t = and 2 load-description-kinds.ps (falls 2 load-description-kinds.ps _<_ μ-describe t) load-description.Pre
 
 abbrev disjoin-at : ℕ → In 2 load-disjunction-kinds.ps
-disjoin-at t =
-    and
-    2
-    load-disjunction-kinds.ps
-    (is 2 load-disjunction-kinds.ps μ-disjoin t)
-    load-disjunction.Pre
+disjoin-at t = and 2 load-disjunction-kinds.ps (is 2 load-disjunction-kinds.ps μ-disjoin t) load-disjunction.Pre
 
 abbrev disjoin-below : ℕ → In 2 load-disjunction-kinds.ps
-disjoin-below t =
-    and
-    2
-    load-disjunction-kinds.ps
-    (falls 2 load-disjunction-kinds.ps _<_ μ-disjoin t)
-    load-disjunction.Pre
+disjoin-below t = and 2 load-disjunction-kinds.ps (falls 2 load-disjunction-kinds.ps _<_ μ-disjoin t) load-disjunction.Pre
 
 abbrev describe-claims : ℕ → describe.Claims
 describe-claims t = (
@@ -204,12 +184,8 @@ disjoin-μ t₀ ws p shift number mark left count₀ at₀ next₀ own₀ free�
 disjoin-mul-count : (t : ℕ) → disjoin.Need-mul-count (disjoin-claims t) (disjoin-at t) load-disjunction.Post disjoin-inv disjoin-μ
 disjoin-mul-count t c = omega (arith, disjunction-there _ _ _ _ _ (c .before .before .pre .1 .1))
 
-disjoin-shared-slice-read-count :
-    (t : ℕ) → disjoin.Need-shared-slice-read-count (disjoin-claims t)
-    (disjoin-at t)
-    load-disjunction.Post
-    disjoin-inv
-    disjoin-μ
+disjoin-shared-slice-read-count : (t : ℕ) →
+    disjoin.Need-shared-slice-read-count (disjoin-claims t) (disjoin-at t) load-disjunction.Post disjoin-inv disjoin-μ
 disjoin-shared-slice-read-count t c = omega (arith, disjunction-there _ _ _ _ _ (c .before .before .before .pre .1 .1))
 
 disjoin-add-t : (t : ℕ) → disjoin.Need-add-t (disjoin-claims t) (disjoin-at t) load-disjunction.Post disjoin-inv disjoin-μ
@@ -243,13 +219,9 @@ there t c = asks-first (its-alternatives _ _) (a-description _) (its-alternative
     (asks _ _ _ _ (its-alternatives _ _) (its-alternatives _ _) _ _ _ _ (c .before .loop .inv .1)
     (disjunction-asks _ _ _ _ _ (c .before .before .before .before .before .pre .1 .1)))
 
-disjoin-load-description-requires :
-    (t : ℕ) → disjoin.Need-load-description-requires (disjoin-claims t)
-    (disjoin-at t)
-    load-disjunction.Post
-    disjoin-inv
-    disjoin-μ
-disjoin-load-description-requires t c κs = (
+disjoin-asks-description : (t : ℕ) →
+    disjoin.Need-load-description-requires (disjoin-claims t) (disjoin-at t) load-disjunction.Post disjoin-inv disjoin-μ
+disjoin-asks-description t c κs = (
   omega (arith, disjunction-there _ _ _ _ _ (c .before .before .before .before .before .before .pre .1 .1)),
   (
     room-keeps _ _ _ _ (c .before .before .loop .inv .0 ∙ simp length-set) (c .before .before .before .before .before .before .pre .1 .0),
@@ -321,7 +293,7 @@ pub +load-description+load-disjunction-spec : {M : Type 1} → statement M
     (disjoin-add-free t)
     (disjoin-loop-holds t)
     (disjoin-sub-load-description t)
-    (disjoin-load-description-requires t)
+    (disjoin-asks-description t)
     (disjoin-add-own t)
     (disjoin-sub-count t)
     (disjoin-loop-less t)
