@@ -13,7 +13,7 @@ use Rattle.forest.specs.State.{Pile, ClashIn}
 use Rattle.forest.specs.State as pile
 use Rattle.loading.specs.Entry.{Entry, graphs}
 use Rattle.classes.specs.Entry.{Spots, spot-number}
-use Rattle.classes.specs.Holds.{code, NodeIn, Tied, Apart}
+use Rattle.classes.specs.Holds.{code, NodeIn, Tied, EntriesApart}
 
 -- the node of a spot
 pub spot-node : (es : List Entry) (s : Spots es) → NodeIn es (spot-number es s)
@@ -22,7 +22,7 @@ spot-node (e ∷ es) (inr y) = let r = spot-node es y in
     record { e = r .e; one = List·Memᴰ·tail (r .one); j = r .j; below = r .below; is = r .is }
 
 -- graphs that share no number have no two spots of one number
-pub spot-one : (es : List Entry) → Apart es → (s t : Spots es) → spot-number es s ≡ spot-number es t → s ≡ t
+pub spot-one : (es : List Entry) → EntriesApart es → (s t : Spots es) → spot-number es s ≡ spot-number es t → s ≡ t
 spot-one (e ∷ es) a (inl x) (inl y) q = let z : x .0 ≡ y .0 = omega arith in ap {B = Spots (e ∷ es)} inl (Σ-prop-path (λ n. le-prop) z)
 spot-one (e ∷ es) a (inl x) (inr y) q =
     let r = spot-node es y in
@@ -145,7 +145,7 @@ module _ (F T : List ℕ) (all : List Entry) (G : Pile) (tied : Tied F T all G) 
       let r = arched all (o .e) (o .j) (getD F q 0) (o .to) (o .one) (o .below) (o .inner) (o .arc) in
       (r .from, (r .to, (r .from-is ∙ sym (o .source), (r .to-is ∙ sym (o .target), r .arc))))
 
-  module _ (apart : Apart all) (r₀ : Spots all) (root₀ : beside (graphs all) .Root r₀) where
+  module _ (apart : EntriesApart all) (r₀ : Spots all) (root₀ : beside (graphs all) .Root r₀) where
     abbrev SameSpots : Spots all → Spots all → Type 0
     SameSpots = Same (beside (graphs all)) (roots (beside (graphs all)))
 

@@ -18,7 +18,7 @@ use Rattle.forest.specs.State.{targets, Pile, Done, Equal, ClashIn, State, Full
 use Rattle.classes.specs.Nodes.{spans, NodesAt, Ahead, listed}
 use Rattle.loading.specs.Entry.{Entry, graphs}
 use Rattle.classes.specs.Entry.{Aside, Comes}
-use Rattle.classes.specs.Holds.{code, ArcOf, Tied, Apart, Sits, Holds}
+use Rattle.classes.specs.Holds.{code, ArcOf, Tied, EntriesApart, Sits, Holds}
 use Rattle.area.proofs.Region.{word-at, words-same}
 use Rattle.forest.proofs.Words.{target-at, targets-same}
 use Rattle.classes.proofs.Added.{weight-spans, NodesLie, nodes-lie, numbers-old, numbers-new, numbers-cases, codes-new, codes-old}
@@ -35,7 +35,7 @@ graphs-append (e ∷ a) b = ap (λ (l : List Graph). e .graph ∷ l) (graphs-app
 aside-sym : (e o : Entry) → Aside e o → Aside o e
 aside-sym e o a = (⊎-elim (λ x. inr x) (λ x. inl x) (a .0), ⊎-elim (λ x. inr x) (λ x. inl x) (a .1))
 
-pub apart-more : (es : List Entry) (e : Entry) → Apart es → ((o : Entry) → List·Memᴰ o es → Aside e o) → Apart (es ++ e ∷ [])
+pub apart-more : (es : List Entry) (e : Entry) → EntriesApart es → ((o : Entry) → List·Memᴰ o es → Aside e o) → EntriesApart (es ++ e ∷ [])
 apart-more [] e a f = ((λ o m. absurd (List·Memᴰ·not-nil m)), tt)
 apart-more (o ∷ es) e a f = (
   (λ u m. ⊎-elim (λ i. a .0 u i)
@@ -250,7 +250,7 @@ module _ (n : ℕ) (es : List Entry) (k : ℕ) (w : List ℕ) (e : Entry) (h : H
         (arc-cases q m);
   }
 
-  pub apart' : Apart all
+  pub apart' : EntriesApart all
   apart' = apart-more es e (h .apart) (c .aside)
 
   pub graphs' : graphs all ≡ graphs es ++ e .graph ∷ []

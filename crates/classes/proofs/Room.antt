@@ -11,7 +11,7 @@ use Rattle.theory.specs.Weight.{weight, weights}
 use Rattle.descriptions.proofs.Tests.{Distinct, distinct-append}
 use Rattle.loading.specs.Entry.{Entry, graphs}
 use Rattle.classes.specs.Entry.{Lies, Aside}
-use Rattle.classes.specs.Holds.{Apart, Holds}
+use Rattle.classes.specs.Holds.{EntriesApart, Holds}
 use Rattle.classes.proofs.Comings.{graphs-append, apart-more}
 
 -- the words that the graphs take
@@ -35,7 +35,7 @@ taken-from (e ∷ es) q m = ⊎-elim
     (λ i. let r = taken-from es q i in (r .0, (List·Memᴰ·tail (r .1 .0), r .1 .1)))
     (List·Memᴰ·append-cases (range (e .at) (suc (weight (e .graph)))) m)
 
-taken-distinct : (es : List Entry) → Apart es → Distinct (taken es)
+taken-distinct : (es : List Entry) → EntriesApart es → Distinct (taken es)
 taken-distinct [] a = tt
 taken-distinct (e ∷ es) a = distinct-append (range (e .at) (suc (weight (e .graph)))) (taken es)
     (range-distinct (e .at) (suc (weight (e .graph)))) (taken-distinct es (a .1))
@@ -46,7 +46,7 @@ taken-distinct (e ∷ es) a = distinct-append (range (e .at) (suc (weight (e .gr
     ⊎-elim (λ o. omega arith) (λ o. omega arith) (a .0 (r .0) (r .1 .0) .1))
 
 -- they take no more than the words that there are
-words-enough : (m : ℕ) (es : List Entry) → Apart es → ((e : Entry) → List·Memᴰ e es → e .at + suc (weight (e .graph)) ≤ m) →
+words-enough : (m : ℕ) (es : List Entry) → EntriesApart es → ((e : Entry) → List·Memᴰ e es → e .at + suc (weight (e .graph)) ≤ m) →
     weights (graphs es) + length es ≤ m
 words-enough m es a f =
     let d = distinct-length (taken es) (range 0 m) (taken-distinct es a) (λ q i. let r = taken-from es q i in let l = f (r .0) (r .1 .0) in

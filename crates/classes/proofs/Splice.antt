@@ -7,7 +7,7 @@ use native.Mathlib.Omega.{arith}
 use lib.ListN.{length, getD}
 use Rattle.area.specs.Map.{NEXT}
 use Rattle.forest.specs.State.{Chain, First}
-use Rattle.forest.specs.Order.{FeaturesRise, Between}
+use Rattle.forest.specs.Order.{FeaturesRise, FallsBetween}
 use Rattle.forest.proofs.Links.{chain-same}
 use Rattle.forest.proofs.Places.{chain-once, between-where}
 
@@ -32,17 +32,17 @@ grows-after F t j xs L h g = record {
 
 -- ---- at its place
 module _ (F : List ℕ) (t : ℕ) where
-  abbrev pub lodge : (b a : ℕ) (xs : List ℕ) → Between F (getD F t 0) b a xs → List ℕ
+  abbrev pub lodge : (b a : ℕ) (xs : List ℕ) → FallsBetween F (getD F t 0) b a xs → List ℕ
   lodge b a [] u = t ∷ []
   lodge b a (j ∷ xs) (inl u) = t ∷ j ∷ xs
   lodge b a (j ∷ xs) (inr u) = j ∷ lodge (NEXT + j) a xs (u .1)
 
-  pub lodge-grows : (b a : ℕ) (xs : List ℕ) (u : Between F (getD F t 0) b a xs) → Grows F t xs (lodge b a xs u)
+  pub lodge-grows : (b a : ℕ) (xs : List ℕ) (u : FallsBetween F (getD F t 0) b a xs) → Grows F t xs (lodge b a xs u)
   lodge-grows b a [] u = grows-front F t []
   lodge-grows b a (j ∷ xs) (inl u) = grows-front F t (j ∷ xs)
   lodge-grows b a (j ∷ xs) (inr u) = grows-after F t j xs (lodge (NEXT + j) a xs (u .1)) (u .0) (lodge-grows (NEXT + j) a xs (u .1))
 
-  pub lodge-rising : (b a low : ℕ) (xs : List ℕ) (u : Between F (getD F t 0) b a xs) → low ≤ getD F t 0 → FeaturesRise F low xs →
+  pub lodge-rising : (b a low : ℕ) (xs : List ℕ) (u : FallsBetween F (getD F t 0) b a xs) → low ≤ getD F t 0 → FeaturesRise F low xs →
       FeaturesRise F low (lodge b a xs u)
   lodge-rising b a low [] u h r = (h, tt)
   lodge-rising b a low (j ∷ xs) (inl u) h r = let l = u .1 in (h, (omega arith, r .1))
@@ -51,7 +51,7 @@ module _ (F : List ℕ) (t : ℕ) where
 
   -- two stores make it a chain
   module _ (w w' : List ℕ) (a : ℕ) (at-a : getD w' a 0 ≡ suc t) (ht : t < 2048) (at-t : getD w' (NEXT + t) 0 ≡ getD w a 0) where
-    pub lodge-chain : (b : ℕ) (xs : List ℕ) (u : Between F (getD F t 0) b a xs) → Chain w (getD w b 0) xs
+    pub lodge-chain : (b : ℕ) (xs : List ℕ) (u : FallsBetween F (getD F t 0) b a xs) → Chain w (getD w b 0) xs
         → ((i : ℕ) → List·Memᴰ i xs → b ≡ NEXT + i → ⊥) → ((b ≡ a → ⊥) → getD w' b 0 ≡ getD w b 0) →
         ((i : ℕ) → List·Memᴰ i xs → (NEXT + i ≡ a → ⊥) → getD w' (NEXT + i) 0 ≡ getD w (NEXT + i) 0)
         → Chain w' (getD w' b 0) (lodge b a xs u)

@@ -19,7 +19,7 @@ use Rattle.forest.specs.Forest.{Root, tops}
 use Rattle.forest.specs.Held.{last-arc, ChainCode, AtomCode}
 use Rattle.forest.specs.State.{Pile, Done, Equal, ClashIn, Chain, First, None, Near, Bears, State, Runs, Calm, Looked, withPair, withArc}
 use Rattle.forest.specs.State.{withNode, Fresh, Visited, United, Bearing, Headed}
-use Rattle.forest.specs.Order.{FeaturesRise, Risen, Between, Hint, Ordered, Located, Steady}
+use Rattle.forest.specs.Order.{FeaturesRise, Risen, FallsBetween, Hint, Ordered, Located, Steady}
 use Rattle.area.proofs.Region.{length-region, region-ext}
 use Rattle.area.proofs.Undo.{later-refl, later-trans, put-at, put-off}
 use Rattle.forest.proofs.Links.{chain-same, chain-zero, first-mem, first-feature, none-first, total-set}
@@ -219,7 +219,7 @@ module _ (F T : List ℕ) (n k : ℕ) (w : List ℕ) (hn : n ≤ 1024) (hw : SIZ
       cx : Chain w (getD w c 0) xs
       cx = chain-c G H u lc
 
-      gap : Between F (getD F t 0) c l xs
+      gap : FallsBetween F (getD F t 0) c l xs
       gap = loc .place refl xs cx
 
       -- the link is that of the class, or of an arc on its chain

@@ -59,9 +59,9 @@ pub record Tied (F T : List ℕ) (es : List Entry) (G : Pile) : Type 0 where
   pub arcs : (q : ℕ) → List·Memᴰ q (G .B) → ArcOf es q (G .S q) (getD F q 0) (getD T q 0)
 
 -- no two of the graphs share a number or a word
-abbrev pub Apart : List Entry → Type 0
-Apart [] = Unit {0}
-Apart (e ∷ es) = ((o : Entry) → List·Memᴰ o es → Aside e o) × Apart es
+abbrev pub EntriesApart : List Entry → Type 0
+EntriesApart [] = Unit {0}
+EntriesApart (e ∷ es) = ((o : Entry) → List·Memᴰ o es → Aside e o) × EntriesApart es
 
 -- the graph of e lies in the words of w as a graph does, and its numbers are below n
 pub record Sits (n : ℕ) (w : List ℕ) (e : Entry) : Type 0 where
@@ -80,7 +80,7 @@ pub record Holds (n : ℕ) (es : List Entry) (k : ℕ) (w : List ℕ) : Type 0 w
   pub full : Full G H
   pub top : full .root ≡ 0
   pub tied : Tied (loaded-words w) (targets w) es G
-  pub apart : Apart es
+  pub apart : EntriesApart es
   pub each : (e : Entry) → List·Memᴰ e es → Sits n w e
   pub count : 2 * length (H .K) + length (H .U) ≤ weights (graphs es)
 
