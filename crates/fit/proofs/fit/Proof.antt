@@ -88,24 +88,5 @@ returns-7 c = tested-fails _ _ (omega arith) (omega arith)
 
 pub fit-spec : {M : Type 1} → statement M
 fit-spec =
-    tie.close
-    (tie.spec
-    returns
-    returns-2
-    judge-requires
-    enum-told
-    enum-told-2
-    returns-3
-    judge-requires-2
-    enum-told-3
-    enum-told-4
-    returns-4
-    skip-graph-requires
-    mul-if3
-    shared-slice-read-if3
-    returns-5
-    satisfied-requires
-    enum-known-answer
-    enum-told-5
-    returns-6
-    returns-7)
+    tie.close (tie.spec returns returns-2 judge-requires enum-told enum-told-2 returns-3 judge-requires-2 enum-told-3 enum-told-4 returns-4
+    skip-graph-requires mul-if3 shared-slice-read-if3 returns-5 satisfied-requires enum-known-answer enum-told-5 returns-6 returns-7)

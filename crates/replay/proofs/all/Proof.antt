@@ -40,16 +40,4 @@ returns-2 c = tt
 
 pub all-spec : {M : Type 1} → statement M
 all-spec =
-    tie.close
-    (tie.spec
-    Inv-loop
-    μ-loop
-    loop-holds
-    turn-requires
-    same-length
-    returns
-    sub-turns
-    loop-less
-    loop-again
-    same-length-2
-    returns-2)
+    tie.close (tie.spec Inv-loop μ-loop loop-holds turn-requires same-length returns sub-turns loop-less loop-again same-length-2 returns-2)

@@ -44,17 +44,5 @@ returns-3 c = tt
 
 pub lent-spec : {M : Type 1} → statement M
 lent-spec =
-    tie.close
-    (tie.spec
-    cast-room
-    cast-work
-    returns
-    returns-2
-    space-requires
-    slice-aggregate-result
-    work-space-requires
-    slice-aggregate-working
-    slice-aggregate-unified
-    slice-aggregate-unified-2
-    unified-requires
-    returns-3)
+    tie.close (tie.spec cast-room cast-work returns returns-2 space-requires slice-aggregate-result work-space-requires
+    slice-aggregate-working slice-aggregate-unified slice-aggregate-unified-2 unified-requires returns-3)

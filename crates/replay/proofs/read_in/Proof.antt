@@ -114,34 +114,7 @@ returns-4 c = tt
 
 pub read-in-spec : {M : Type 1} → statement M
 read-in-spec =
-    tie.close
-    (tie.spec
-    counted-requires
-    enum-known-first
-    enum-told
-    same-length
-    returns
-    counted-requires-2
-    enum-known-second
-    enum-told-2
-    same-length-2
-    same-length-3
-    returns-2
-    counted-requires-3
-    enum-known-third
-    enum-told-3
-    same-length-4
-    same-length-5
-    same-length-6
-    returns-3
-    slice-reshare-prefix-as-stored
-    slice-aggregate-as-stored
-    slice-reshare-prefix-as-stored-2
-    slice-aggregate-as-stored-2
-    slice-reshare-prefix-as-stored-3
-    slice-aggregate-as-stored-3
-    as-stored-requires
-    same-length-7
-    same-length-8
-    same-length-9
-    returns-4)
+    tie.close (tie.spec counted-requires enum-known-first enum-told same-length returns counted-requires-2 enum-known-second enum-told-2
+    same-length-2 same-length-3 returns-2 counted-requires-3 enum-known-third enum-told-3 same-length-4 same-length-5 same-length-6
+    returns-3 slice-reshare-prefix-as-stored slice-aggregate-as-stored slice-reshare-prefix-as-stored-2 slice-aggregate-as-stored-2
+    slice-reshare-prefix-as-stored-3 slice-aggregate-as-stored-3 as-stored-requires same-length-7 same-length-8 same-length-9 returns-4)

@@ -66,25 +66,6 @@ returns c = tt
 
 pub say-spec : {M : Type 1} → statement M
 say-spec =
-    tie.close
-    (tie.spec
-    Inv-loop
-    μ-loop
-    write-all-requires
-    loop-holds
-    slice-aggregate-say-count
-    add-say-count
-    mul-say-count
-    element-copy-out-say-count
-    say-count-requires
-    add-i
-    loop-less
-    loop-again
-    slice-aggregate-say-count-2
-    add-say-count-2
-    mul-say-count-2
-    element-copy-out-say-count-2
-    say-count-requires-2
-    slice-aggregate-write-all
-    write-all-requires-2
-    returns)
+    tie.close (tie.spec Inv-loop μ-loop write-all-requires loop-holds slice-aggregate-say-count add-say-count mul-say-count
+    element-copy-out-say-count say-count-requires add-i loop-less loop-again slice-aggregate-say-count-2 add-say-count-2 mul-say-count-2
+    element-copy-out-say-count-2 say-count-requires-2 slice-aggregate-write-all write-all-requires-2 returns)

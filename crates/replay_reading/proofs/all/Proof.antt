@@ -39,16 +39,5 @@ returns-2 c = tt
 
 pub all-spec : {M : Type 1} → statement M
 all-spec =
-    tie.close
-    (tie.spec
-    Inv-loop
-    μ-loop
-    loop-holds
-    one-requires
-    ended-requires
-    returns
-    tallied-requires
-    sub-turns
-    loop-less
-    loop-again
+    tie.close (tie.spec Inv-loop μ-loop loop-holds one-requires ended-requires returns tallied-requires sub-turns loop-less loop-again
     returns-2)

@@ -45,17 +45,5 @@ returns-4 c = search needs
 
 pub one-spec : {M : Type 1} → statement M
 one-spec =
-    tie.close
-    (tie.spec
-    next-requires
-    enum-known-first
-    enum-told
-    returns
-    returns-2
-    cast-n
-    returns-3
-    space-requires
-    slice-aggregate-words
-    slice-aggregate-rest
-    rest-requires
-    returns-4)
+    tie.close (tie.spec next-requires enum-known-first enum-told returns returns-2 cast-n returns-3 space-requires slice-aggregate-words
+    slice-aggregate-rest rest-requires returns-4)

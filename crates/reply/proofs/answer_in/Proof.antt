@@ -82,21 +82,6 @@ returns-2 c =
 
 pub answer-in-spec : {M : Type 1} → statement M
 answer-in-spec =
-    tie.close
-    (tie.spec
-    unify-requires
-    told-requires
-    slice-reshare-prefix-write-answer
-    slice-aggregate-write-answer
-    write-answer-requires
-    same-length
-    same-length-2
-    same-length-3
-    returns
-    slice-reshare-prefix-write-answer-2
-    slice-aggregate-write-answer-2
-    write-answer-requires-2
-    same-length-4
-    same-length-5
-    same-length-6
-    returns-2)
+    tie.close (tie.spec unify-requires told-requires slice-reshare-prefix-write-answer slice-aggregate-write-answer write-answer-requires
+    same-length same-length-2 same-length-3 returns slice-reshare-prefix-write-answer-2 slice-aggregate-write-answer-2
+    write-answer-requires-2 same-length-4 same-length-5 same-length-6 returns-2)

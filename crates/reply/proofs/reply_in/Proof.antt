@@ -104,22 +104,6 @@ returns-2 c =
 
 pub reply-in-spec : {M : Type 1} → statement M
 reply-in-spec =
-    tie.close
-    (tie.spec
-    read-call-requires
-    enum-known-call
-    enum-told
-    write-bad-requires
-    same-length
-    same-length-2
-    same-length-3
-    returns
-    slice-reshare-prefix-answer
-    slice-aggregate-answer
-    slice-reshare-prefix-answer-2
-    slice-aggregate-answer-2
-    answer-requires
-    same-length-4
-    same-length-5
-    same-length-6
-    returns-2)
+    tie.close (tie.spec read-call-requires enum-known-call enum-told write-bad-requires same-length same-length-2 same-length-3 returns
+    slice-reshare-prefix-answer slice-aggregate-answer slice-reshare-prefix-answer-2 slice-aggregate-answer-2 answer-requires same-length-4
+    same-length-5 same-length-6 returns-2)

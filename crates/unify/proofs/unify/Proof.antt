@@ -66,21 +66,5 @@ returns-7 c = search needs
 
 pub unify-spec : {M : Type 1} → statement M
 unify-spec =
-    tie.close
-    (tie.spec
-    returns
-    returns-2
-    returns-3
-    returns-4
-    judge-requires
-    enum-told
-    enum-told-2
-    returns-5
-    judge-requires-2
-    enum-told-3
-    enum-told-4
-    returns-6
-    conclude-requires
-    same-length
-    same-length-2
-    returns-7)
+    tie.close (tie.spec returns returns-2 returns-3 returns-4 judge-requires enum-told enum-told-2 returns-5 judge-requires-2 enum-told-3
+    enum-told-4 returns-6 conclude-requires same-length same-length-2 returns-7)

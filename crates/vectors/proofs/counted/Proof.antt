@@ -48,18 +48,5 @@ returns-4 c = λ n e. let q : c .before .before .before .before .before .before 
 
 pub counted-spec : {M : Type 1} → statement M
 counted-spec =
-    tie.close
-    (tie.spec
-    next-requires
-    enum-known-first
-    enum-told
-    returns
-    cast-n
-    returns-2
-    slice-relend-prefix-fill
-    slice-aggregate-fill
-    fill-requires
-    same-length
-    returns-3
-    same-length-2
-    returns-4)
+    tie.close (tie.spec next-requires enum-known-first enum-told returns cast-n returns-2 slice-relend-prefix-fill slice-aggregate-fill
+    fill-requires same-length returns-3 same-length-2 returns-4)

@@ -44,15 +44,5 @@ returns-2 c = search needs
 
 pub fill-spec : {M : Type 1} → statement M
 fill-spec =
-    tie.close
-    (tie.spec
-    returns
-    mul-n
-    byte-space-requires
-    slice-aggregate-bytes
-    slice-relend-prefix-read-full
-    slice-aggregate-read-full
-    read-full-requires
-    decode-requires
-    same-length
-    returns-2)
+    tie.close (tie.spec returns mul-n byte-space-requires slice-aggregate-bytes slice-relend-prefix-read-full slice-aggregate-read-full
+    read-full-requires decode-requires same-length returns-2)

@@ -52,18 +52,5 @@ returns c = copied RESULT _ _ _ (c .before .before .pre .0) (c .before .before .
 
 pub copy-out-spec : {M : Type 1} → statement M
 copy-out-spec =
-    tie.close
-    (tie.spec
-    Inv-loop
-    μ-loop
-    loop-holds
-    add-result
-    mul-result
-    shared-slice-read-result
-    mul-result-2
-    slice-write-result
-    add-i
-    loop-less
-    loop-again
-    same-length
-    returns)
+    tie.close (tie.spec Inv-loop μ-loop loop-holds add-result mul-result shared-slice-read-result mul-result-2 slice-write-result add-i
+    loop-less loop-again same-length returns)

@@ -39,15 +39,4 @@ returns c = wiped-all working-size _ _ _ (omega arith) (c .before .before .pre) 
 
 pub wipe-spec : {M : Type 1} → statement M
 wipe-spec =
-    tie.close
-    (tie.spec
-    Inv-loop
-    μ-loop
-    loop-holds
-    mul-w
-    slice-write-w
-    add-i
-    loop-less
-    loop-again
-    same-length
-    returns)
+    tie.close (tie.spec Inv-loop μ-loop loop-holds mul-w slice-write-w add-i loop-less loop-again same-length returns)

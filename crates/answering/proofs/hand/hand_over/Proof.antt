@@ -51,18 +51,5 @@ returns-6 c =
 
 pub hand-over-spec : {M : Type 1} → statement M
 hand-over-spec =
-    tie.close
-    (tie.spec
-    enum-told
-    enum-told-2
-    enum-told-3
-    enum-told-4
-    enum-known-made
-    returns
-    copy-out-requires
-    returns-2
-    returns-3
-    returns-4
-    returns-5
-    same-length
-    returns-6)
+    tie.close (tie.spec enum-told enum-told-2 enum-told-3 enum-told-4 enum-known-made returns copy-out-requires returns-2 returns-3
+    returns-4 returns-5 same-length returns-6)

@@ -63,18 +63,5 @@ returns c =
 
 pub put-spec : {M : Type 1} → statement M
 put-spec =
-    tie.close
-    (tie.spec
-    mul-old
-    slice-read-old
-    cast-w
-    mul-w
-    add-w
-    add-w-2
-    mul-w-2
-    slice-write-w
-    mul-w-3
-    slice-write-w-2
-    add-result
-    same-length
-    returns)
+    tie.close (tie.spec mul-old slice-read-old cast-w mul-w add-w add-w-2 mul-w-2 slice-write-w mul-w-3 slice-write-w-2 add-result
+    same-length returns)

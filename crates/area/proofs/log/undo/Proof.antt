@@ -75,19 +75,5 @@ returns c = going-done _ _ _ _ _ (c .before .loop .inv .1 .1 .1) (omega arith)
 
 pub undo-spec : {M : Type 1} → statement M
 undo-spec =
-    tie.close
-    (tie.spec
-    Inv-loop
-    μ-loop
-    loop-holds
-    sub-k
-    add-e
-    mul-e
-    slice-read-e
-    wide-requires
-    mul-w
-    slice-write-w
-    loop-less
-    loop-again
-    same-length
-    returns)
+    tie.close (tie.spec Inv-loop μ-loop loop-holds sub-k add-e mul-e slice-read-e wide-requires mul-w slice-write-w loop-less loop-again
+    same-length returns)

@@ -73,18 +73,5 @@ returns-6 c =
 
 pub read-call-spec : {M : Type 1} → statement M
 read-call-spec =
-    tie.close
-    (tie.spec
-    returns
-    returns-2
-    returns-3
-    read-token-requires
-    enum-known-start
-    read-inputs-requires
-    enum-told
-    enum-told-2
-    same-length
-    same-length-2
-    returns-4
-    returns-5
-    returns-6)
+    tie.close (tie.spec returns returns-2 returns-3 read-token-requires enum-known-start read-inputs-requires enum-told enum-told-2
+    same-length same-length-2 returns-4 returns-5 returns-6)

@@ -101,20 +101,5 @@ returns-4 c =
 
 pub read-inputs-spec : {M : Type 1} → statement M
 read-inputs-spec =
-    tie.close
-    (tie.spec
-    find-counted-requires
-    enum-known-one
-    enum-told
-    returns
-    find-counted-requires-2
-    enum-known-two
-    enum-told-2
-    returns-2
-    is-over-requires
-    read-words-requires
-    read-words-requires-2
-    same-length
-    same-length-2
-    returns-3
-    returns-4)
+    tie.close (tie.spec find-counted-requires enum-known-one enum-told returns find-counted-requires-2 enum-known-two enum-told-2 returns-2
+    is-over-requires read-words-requires read-words-requires-2 same-length same-length-2 returns-3 returns-4)

@@ -72,19 +72,5 @@ returns-2 c =
 
 pub read-words-spec : {M : Type 1} → statement M
 read-words-spec =
-    tie.close
-    (tie.spec
-    Inv-loop
-    μ-loop
-    loop-holds
-    read-token-requires
-    enum-known-number
-    same-length
-    returns
-    mul-dst
-    slice-write-dst
-    add-i
-    loop-less
-    loop-again
-    same-length-2
-    returns-2)
+    tie.close (tie.spec Inv-loop μ-loop loop-holds read-token-requires enum-known-number same-length returns mul-dst slice-write-dst add-i
+    loop-less loop-again same-length-2 returns-2)

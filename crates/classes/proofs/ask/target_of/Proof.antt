@@ -149,15 +149,5 @@ returns-3 c =
 
 pub target-of-spec : {M : Type 1} → statement M
 target-of-spec =
-    tie.close
-    (tie.spec
-    class-of-requires
-    held-by-requires
-    enum-known-held
-    returns
-    look-requires
-    returns-2
-    sub-target
-    target-requires
-    class-of-requires-2
-    returns-3)
+    tie.close (tie.spec class-of-requires held-by-requires enum-known-held returns look-requires returns-2 sub-target target-requires
+    class-of-requires-2 returns-3)

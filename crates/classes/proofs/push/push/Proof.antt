@@ -66,14 +66,5 @@ returns-2 c =
 
 pub push-spec : {M : Type 1} → statement M
 push-spec =
-    tie.close
-    (tie.spec
-    loaded-requires
-    nodes-of-requires
-    number-of-requires
-    add-requires
-    undo-requires
-    same-length
-    returns
-    same-length-2
+    tie.close (tie.spec loaded-requires nodes-of-requires number-of-requires add-requires undo-requires same-length returns same-length-2
     returns-2)

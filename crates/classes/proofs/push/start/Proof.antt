@@ -117,27 +117,5 @@ returns c =
 
 pub start-spec : {M : Type 1} → statement M
 start-spec =
-    tie.close
-    (tie.spec
-    Inv-loop
-    μ-loop
-    loop-holds
-    add-w
-    mul-w
-    slice-write-w
-    cast-w
-    add-w-2
-    mul-w-2
-    slice-write-w-2
-    add-w-3
-    mul-w-3
-    slice-write-w-3
-    add-w-4
-    add-w-5
-    mul-w-4
-    slice-write-w-4
-    add-i
-    loop-less
-    loop-again
-    same-length
-    returns)
+    tie.close (tie.spec Inv-loop μ-loop loop-holds add-w mul-w slice-write-w cast-w add-w-2 mul-w-2 slice-write-w-2 add-w-3 mul-w-3
+    slice-write-w-3 add-w-4 add-w-5 mul-w-4 slice-write-w-4 add-i loop-less loop-again same-length returns)

@@ -70,15 +70,5 @@ returns-4 c = let a = c .before .before .before .before .before .args in ordered
 
 pub afresh-spec : {M : Type 1} → statement M
 afresh-spec =
-    tie.close
-    (tie.spec
-    find-requires
-    held-by-requires
-    enum-told
-    enum-known-held
-    rises-requires
-    enum-told-2
-    returns
-    returns-2
-    returns-3
+    tie.close (tie.spec find-requires held-by-requires enum-told enum-known-held rises-requires enum-told-2 returns returns-2 returns-3
     returns-4)

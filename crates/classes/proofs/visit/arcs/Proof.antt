@@ -110,19 +110,5 @@ returns-2 c =
 
 pub arcs-spec : {M : Type 1} → statement M
 arcs-spec =
-    tie.close
-    (tie.spec
-    Inv-loop
-    μ-loop
-    outset-requires
-    loop-holds
-    mul-visit
-    add-visit
-    visit-requires
-    same-length
-    returns
-    add-done
-    loop-less
-    loop-again
-    same-length-2
-    returns-2)
+    tie.close (tie.spec Inv-loop μ-loop outset-requires loop-holds mul-visit add-visit visit-requires same-length returns add-done loop-less
+    loop-again same-length-2 returns-2)

@@ -89,18 +89,5 @@ returns-3 c =
 
 pub mark-spec : {M : Type 1} → statement M
 mark-spec =
-    tie.close
-    (tie.spec
-    find-requires
-    held-by-requires
-    enum-told
-    add-put
-    put-requires
-    same-length
-    returns
-    enum-told-2
-    enum-known-held
-    same-length-2
-    returns-2
-    same-length-3
-    returns-3)
+    tie.close (tie.spec find-requires held-by-requires enum-told add-put put-requires same-length returns enum-told-2 enum-known-held
+    same-length-2 returns-2 same-length-3 returns-3)

@@ -115,14 +115,4 @@ returns-2 c =
 
 pub node-spec : {M : Type 1} → statement M
 node-spec =
-    tie.close
-    (tie.spec
-    loaded-requires
-    mark-requires
-    same-length
-    returns
-    add-arcs
-    wide-requires
-    arcs-requires
-    same-length-2
-    returns-2)
+    tie.close (tie.spec loaded-requires mark-requires same-length returns add-arcs wide-requires arcs-requires same-length-2 returns-2)

@@ -186,20 +186,5 @@ returns-2 c =
 
 pub nodes-spec : {M : Type 1} → statement M
 nodes-spec =
-    tie.close
-    (tie.spec
-    Inv-loop
-    μ-loop
-    loop-holds
-    node-requires
-    same-length
-    returns
-    loaded-requires
-    span-requires
-    add-at
-    add-y
-    sub-left
-    loop-less
-    loop-again
-    same-length-2
-    returns-2)
+    tie.close (tie.spec Inv-loop μ-loop loop-holds node-requires same-length returns loaded-requires span-requires add-at add-y sub-left
+    loop-less loop-again same-length-2 returns-2)

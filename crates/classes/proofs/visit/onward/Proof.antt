@@ -43,13 +43,4 @@ returns-3 c = c .afresh .ensures
 
 pub onward-spec : {M : Type 1} → statement M
 onward-spec =
-    tie.close
-    (tie.spec
-    returns
-    find-requires
-    add-if3
-    sub-result
-    add-result
-    returns-2
-    afresh-requires
-    returns-3)
+    tie.close (tie.spec returns find-requires add-if3 sub-result add-result returns-2 afresh-requires returns-3)

@@ -1,19 +1,102 @@
 -- `classes::visit::visit` meets its contract. Assumes nothing.
-use Prim.Native.Nat.{ℕ, suc, _-_, _<_}
-use mathlib.Core.Path.{_≡_, refl, sym, _∙_}
+use mathlib.Core.Bool.{false}
+use Prim.Native.Nat.{ℕ, _-_, _<_, _+_, _≤_}
+use mathlib.Core.Path.{_≡_, refl, subst}
 use native.Mathlib.Omega.{arith}
 use lib.ListN.{getD}
 use Rattle.area.specs.Region.{loaded-words}
-use Rattle.forest.specs.State.{targets, Looked, withPair}
-use Rattle.forest.specs.Order.{Located}
+use Rattle.area.specs.Map.{NEXT}
+use Rattle.forest.specs.State.{targets, Looked, withPair, Pile, Done, Equal, Visited}
+use Rattle.forest.specs.Order.{Located, Hint, Ordered}
 use Rattle.forest.proofs.Contents.{told-bears, told-bare}
 use Rattle.forest.proofs.Words.{words-later}
 use Rattle.forest.proofs.Walks.{some}
+use Rattle.forest.specs.Held.{ChainCode}
 use Rattle.classes.proofs.Visits.{ordered-none, hint-calm, class-runs, visit-clash, visit-hung, hung-ordered, visit-found, found-arc}
 use Rattle.classes.proofs.Visits.{found-same}
 use borrow.Author.Needs.{needs}
 use Rattle.classes.proofs.visit.visit.Statement.{statement}
 use Rattle.classes.proofs.visit.visit.Tie as tie
+use mathlib.Core.List.{List}
+
+-- ---- where the feature was looked for
+module _ (p : tie.After-locate) where
+  abbrev start : tie.Start
+  start = p .before .before .before .before .before .before .before .before .before .before
+
+  abbrev wn : List ℕ
+  wn = start .args .w .now
+
+  abbrev top : ℕ
+  top = p .before .before .before .before .before .before .before .find .result
+
+  chained : ChainCode (getD wn top 0)
+  chained = told-bare _ _ _ (p .before .before .before .before .before .bears-atom .ensures) (p .before .before .before .before .if1 .left)
+
+  hint : 0 < start .args .at → Hint (loaded-words wn) wn top (start .args .at)
+  hint z = start .pre .1 .1 .1 .hint z top (p .before .before .before .before .before .before .before .find .ensures)
+
+  looked : Looked (loaded-words wn) wn (getD (loaded-words wn) (start .args .t) 0) (getD wn top 0) (p .locate .result .arc)
+  looked = rw (p .before .before .loaded .ensures) at (p .locate .ensures .looked)
+
+  located : p .locate .result .arc ≡ 0 →
+      Located (loaded-words wn) wn (getD (loaded-words wn) (start .args .t) 0) top (p .locate .result .link) 0
+  located z = subst (Located (loaded-words wn) wn (getD (loaded-words wn) (start .args .t) 0) top (p .locate .result .link)) z
+      (subst (λ (f : ℕ). Located (loaded-words wn) wn f top (p .locate .result .link) (p .locate .result .arc)) (p .before .before .loaded .ensures)
+      (p .locate .ensures))
+
+  abbrev pile : Pile
+  pile = start .pre .1 .1 .0 .G
+
+  abbrev done : Done
+  done = start .pre .1 .1 .0 .H
+
+-- it is there
+module _ (e : tie.Else2) where
+  abbrev arc : ℕ
+  arc = e .before .locate .result .arc
+
+  arc-some : 0 < arc
+  arc-some = some arc (e .if2 .left)
+
+  arc-there : (getD (targets (wn (e .before))) (arc - 1) 0 < start (e .before) .args .n) × (arc - 1 < 2047)
+  arc-there = let s = start (e .before) in let g = s .pre .1 .1 .0 in
+      found-arc _ _ _ _ _ (s .pre .0 .0) (s .pre .0 .1) _ (s .pre .1 .0 .0) _ (e .before .before .before .before .before .before .before .before .find .ensures) _ arc (arc - 1)
+      (chained (e .before)) (looked (e .before)) (omega (arith, arc-some)) (g .G) (g .H) (g .state)
+
+  arc-same : Equal (pile (e .before)) (loaded-words (wn (e .before))) (targets (wn (e .before)))
+      (getD (targets (wn (e .before))) (start (e .before) .args .t) 0) (getD (targets (wn (e .before))) (arc - 1) 0)
+  arc-same = let s = start (e .before) in let g = s .pre .1 .1 .0 in
+      found-same _ _ _ _ _ (s .pre .0 .0) (s .pre .0 .1) _ (s .pre .1 .0 .0) _ (e .before .before .before .before .before .before .before .before .find .ensures) _ arc (arc - 1)
+      (chained (e .before)) (looked (e .before)) (omega (arith, arc-some)) (g .G) (g .H) (g .state) (g .fresh)
+
+visited-found : (u : tie.After-unite) → let p = u .before .before .before .before .before .before .before in let a = start p .args in
+    Visited (loaded-words (wn p)) (targets (wn p)) (a .n) (a .k) (wn p) (a .x) (a .t) (u .unite .result .k) (u .unite .result .bad)
+    (u .unite .last .0)
+visited-found u = let e = u .before .before .before .before .before .before in let s = start (e .before) in
+    visit-found _ _ _ _ _ (s .pre .0 .0) (s .pre .0 .1) _ (s .pre .1 .0 .0) _ (e .before .before .before .before .before .before .before .before .find .ensures) _ (arc e) (arc e - 1)
+    (chained (e .before)) (looked (e .before)) (omega (arith, arc-some e)) _ _ _
+    (rw (u .before .before .before .before .target .ensures, u .before .before .target2 .ensures) at (u .unite .ensures))
+
+-- it is not there
+module _ (q : tie.After-put2) where
+  abbrev before-link : tie.After-locate
+  before-link = q .before .before .before .before .before .before .before .before
+
+  two-more : start before-link .args .k + 2 ≤ 4096
+  two-more = let g = start before-link .pre .1 .1 .0 in omega (arith, g .fresh .room, g .state .room)
+
+  visited-hung : let p = before-link in let a = start p .args in
+      Visited (loaded-words (wn p)) (targets (wn p)) (a .n) (a .k) (wn p) (a .x) (a .t) (q .put2 .result) false (q .put2 .last .0)
+  visited-hung = let p = before-link in let s = start p in
+      visit-hung _ _ _ _ _ (s .pre .0 .0) (s .pre .0 .1) _ (s .pre .1 .0 .0) _ (p .before .before .before .before .before .before .before .find .ensures) _ (omega arith) (chained p)
+      _ _ (hint p) (located p (q .before .before .before .before .before .before .before .if2 .taken)) _ refl two-more _ _ _ _ (q .before .before .before .before .put .ensures) (q .put2 .ensures)
+
+  ordered-hung : let p = before-link in let a = start p .args in 0 < a .at →
+      Ordered (loaded-words (wn p)) (a .n) (q .put2 .last .0) (a .x) (NEXT + a .t)
+  ordered-hung = let p = before-link in let s = start p in let g = s .pre .1 .1 .0 in
+      hung-ordered _ _ _ _ _ (s .pre .0 .0) (s .pre .0 .1) _ (s .pre .1 .0 .0) _ (p .before .before .before .before .before .before .before .find .ensures) _ (omega arith) (chained p)
+      _ _ (hint p) (located p (q .before .before .before .before .before .before .before .if2 .taken)) _ refl two-more _ _ _ _ (q .before .before .before .before .put .ensures) (q .put2 .ensures) (g .G) (g .H) (g .state) (g .fresh)
 
 find-requires : tie.Need-find-requires
 find-requires c κs =
@@ -79,12 +162,12 @@ add-put c = search needs
 
 put-requires : tie.Need-put-requires
 put-requires c κs =
-    let s = c .before .before .before .before .before .before .before .before .before .before .before .before .before in
-    let locate = c .before .before .before .locate in
+    let p = c .before .before .before in
+    let s = start p in
     let g = s .pre .1 .1 .0 in
     let rr = g .fresh .room in
     let rq = g .state .room in
-    let sm = g .state .logged .small (locate .result .link) (locate .ensures .low) in
+    let sm = g .state .logged .small (p .locate .result .link) (p .locate .ensures .low) in
     (g .state .logged, (omega arith, (omega arith, (omega arith, omega arith))))
 
 add-put-2 : tie.Need-add-put-2
@@ -95,19 +178,14 @@ cast-put c = search needs
 
 put-requires-2 : tie.Need-put-requires-2
 put-requires-2 c κs =
-    let s = c .before .before .before .before .before .before .before .before .before .before .before .before .before .before .before .before .before in
-    let locate = c .before .before .before .before .before .before .before .locate in
+    let p = c .before .before .before .before .before .before .before in
     let put = c .before .before .before .put in
+    let s = start p in
     let g = s .pre .1 .1 .0 in
     let rr = g .fresh .room in
     let rq = g .state .room in
-    let lw = locate .ensures .low in (
-      put .ensures .later .logged,
-      (
-        omega arith,
-        (omega (arith, put .ensures .next), (omega arith, omega (arith, put .ensures .later .len))),
-      ),
-    )
+    let lw = p .locate .ensures .low in
+    (put .ensures .later .logged, (omega arith, (omega (arith, put .ensures .next), (omega arith, omega (arith, put .ensures .later .len)))))
 
 add-a : tie.Need-add-a
 add-a c = search needs
@@ -116,185 +194,35 @@ same-length-2 : tie.Need-same-length-2
 same-length-2 c = search needs
 
 returns-2 : tie.Need-returns-2
-returns-2 c =
-    let s = c .before .before .before .before .before .before .before .before .before .before .before .before .before .before .before .before .before .before .before .before .before in
-    let locate = c .before .before .before .before .before .before .before .before .before .before .before .locate in
-    let loaded = c .before .before .before .before .before .before .before .before .before .before .before .before .before .loaded in
-    let if1 = c .before .before .before .before .before .before .before .before .before .before .if2 in
-    let put = c .before .before .before .before .before .before .before .put in
-    let put2 = c .before .before .before .put2 in
-    let find = c .before .before .before .before .before .before .before .before .before .before .before .before .before .before .before .before .before .before .find in
-    let held = c .before .before .before .before .before .before .before .before .before .before .before .before .before .before .before .before .bears-atom in
-    let chained = told-bare _ _ _ (held .ensures) (c .before .before .before .before .before .before .before .before .before .before .before .before .before .before .before .if1 .left) in
-    let bn = s .pre .0 in
-    let bx = s .pre .1 .0 in
-    let a = s .args in
-    let wn = a .w .now in
-    let F = loaded-words wn in
-    let T = targets wn in
-    let g = s .pre .1 .1 .0 in
-    let rr = g .fresh .room in
-    let rq = g .state .room in
-    let lc : Located F wn (getD F (a .t) 0) (find .result)
-    (locate .result .link) 0 =
-    rw (
-      loaded .ensures,
-      if1 .taken,
-    ) at
-    (locate .ensures) in
-    record {
-      visited = visit-hung F T (a .n) (a .k) wn (omega arith) (omega arith) (a .x) (omega arith) (find .result) (find .ensures) (a .t)
-          (omega arith) chained (a .at) (locate
-          .result .link) (λ z. s .pre .1 .1 .1 .hint z (find .result) (find .ensures)) lc
-          (getD wn (locate .result .link) 0) refl
-          (omega arith) (put .result) (put2 .result)
-          (put .last .0) (put2 .last .0)
-          (put .ensures) (put2 .ensures);
-      next = λ z. ordered-none F (a .n) (put2 .last .0) (a .x);
-    }
+returns-2 c = record { visited = visited-hung (c .before .before .before); next = λ z. ordered-none _ _ _ _ }
 
 same-length-3 : tie.Need-same-length-3
 same-length-3 c = search needs
 
 returns-3 : tie.Need-returns-3
-returns-3 c =
-    let s = c .before .before .before .before .before .before .before .before .before .before .before .before .before .before .before .before .before .before .before .before .before in
-    let locate = c .before .before .before .before .before .before .before .before .before .before .before .locate in
-    let loaded = c .before .before .before .before .before .before .before .before .before .before .before .before .before .loaded in
-    let if1 = c .before .before .before .before .before .before .before .before .before .before .if2 in
-    let put = c .before .before .before .before .before .before .before .put in
-    let put2 = c .before .before .before .put2 in
-    let if2 = c .if3 in
-    let find = c .before .before .before .before .before .before .before .before .before .before .before .before .before .before .before .before .before .before .find in
-    let held = c .before .before .before .before .before .before .before .before .before .before .before .before .before .before .before .before .bears-atom in
-    let chained = told-bare _ _ _ (held .ensures) (c .before .before .before .before .before .before .before .before .before .before .before .before .before .before .before .if1 .left) in
-    let bn = s .pre .0 in
-    let bx = s .pre .1 .0 in
-    let a = s .args in
-    let wn = a .w .now in
-    let F = loaded-words wn in
-    let T = targets wn in
-    let g = s .pre .1 .1 .0 in
-    let rr = g .fresh .room in
-    let rq = g .state .room in
-    let lc : Located F wn (getD F (a .t) 0) (find .result)
-    (locate .result .link) 0 =
-    rw (
-      loaded .ensures,
-      if1 .taken,
-    ) at
-    (locate .ensures) in
-    record {
-      visited = visit-hung F T (a .n) (a .k) wn (omega arith) (omega arith) (a .x) (omega arith) (find .result) (find .ensures) (a .t)
-          (omega arith) chained (a .at) (locate
-          .result .link) (λ z. s .pre .1 .1 .1 .hint z (find .result) (find .ensures)) lc
-          (getD wn (locate .result .link) 0) refl
-          (omega arith) (put .result) (put2 .result)
-          (put .last .0) (put2 .last .0)
-          (put .ensures) (put2 .ensures);
-      next = λ z. hung-ordered F T (a .n) (a .k) wn (omega arith) (omega arith) (a .x) (omega arith) (find .result) (find .ensures) (a .t)
-          (omega arith) chained (a .at) (locate
-          .result .link) (λ z. s .pre .1 .1 .1 .hint z (find .result) (find .ensures)) lc
-          (getD wn (locate .result .link) 0) refl
-          (omega arith) (put .result) (put2 .result)
-          (put .last .0) (put2 .last .0)
-          (put .ensures) (put2 .ensures) (g .G) (g .H)
-          (g .state) (g .fresh) (some (a .at) (if2 .left));
-    }
+returns-3 c = let q = c .before .before .before in record { visited = visited-hung q; next = λ z. ordered-hung q (some _ (c .if3 .left)) }
 
 target-requires : tie.Need-target-requires
 target-requires c κs = search needs
 
 sub-target : tie.Need-sub-target
-sub-target c =
-    let locate = c .before .before .before .before .locate in
-    let if1 = c .before .before .before .if2 in
-    some (locate .result .arc) (if1 .left)
+sub-target c = arc-some (c .before .before .before)
 
 target-requires-2 : tie.Need-target-requires-2
-target-requires-2 c κs =
-    let s = c .before .before .before .before .before .before .before .before .before .before .before .before .before .before in
-    let find = c .before .before .before .before .before .before .before .before .before .before .before .find in
-    let locate = c .before .before .before .before .locate in
-    let loaded = c .before .before .before .before .before .before .loaded in
-    let if1 = c .before .before .before .if2 in
-    let held = c .before .before .before .before .before .before .before .before .before .bears-atom in
-    let chained = told-bare _ _ _ (held .ensures) (c .before .before .before .before .before .before .before .before .if1 .left) in
-    let bn = s .pre .0 in
-    let bx = s .pre .1 .0 in
-    let a = s .args in
-    let wn = a .w .now in
-    let F = loaded-words wn in
-    let T = targets wn in
-    let g = s .pre .1 .1 .0 in
-    let lk : Looked F wn (getD F (a .t) 0)
-    (getD wn (find .result) 0)
-    (locate .result .arc) =
-    rw (loaded .ensures) at
-    (locate .ensures .looked) in
-    let r = locate .result .arc in
-    let rp = some r (if1 .left) in
-    let ri : r ≡ suc (r - 1) = omega arith in
-    let fa = found-arc F T (a .n) (a .k) wn (omega arith) (omega arith) (a .x) (omega arith)
-    (find .result)
-    (find .ensures) (a .t) r (r - 1)
-    chained lk ri (g .G) (g .H) (g .state) in
-    let mi : r - 1 < 2047 = fa .1 in
-    (omega arith, omega arith)
+target-requires-2 c κs = let l = arc-there (c .before .before .before) .1 in (omega arith, omega arith)
 
 unite-requires : tie.Need-unite-requires
 unite-requires c κs =
-    let s = c .before .before .before .before .before .before .before .before .before .before .before .before .before .before .before .before in
-    let find = c .before .before .before .before .before .before .before .before .before .before .before .before .before .find in
-    let locate = c .before .before .before .before .before .before .locate in
-    let loaded = c .before .before .before .before .before .before .before .before .loaded in
-    let if1 = c .before .before .before .before .before .if2 in
+    let e = c .before .before .before .before .before in
     let target = c .before .before .before .target in
-    let target2 = c .before .target2 in
-    let held = c .before .before .before .before .before .before .before .before .before .before .before .bears-atom in
-    let chained = told-bare _ _ _ (held .ensures) (c .before .before .before .before .before .before .before .before .before .before .if1 .left) in
-    let bn = s .pre
-    .0 in
-    let bx = s .pre
-    .1 .0 in
-    let a = s .args in
-    let wn = a .w .now in
-    let F = loaded-words wn in
-    let T = targets wn in
-    let g = s .pre
-    .1 .1 .0 in
-    let lk : Looked F wn (getD F (a .t) 0)
-    (getD wn (find .result) 0)
-    (locate .result .arc) =
-    rw (loaded .ensures) at
-    (locate .ensures .looked) in
-    let r = locate .result .arc in
-    let rp = some r (if1 .left) in
-    let ri : r ≡ suc (r - 1) = omega arith in
-    let fa = found-arc F T (a .n) (a .k) wn (omega arith) (omega arith) (a .x) (omega arith)
-    (find .result)
-    (find .ensures) (a .t) r (r - 1)
-    chained lk ri (g .G) (g .H) (g .state) in
-    let mi : r - 1 < 2047 = fa .1 in
-    let tt = g .state .arcs (a .t) (g .fresh .arc) .1 .1 in
-    let sm = found-same F T (a .n) (a .k) wn (omega arith) (omega arith) (a .x) (omega arith)
-    (find .result)
-    (find .ensures) (a .t) r (r - 1)
-    chained lk ri (g .G) (g .H) (g .state)
-    (g .fresh) in (
-      (omega arith, omega arith),
+    let g = start (e .before) .pre .1 .1 .0 in (
+      start (e .before) .pre .0,
       (
         (
-          omega (arith, target .ensures, tt),
-          omega (arith, target2 .ensures, fa .0),
+          omega (arith, target .ensures, g .state .arcs (start (e .before) .args .t) (g .fresh .arc) .1 .1),
+          omega (arith, c .before .target2 .ensures, arc-there e .0),
         ),
-        record {
-          G = g .G;
-          H = g .H;
-          state = g .state;
-          same =
-              rw (target .ensures, target2 .ensures) sm;
-        },
+        record { G = g .G; H = g .H; state = g .state; same = rw (target .ensures, c .before .target2 .ensures) (arc-same e) },
       ),
     )
 
@@ -302,108 +230,37 @@ same-length-4 : tie.Need-same-length-4
 same-length-4 c = search needs
 
 returns-4 : tie.Need-returns-4
-returns-4 c =
-    let s = c .before .before .before .before .before .before .before .before .before .before .before .before .before .before .before .before .before .before .before .before in
-    let find = c .before .before .before .before .before .before .before .before .before .before .before .before .before .before .before .before .before .find in
-    let locate = c .before .before .before .before .before .before .before .before .before .before .locate in
-    let loaded = c .before .before .before .before .before .before .before .before .before .before .before .before .loaded in
-    let if1 = c .before .before .before .before .before .before .before .before .before .if2 in
-    let target = c .before .before .before .before .before .before .before .target in
-    let target2 = c .before .before .before .before .before .target2 in
-    let if3 = c .if4 in
-    let unite = c .before .before .before .unite in
-    let held = c .before .before .before .before .before .before .before .before .before .before .before .before .before .before .before .bears-atom in
-    let chained = told-bare _ _ _ (held .ensures) (c .before .before .before .before .before .before .before .before .before .before .before .before .before .before .if1 .left) in
-    let bn = s .pre .0 in
-    let bx = s .pre .1 .0 in
-    let a = s .args in
-    let wn = a .w .now in
-    let F = loaded-words wn in
-    let T = targets wn in
-    let lk : Looked F wn (getD F (a .t) 0)
-    (getD wn (find .result) 0) (locate .result .arc) =
-    rw (loaded .ensures) at
-    (locate .ensures .looked) in
-    let r = locate .result .arc in
-    let rp = some r (if1 .left) in
-    let ri : r ≡ suc (r - 1) = omega arith in
-    record {
-      visited = rw (if3 .taken) at
-          (visit-found F T (a .n) (a .k) wn (omega arith) (omega arith) (a .x) (omega arith)
-          (find .result) (find .ensures) (a .t) r (r - 1)
-          chained lk
-          ri (unite .result .k) (unite .result .bad) (unite .last .0)
-          (rw (
-            target .ensures,
-            target2 .ensures,
-          ) at (unite .ensures)));
-      next = λ z. let y : _≡_ {A = ℕ} 0 1 = cc in absurd (omega arith);
-    }
+returns-4 c = record {
+  visited = rw (c .if4 .taken) at (visited-found (c .before .before .before));
+  next = λ z. let y : _≡_ {A = ℕ} 0 1 = cc in absurd (omega arith);
+}
 
 onward-requires : tie.Need-onward-requires
 onward-requires c κs =
-    let s = c .before .before .before .before .before .before .before .before .before .before .before .before .before .before .before .before .before .before .before .before .before in
-    let find = c .before .before .before .before .before .before .before .before .before .before .before .before .before .before .before .before .before .before .find in
-    let locate = c .before .before .before .before .before .before .before .before .before .before .before .locate in
-    let loaded = c .before .before .before .before .before .before .before .before .before .before .before .before .before .loaded in
-    let if1 = c .before .before .before .before .before .before .before .before .before .before .if2 in
-    let target = c .before .before .before .before .before .before .before .before .target in
-    let target2 = c .before .before .before .before .before .before .target2 in
-    let if3 = c .before .if4 in
-    let unite = c .before .before .before .before .unite in
-    let held = c .before .before .before .before .before .before .before .before .before .before .before .before .before .before .before .before .bears-atom in
-    let chained = told-bare _ _ _ (held .ensures) (c .before .before .before .before .before .before .before .before .before .before .before .before .before .before .before .if1 .left) in
-    let bn = s .pre .0 in
-    let bx = s .pre .1 .0 in
-    let a = s .args in
-    let wn = a .w .now in
-    let F = loaded-words wn in
-    let T = targets wn in
+    let u = c .before .before .before .before in
+    let e = u .before .before .before .before .before .before in
+    let p = e .before in
+    let s = start p in
     let g = s .pre .1 .1 .0 in
-    let lw = find .ensures .low in
-    let lk : Looked F wn (getD F (a .t) 0)
-    (getD wn (find .result) 0)
-    (locate .result .arc) =
-    rw (loaded .ensures) at
-    (locate .ensures .looked) in
-    let r = locate .result .arc in
-    let rp = some r (if1 .left) in
-    let ri : r ≡ suc (r - 1) = omega arith in
-    let fa = found-arc F T (a .n) (a .k) wn (omega arith) (omega arith) (a .x) (omega arith)
-    (find .result) (find .ensures) (a .t) r (r - 1)
-    chained lk ri (g .G) (g .H) (g .state) in
-    let mi : r - 1 < 2047 = fa .1 in
-    let sm = found-same F T (a .n) (a .k) wn (omega arith) (omega arith) (a .x) (omega arith)
-    (find .result) (find .ensures) (a .t) r (r - 1)
-    chained lk ri (g .G) (g .H) (g .state) (g .fresh) in
+    let lw = p .before .before .before .before .before .before .before .find .ensures .low in
+    let l = arc-there e .1 in
     let rr = g .fresh .room in
     let rq = g .state .room in
-    let wl = words-later (a .k) wn (unite .result .k) (unite .last .0) (omega arith) (unite .ensures .later) in (
-      (omega arith, (omega arith, omega (arith, unite .ensures .later .len))),
+    let wl = words-later _ (wn p) _ _ (start p .pre .0 .1) (u .unite .ensures .later) in (
+      (omega arith, (omega arith, omega (arith, u .unite .ensures .later .len))),
       (
-        (rp, (omega arith, omega arith)),
-        rw wl
-            (record {
-              steady = record {
-                G = g .G;
-                H =
-                    withPair (g .H) (target .result)
-                    (target2 .result);
-                F = F;
-                T = T;
-                state =
-                    unite .ensures .fine (if3 .left) (g .G) (g .H) (g .state)
-                    (rw (
-                      target .ensures,
-                      target2 .ensures,
-                    ) sm);
-              };
-              kept = λ h z. hint-calm F wn (unite .last .0) (getD F (a .t) 0)
-                  (find .result) (a .at) r (omega arith) rp (omega arith) lk
-                  (s .pre .1 .1 .1 .hint z
-                  (find .result)
-                  (find .ensures)) (unite .ensures .calm h);
-            }),
+        (arc-some e, (omega arith, omega arith)),
+        rw wl (record {
+          steady = record {
+            G = g .G;
+            H = withPair (g .H) (u .before .before .before .before .target .result) (u .before .before .target2 .result);
+            F = loaded-words (wn p);
+            T = targets (wn p);
+            state = u .unite .ensures .fine (c .before .if4 .left) (g .G) (g .H) (g .state)
+                (rw (u .before .before .before .before .target .ensures, u .before .before .target2 .ensures) (arc-same e));
+          };
+          kept = λ h z. hint-calm _ _ _ _ _ _ _ (omega arith) (arc-some e) (omega arith) (looked p) (hint p z) (u .unite .ensures .calm h);
+        }),
       ),
     )
 
@@ -412,75 +269,12 @@ same-length-5 c = search needs
 
 returns-5 : tie.Need-returns-5
 returns-5 c =
-    let s = c .before .before .before .before .before .before .before .before .before .before .before .before .before .before .before .before .before .before .before .before .before .before in
-    let find = c .before .before .before .before .before .before .before .before .before .before .before .before .before .before .before .before .before .before .before .find in
-    let locate = c .before .before .before .before .before .before .before .before .before .before .before .before .locate in
-    let loaded = c .before .before .before .before .before .before .before .before .before .before .before .before .before .before .loaded in
-    let if1 = c .before .before .before .before .before .before .before .before .before .before .before .if2 in
-    let if3 = c .before .before .if4 in
-    let target = c .before .before .before .before .before .before .before .before .before .target in
-    let target2 = c .before .before .before .before .before .before .before .target2 in
-    let onward = c .onward in
-    let unite = c .before .before .before .before .before .unite in
-    let held = c .before .before .before .before .before .before .before .before .before .before .before .before .before .before .before .before .before .bears-atom in
-    let chained = told-bare _ _ _ (held .ensures) (c .before .before .before .before .before .before .before .before .before .before .before .before .before .before .before .before .if1 .left) in
-    let bn = s .pre .0 in
-    let bx = s .pre .1 .0 in
-    let a = s .args in
-    let wn = a .w .now in
-    let F = loaded-words wn in
-    let T = targets wn in
-    let lk : Looked F wn (getD F (a .t) 0)
-    (getD wn (find .result) 0)
-    (locate .result .arc) =
-    rw (loaded
-    .ensures) at (locate .ensures
-    .looked) in
-    let r = locate .result .arc in
-    let rp = some r (if1 .left) in
-    let ri : r ≡ suc (r - 1) = omega arith in
-    let wl = words-later (a .k) wn (unite .result .k) (unite .last .0) (omega arith) (unite .ensures .later) in
-    record {
-      visited = rw (if3 .left) at
-          (visit-found F T (a .n) (a .k) wn (omega arith) (omega arith) (a .x) (omega arith)
-          (find .result)
-          (find .ensures) (a .t) r (r - 1)
-          chained lk ri (unite .result .k) (unite .result .bad) (unite .last .0)
-          (rw (
-            target .ensures,
-            target2 .ensures,
-          ) at (unite .ensures)));
-      next = λ z. rw wl at (onward .ensures);
-    }
+    let u = c .before .before .before .before .before in
+    let wl = words-later _ (wn (u .before .before .before .before .before .before .before)) _ _ (start (u .before .before .before .before .before .before .before) .pre .0 .1) (u .unite .ensures .later) in
+    record { visited = rw (c .before .before .if4 .left) at (visited-found u); next = λ z. rw wl at (c .onward .ensures) }
 
 pub visit-spec : {M : Type 1} → statement M
 visit-spec =
-    tie.close
-    (tie.spec
-    find-requires
-    bears-atom-requires
-    same-length
-    returns
-    loaded-requires
-    locate-requires
-    mul-y
-    slice-read-y
-    add-put
-    put-requires
-    add-put-2
-    cast-put
-    put-requires-2
-    add-a
-    same-length-2
-    returns-2
-    same-length-3
-    returns-3
-    target-requires
-    sub-target
-    target-requires-2
-    unite-requires
-    same-length-4
-    returns-4
-    onward-requires
-    same-length-5
-    returns-5)
+    tie.close (tie.spec find-requires bears-atom-requires same-length returns loaded-requires locate-requires mul-y slice-read-y add-put
+    put-requires add-put-2 cast-put put-requires-2 add-a same-length-2 returns-2 same-length-3 returns-3 target-requires sub-target
+    target-requires-2 unite-requires same-length-4 returns-4 onward-requires same-length-5 returns-5)

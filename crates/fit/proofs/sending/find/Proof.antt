@@ -67,23 +67,5 @@ returns-3 c = look-none _ _ _ _ _ (c .before .loop .inv) (omega arith)
 
 pub find-spec : {M : Type 1} → statement M
 find-spec =
-    tie.close
-    (tie.spec
-    Inv-loop
-    μ-loop
-    loop-holds
-    wide-requires
-    mul-at
-    sub-at
-    mul-here
-    shared-slice-read-here
-    returns
-    add-t13
-    mul-t14
-    shared-slice-read-t16
-    sub-t17
-    returns-2
-    sub-left
-    loop-less
-    loop-again
-    returns-3)
+    tie.close (tie.spec Inv-loop μ-loop loop-holds wide-requires mul-at sub-at mul-here shared-slice-read-here returns add-t13 mul-t14
+    shared-slice-read-t16 sub-t17 returns-2 sub-left loop-less loop-again returns-3)

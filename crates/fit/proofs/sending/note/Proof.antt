@@ -76,23 +76,5 @@ returns c = noting-end _ _ _ _ (c .before .loop .inv .1) (omega arith) (c .befor
 
 pub note-spec : {M : Type 1} → statement M
 note-spec =
-    tie.close
-    (tie.spec
-    Inv-loop
-    μ-loop
-    shared-slice-read-wide
-    wide-requires
-    loop-holds
-    wide-requires-2
-    mul-head
-    shared-slice-read-head
-    mul-place
-    element-write-place
-    add-at
-    arcs-in-requires
-    mul-at
-    add-at-2
-    add-i
-    loop-less
-    loop-again
-    returns)
+    tie.close (tie.spec Inv-loop μ-loop shared-slice-read-wide wide-requires loop-holds wide-requires-2 mul-head shared-slice-read-head
+    mul-place element-write-place add-at arcs-in-requires mul-at add-at-2 add-i loop-less loop-again returns)

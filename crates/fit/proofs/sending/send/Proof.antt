@@ -44,15 +44,5 @@ returns-3 c = (send-new _ _ _ _ _ (c .wide2 .ensures) (omega arith) (omega arith
 
 pub send-spec : {M : Type 1} → statement M
 send-spec =
-    tie.close
-    (tie.spec
-    wide-requires
-    mul-if2
-    element-copy-out-if2
-    returns
-    returns-2
-    wide-requires-2
-    mul-map
-    element-write-map
-    add-t16
+    tie.close (tie.spec wide-requires mul-if2 element-copy-out-if2 returns returns-2 wide-requires-2 mul-map element-write-map add-t16
     returns-3)

@@ -102,26 +102,6 @@ returns-3 c = (arcwise-end _ _ _ _ _ _ _ _ _ _ _ _ (c .before .loop .inv) (omega
 
 pub send-arcs-spec : {M : Type 1} → statement M
 send-arcs-spec =
-    tie.close
-    (tie.spec
-    Inv-loop
-    μ-loop
-    loop-holds
-    mul-feature
-    shared-slice-read-feature
-    add-node
-    mul-node
-    shared-slice-read-node
-    find-requires
-    enum-known-found
-    enum-told
-    returns
-    send-requires
-    enum-known-step
-    enum-told-2
-    returns-2
-    add-at
-    sub-left
-    loop-less
-    loop-again
-    returns-3)
+    tie.close (tie.spec Inv-loop μ-loop loop-holds mul-feature shared-slice-read-feature add-node mul-node shared-slice-read-node
+    find-requires enum-known-found enum-told returns send-requires enum-known-step enum-told-2 returns-2 add-at sub-left loop-less
+    loop-again returns-3)

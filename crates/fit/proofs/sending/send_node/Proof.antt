@@ -166,34 +166,7 @@ returns-4 c =
 
 pub send-node-spec : {M : Type 1} → statement M
 send-node-spec =
-    tie.close
-    (tie.spec
-    mul-head
-    shared-slice-read-head
-    wide-requires
-    mul-given
-    element-copy-out-given
-    wide-requires-2
-    mul-wide
-    element-copy-out-wide
-    wide-requires-3
-    mul-other
-    shared-slice-read-other
-    add-t27
-    returns
-    returns-2
-    arcs-in-requires
-    add-end
-    wide-requires-4
-    mul-end
-    add-end-2
-    add-send-arcs
-    send-arcs-requires
-    enum-known-step
-    enum-told
-    returns-3
-    add-t28
-    wide-requires-5
-    mul-t16
-    add-t30
-    returns-4)
+    tie.close (tie.spec mul-head shared-slice-read-head wide-requires mul-given element-copy-out-given wide-requires-2 mul-wide
+    element-copy-out-wide wide-requires-3 mul-other shared-slice-read-other add-t27 returns returns-2 arcs-in-requires add-end
+    wide-requires-4 mul-end add-end-2 add-send-arcs send-arcs-requires enum-known-step enum-told returns-3 add-t28 wide-requires-5 mul-t16
+    add-t30 returns-4)

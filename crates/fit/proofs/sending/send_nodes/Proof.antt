@@ -58,16 +58,5 @@ returns-2 c = (nodewise-end _ _ _ _ _ _ _ _ _ (c .before .loop .inv) (omega arit
 
 pub send-nodes-spec : {M : Type 1} → statement M
 send-nodes-spec =
-    tie.close
-    (tie.spec
-    Inv-loop
-    μ-loop
-    loop-holds
-    send-node-requires
-    enum-known-node
-    enum-told
-    returns
-    add-i
-    loop-less
-    loop-again
+    tie.close (tie.spec Inv-loop μ-loop loop-holds send-node-requires enum-known-node enum-told returns add-i loop-less loop-again
     returns-2)

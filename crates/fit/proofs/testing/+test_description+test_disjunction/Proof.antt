@@ -34,33 +34,25 @@ abbrev μ-test-disjunction : Measures 4 test-disjunction-kinds.ps ℕ
 
 abbrev test-description-at : ℕ → In 4 test-description-kinds.ps
 test-description-at t =
-    and
-    4
-    test-description-kinds.ps
+    and 4 test-description-kinds.ps
     (is 4 test-description-kinds.ps μ-test-description t)
     test-description.Pre
 
 abbrev test-description-below : ℕ → In 4 test-description-kinds.ps
 test-description-below t =
-    and
-    4
-    test-description-kinds.ps
+    and 4 test-description-kinds.ps
     (falls 4 test-description-kinds.ps _<_ μ-test-description t)
     test-description.Pre
 
 abbrev test-disjunction-at : ℕ → In 4 test-disjunction-kinds.ps
 test-disjunction-at t =
-    and
-    4
-    test-disjunction-kinds.ps
+    and 4 test-disjunction-kinds.ps
     (is 4 test-disjunction-kinds.ps μ-test-disjunction t)
     test-disjunction.Pre
 
 abbrev test-disjunction-below : ℕ → In 4 test-disjunction-kinds.ps
 test-disjunction-below t =
-    and
-    4
-    test-disjunction-kinds.ps
+    and 4 test-disjunction-kinds.ps
     (falls 4 test-disjunction-kinds.ps _<_ μ-test-disjunction t)
     test-disjunction.Pre
 

@@ -34,13 +34,4 @@ returns c = c .before .loop .inv _ (skips-end _ _ _ (omega arith))
 
 pub skip-alternatives-spec : {M : Type 1} → statement M
 skip-alternatives-spec =
-    tie.close
-    (tie.spec
-    Inv-loop
-    μ-loop
-    loop-holds
-    skip-description-requires
-    sub-left
-    loop-less
-    loop-again
-    returns)
+    tie.close (tie.spec Inv-loop μ-loop loop-holds skip-description-requires sub-left loop-less loop-again returns)

@@ -49,11 +49,4 @@ returns c = (
 
 pub test-graph-spec : {M : Type 1} → statement M
 test-graph-spec =
-    tie.close
-    (tie.spec
-    mul-nodes
-    shared-slice-read-nodes
-    element-write-map
-    add-send-nodes
-    send-nodes-requires
-    returns)
+    tie.close (tie.spec mul-nodes shared-slice-read-nodes element-write-map add-send-nodes send-nodes-requires returns)

@@ -54,13 +54,4 @@ returns c =
 
 pub find-spec : {M : Type 1} → statement M
 find-spec =
-    tie.close
-    (tie.spec
-    Inv-loop
-    μ-loop
-    parent-requires
-    loop-holds
-    parent-requires-2
-    loop-less
-    loop-again
-    returns)
+    tie.close (tie.spec Inv-loop μ-loop parent-requires loop-holds parent-requires-2 loop-less loop-again returns)

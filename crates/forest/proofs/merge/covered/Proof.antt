@@ -66,13 +66,4 @@ returns-4 c =
 
 pub covered-spec : {M : Type 1} → statement M
 covered-spec =
-    tie.close
-    (tie.spec
-    enum-told
-    enum-told-2
-    enum-known-came
-    enum-known-there
-    returns
-    returns-2
-    returns-3
-    returns-4)
+    tie.close (tie.spec enum-told enum-told-2 enum-known-came enum-known-there returns returns-2 returns-3 returns-4)

@@ -202,39 +202,7 @@ returns-6 c = search needs
 
 pub fuse-spec : {M : Type 1} → statement M
 fuse-spec =
-    tie.close
-    (tie.spec
-    held-by-requires
-    enum-told
-    add-put
-    cast-put
-    put-requires
-    same-length
-    returns
-    held-by-requires-2
-    enum-told-2
-    add-h
-    mul-h
-    slice-read-h
-    add-put-2
-    cast-put-2
-    put-requires-2
-    add-put-3
-    put-requires-3
-    same-length-2
-    returns-2
-    covered-requires
-    add-put-4
-    cast-put-3
-    put-requires-4
-    same-length-3
-    returns-3
-    enum-known-came
-    same-length-4
-    returns-4
-    enum-known-there
-    same-length-5
-    returns-5
-    knit-requires
-    same-length-6
-    returns-6)
+    tie.close (tie.spec held-by-requires enum-told add-put cast-put put-requires same-length returns held-by-requires-2 enum-told-2 add-h
+    mul-h slice-read-h add-put-2 cast-put-2 put-requires-2 add-put-3 put-requires-3 same-length-2 returns-2 covered-requires add-put-4
+    cast-put-3 put-requires-4 same-length-3 returns-3 enum-known-came same-length-4 returns-4 enum-known-there same-length-5 returns-5
+    knit-requires same-length-6 returns-6)

@@ -74,15 +74,5 @@ returns-3 c =
 
 pub join-spec : {M : Type 1} → statement M
 join-spec =
-    tie.close
-    (tie.spec
-    find-requires
-    find-requires-2
-    fuse-requires
-    same-length
-    returns
-    fuse-requires-2
-    same-length-2
-    returns-2
-    same-length-3
-    returns-3)
+    tie.close (tie.spec find-requires find-requires-2 fuse-requires same-length returns fuse-requires-2 same-length-2 returns-2
+    same-length-3 returns-3)

@@ -153,23 +153,5 @@ returns c =
 
 pub knit-spec : {M : Type 1} → statement M
 knit-spec =
-    tie.close
-    (tie.spec
-    cast-x
-    cast-y
-    last-requires
-    add-put
-    cast-put
-    put-requires
-    add-put-2
-    put-requires-2
-    add-put-3
-    put-requires-3
-    mul-w
-    add-w
-    add-w-2
-    mul-w-2
-    slice-write-w
-    add-t19
-    same-length
-    returns)
+    tie.close (tie.spec cast-x cast-y last-requires add-put cast-put put-requires add-put-2 put-requires-2 add-put-3 put-requires-3 mul-w
+    add-w add-w-2 mul-w-2 slice-write-w add-t19 same-length returns)

@@ -126,17 +126,5 @@ returns-2 c =
 
 pub drain-spec : {M : Type 1} → statement M
 drain-spec =
-    tie.close
-    (tie.spec
-    Inv-loop
-    μ-loop
-    loop-holds
-    step-requires
-    same-length
-    returns
-    sub-next
-    next-requires
-    loop-less
-    loop-again
-    same-length-2
-    returns-2)
+    tie.close (tie.spec Inv-loop μ-loop loop-holds step-requires same-length returns sub-next next-requires loop-less loop-again
+    same-length-2 returns-2)

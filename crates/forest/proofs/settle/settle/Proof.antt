@@ -1,5 +1,5 @@
 -- `forest::settle::settle` meets its contract. The loop's invariant: h frames are left. Assumes nothing.
-use Prim.Native.Nat.{ℕ, _+_}
+use Prim.Native.Nat.{_+_}
 use mathlib.Core.Path.{_≡_, _∙_}
 use native.Mathlib.Omega.{arith}
 use lib.ListN.{length}

@@ -162,16 +162,5 @@ returns-2 c =
 
 pub step-spec : {M : Type 1} → statement M
 step-spec =
-    tie.close
-    (tie.spec
-    sub-j
-    loaded-requires
-    look-requires
-    same-length
-    returns
-    sub-i
-    target-requires
-    target-requires-2
-    join-requires
-    same-length-2
-    returns-2)
+    tie.close (tie.spec sub-j loaded-requires look-requires same-length returns sub-i target-requires target-requires-2 join-requires
+    same-length-2 returns-2)

@@ -71,19 +71,5 @@ returns-4 c = fulls-left _ _ _ _
 
 pub full-spec : {M : Type 1} → statement M
 full-spec =
-    tie.close
-    (tie.spec
-    count-both-requires
-    same-length
-    returns
-    search-requires
-    same-length-2
-    returns-2
-    keep-lit-requires
-    restart-requires
-    enum-known-end
-    enum-told
-    same-length-3
-    returns-3
-    same-length-4
-    returns-4)
+    tie.close (tie.spec count-both-requires same-length returns search-requires same-length-2 returns-2 keep-lit-requires restart-requires
+    enum-known-end enum-told same-length-3 returns-3 same-length-4 returns-4)

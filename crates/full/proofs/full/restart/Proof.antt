@@ -41,14 +41,5 @@ returns-2 c = restarts _ _ _ _
 
 pub restart-spec : {M : Type 1} → statement M
 restart-spec =
-    tie.close
-    (tie.spec
-    back-requires
-    enter-requires
-    enum-known-first
-    enum-told
-    same-length
-    returns
-    enter-requires-2
-    same-length-2
+    tie.close (tie.spec back-requires enter-requires enum-known-first enum-told same-length returns enter-requires-2 same-length-2
     returns-2)

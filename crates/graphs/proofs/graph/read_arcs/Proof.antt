@@ -87,28 +87,6 @@ returns-4 c = arcs-done _ _ _ _ _ _ (omega arith) ∙ sym (c .before .loop .inv 
 
 pub read-arcs-spec : {M : Type 1} → statement M
 read-arcs-spec =
-    tie.close
-    (tie.spec
-    Inv-loop
-    μ-loop
-    returns
-    sub-if2
-    wide-requires
-    mul-if2
-    returns-2
-    loop-holds
-    mul-feature
-    shared-slice-read-feature
-    add-target
-    mul-target
-    shared-slice-read-target
-    read-arc-requires
-    enum-known-arc
-    enum-told
-    returns-3
-    add-low
-    add-at
-    sub-left
-    loop-less
-    loop-again
-    returns-4)
+    tie.close (tie.spec Inv-loop μ-loop returns sub-if2 wide-requires mul-if2 returns-2 loop-holds mul-feature shared-slice-read-feature
+    add-target mul-target shared-slice-read-target read-arc-requires enum-known-arc enum-told returns-3 add-low add-at sub-left loop-less
+    loop-again returns-4)

@@ -30,12 +30,4 @@ returns-3 c = c .read-nodes .ensures ∙ graph-nodes _ _ (omega arith) (omega ar
 
 pub read-graph-spec : {M : Type 1} → statement M
 read-graph-spec =
-    tie.close
-    (tie.spec
-    returns
-    mul-nodes
-    shared-slice-read-nodes
-    returns-2
-    add-read-nodes
-    read-nodes-requires
-    returns-3)
+    tie.close (tie.spec returns mul-nodes shared-slice-read-nodes returns-2 add-read-nodes read-nodes-requires returns-3)

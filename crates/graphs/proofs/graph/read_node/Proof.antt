@@ -39,15 +39,5 @@ returns-5 c = node-atom _ _ _ _ _ (omega arith) (omega arith) (omega arith) (ome
 
 pub read-node-spec : {M : Type 1} → statement M
 read-node-spec =
-    tie.close
-    (tie.spec
-    returns
-    returns-2
-    mul-head
-    shared-slice-read-head
-    add-read-arcs
-    read-arcs-requires
-    returns-3
-    returns-4
-    add-t8
+    tie.close (tie.spec returns returns-2 mul-head shared-slice-read-head add-read-arcs read-arcs-requires returns-3 returns-4 add-t8
     returns-5)

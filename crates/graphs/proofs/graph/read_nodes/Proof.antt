@@ -45,16 +45,5 @@ returns-2 c = nodes-done _ _ _ _ _ _ (omega arith) ∙ sym (c .before .loop .inv
 
 pub read-nodes-spec : {M : Type 1} → statement M
 read-nodes-spec =
-    tie.close
-    (tie.spec
-    Inv-loop
-    μ-loop
-    loop-holds
-    read-node-requires
-    enum-known-node
-    enum-told
-    returns
-    add-i
-    loop-less
-    loop-again
+    tie.close (tie.spec Inv-loop μ-loop loop-holds read-node-requires enum-known-node enum-told returns add-i loop-less loop-again
     returns-2)

@@ -28,33 +28,25 @@ abbrev μ-read-disjunction : Measures 1 read-disjunction-kinds.ps ℕ
 
 abbrev read-description-at : ℕ → In 1 read-description-kinds.ps
 read-description-at t =
-    and
-    1
-    read-description-kinds.ps
+    and 1 read-description-kinds.ps
     (is 1 read-description-kinds.ps μ-read-description t)
     read-description.Pre
 
 abbrev read-description-below : ℕ → In 1 read-description-kinds.ps
 read-description-below t =
-    and
-    1
-    read-description-kinds.ps
+    and 1 read-description-kinds.ps
     (falls 1 read-description-kinds.ps _<_ μ-read-description t)
     read-description.Pre
 
 abbrev read-disjunction-at : ℕ → In 1 read-disjunction-kinds.ps
 read-disjunction-at t =
-    and
-    1
-    read-disjunction-kinds.ps
+    and 1 read-disjunction-kinds.ps
     (is 1 read-disjunction-kinds.ps μ-read-disjunction t)
     read-disjunction.Pre
 
 abbrev read-disjunction-below : ℕ → In 1 read-disjunction-kinds.ps
 read-disjunction-below t =
-    and
-    1
-    read-disjunction-kinds.ps
+    and 1 read-disjunction-kinds.ps
     (falls 1 read-disjunction-kinds.ps _<_ μ-read-disjunction t)
     read-disjunction.Pre
 

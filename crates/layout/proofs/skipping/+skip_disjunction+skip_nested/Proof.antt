@@ -28,17 +28,13 @@ abbrev μ-skip-nested : Measures 1 skip-nested-kinds.ps ℕ
 
 abbrev skip-disjunction-at : ℕ → In 1 skip-disjunction-kinds.ps
 skip-disjunction-at t =
-    and
-    1
-    skip-disjunction-kinds.ps
+    and 1 skip-disjunction-kinds.ps
     (is 1 skip-disjunction-kinds.ps μ-skip-disjunction t)
     skip-disjunction.Pre
 
 abbrev skip-disjunction-below : ℕ → In 1 skip-disjunction-kinds.ps
 skip-disjunction-below t =
-    and
-    1
-    skip-disjunction-kinds.ps
+    and 1 skip-disjunction-kinds.ps
     (falls 1 skip-disjunction-kinds.ps _<_ μ-skip-disjunction t)
     skip-disjunction.Pre
 

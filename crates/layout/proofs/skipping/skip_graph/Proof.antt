@@ -49,18 +49,5 @@ returns-3 c = ends-done _ _ _ _ (omega arith) ∙ sym (c .before .loop .inv)
 
 pub skip-graph-spec : {M : Type 1} → statement M
 skip-graph-spec =
-    tie.close
-    (tie.spec
-    Inv-loop
-    μ-loop
-    returns
-    mul-count
-    shared-slice-read-count
-    add-at
-    loop-holds
-    returns-2
-    skip-node-requires
-    sub-count
-    loop-less
-    loop-again
-    returns-3)
+    tie.close (tie.spec Inv-loop μ-loop returns mul-count shared-slice-read-count add-at loop-holds returns-2 skip-node-requires sub-count
+    loop-less loop-again returns-3)

@@ -42,16 +42,5 @@ returns-4 c = omega arith ∙ node-end-arcs _ _ (omega arith) (omega arith) (ome
 
 pub skip-node-spec : {M : Type 1} → statement M
 skip-node-spec =
-    tie.close
-    (tie.spec
-    returns
-    mul-head
-    shared-slice-read-head
-    add-q
-    returns-2
-    wide-requires
-    mul-arcs
-    sub-if3
-    returns-3
-    add-result
+    tie.close (tie.spec returns mul-head shared-slice-read-head add-q returns-2 wide-requires mul-arcs sub-if3 returns-3 add-result
     returns-4)

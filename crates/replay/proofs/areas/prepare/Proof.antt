@@ -41,16 +41,4 @@ returns c = tt
 
 pub prepare-spec : {M : Type 1} → statement M
 prepare-spec =
-    tie.close
-    (tie.spec
-    Inv-loop
-    μ-loop
-    loop-holds
-    before-requires
-    mul-w
-    slice-write-w
-    add-i
-    loop-less
-    loop-again
-    same-length
-    returns)
+    tie.close (tie.spec Inv-loop μ-loop loop-holds before-requires mul-w slice-write-w add-i loop-less loop-again same-length returns)

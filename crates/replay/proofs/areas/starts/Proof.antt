@@ -46,18 +46,5 @@ returns-3 c = tt
 
 pub starts-spec : {M : Type 1} → statement M
 starts-spec =
-    tie.close
-    (tie.spec
-    Inv-loop
-    μ-loop
-    returns
-    loop-holds
-    mul-if2
-    shared-slice-read-if2
-    mul-if2-2
-    shared-slice-read-if2-2
-    returns-2
-    add-i
-    loop-less
-    loop-again
-    returns-3)
+    tie.close (tie.spec Inv-loop μ-loop returns loop-holds mul-if2 shared-slice-read-if2 mul-if2-2 shared-slice-read-if2-2 returns-2 add-i
+    loop-less loop-again returns-3)

@@ -40,16 +40,5 @@ returns-2 c = tt
 
 pub untouched-spec : {M : Type 1} → statement M
 untouched-spec =
-    tie.close
-    (tie.spec
-    Inv-loop
-    μ-loop
-    loop-holds
-    mul-if1
-    shared-slice-read-if1
-    before-requires
-    returns
-    add-i
-    loop-less
-    loop-again
+    tie.close (tie.spec Inv-loop μ-loop loop-holds mul-if1 shared-slice-read-if1 before-requires returns add-i loop-less loop-again
     returns-2)

@@ -40,16 +40,4 @@ returns-3 c = tt
 
 pub zeroed-spec : {M : Type 1} → statement M
 zeroed-spec =
-    tie.close
-    (tie.spec
-    Inv-loop
-    μ-loop
-    returns
-    loop-holds
-    mul-if2
-    shared-slice-read-if2
-    returns-2
-    add-i
-    loop-less
-    loop-again
-    returns-3)
+    tie.close (tie.spec Inv-loop μ-loop returns loop-holds mul-if2 shared-slice-read-if2 returns-2 add-i loop-less loop-again returns-3)

@@ -50,19 +50,5 @@ returns-5 c = tt
 
 pub joined-spec : {M : Type 1} → statement M
 joined-spec =
-    tie.close
-    (tie.spec
-    returns
-    returns-2
-    judge-requires
-    enum-told
-    enum-told-2
-    returns-3
-    judge-requires-2
-    enum-told-3
-    enum-told-4
-    returns-4
-    work-space-requires
-    slice-aggregate-w
-    opened-requires
-    returns-5)
+    tie.close (tie.spec returns returns-2 judge-requires enum-told enum-told-2 returns-3 judge-requires-2 enum-told-3 enum-told-4 returns-4
+    work-space-requires slice-aggregate-w opened-requires returns-5)

@@ -48,16 +48,5 @@ returns-3 c = tt
 
 pub opened-spec : {M : Type 1} → statement M
 opened-spec =
-    tie.close
-    (tie.spec
-    open-requires
-    enum-known-came
-    enum-told
-    same-length
-    returns
-    write-graph-requires
-    written-requires
-    same-length-2
-    returns-2
-    same-length-3
-    returns-3)
+    tie.close (tie.spec open-requires enum-known-came enum-told same-length returns write-graph-requires written-requires same-length-2
+    returns-2 same-length-3 returns-3)

@@ -47,18 +47,5 @@ returns-4 c = tt
 
 pub written-spec : {M : Type 1} → statement M
 written-spec =
-    tie.close
-    (tie.spec
-    returns
-    sub-if2
-    returns-2
-    mul-if3
-    shared-slice-read-if3
-    returns-3
-    mul-starts
-    sub-starts
-    part-starts-start
-    part-starts-end
-    slice-aggregate-starts
-    starts-requires
-    returns-4)
+    tie.close (tie.spec returns sub-if2 returns-2 mul-if3 shared-slice-read-if3 returns-3 mul-starts sub-starts part-starts-start
+    part-starts-end slice-aggregate-starts starts-requires returns-4)

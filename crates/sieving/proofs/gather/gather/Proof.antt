@@ -150,25 +150,5 @@ returns-2 c =
 
 pub gather-spec : {M : Type 1} → statement M
 gather-spec =
-    tie.close
-    (tie.spec
-    Inv-loop
-    μ-loop
-    find-requires
-    held-by-requires
-    enum-known-held
-    returns
-    loop-holds
-    sub-j
-    loaded-requires
-    wide-requires
-    mul-if1
-    slice-read-if1
-    cast-t
-    mul-t
-    slice-write-t
-    next-requires
-    loop-less
-    loop-again
-    same-length
-    returns-2)
+    tie.close (tie.spec Inv-loop μ-loop find-requires held-by-requires enum-known-held returns loop-holds sub-j loaded-requires
+    wide-requires mul-if1 slice-read-if1 cast-t mul-t slice-write-t next-requires loop-less loop-again same-length returns-2)

@@ -34,11 +34,4 @@ returns c =
 
 pub look-through-spec : {M : Type 1} → statement M
 look-through-spec =
-    tie.close
-    (tie.spec
-    wide-requires
-    mul-wide
-    shared-slice-read-wide
-    wide-requires-2
-    look-requires
-    returns)
+    tie.close (tie.spec wide-requires mul-wide shared-slice-read-wide wide-requires-2 look-requires returns)

@@ -120,22 +120,5 @@ returns-4 c =
 
 pub guess-through-spec : {M : Type 1} → statement M
 guess-through-spec =
-    tie.close
-    (tie.spec
-    loaded-requires
-    nodes-of-requires
-    number-of-requires
-    add-loaded
-    loaded-requires-2
-    wide-requires
-    add-if1
-    returns
-    find-requires
-    held-by-requires
-    enum-told
-    enum-known-held
-    enum-told-2
-    returns-2
-    returns-3
-    lead-all-requires
-    returns-4)
+    tie.close (tie.spec loaded-requires nodes-of-requires number-of-requires add-loaded loaded-requires-2 wide-requires add-if1 returns
+    find-requires held-by-requires enum-told enum-known-held enum-told-2 returns-2 returns-3 lead-all-requires returns-4)

@@ -68,22 +68,5 @@ returns-4 c =
 
 pub lead-spec : {M : Type 1} → statement M
 lead-spec =
-    tie.close
-    (tie.spec
-    add-at
-    mul-at
-    add-at-2
-    target-requires
-    add-if1
-    add-if1-2
-    returns
-    add-loaded
-    mul-loaded
-    add-loaded-2
-    add-loaded-3
-    loaded-requires
-    returns-2
-    returns-3
-    loaded-requires-2
-    suit-requires
-    returns-4)
+    tie.close (tie.spec add-at mul-at add-at-2 target-requires add-if1 add-if1-2 returns add-loaded mul-loaded add-loaded-2 add-loaded-3
+    loaded-requires returns-2 returns-3 loaded-requires-2 suit-requires returns-4)

@@ -57,15 +57,4 @@ returns-2 c =
 
 pub lead-all-spec : {M : Type 1} → statement M
 lead-all-spec =
-    tie.close
-    (tie.spec
-    Inv-loop
-    μ-loop
-    loop-holds
-    lead-requires
-    enum-told
-    returns
-    add-i
-    loop-less
-    loop-again
-    returns-2)
+    tie.close (tie.spec Inv-loop μ-loop loop-holds lead-requires enum-told returns add-i loop-less loop-again returns-2)

@@ -100,18 +100,5 @@ returns-5 c =
 
 pub suit-spec : {M : Type 1} → statement M
 suit-spec =
-    tie.close
-    (tie.spec
-    look-through-requires
-    returns
-    sub-target
-    target-requires
-    class-of-requires
-    held-by-requires
-    enum-told
-    enum-told-2
-    enum-known-held
-    returns-2
-    returns-3
-    returns-4
-    returns-5)
+    tie.close (tie.spec look-through-requires returns sub-target target-requires class-of-requires held-by-requires enum-told enum-told-2
+    enum-known-held returns-2 returns-3 returns-4 returns-5)

@@ -52,17 +52,5 @@ returns-3 c = completes-left _ _ _ _
 
 pub complete-spec : {M : Type 1} → statement M
 complete-spec =
-    tie.close
-    (tie.spec
-    douse-requires
-    full-requires
-    enum-told
-    enum-told-2
-    enum-known-left
-    show-requires
-    same-length
-    returns
-    same-length-2
-    returns-2
-    same-length-3
-    returns-3)
+    tie.close (tie.spec douse-requires full-requires enum-told enum-told-2 enum-known-left show-requires same-length returns same-length-2
+    returns-2 same-length-3 returns-3)

@@ -119,24 +119,5 @@ returns-5 c = makes-full _ _ _ _
 
 pub make-spec : {M : Type 1} → statement M
 make-spec =
-    tie.close
-    (tie.spec
-    begin-requires
-    enum-known-opened
-    enum-told
-    same-length
-    returns
-    show-requires
-    same-length-2
-    returns-2
-    quick-requires
-    enum-known-step
-    enum-told-2
-    same-length-3
-    returns-3
-    show-requires-2
-    same-length-4
-    returns-4
-    complete-requires
-    same-length-5
-    returns-5)
+    tie.close (tie.spec begin-requires enum-known-opened enum-told same-length returns show-requires same-length-2 returns-2 quick-requires
+    enum-known-step enum-told-2 same-length-3 returns-3 show-requires-2 same-length-4 returns-4 complete-requires same-length-5 returns-5)

@@ -126,29 +126,6 @@ returns-2 c =
 
 pub node-spec : {M : Type 1} → statement M
 node-spec =
-    tie.close
-    (tie.spec
-    add-wide
-    add-wide-2
-    mul-wide
-    slice-read-wide
-    wide-requires
-    held-by-requires
-    enum-told
-    enum-known-held
-    enum-known-held-2
-    add-w
-    mul-w
-    slice-write-w
-    add-t22
-    same-length
-    returns
-    add-arcs
-    arcs-requires
-    sub-w
-    cast-w
-    add-w-2
-    mul-w-2
-    slice-write-w-2
-    same-length-2
-    returns-2)
+    tie.close (tie.spec add-wide add-wide-2 mul-wide slice-read-wide wide-requires held-by-requires enum-told enum-known-held
+    enum-known-held-2 add-w mul-w slice-write-w add-t22 same-length returns add-arcs arcs-requires sub-w cast-w add-w-2 mul-w-2
+    slice-write-w-2 same-length-2 returns-2)

@@ -60,14 +60,4 @@ returns c =
 
 pub nodes-spec : {M : Type 1} → statement M
 nodes-spec =
-    tie.close
-    (tie.spec
-    Inv-loop
-    μ-loop
-    loop-holds
-    node-requires
-    add-i
-    loop-less
-    loop-again
-    same-length
-    returns)
+    tie.close (tie.spec Inv-loop μ-loop loop-holds node-requires add-i loop-less loop-again same-length returns)

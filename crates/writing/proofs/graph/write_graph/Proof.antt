@@ -87,16 +87,5 @@ returns c =
 
 pub write-graph-spec : {M : Type 1} → statement M
 write-graph-spec =
-    tie.close
-    (tie.spec
-    clear-requires
-    find-requires
-    number-requires
-    add-nodes
-    nodes-requires
-    cast-w
-    add-w
-    mul-w
-    slice-write-w
-    same-length
+    tie.close (tie.spec clear-requires find-requires number-requires add-nodes nodes-requires cast-w add-w mul-w slice-write-w same-length
     returns)
