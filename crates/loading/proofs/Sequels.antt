@@ -9,10 +9,10 @@ use Rattle.theory.specs.Limits.{input-limit}
 use Rattle.theory.specs.Descr.{Disjs, end, _and_, Alts, fail, _or_, disjs, alts}
 use Rattle.theory.specs.Layout.{disjs-words, alts-words, WellAll, WellAny}
 use Rattle.loading.specs.Loaded.{nodes-all, nodes-any, alts-all, alts-any, loaded-all, loaded-any}
-use Rattle.loading.specs.Loading.{ahead, Kind, its-arcs, a-node, its-nodes, a-disjunction, a-description}
+use Rattle.loading.specs.Loading.{stock, Kind, its-arcs, a-node, its-nodes, a-disjunction, a-description}
 use Rattle.loading.proofs.Series.{Steps, Ends}
 
-pub coming-same : {n n′ x x′ y y′ : ℕ} → n ≡ n′ → x ≡ x′ → y ≡ y′ → ahead n x y ≡ ahead n′ x′ y′
+pub coming-same : {n n′ x x′ y y′ : ℕ} → n ≡ n′ → x ≡ x′ → y ≡ y′ → stock n x y ≡ stock n′ x′ y′
 coming-same e f g = rw (e, f, g) refl
 
 -- an arc
@@ -32,7 +32,7 @@ its-disjunctions left k = record {
   Fine = λ ds. (disjs ds ≡ k) × WellAll ds left;
   text = disjs-words;
   image = λ p c. loaded-all p (c .number) (c .free);
-  after = λ c ds. ahead (c .number + nodes-all ds) (c .own) (c .free + alts-all ds);
+  after = λ c ds. stock (c .number + nodes-all ds) (c .own) (c .free + alts-all ds);
 }
 
 -- k alternatives
@@ -42,7 +42,7 @@ its-alternatives left k = record {
   Fine = λ a. (alts a ≡ k) × WellAny a left;
   text = alts-words;
   image = λ p c. loaded-any p (c .number) (c .own) (c .free);
-  after = λ c a. ahead (c .number + nodes-any a) (c .own + alts a) (c .free + alts-any a);
+  after = λ c a. stock (c .number + nodes-any a) (c .own + alts a) (c .free + alts-any a);
 }
 
 module _ (k : ℕ) (some : 0 < k) where

@@ -21,20 +21,20 @@ pub record Put (t t′ : List ℕ) (p : ℕ) (xs : List ℕ) (q : ℕ) : Type 0 
   pub rest : (j : ℕ) → (j < p) ⊎ (q ≤ j) → getD t′ j 0 ≡ getD t j 0
 
 -- what comes next: the number of a node, the mark of an alternative, and the first mark that is free
-pub record Ahead : Type 0 where
+pub record Stock : Type 0 where
   pub number : ℕ
   pub own : ℕ
   pub free : ℕ
 
-abbrev pub ahead : ℕ → ℕ → ℕ → Ahead
-ahead n x y = record { number = n; own = x; free = y }
+abbrev pub stock : ℕ → ℕ → ℕ → Stock
+stock n x y = record { number = n; own = x; free = y }
 
 -- where no alternatives come
-abbrev pub node-ahead : ℕ → Ahead
-node-ahead n = ahead n 0 0
+abbrev pub node-stock : ℕ → Stock
+node-stock n = stock n 0 0
 
 -- a number and marks that an input may have
-abbrev pub Few : Ahead → Type 0
+abbrev pub Few : Stock → Type 0
 Few c = (c .number ≤ input-limit) × (c .own ≤ input-limit) × (c .free ≤ input-limit)
 
 -- a kind of thing: when it may come, its words, what they are loaded as at a position, with what comes there, and what comes after it
@@ -42,8 +42,8 @@ pub record Kind : Type 1 where
   pub Thing : Type 0
   pub Fine : Thing → Type 0
   pub text : Thing → List ℕ
-  pub image : ℕ → Ahead → Thing → List ℕ
-  pub after : Ahead → Thing → Ahead
+  pub image : ℕ → Stock → Thing → List ℕ
+  pub after : Stock → Thing → Stock
 
 -- targets are below the node count, which words of an input keep below this
 abbrev pub Low : List (ℕ × ℕ) → Type 0
@@ -92,7 +92,7 @@ a-graph = record {
   text = graph-words;
   image = λ p c g. header (c .number) g ∷ located (c .number) g;
   after =
-      λ c g. ahead (c .number + length g) (c .own) (c .free);
+      λ c g. stock (c .number + length g) (c .own) (c .free);
 }
 
 -- a disjunction whose own alternatives are one of the `left` levels
@@ -103,7 +103,7 @@ a-disjunction left = record {
   text = disjunction-words;
   image =
       λ p c a. alts a ∷ loaded-any (p + 1) (c .number) (c .free) (c .free + alts a) a;
-  after = λ c a. ahead (c .number + nodes-any a) (c .own) (c .free + (alts a + alts-any a));
+  after = λ c a. stock (c .number + nodes-any a) (c .own) (c .free + (alts a + alts-any a));
 }
 
 -- a description under which alternatives nest at most `left` deep
@@ -113,7 +113,7 @@ a-description left = record {
   Fine = λ d. WellFormed d left;
   text = words;
   image = λ p c. loaded p (c .number) (c .own) (c .free);
-  after = λ c d. ahead (c .number + nodes-in d) (c .own + 1) (c .free + alts-in d);
+  after = λ c d. stock (c .number + nodes-in d) (c .own + 1) (c .free + alts-in d);
 }
 
 -- the words have room at the shift, and are no more than an input may have
@@ -123,11 +123,11 @@ pub record Room (t ws : List ℕ) (shift : ℕ) : Type 0 where
   pub room : shift + length ws ≤ length t
 
 -- a thing of the kind stands at p, and what comes after it is few
-abbrev pub Asked : Kind → List ℕ → ℕ → Ahead → Type 0
+abbrev pub Asked : Kind → List ℕ → ℕ → Stock → Type 0
 Asked K ws p c = (x : K .Thing) × (q : ℕ) × K .Fine x × Stands ws p (K .text x) q × Few (K .after c x)
 
 -- whatever thing of the kind stands at p: it ends at r, after it comes e, and it is loaded
-abbrev pub Loads : Kind → List ℕ → ℕ → ℕ → Ahead → List ℕ → List ℕ → ℕ → Ahead → Type 0
+abbrev pub Loads : Kind → List ℕ → ℕ → ℕ → Stock → List ℕ → List ℕ → ℕ → Stock → Type 0
 Loads K ws p shift c t t′ r e =
     (x : K .Thing) (q : ℕ) → K .Fine x → Stands ws p (K .text x) q →
     (r ≡ q) × (e ≡ K .after c x) × Put t t′ (shift + p) (K .image (shift + p) c x) (shift + q)

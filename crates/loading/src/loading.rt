@@ -5,7 +5,7 @@ use packing::graph_word;
 use packing::tail_word;
 ghost use Prim.Native.Nat.{_+_};
 ghost use Rattle.loading.specs.Loading.{its-arcs, a-node, its-nodes, a-graph, a-disjunction, a-description, Room, Asked, Loads};
-ghost use Rattle.loading.specs.Loading.{ahead, node-ahead, Loadable, LoadedAt};
+ghost use Rattle.loading.specs.Loading.{stock, node-stock, Loadable, LoadedAt};
 
 // Where a graph ends, and the number of the next node.
 struct GraphReach {
@@ -23,9 +23,9 @@ struct Reach {
 // Loads the `count` arcs of a node.
 fn load_arcs(t: &mut [u32], ws: &[u32], p: usize, shift: usize, count: u32, number: u32) -> usize
     requires { ⌜ Room (now t) (now ws) shift ⌝ }
-    requires { ⌜ Asked (its-arcs count) (now ws) p (node-ahead number) ⌝ }
-    ensures { λ r. ⌜ Loads (its-arcs count) (now (ws .entry)) p shift (node-ahead number) (now (t .entry)) (now (t .exit)) r
-        (node-ahead number) ⌝ }
+    requires { ⌜ Asked (its-arcs count) (now ws) p (node-stock number) ⌝ }
+    ensures { λ r. ⌜ Loads (its-arcs count) (now (ws .entry)) p shift (node-stock number) (now (t .entry)) (now (t .exit)) r
+        (node-stock number) ⌝ }
 {
     let mut at = p;
     let mut left = count;
@@ -41,9 +41,9 @@ fn load_arcs(t: &mut [u32], ws: &[u32], p: usize, shift: usize, count: u32, numb
 // Loads a node: its head as it is, and its arcs.
 fn load_node(t: &mut [u32], ws: &[u32], p: usize, shift: usize, number: u32) -> usize
     requires { ⌜ Room (now t) (now ws) shift ⌝ }
-    requires { ⌜ Asked a-node (now ws) p (node-ahead number) ⌝ }
-    ensures { λ r. ⌜ Loads a-node (now (ws .entry)) p shift (node-ahead number) (now (t .entry)) (now (t .exit)) r
-        (node-ahead number) ⌝ }
+    requires { ⌜ Asked a-node (now ws) p (node-stock number) ⌝ }
+    ensures { λ r. ⌜ Loads a-node (now (ws .entry)) p shift (node-stock number) (now (t .entry)) (now (t .exit)) r
+        (node-stock number) ⌝ }
 {
     let head = ws[p];
     t[shift + p] = head;
@@ -56,9 +56,9 @@ fn load_node(t: &mut [u32], ws: &[u32], p: usize, shift: usize, number: u32) -> 
 // Loads the `count` nodes of a graph.
 fn load_nodes(t: &mut [u32], ws: &[u32], p: usize, shift: usize, count: u32, number: u32) -> usize
     requires { ⌜ Room (now t) (now ws) shift ⌝ }
-    requires { ⌜ Asked (its-nodes count) (now ws) p (node-ahead number) ⌝ }
-    ensures { λ r. ⌜ Loads (its-nodes count) (now (ws .entry)) p shift (node-ahead number) (now (t .entry)) (now (t .exit)) r
-        (node-ahead number) ⌝ }
+    requires { ⌜ Asked (its-nodes count) (now ws) p (node-stock number) ⌝ }
+    ensures { λ r. ⌜ Loads (its-nodes count) (now (ws .entry)) p shift (node-stock number) (now (t .entry)) (now (t .exit)) r
+        (node-stock number) ⌝ }
 {
     let mut at = p;
     let mut left = count;
@@ -72,9 +72,9 @@ fn load_nodes(t: &mut [u32], ws: &[u32], p: usize, shift: usize, count: u32, num
 // Loads a graph; its header is written once its end is known.
 fn load_graph(t: &mut [u32], ws: &[u32], p: usize, shift: usize, number: u32) -> GraphReach
     requires { ⌜ Room (now t) (now ws) shift ⌝ }
-    requires { ⌜ Asked a-graph (now ws) p (node-ahead number) ⌝ }
-    ensures { λ r. ⌜ Loads a-graph (now (ws .entry)) p shift (node-ahead number) (now (t .entry)) (now (t .exit)) (r .at)
-        (node-ahead (r .number)) ⌝ }
+    requires { ⌜ Asked a-graph (now ws) p (node-stock number) ⌝ }
+    ensures { λ r. ⌜ Loads a-graph (now (ws .entry)) p shift (node-stock number) (now (t .entry)) (now (t .exit)) (r .at)
+        (node-stock (r .number)) ⌝ }
 {
     let count = ws[p];
     let at = load_nodes(t, ws, p + 1, shift, count, number);
@@ -99,9 +99,9 @@ fn load_description(
     left: u32,
 ) -> Reach
     requires { ⌜ Room (now t) (now ws) shift ⌝ }
-    requires { ⌜ Asked (a-description left) (now ws) p (ahead number own mark) ⌝ }
-    ensures { λ r. ⌜ Loads (a-description left) (now (ws .entry)) p shift (ahead number own mark) (now (t .entry)) (now (t .exit)) (r .at)
-        (ahead (r .number) (own + 1) (r .mark)) ⌝ }
+    requires { ⌜ Asked (a-description left) (now ws) p (stock number own mark) ⌝ }
+    ensures { λ r. ⌜ Loads (a-description left) (now (ws .entry)) p shift (stock number own mark) (now (t .entry)) (now (t .exit)) (r .at)
+        (stock (r .number) (own + 1) (r .mark)) ⌝ }
 {
     let graph = load_graph(t, ws, p, shift, number);
     let q = graph.at;
@@ -138,9 +138,9 @@ fn load_disjunction(
     left: u32,
 ) -> Reach
     requires { ⌜ Room (now t) (now ws) shift ⌝ }
-    requires { ⌜ Asked (a-disjunction left) (now ws) p (ahead number 0 mark) ⌝ }
-    ensures { λ r. ⌜ Loads (a-disjunction left) (now (ws .entry)) p shift (ahead number 0 mark) (now (t .entry)) (now (t .exit)) (r .at)
-        (ahead (r .number) 0 (r .mark)) ⌝ }
+    requires { ⌜ Asked (a-disjunction left) (now ws) p (stock number 0 mark) ⌝ }
+    ensures { λ r. ⌜ Loads (a-disjunction left) (now (ws .entry)) p shift (stock number 0 mark) (now (t .entry)) (now (t .exit)) (r .at)
+        (stock (r .number) 0 (r .mark)) ⌝ }
 {
     let mut count = ws[p];
     t[shift + p] = count;

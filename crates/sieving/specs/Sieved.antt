@@ -19,7 +19,8 @@ Blank t = (i : ℕ) → getD t i 0 ≡ 0
 -- t has an arc for the feature f, or 0, and what is found from there on is what is found on the whole chain from the code x
 pub record Sieves (w t : List ℕ) (x : ℕ) : Type 0 where
   pub runs : (f : ℕ) → f % SIEVE_SIZE < length t → Runs w (getD t (f % SIEVE_SIZE) 0)
-  pub same : (f r : ℕ) → f % SIEVE_SIZE < length t → Looked (loaded-words w) w f (getD t (f % SIEVE_SIZE) 0) r → Looked (loaded-words w) w f x r
+  pub same : (f r : ℕ) → f % SIEVE_SIZE < length t → Looked (loaded-words w) w f (getD t (f % SIEVE_SIZE) 0) r →
+      Looked (loaded-words w) w f x r
 
 -- c is the class of all roots, with which the number 0 is united
 abbrev pub OfRoots : ℕ → List ℕ → ℕ → Type 0

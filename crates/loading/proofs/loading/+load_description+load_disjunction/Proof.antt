@@ -7,7 +7,7 @@ use mathlib.Core.Path.{_≡_, refl, _∙_}
 use Prim.Native.Nat.{ℕ, _<_, _≤_, _+_, _*_, _-_}
 use lib.ListN.{length, getD, length-set}
 use Rattle.theory.specs.Limits.{input-limit}
-use Rattle.loading.specs.Loading.{ahead, a-graph, a-disjunction, a-description, Asked}
+use Rattle.loading.specs.Loading.{stock, a-graph, a-disjunction, a-description, Asked}
 use Rattle.loading.proofs.Series.{Onward, begin, asks, asks-first, go-on, finish}
 use Rattle.loading.proofs.Sequels.{disjunctions-step, disjunctions-end, alternatives-step, alternatives-end, its-disjunctions}
 use Rattle.loading.proofs.Sequels.{its-alternatives}
@@ -60,7 +60,7 @@ disjoin-claims t = (describe-below t, load-description.Post)
 abbrev describe-inv : describe.InvT-loop
 describe-inv t₀ ws p shift number own mark left q count more₀ at₀ next₀ free₀ t more at next free =
     (length t ≡ length t₀)
-    × Onward ws shift at₀ (ahead next₀ 0 free₀) (its-disjunctions left more₀) (its-disjunctions left more) t₀ t at (ahead next 0 free)
+    × Onward ws shift at₀ (stock next₀ 0 free₀) (its-disjunctions left more₀) (its-disjunctions left more) t₀ t at (stock next 0 free)
 
 abbrev describe-μ : describe.MeasureT-loop
 describe-μ t₀ ws p shift number own mark left q count more₀ at₀ next₀ free₀ t more at next free = more
@@ -88,7 +88,7 @@ describe-loop-holds t c = (refl, begin _ _ _ _ (its-disjunctions _ _) _)
 -- the next disjunction stands there
 first : (t : ℕ) (c : describe.In-loop (describe-claims t) (describe-at t) load-description.Post describe-inv describe-μ) →
     let i = c .before .before .before .before .before .before .before .before .before .args in let o = c .before .loop in
-    Asked (a-disjunction (i .left)) (i .ws .now) (o .at) (ahead (o .next) 0 (o .free))
+    Asked (a-disjunction (i .left)) (i .ws .now) (o .at) (stock (o .next) 0 (o .free))
 first t c = let i = c .before .before .before .before .before .before .before .before .before .pre .1 in
     asks-first (its-disjunctions _ _) (a-disjunction _) (its-disjunctions _ _) _ _ _ (disjunctions-step _ (omega arith) _)
     (asks _ _ _ _ (its-disjunctions _ _) (its-disjunctions _ _) _ _ _ _ (c .before .loop .inv .1)
@@ -175,8 +175,8 @@ describe-returns t d =
 abbrev disjoin-inv : disjoin.InvT-loop
 disjoin-inv t₀ ws p shift number mark left count₀ at₀ next₀ own₀ free₀ t count at next own free =
     (length t ≡ length t₀)
-    × Onward ws shift at₀ (ahead next₀ own₀ free₀) (its-alternatives (left - 1) count₀) (its-alternatives (left - 1) count) t₀ t at
-    (ahead next own free)
+    × Onward ws shift at₀ (stock next₀ own₀ free₀) (its-alternatives (left - 1) count₀) (its-alternatives (left - 1) count) t₀ t at
+    (stock next own free)
 
 abbrev disjoin-μ : disjoin.MeasureT-loop
 disjoin-μ t₀ ws p shift number mark left count₀ at₀ next₀ own₀ free₀ t count at next own free = count
@@ -214,7 +214,7 @@ disjoin-sub-load-description t c =
 -- the next alternative stands there, and its mark is low
 there : (t : ℕ) (c : disjoin.In-loop (disjoin-claims t) (disjoin-at t) load-disjunction.Post disjoin-inv disjoin-μ) →
     let i = c .before .before .before .before .before .args in let o = c .before .loop in
-    Asked (a-description (i .left - 1)) (i .ws .now) (o .at) (ahead (o .next) (o .own) (o .free))
+    Asked (a-description (i .left - 1)) (i .ws .now) (o .at) (stock (o .next) (o .own) (o .free))
 there t c = asks-first (its-alternatives _ _) (a-description _) (its-alternatives _ _) _ _ _ (alternatives-step _ (omega arith) _)
     (asks _ _ _ _ (its-alternatives _ _) (its-alternatives _ _) _ _ _ _ (c .before .loop .inv .1)
     (disjunction-asks _ _ _ _ _ (c .before .before .before .before .before .pre .1 .1)))

@@ -6,7 +6,7 @@ use mathlib.Core.Path.{_≡_, refl}
 use Prim.Native.Nat.{_+_, _<_, _≤_}
 use lib.ListN.{length, getD, length-set}
 use Rattle.theory.specs.Limits.{input-limit}
-use Rattle.loading.specs.Loading.{node-ahead, its-arcs}
+use Rattle.loading.specs.Loading.{node-stock, its-arcs}
 use Rattle.loading.proofs.Series.{Onward, begin, asks, asks-first, go-on, finish}
 use Rattle.loading.proofs.Sequels.{arcs-step, arcs-end}
 use Rattle.loading.proofs.Parts.{arc-there, arc-loads}
@@ -15,7 +15,7 @@ use Rattle.loading.proofs.loading.load_arcs.Tie as tie
 
 abbrev Inv-loop : tie.InvT-loop
 Inv-loop t₀ ws p shift count number at₀ left₀ t at left =
-    (length t ≡ length t₀) × Onward ws shift p (node-ahead number) (its-arcs count) (its-arcs left) t₀ t at (node-ahead number)
+    (length t ≡ length t₀) × Onward ws shift p (node-stock number) (its-arcs count) (its-arcs left) t₀ t at (node-stock number)
 
 abbrev μ-loop : tie.MeasureT-loop
 μ-loop t₀ ws p shift count number at₀ left₀ t at left = left

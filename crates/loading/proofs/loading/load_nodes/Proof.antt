@@ -4,7 +4,7 @@ use borrow.Author.Needs.{needs}
 use native.Mathlib.Omega.{arith}
 use mathlib.Core.Path.{_≡_, refl, _∙_}
 use lib.ListN.{length}
-use Rattle.loading.specs.Loading.{node-ahead, a-node, its-nodes, Asked}
+use Rattle.loading.specs.Loading.{node-stock, a-node, its-nodes, Asked}
 use Rattle.loading.proofs.Series.{Onward, begin, asks, asks-first, go-on, finish}
 use Rattle.loading.proofs.Sequels.{nodes-step, nodes-end}
 use Rattle.loading.proofs.Parts.{room-keeps, loads-keeps}
@@ -13,7 +13,7 @@ use Rattle.loading.proofs.loading.load_nodes.Tie as tie
 
 abbrev Inv-loop : tie.InvT-loop
 Inv-loop t₀ ws p shift count number at₀ left₀ t at left =
-    (length t ≡ length t₀) × Onward ws shift p (node-ahead number) (its-nodes count) (its-nodes left) t₀ t at (node-ahead number)
+    (length t ≡ length t₀) × Onward ws shift p (node-stock number) (its-nodes count) (its-nodes left) t₀ t at (node-stock number)
 
 abbrev μ-loop : tie.MeasureT-loop
 μ-loop t₀ ws p shift count number at₀ left₀ t at left = left
@@ -24,7 +24,7 @@ loop-holds c = (refl, begin _ _ _ _ _ _)
 -- a node stands there
 there : (c : tie.In-loop Inv-loop μ-loop) →
     Asked a-node (c .before .before .before .before .args .ws .now) (c .before .loop .at)
-    (node-ahead (c .before .before .before .before .args .number))
+    (node-stock (c .before .before .before .before .args .number))
 there c = asks-first _ _ _ _ _ _ (nodes-step _ (omega arith))
     (asks _ _ _ _ (its-nodes _) (its-nodes _) _ _ _ _ (c .before .loop .inv .1) (c .before .before .before .before .pre .1))
 
