@@ -1,14 +1,25 @@
 -- The nodes of a graph, one after the other: what the contracts of `src/visit.rt` cite. Assumes nothing.
 use Prim.Native.Nat.{ℕ, zero, suc, _+_, _*_, _≤_, _<_}
 use mathlib.Core.Path.{_≡_}
+use mathlib.Core.Logic.{_⊎_}
 use mathlib.Core.Bool.{Bool, true, false}
 use mathlib.Core.List.{List, [], _∷_, List·Memᴰ}
 use lib.ListN.{length, getD}
-use Rattle.area.specs.Map.{ENTRIES, LOADED}
+use Rattle.area.specs.Map.{ENTRIES, LOADED, NEXT}
 use Rattle.theory.specs.Limits.{code-limit}
 use Rattle.theory.specs.Net.{Node, atom, arcs, Graph}
-use Rattle.area.specs.Log.{Later}
+use Rattle.area.specs.Log.{Later, Stores}
 use Rattle.forest.specs.State.{Pile, Done, ClashIn, State, withNode}
+
+-- ---- an arc on a chain
+-- the arc t stands where the link l leads, before what stood there; the link to go on from is 0, or that after t where `at` is not 0
+pub record Hung (k : ℕ) (w : List ℕ) (t l at k' at' : ℕ) (bad : Bool) (w' : List ℕ) : Type 0 where
+  pub entry : ℕ
+  pub between : List ℕ
+  pub before : Stores k w (NEXT + t) (getD w l 0) entry between
+  pub after : Stores entry between l (t + 1) k' w'
+  pub next : (at' ≡ 0) ⊎ ((0 < at) × (at' ≡ NEXT + t))
+  pub fine : bad ≡ false
 
 -- ---- the arcs of a node
 -- the d arcs from t on, each two words after the one before, the last one first

@@ -19,12 +19,13 @@ ghost use mathlib.Core.Bool.{true, false};
 ghost use Prim.Native.Nat.{_+_, _*_, _-_, _≤_, _<_};
 ghost use lib.ListN.{length};
 ghost use Rattle.theory.specs.Limits.{code-limit};
-ghost use Rattle.area.specs.Map.{SIZE, NODES, LOADED, ENTRIES, TARGETS, ENTRY_MOST};
+ghost use Rattle.area.specs.Map.{SIZE, NODES, LOADED, LOG, ENTRIES, TARGETS, ENTRY_MOST};
+ghost use Rattle.area.specs.Log.{Logged};
 ghost use Rattle.area.specs.Region.{loaded-words};
 ghost use Rattle.forest.specs.Held.{AtomCode};
 ghost use Rattle.forest.specs.State.{targets, Coming, Heading, Headed};
 ghost use Rattle.forest.specs.Order.{Ordered, Steady, Turning, VisitedInOrder};
-ghost use Rattle.classes.specs.Nodes.{Batched, Run, Noding, Noded, Listing, Listed};
+ghost use Rattle.classes.specs.Nodes.{Hung, Batched, Run, Noding, Noded, Listing, Listed};
 
 // The log's entries after an arc, the link to go on from with the next one, and whether there is a clash.
 // The link is 0 where the chain of the class is not known to rise, and 1 where the next arc is looked for from the first on.
@@ -84,6 +85,23 @@ fn onward(w: &[u32], k: usize, e: usize, n: usize, x: usize, c: usize, r: usize,
     afresh(w, e, n, x)
 }
 
+// The arc t goes onto a chain at the link l. The link to go on from is that after t, or 0 where `at` is.
+fn hang(w: &mut [u32], k: usize, t: usize, l: usize, at: usize) -> Came
+    requires { ⌜ (l < LOG) × ((t < TARGETS) × (SIZE ≤ length (now w))) ⌝ }
+    requires { ⌜ Logged k (now w) × (k + 2 ≤ ENTRIES) ⌝ }
+    ensures { λ r. ⌜ Hung k (now (w .entry)) t l at (r .k) (r .at) (r .bad) (now (w .exit)) ⌝ }
+{
+    let y = w[l];
+    let e = put(w, k, NEXT + t, y);
+    let d = put(w, e, l, (t + 1) as u32);
+    let a = if at == 0 { 0 } else { NEXT + t };
+    Came {
+        k: d,
+        at: a,
+        bad: false,
+    }
+}
+
 // The arc t of the node x: it goes onto the chain of its class, or its target joins that of the arc there with its feature.
 fn visit(w: &mut [u32], k: usize, n: usize, x: usize, t: usize, at: usize) -> Came
     requires { ⌜ (n ≤ NODES) × (SIZE ≤ length (now w)) ⌝ }
@@ -91,8 +109,7 @@ fn visit(w: &mut [u32], k: usize, n: usize, x: usize, t: usize, at: usize) -> Ca
     requires { ⌜ Coming (loaded-words (now w)) (targets (now w)) n k (now w) x t ⌝ }
     requires { ⌜ Ordered (loaded-words (now w)) n (now w) x at ⌝ }
     ensures { λ r. ⌜ VisitedInOrder (loaded-words (now (w .entry))) (targets (now (w .entry))) n k (now (w .entry)) x t (r .k) (r .at)
-        (r .bad)
-        (now (w .exit)) ⌝ }
+        (r .bad) (now (w .exit)) ⌝ }
 {
     let c = find(w, n, x);
     if bears_atom(w, c) {
@@ -107,15 +124,7 @@ fn visit(w: &mut [u32], k: usize, n: usize, x: usize, t: usize, at: usize) -> Ca
     let l = s.link;
     let r = s.arc;
     if r == 0 {
-        let y = w[l];
-        let e = put(w, k, NEXT + t, y);
-        let d = put(w, e, l, (t + 1) as u32);
-        let a = if at == 0 { 0 } else { NEXT + t };
-        return Came {
-            k: d,
-            at: a,
-            bad: false,
-        };
+        return hang(w, k, t, l, at);
     }
     let p = target(w, t);
     let q = target(w, r - 1);

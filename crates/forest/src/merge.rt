@@ -42,6 +42,22 @@ fn covered(came: Held, there: Held) -> bool
     }
 }
 
+// The class b goes under the class a, which holds what b holds.
+fn tuck(w: &mut [u32], k: usize, s: usize, n: usize, a: usize, b: usize) -> Progress
+    requires { ⌜ (a < b) × ((b < n) × ((n ≤ NODES) × (SIZE ≤ length (now w)))) ⌝ }
+    requires { ⌜ (getD (region PARENT n (now w)) a 0 ≡ a) × (getD (region PARENT n (now w)) b 0 ≡ b) ⌝ }
+    requires { ⌜ Covered (held-by (now w) b) (held-by (now w) a) ⌝ }
+    requires { ⌜ SomeState n k s (now w) ⌝ }
+    ensures { λ r. ⌜ Merged n k s (now (w .entry)) a b (r .k) (r .s) (r .bad) (now (w .exit)) ⌝ }
+{
+    let e = put(w, k, PARENT + b, a as u32);
+    Progress {
+        k: e,
+        s: s,
+        bad: false,
+    }
+}
+
 // The class b goes under the class a, where both have chains, from p and from q.
 fn knit(
     w: &mut [u32],
@@ -82,12 +98,7 @@ fn fuse(w: &mut [u32], k: usize, s: usize, n: usize, a: usize, b: usize) -> Prog
 {
     let came = held_by(w, b);
     if let Held::Nothing = came {
-        let e = put(w, k, PARENT + b, a as u32);
-        return Progress {
-            k: e,
-            s: s,
-            bad: false,
-        };
+        return tuck(w, k, s, n, a, b);
     }
     let there = held_by(w, a);
     if let Held::Nothing = there {
@@ -101,12 +112,7 @@ fn fuse(w: &mut [u32], k: usize, s: usize, n: usize, a: usize, b: usize) -> Prog
         };
     }
     if covered(came, there) {
-        let e = put(w, k, PARENT + b, a as u32);
-        return Progress {
-            k: e,
-            s: s,
-            bad: false,
-        };
+        return tuck(w, k, s, n, a, b);
     }
     let Held::Arcs(p) = came else {
         return Progress {

@@ -27,8 +27,12 @@ enum-known-came c = search needs
 enum-known-there : tie.Need-enum-known-there
 enum-known-there c = search needs
 
+-- an answer is not the other one
+apart : {A : Type 0} → true ≡ false → A
+apart e = let z : _≡_ {A = ℕ} 0 1 = cc in absurd (omega arith)
+
 returns : tie.Need-returns
-returns c = ((λ y. inl (c .enum-told .given .1)), λ y. let z : _≡_ {A = ℕ} 0 1 = cc in absurd (omega arith))
+returns c = ((λ y. inl (c .enum-told .given .1)), λ y. apart y)
 
 -- arcs are not covered
 arcs-new : (came there : Held) (p : ℕ) → came ≡ Arcs p → Covered came there → ⊥
@@ -36,7 +40,7 @@ arcs-new came there p e (inl o) = let z : _≡_ {A = ℕ} 0 1 = cc in omega arit
 arcs-new came there p e (inr o) = let i = o .1 .0 in let z : _≡_ {A = ℕ} 0 1 = cc in omega arith
 
 returns-2 : tie.Need-returns-2
-returns-2 c = ((λ y. let z : _≡_ {A = ℕ} 0 1 = cc in absurd (omega arith)), λ y. arcs-new _ _ _ (c .enum-told2 .given .1))
+returns-2 c = ((λ y. apart (sym y)), λ y. arcs-new _ _ _ (c .enum-told2 .given .1))
 
 -- an atom is covered by the same one alone
 atom-new : (came there : Held) (u : ℕ) → came ≡ Atom u → Covered came there → there ≡ Atom u
@@ -49,7 +53,7 @@ no-atom there u t e = ⊎-elim (λ i. let z : _≡_ {A = ℕ} 2 0 = (rw e at i) 
 
 returns-3 : tie.Need-returns-3
 returns-3 c = (
-  (λ y. let z : _≡_ {A = ℕ} 0 1 = cc in absurd (omega arith)),
+  (λ y. apart (sym y)),
   λ y k. no-atom _ _ (c .match2 .keys1) (atom-new _ _ _ (c .before .before .came .given .1) k),
 )
 

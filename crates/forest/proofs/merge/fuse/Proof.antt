@@ -12,7 +12,7 @@ use Rattle.forest.specs.declared.held.Held.{Held}
 use Rattle.forest.specs.declared.held.Held.the-variants.{Nothing, Arcs}
 use Rattle.forest.proofs.held.Held.{the-type}
 use Rattle.forest.proofs.Contents.{told-nothing}
-use Rattle.forest.proofs.Cases.{room, plain, moved, clash-met}
+use Rattle.forest.proofs.Cases.{room, moved, clash-met}
 use borrow.Author.Needs.{needs}
 use Rattle.forest.proofs.merge.fuse.Statement.{statement}
 use Rattle.forest.proofs.merge.fuse.Tie as tie
@@ -32,33 +32,17 @@ held-by-requires c κs = search needs
 enum-told : tie.Need-enum-told
 enum-told c = search needs
 
-add-put : tie.Need-add-put
-add-put c = search needs
-
-cast-put : tie.Need-cast-put
-cast-put c = search needs
-
-put-requires : tie.Need-put-requires
-put-requires c κs =
-    let s = c .before .before .before .before .before .before in
-    let a = s .args in
-    let p = s .pre .1 in
-    let rm = room (a .n) (a .k) (a .s) (a .w .now) (a .a) (a .b) (omega arith) (omega arith) (omega arith) (omega arith) (p .0 .0)
-    (p .0 .1) (p .1) in
-    (p .1 .state .logged, (omega arith, (omega arith, omega arith)))
+tuck-requires : tie.Need-tuck-requires
+tuck-requires c κs =
+    let p = c .before .before .before .before .before .before .pre in
+    let none = sym (c .before .before .before .held-by .ensures) ∙ c .before .enum-told .given .1 in
+    (p .0, (p .1 .0, (inl none, p .1 .1)))
 
 same-length : tie.Need-same-length
 same-length c = search needs
 
 returns : tie.Need-returns
-returns c =
-    let s = c .before .before .before .before .before .before .before .before .before in
-    let a = s .args in
-    let p = s .pre .1 in
-    let put = c .before .before .put in
-    let none = sym (c .before .before .before .before .before .before .held-by .ensures) ∙ c .before .before .before .before .enum-told .given .1 in
-    plain (a .n) (a .k) (a .s) (a .w .now) (a .a) (a .b) (omega arith) (omega arith) (omega arith) (omega arith) (p .0 .0)
-    (p .0 .1) (p .1) (put .result) (put .last .0) (put .ensures) (inl none)
+returns c = search needs
 
 held-by-requires-2 : tie.Need-held-by-requires-2
 held-by-requires-2 c κs = search needs
@@ -75,31 +59,33 @@ mul-h c = search needs
 slice-read-h : tie.Need-slice-read-h
 slice-read-h c = search needs
 
-add-put-2 : tie.Need-add-put-2
-add-put-2 c = search needs
+add-put : tie.Need-add-put
+add-put c = search needs
 
-cast-put-2 : tie.Need-cast-put-2
-cast-put-2 c = search needs
+cast-put : tie.Need-cast-put
+cast-put c = search needs
 
-put-requires-2 : tie.Need-put-requires-2
-put-requires-2 c κs =
+put-requires : tie.Need-put-requires
+put-requires c κs =
     let s = c .before .before .before .before .before .before .before .before .before .before in
     let a = s .args in
+    let h = s .pre .0 in
     let p = s .pre .1 in
-    let rm = room (a .n) (a .k) (a .s) (a .w .now) (a .a) (a .b) (omega arith) (omega arith) (omega arith) (omega arith) (p .0 .0)
+    let rm = room (a .n) (a .k) (a .s) (a .w .now) (a .a) (a .b) (h .0) (h .1 .0) (h .1 .1 .0) (h .1 .1 .1) (p .0 .0)
     (p .0 .1) (p .1) in
     (p .1 .state .logged, (omega arith, (omega arith, omega arith)))
 
-add-put-3 : tie.Need-add-put-3
-add-put-3 c = search needs
+add-put-2 : tie.Need-add-put-2
+add-put-2 c = search needs
 
-put-requires-3 : tie.Need-put-requires-3
-put-requires-3 c κs =
+put-requires-2 : tie.Need-put-requires-2
+put-requires-2 c κs =
     let s = c .before .before .before .before .before .before .before .before .before .before .before .before .before .before in
     let a = s .args in
+    let h = s .pre .0 in
     let p = s .pre .1 in
-    let put = c .before .before .before .put2 in
-    let rm = room (a .n) (a .k) (a .s) (a .w .now) (a .a) (a .b) (omega arith) (omega arith) (omega arith) (omega arith) (p .0 .0)
+    let put = c .before .before .before .put in
+    let rm = room (a .n) (a .k) (a .s) (a .w .now) (a .a) (a .b) (h .0) (h .1 .0) (h .1 .1 .0) (h .1 .1 .1) (p .0 .0)
     (p .0 .1) (p .1) in
     let sm = p .1 .state .logged .small (HELD + a .b) (omega arith) in (
       put .ensures .later .logged,
@@ -111,51 +97,38 @@ same-length-2 c = search needs
 
 returns-2 : tie.Need-returns-2
 returns-2 c =
-    let s = c .before .before .before .before .before .before .before .before .before .before .before .before .before .before .before .before .before in
+    let s = c .before .before .before .before .before .before .before .before .before .before .before .before .before .before .before
+    .before .before in
     let a = s .args in
+    let h = s .pre .0 in
     let p = s .pre .1 in
-    let put = c .before .before .before .before .before .before .put2 in
-    let put2 = c .before .before .put3 in
-    let h = getD (a .w .now) (HELD + a .b) 0 in
-    let none = sym (c .before .before .before .before .before .before .before .before .before .before .before .held-by2 .ensures) ∙ c .before .before .before .before .before .before .before .before .before .enum-told2 .given .1 in
-    moved (a .n) (a .k) (a .s) (a .w .now) (a .a) (a .b) (omega arith) (omega arith) (omega arith) (omega arith) (p .0 .0)
-    (p .0 .1) (p .1) (put .result) (put .last .0) (put .ensures) h (put2 .result) (put2 .last .0)
+    let put = c .before .before .before .before .before .before .put in
+    let put2 = c .before .before .put2 in
+    let v = getD (a .w .now) (HELD + a .b) 0 in
+    let none = sym (c .before .before .before .before .before .before .before .before .before .before .before .held-by2 .ensures)
+    ∙ c .before .before .before .before .before .before .before .before .before .enum-told2 .given .1 in
+    moved (a .n) (a .k) (a .s) (a .w .now) (a .a) (a .b) (h .0) (h .1 .0) (h .1 .1 .0) (h .1 .1 .1) (p .0 .0)
+    (p .0 .1) (p .1) (put .result) (put .last .0) (put .ensures) v (put2 .result) (put2 .last .0)
     (ap (λ (i : ℕ). getD (a .w .now) i 0) (held-at (a .b)))
-    (subst (λ (i : ℕ). Stores (put .result) (put .last .0) i h (put2 .result) (put2 .last .0)) (held-at (a .a)) (put2 .ensures))
+    (subst (λ (i : ℕ). Stores (put .result) (put .last .0) i v (put2 .result) (put2 .last .0)) (held-at (a .a)) (put2 .ensures))
     (told-nothing (a .w .now) (a .a) none)
 
 covered-requires : tie.Need-covered-requires
 covered-requires c κs = search needs
 
-add-put-4 : tie.Need-add-put-4
-add-put-4 c = search needs
-
-cast-put-3 : tie.Need-cast-put-3
-cast-put-3 c = search needs
-
-put-requires-4 : tie.Need-put-requires-4
-put-requires-4 c κs =
-    let s = c .before .before .before .before .before .before .before .before .before .before in
-    let a = s .args in
-    let p = s .pre .1 in
-    let rm = room (a .n) (a .k) (a .s) (a .w .now) (a .a) (a .b) (omega arith) (omega arith) (omega arith) (omega arith) (p .0 .0)
-    (p .0 .1) (p .1) in
-    (p .1 .state .logged, (omega arith, (omega arith, omega arith)))
+tuck-requires-2 : tie.Need-tuck-requires-2
+tuck-requires-2 c κs =
+    let p = c .before .before .before .before .before .before .before .before .before .before .pre in
+    let came = c .before .before .before .before .before .before .before .held-by .ensures in
+    let there = c .before .before .before .before .held-by2 .ensures in
+    let covers = c .before .before .covered .ensures .0 (c .before .if1 .taken) in
+    (p .0, (p .1 .0, (rw (← came, ← there) covers, p .1 .1)))
 
 same-length-3 : tie.Need-same-length-3
 same-length-3 c = search needs
 
 returns-3 : tie.Need-returns-3
-returns-3 c =
-    let s = c .before .before .before .before .before .before .before .before .before .before .before .before .before in
-    let a = s .args in
-    let p = s .pre .1 in
-    let put = c .before .before .put4 in
-    let came = c .before .before .before .before .before .before .before .before .before .before .held-by .ensures in
-    let there = c .before .before .before .before .before .before .before .held-by2 .ensures in
-    let covers = c .before .before .before .before .before .covered .ensures .0 (c .before .before .before .before .if1 .taken) in
-    plain (a .n) (a .k) (a .s) (a .w .now) (a .a) (a .b) (omega arith) (omega arith) (omega arith) (omega arith) (p .0 .0)
-    (p .0 .1) (p .1) (put .result) (put .last .0) (put .ensures) (rw (← came, ← there) covers)
+returns-3 c = search needs
 
 enum-known-came : tie.Need-enum-known-came
 enum-known-came c = search needs
@@ -167,9 +140,11 @@ returns-4 : tie.Need-returns-4
 returns-4 c =
     let s = c .before .before .before .before .before .before .before .before .before .before in
     let a = s .args in
+    let h = s .pre .0 in
     let p = s .pre .1 in
-    clash-met (a .n) (a .k) (a .s) (a .w .now) (a .a) (a .b) (omega arith) (omega arith) (omega arith) (omega arith) (p .0 .0)
-    (p .0 .1) (p .1) _ _ (c .before .before .before .before .before .before .before .held-by .ensures) (c .before .before .before .before .held-by2 .ensures) (c .before .before .covered .ensures .1 (c .before .if1 .left))
+    clash-met (a .n) (a .k) (a .s) (a .w .now) (a .a) (a .b) (h .0) (h .1 .0) (h .1 .1 .0) (h .1 .1 .1) (p .0 .0)
+    (p .0 .1) (p .1) _ _ (c .before .before .before .before .before .before .before .held-by .ensures)
+    (c .before .before .before .before .held-by2 .ensures) (c .before .before .covered .ensures .1 (c .before .if1 .left))
     (some-held _ (c .before .before .before .match2 .keys2)) (λ x y e i. no-arcs _ x (c .match3 .keys2) e)
 
 enum-known-there : tie.Need-enum-known-there
@@ -182,16 +157,22 @@ returns-5 : tie.Need-returns-5
 returns-5 c =
     let s = c .before .before .before .before .before .before .before .before .before .before .before .before .before in
     let a = s .args in
+    let h = s .pre .0 in
     let p = s .pre .1 in
-    clash-met (a .n) (a .k) (a .s) (a .w .now) (a .a) (a .b) (omega arith) (omega arith) (omega arith) (omega arith) (p .0 .0)
-    (p .0 .1) (p .1) _ _ (c .before .before .before .before .before .before .before .before .before .before .held-by .ensures) (c .before .before .before .before .before .before .before .held-by2 .ensures) (c .before .before .before .before .before .covered .ensures .1 (c .before .before .before .before .if1 .left))
+    clash-met (a .n) (a .k) (a .s) (a .w .now) (a .a) (a .b) (h .0) (h .1 .0) (h .1 .1 .0) (h .1 .1 .1) (p .0 .0)
+    (p .0 .1) (p .1) _ _ (c .before .before .before .before .before .before .before .before .before .before .held-by .ensures)
+    (c .before .before .before .before .before .before .before .held-by2 .ensures)
+    (c .before .before .before .before .before .covered .ensures .1 (c .before .before .before .before .if1 .left))
     (some-held _ (c .before .before .before .before .before .before .match2 .keys2)) (λ x y e i. no-arcs _ y (c .match4 .keys2) i)
 
 knit-requires : tie.Need-knit-requires
 knit-requires c κs =
-    let p = c .before .before .before .before .before .before .before .before .before .before .before .before .before .before .before .before .pre in
-    let came = sym (c .before .before .before .before .before .before .before .before .before .before .before .before .before .held-by .ensures) ∙ c .before .before .before .before .before .came .given .1 in
-    let there = sym (c .before .before .before .before .before .before .before .before .before .before .held-by2 .ensures) ∙ c .before .before .there .given .1 in
+    let p = c .before .before .before .before .before .before .before .before .before .before .before .before .before .before .before
+    .before .pre in
+    let came = sym (c .before .before .before .before .before .before .before .before .before .before .before .before .before .held-by
+    .ensures) ∙ c .before .before .before .before .before .came .given .1 in
+    let there = sym (c .before .before .before .before .before .before .before .before .before .before .held-by2 .ensures)
+    ∙ c .before .before .there .given .1 in
     (p .0, (p .1 .0, ((came, there), p .1 .1)))
 
 same-length-6 : tie.Need-same-length-6
@@ -202,7 +183,6 @@ returns-6 c = search needs
 
 pub fuse-spec : {M : Type 1} → statement M
 fuse-spec =
-    tie.close (tie.spec held-by-requires enum-told add-put cast-put put-requires same-length returns held-by-requires-2 enum-told-2 add-h
-    mul-h slice-read-h add-put-2 cast-put-2 put-requires-2 add-put-3 put-requires-3 same-length-2 returns-2 covered-requires add-put-4
-    cast-put-3 put-requires-4 same-length-3 returns-3 enum-known-came same-length-4 returns-4 enum-known-there same-length-5 returns-5
-    knit-requires same-length-6 returns-6)
+    tie.close (tie.spec held-by-requires enum-told tuck-requires same-length returns held-by-requires-2 enum-told-2 add-h mul-h slice-read-h
+    add-put cast-put put-requires add-put-2 put-requires-2 same-length-2 returns-2 covered-requires tuck-requires-2 same-length-3 returns-3
+    enum-known-came same-length-4 returns-4 enum-known-there same-length-5 returns-5 knit-requires same-length-6 returns-6)

@@ -33,8 +33,9 @@ returns c =
     let fuse = c .before .before .fuse in
     let s = c .before .before .before .before .before .before .before .before .before .before in
     let a = s .args in
+    let h = s .pre .0 in
     let wn = a .w .now in
-    joined-up (a .n) (a .k) (a .s) wn (a .x) (a .y) (omega arith) (omega arith) (omega arith) (omega arith) (find .result) (find2 .result)
+    joined-up (a .n) (a .k) (a .s) wn (a .x) (a .y) (h .0) (h .1 .0) (h .1 .1 .0) (h .1 .1 .1) (find .result) (find2 .result)
     (find .ensures) (find2 .ensures) (fuse .result .k) (fuse .result .s) (fuse .result .bad) (fuse .last .0) (fuse .ensures)
 
 fuse-requires-2 : tie.Need-fuse-requires-2
@@ -55,8 +56,9 @@ returns-2 c =
     let fuse2 = c .before .before .fuse2 in
     let s = c .before .before .before .before .before .before .before .before .before .before .before in
     let a = s .args in
+    let h = s .pre .0 in
     let wn = a .w .now in
-    joined-down (a .n) (a .k) (a .s) wn (a .x) (a .y) (omega arith) (omega arith) (omega arith) (omega arith) (find .result) (find2 .result)
+    joined-down (a .n) (a .k) (a .s) wn (a .x) (a .y) (h .0) (h .1 .0) (h .1 .1 .0) (h .1 .1 .1) (find .result) (find2 .result)
     (find .ensures) (find2 .ensures) (fuse2 .result .k) (fuse2 .result .s) (fuse2 .result .bad) (fuse2 .last .0) (fuse2 .ensures)
 
 same-length-3 : tie.Need-same-length-3
@@ -68,8 +70,9 @@ returns-3 c =
     let find2 = c .before .before .find2 in
     let s = c .before .before .before .before .before .before .before in
     let a = s .args in
+    let h = s .pre .0 in
     let wn = a .w .now in
-    joined-same (a .n) (a .k) (a .s) wn (a .x) (a .y) (omega arith) (omega arith) (omega arith) (omega arith) (find .result) (find2 .result)
+    joined-same (a .n) (a .k) (a .s) wn (a .x) (a .y) (h .0) (h .1 .0) (h .1 .1 .0) (h .1 .1 .1) (find .result) (find2 .result)
     (find .ensures) (find2 .ensures) (omega arith) (s .pre .1 .state .logged)
 
 pub join-spec : {M : Type 1} → statement M

@@ -23,12 +23,13 @@ last-requires : tie.Need-last-requires
 last-requires c κs =
     let s = c .before .before in
     let a = s .args in
+    let h = s .pre .0 in
     let p = s .pre .1 in
     let wn = a .w .now in
     let came = told-arcs wn (a .b) (a .p) (p .1 .0 .0) in (
       (omega arith, omega arith),
       subst (Runs wn) (sym (came .0))
-          (ready-runs (a .n) (a .k) (a .s) wn (a .a) (a .b) (omega arith) (omega arith) (omega arith) (omega arith) (p .0 .0) (p .0 .1)
+          (ready-runs (a .n) (a .k) (a .s) wn (a .a) (a .b) (h .0) (h .1 .0) (h .1 .1 .0) (h .1 .1 .1) (p .0 .0) (p .0 .1)
           (p .1 .1) (a .b) (omega arith) (p .0 .1) (omega arith)),
     )
 
@@ -42,8 +43,9 @@ put-requires : tie.Need-put-requires
 put-requires c κs =
     let s = c .before .before .before .before in
     let a = s .args in
+    let h = s .pre .0 in
     let p = s .pre .1 in
-    let rm = room (a .n) (a .k) (a .s) (a .w .now) (a .a) (a .b) (omega arith) (omega arith) (omega arith) (omega arith) (p .0 .0)
+    let rm = room (a .n) (a .k) (a .s) (a .w .now) (a .a) (a .b) (h .0) (h .1 .0) (h .1 .1 .0) (h .1 .1 .1) (p .0 .0)
     (p .0 .1) (p .1 .1) in
     (p .1 .1 .state .logged, (omega arith, (omega arith, (omega arith, omega arith))))
 
@@ -55,8 +57,9 @@ put-requires-2 c κs =
     let put = c .before .before .before .put in
     let s = c .before .before .before .before .before .before .before .before in
     let a = s .args in
+    let h = s .pre .0 in
     let p = s .pre .1 in
-    let rm = room (a .n) (a .k) (a .s) (a .w .now) (a .a) (a .b) (omega arith) (omega arith) (omega arith) (omega arith) (p .0 .0)
+    let rm = room (a .n) (a .k) (a .s) (a .w .now) (a .a) (a .b) (h .0) (h .1 .0) (h .1 .1 .0) (h .1 .1 .1) (p .0 .0)
     (p .0 .1) (p .1 .1) in
     let there = told-arcs (a .w .now) (a .a) (a .q) (p .1 .0 .1) in
     let l = c .before .before .before .before .before .last .ensures .below in (
@@ -76,8 +79,9 @@ put-requires-3 c κs =
     let put = c .before .before .before .before .before .before .before .put in
     let s = c .before .before .before .before .before .before .before .before .before .before .before .before in
     let a = s .args in
+    let h = s .pre .0 in
     let p = s .pre .1 in
-    let rm = room (a .n) (a .k) (a .s) (a .w .now) (a .a) (a .b) (omega arith) (omega arith) (omega arith) (omega arith) (p .0 .0)
+    let rm = room (a .n) (a .k) (a .s) (a .w .now) (a .a) (a .b) (h .0) (h .1 .0) (h .1 .1 .0) (h .1 .1 .1) (p .0 .0)
     (p .0 .1) (p .1 .1) in
     let came = told-arcs (a .w .now) (a .b) (a .p) (p .1 .0 .0) in (
       put2 .ensures .later .logged,
@@ -115,8 +119,9 @@ slice-write-w : tie.Need-slice-write-w
 slice-write-w c =
     let s = c .before .before .before .before .before .before .before .before .before .before .before .before .before .before .before in
     let a = s .args in
+    let h = s .pre .0 in
     let p = s .pre .1 in
-    let hi = high (a .n) (a .k) (a .s) (a .w .now) (a .a) (a .b) (omega arith) (omega arith) (omega arith) (omega arith) (p .0 .0)
+    let hi = high (a .n) (a .k) (a .s) (a .w .now) (a .a) (a .b) (h .0) (h .1 .0) (h .1 .1 .0) (h .1 .1 .1) (p .0 .0)
     (p .0 .1) (p .1 .1) in
     omega (
       arith,
@@ -142,10 +147,11 @@ returns c =
     let put3 = c .before .before .put3 in
     let s = c .before .before .before .before .before .before .before .before .before .before .before .before .before .before .before in
     let a = s .args in
+    let h = s .pre .0 in
     let p = s .pre .1 in
     let came = told-arcs (a .w .now) (a .b) (a .p) (p .1 .0 .0) in
     let there = told-arcs (a .w .now) (a .a) (a .q) (p .1 .0 .1) in
-    knitted (a .n) (a .k) (a .s) (a .w .now) (a .a) (a .b) (omega arith) (omega arith) (omega arith) (omega arith) (p .0 .0) (p .0 .1)
+    knitted (a .n) (a .k) (a .s) (a .w .now) (a .a) (a .b) (h .0) (h .1 .0) (h .1 .1 .0) (h .1 .1 .1) (p .0 .0) (p .0 .1)
     (p .1 .1) (put .result) (put .last .0) (put .ensures) (a .p) (a .q) (last .result) (put2 .result) (put3 .result) (put2 .last .0)
     (put3 .last .0) (set (put3 .last .0) (STACK + a .s) (a .p + 4096 * a .q)) (came .0) (there .0) (came .1) (there .1) (last .ensures)
     (put2 .ensures)

@@ -19,9 +19,9 @@ sub-j c =
     let F = loaded-words wn in
     let T = targets wn in
     let g = s .pre .1 .1 in
-    let ps = arc-pos (g .G) (g .H) F T (a .n) (a .k) (a .s) (a .x) (a .to) (g .fs) wn (omega arith) (omega arith) (g .state)
+    let ps = arc-pos (g .G) (g .H) F T (a .n) (a .k) (a .s) (a .x) (a .to) (g .fs) wn (s .pre .0 .0) (s .pre .0 .1) (g .state)
     (s .pre .1 .0) in
-    let lw = arc-low (g .G) (g .H) F T (a .n) (a .k) (a .s) (a .x) (a .to) (g .fs) wn (omega arith) (omega arith) (g .state)
+    let lw = arc-low (g .G) (g .H) F T (a .n) (a .k) (a .s) (a .x) (a .to) (g .fs) wn (s .pre .0 .0) (s .pre .0 .1) (g .state)
     (s .pre .1 .0) in
     search needs
 
@@ -33,9 +33,9 @@ loaded-requires c κs =
     let F = loaded-words wn in
     let T = targets wn in
     let g = s .pre .1 .1 in
-    let ps = arc-pos (g .G) (g .H) F T (a .n) (a .k) (a .s) (a .x) (a .to) (g .fs) wn (omega arith) (omega arith) (g .state)
+    let ps = arc-pos (g .G) (g .H) F T (a .n) (a .k) (a .s) (a .x) (a .to) (g .fs) wn (s .pre .0 .0) (s .pre .0 .1) (g .state)
     (s .pre .1 .0) in
-    let lw = arc-low (g .G) (g .H) F T (a .n) (a .k) (a .s) (a .x) (a .to) (g .fs) wn (omega arith) (omega arith) (g .state)
+    let lw = arc-low (g .G) (g .H) F T (a .n) (a .k) (a .s) (a .x) (a .to) (g .fs) wn (s .pre .0 .0) (s .pre .0 .1) (g .state)
     (s .pre .1 .0) in
     (omega arith, omega arith)
 
@@ -47,7 +47,7 @@ look-requires c κs =
     let F = loaded-words wn in
     let T = targets wn in
     let g = s .pre .1 .1 in
-    (omega arith, after-runs (g .G) (g .H) F T (a .n) (a .k) (a .s) (a .x) (a .to) (g .fs) wn (omega arith) (omega arith) (g .state))
+    (omega arith, after-runs (g .G) (g .H) F T (a .n) (a .k) (a .s) (a .x) (a .to) (g .fs) wn (s .pre .0 .0) (s .pre .0 .1) (g .state))
 
 same-length : tie.Need-same-length
 same-length c = search needs
@@ -63,7 +63,7 @@ returns c =
     let g = s .pre .1 .1 in
     let lk : Looked F wn (getD F (a .x - 1) 0) (a .to) (look .result) =
     subst (λ (v : ℕ). Looked F wn v (a .to) (look .result)) (c .before .before .before .loaded .ensures) (look .ensures) in
-    turned-miss F T (a .n) (a .k) (a .s) (a .x) (a .to) wn (omega arith) (omega arith) (s .pre .1 .0) g (rw (c .if1 .taken) at lk)
+    turned-miss F T (a .n) (a .k) (a .s) (a .x) (a .to) wn (s .pre .0 .0) (s .pre .0 .1) (s .pre .1 .0) g (rw (c .if1 .taken) at lk)
 
 sub-i : tie.Need-sub-i
 sub-i c =
@@ -78,9 +78,9 @@ target-requires c κs =
     let F = loaded-words wn in
     let T = targets wn in
     let g = s .pre .1 .1 in
-    let ps = arc-pos (g .G) (g .H) F T (a .n) (a .k) (a .s) (a .x) (a .to) (g .fs) wn (omega arith) (omega arith) (g .state)
+    let ps = arc-pos (g .G) (g .H) F T (a .n) (a .k) (a .s) (a .x) (a .to) (g .fs) wn (s .pre .0 .0) (s .pre .0 .1) (g .state)
     (s .pre .1 .0) in
-    let lw = arc-low (g .G) (g .H) F T (a .n) (a .k) (a .s) (a .x) (a .to) (g .fs) wn (omega arith) (omega arith) (g .state)
+    let lw = arc-low (g .G) (g .H) F T (a .n) (a .k) (a .s) (a .x) (a .to) (g .fs) wn (s .pre .0 .0) (s .pre .0 .1) (g .state)
     (s .pre .1 .0) in
     (omega arith, omega arith)
 
@@ -99,7 +99,7 @@ target-requires-2 c κs =
     let r = look .result in
     let rp = some r (c .before .before .before .if1 .left) in
     let ri : r ≡ suc (r - 1) = omega arith in
-    let mt = match-target (g .G) (g .H) F T (a .n) (a .k) (a .s) (a .x) (a .to) (g .fs) wn (omega arith) (omega arith) (g .state)
+    let mt = match-target (g .G) (g .H) F T (a .n) (a .k) (a .s) (a .x) (a .to) (g .fs) wn (s .pre .0 .0) (s .pre .0 .1) (g .state)
     (s .pre .1 .0) r (r - 1) lk ri in
     let mi : r - 1 < 2047 = mt .1 in
     (omega arith, omega arith)
@@ -119,14 +119,15 @@ join-requires c κs =
     let r = look .result in
     let rp = some r (c .before .before .before .before .before .if1 .left) in
     let ri : r ≡ suc (r - 1) = omega arith in
-    let mt = match-target (g .G) (g .H) F T (a .n) (a .k) (a .s) (a .x) (a .to) (g .fs) wn (omega arith) (omega arith) (g .state)
+    let mt = match-target (g .G) (g .H) F T (a .n) (a .k) (a .s) (a .x) (a .to) (g .fs) wn (s .pre .0 .0) (s .pre .0 .1) (g .state)
     (s .pre .1 .0) r (r - 1) lk ri in
     let mi : r - 1 < 2047 = mt .1 in (
       (
         omega (
           arith,
           c .before .before .before .target .ensures,
-          arc-target (g .G) (g .H) F T (a .n) (a .k) (a .s) (a .x) (a .to) (g .fs) wn (omega arith) (omega arith) (g .state) (s .pre .1 .0),
+          arc-target (g .G) (g .H) F T (a .n) (a .k) (a .s) (a .x) (a .to) (g .fs) wn (s .pre .0 .0) (s .pre .0 .1) (g .state)
+              (s .pre .1 .0),
         ),
         (omega (arith, c .before .target2 .ensures, mt .0), (omega arith, omega arith)),
       ),
@@ -152,10 +153,10 @@ returns-2 c =
     let r = look .result in
     let rp = some r (c .before .before .before .before .before .before .before .before .if1 .left) in
     let ri : r ≡ suc (r - 1) = omega arith in
-    let mt = match-target (g .G) (g .H) F T (a .n) (a .k) (a .s) (a .x) (a .to) (g .fs) wn (omega arith) (omega arith) (g .state)
+    let mt = match-target (g .G) (g .H) F T (a .n) (a .k) (a .s) (a .x) (a .to) (g .fs) wn (s .pre .0 .0) (s .pre .0 .1) (g .state)
     (s .pre .1 .0) r (r - 1) lk ri in
     let mi : r - 1 < 2047 = mt .1 in
-    turned-hit F T (a .n) (a .k) (a .s) (a .x) (a .to) wn (omega arith) (omega arith) (s .pre .1 .0) g r (r - 1) (join .result .k)
+    turned-hit F T (a .n) (a .k) (a .s) (a .x) (a .to) wn (s .pre .0 .0) (s .pre .0 .1) (s .pre .1 .0) g r (r - 1) (join .result .k)
     (join .result .s) (join .result .bad) (join .last .0) lk ri
     (rw (c .before .before .before .before .before .before .target .ensures, c .before .before .before .before .target2 .ensures) at
     (join .ensures))
