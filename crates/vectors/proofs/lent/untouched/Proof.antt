@@ -1,9 +1,9 @@
--- `replay::areas::untouched` is safe and ends: the words that are left fall. Assumes nothing.
+-- `vectors::lent::untouched` is safe and ends: the words that are left fall. Assumes nothing.
 use Prim.Native.Nat.{_-_}
 use native.Mathlib.Omega.{arith}
 use lib.ListN.{length}
-use Rattle.replay.proofs.areas.untouched.Statement.{statement}
-use Rattle.replay.proofs.areas.untouched.Tie as tie
+use Rattle.vectors.proofs.lent.untouched.Statement.{statement}
+use Rattle.vectors.proofs.lent.untouched.Tie as tie
 
 abbrev Inv-loop : tie.InvT-loop
 Inv-loop w from i₀ i = Unit {0}

@@ -1,9 +1,9 @@
--- `replay::areas::starts` is safe and ends. The loop's invariant: a has as many words as b. Assumes nothing.
+-- `vectors::lent::starts` is safe and ends. The loop's invariant: a has as many words as b. Assumes nothing.
 use Prim.Native.Nat.{_-_, _≤_}
 use native.Mathlib.Omega.{arith}
 use lib.ListN.{length}
-use Rattle.replay.proofs.areas.starts.Statement.{statement}
-use Rattle.replay.proofs.areas.starts.Tie as tie
+use Rattle.vectors.proofs.lent.starts.Statement.{statement}
+use Rattle.vectors.proofs.lent.starts.Tie as tie
 
 abbrev Inv-loop : tie.InvT-loop
 Inv-loop a b i₀ i = length b ≤ length a

@@ -1,10 +1,10 @@
--- `replay::areas::prepare` is safe and ends. The length of w stays, and the measure is what is left of it. Assumes nothing.
+-- `vectors::lent::prepare` is safe and ends. The length of w stays, and the measure is what is left of it. Assumes nothing.
 use Prim.Native.Nat.{_-_}
 use mathlib.Core.Path.{_≡_, refl}
 use native.Mathlib.Omega.{arith}
 use lib.ListN.{length, length-set}
-use Rattle.replay.proofs.areas.prepare.Statement.{statement}
-use Rattle.replay.proofs.areas.prepare.Tie as tie
+use Rattle.vectors.proofs.lent.prepare.Statement.{statement}
+use Rattle.vectors.proofs.lent.prepare.Tie as tie
 
 abbrev Inv-loop : tie.InvT-loop
 Inv-loop w₀ i₀ w i = length w ≡ length w₀
