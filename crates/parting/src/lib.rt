@@ -1,0 +1,3 @@
+// The graph of one definite part: its rows are gathered from the tables, and drawn.
+mod gather;
+pub mod part;
