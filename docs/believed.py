@@ -4,7 +4,8 @@
 From what the contracts of `unify` and `fit` and the two demands name, every name is followed to its definition, and the
 lines of what is reached are counted, comments, blank lines and `use` lines left out; -l lists them. The programs that
 join, read and answer stand for `Joined` and `Clash`, `Image` and `Given` by theorems (MADE_ONE): these are followed
-instead. Exits with 1 where there are more lines than LIMIT.
+instead. What the contract of `formula` and the meaning of formulas name besides is counted by itself. Exits with 1 where
+there are more lines than LIMIT, or than FORMULAS_LIMIT.
 """
 import pathlib
 import re
@@ -12,6 +13,7 @@ import sys
 
 TOP = pathlib.Path(__file__).resolve().parent.parent
 LIMIT = 470
+FORMULAS_LIMIT = 300
 ROOTS = [
     ("theory", "Outcome", "Outcome"),
     ("answering", "Number", "row-of"),
@@ -22,11 +24,14 @@ ROOTS = [
 ]
 # what a program of words is, of which the demands are proved
 PROGRAMS = [("theory", "Programs", "Meets"), ("theory", "Programs", "sized")]
+# what a formula is, and what comes of its text
+FORMULAS = [("translate", "Translated", "Translated"), ("translate", "Answered", "Answered"), ("formulas", "Formula", "Satisfied")]
 # the program, the definitions that it is shown to agree with, and the theorem's file
 MADE_ONE = {
     ("theory", "Join", "join"): [("theory", "Net", "Joined"), ("theory", "Net", "Clash")],
     ("theory", "Reading", "decode"): [("theory", "LayoutOne", "Image")],
     ("descriptions", "Unified", "unified"): [("descriptions", "Rules", "Given")],
+    ("formulas", "Part", "part-graph"): [("formulas", "Part", "Definite"), ("formulas", "Part", "PartClashes")],
 }
 WORD = re.compile(r"[^\s(){}.;,@]+")
 DECLARED = re.compile(r"^( *)(?:abbrev |unfoldable )?(?:pub )?(?:(record|data) )?([^\s(){}:]+)(?: [^:]*)? :(?: |$)")
@@ -130,9 +135,12 @@ counted = reached(ROOTS)
 total = sum(counted.values())
 programs = {at: count for at, count in reached(PROGRAMS).items() if at not in counted}
 more = sum(programs.values())
+formulas = {at: count for at, count in reached(FORMULAS).items() if at not in counted}
+typed = sum(formulas.values())
 if "-l" in sys.argv[1:]:
-    for (crate, stem, name), count in sorted(counted.items()) + sorted(programs.items()):
+    for (crate, stem, name), count in sorted(counted.items()) + sorted(programs.items()) + sorted(formulas.items()):
         print(f"{count:4} {crate}:{stem}.{name}")
 print(f"docs/believed.py: {total} lines in {len(counted)} definitions have to be believed; the limit is {LIMIT}")
 print(f"docs/believed.py: {more} lines in {len(programs)} definitions say besides what a program of words is")
-sys.exit(1 if total > LIMIT or not counted else 0)
+print(f"docs/believed.py: {typed} lines in {len(formulas)} definitions say what a formula is; the limit is {FORMULAS_LIMIT}")
+sys.exit(1 if total > LIMIT or not counted or typed > FORMULAS_LIMIT or not formulas else 0)

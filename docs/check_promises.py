@@ -13,7 +13,7 @@ for a crate and NN for a number.
   statement cites a definition or a function, the proof anything, and what shows a wrong answer is an edit, a theorem in
   proofs/, or "the contract alone". Every edit is cited by a block, and every public function of a library is named at
   the head of one, as **`name`** (`crate`).
-- TRACE names every public definition of the crates in READ, and every file under specs/. Layout one's instance of a
+- TRACE names every public definition of the crates in READ and of the files in READ_FILES, and every file under specs/. Layout one's instance of a
   definition, which is that of the same file and name with what layout one has for its parameters, needs no line.
 Prints what is wrong and exits with 1; exits with 2 if there is nothing to look up. With --mend, a citation that is not
 found, or a head whose functions are elsewhere, is first rewritten where one place only can be meant, as after a move.
@@ -26,7 +26,10 @@ import sys
 TOP = pathlib.Path(__file__).resolve().parent.parent
 # where wrong edits stand: those that the gate tries, and those that mutation/edits tries
 EDITS = ("must-fail", "edits")
-READ = ["descriptions", "theory", "answering", "unify", "fit", "call_text", "answer_text", "reply"]
+READ = ["descriptions", "theory", "answering", "unify", "fit", "call_text", "answer_text", "reply", "formula_text"]
+# of other crates, the files that are read
+READ_FILES = {"formulas": ["Formula", "Part", "Draft", "Describe", "Known"], "signs": ["Limits", "Signs", "Grammar"],
+              "translate": ["Translated", "Row", "Answered"]}
 DOCS = sorted(TOP.glob("*.md")) + sorted(TOP.glob("docs/**/*.md"))
 CITED = re.compile(r"`(\w+)(?:(!)(\w+)|:(fn|proof of) ([\w, ]+)|:([A-Z]\w*)(?:\.([^`\s]+))?)`")
 PATH = re.compile(r"`((?:crates|second|docs|include|examples|bench|fuzz|mutation)/[^` ]+)`")
@@ -239,7 +242,7 @@ def check_complete(path):
             continue
         if file not in files:
             says(doc, f"does not name `{crate}:{file.stem}`")
-        if crate in READ:
+        if crate in READ or file.stem in READ_FILES.get(crate, []):
             for name in sorted(set(public(file)) - instances(file)):
                 if (crate, file.stem, name) not in names:
                     says(doc, f"no line has `{crate}:{file.stem}.{name}`")

@@ -1,5 +1,5 @@
-// Bublastyr: unification of disjunctive feature descriptions, and the fit test. Both are proved to answer
-// exactly what document 01 says, for every input and every size of the areas.
+// Bublastyr: unification of disjunctive feature descriptions, the fit test, and formulas as they are printed. All
+// are proved to answer exactly what the documents say, for every input and every size of the areas.
 #ifndef BUBLASTYR_H
 #define BUBLASTYR_H
 
@@ -23,6 +23,17 @@ enum {
     BUBLASTYR_TOO_MANY = 7,   // mode 2: over 4,096 choices are left to search
     BUBLASTYR_NO_ROOM = 8,    // the result is longer than the result area
     BUBLASTYR_HAS_DISJUNCTIONS = 9, // the fit test's structure has disjunctions
+};
+
+// The numbers of bublastyr_formula beside BUBLASTYR_DONE. 22 says that no structure satisfies the formula, and
+// every other number that nothing was decided.
+enum {
+    BUBLASTYR_BAD_TEXT = 20,      // the text is no formula's
+    BUBLASTYR_TOO_DEEP = 21,      // over 4 disjunctions are nested in the text
+    BUBLASTYR_FORMULA_CLASH = 22, // the formula's definite part clashes
+    BUBLASTYR_LONG_FORMULA = 23,  // the description has more than 1,024 words
+    BUBLASTYR_SHORT_RESULT = 24,  // the description is longer than the result area
+    BUBLASTYR_LONG_TEXT = 25,     // the text has more than 4,096 bytes
 };
 
 // The words that a working area must have.
@@ -51,6 +62,19 @@ uint32_t bublastyr_unify(uint32_t mode, const uint32_t *first, size_t first_len,
 // 0 or 6, checked in that order. Writes nothing. Here too a pointer may be null where its length is 0.
 uint32_t bublastyr_fit(const uint32_t *structure, size_t structure_len, const uint32_t *description,
                        size_t description_len);
+
+// Writes the description that a formula stands for, and answers 0, 20, 21, 22, 23, 24 or 25. The checks run in the
+// order 25, 20, 21, 22, 23, 24. The text is that of the formula alone, with no newline or other byte after it.
+//
+// told[0] is the length: the words written after 0, the words needed after 24, else 0.
+// told[1] is after 20 the first byte, from 0, at which no formula can go on, or the text's length where it ends
+// too early; else 0.
+//
+// Only 0 writes to the result area, the first told[0] words. The text, the result area and told must not overlap. A
+// pointer may be null where its length is 0.
+// It needs no working area, and some 340 KB of stack for its tables.
+uint32_t bublastyr_formula(const uint8_t *text, size_t text_len, uint32_t *result,
+                           size_t result_len, uint32_t told[2]);
 
 #ifdef __cplusplus
 }

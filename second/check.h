@@ -10,4 +10,13 @@ int run_check(uint64_t seed, uint64_t count);
 // Checks the known inputs of document 01; 0 when all hold.
 int run_known(void);
 
+// Checks so many random formulas, and half as many short texts; 0 when all hold.
+int run_check_formulas(uint64_t seed, uint64_t count);
+
+// Checks known formulas; 0 when all hold.
+int run_known_formulas(void);
+
+// Checks which short texts over small alphabets are formulas, or can become one; 0 when all hold.
+int run_short_texts(void);
+
 #endif

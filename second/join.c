@@ -247,3 +247,17 @@ bool description_fold(Description *description, Description alternative) {
     description_free(&alternative);
     return agree;
 }
+
+bool description_settle(Description *description, Disjunction kept) {
+    if (kept.alternative_count >= 2) {
+        description_add(description, kept);
+        return true;
+    }
+    bool stands = false;
+    if (kept.alternative_count == 1) {
+        stands = description_fold(description, kept.alternatives[0]);
+        kept.alternatives[0] = (Description){0};
+    }
+    disjunction_free(&kept);
+    return stands;
+}

@@ -17,4 +17,8 @@ bool graphs_join_two(const Graph *first, const Graph *second, Graph *joined);
 // definite graph, and its disjunctions are added to the list. False when the graphs clash.
 bool description_fold(Description *description, Description alternative);
 
+// Puts what is left of a disjunction, which is consumed, into a description: one alternative is
+// folded, two or more stay a disjunction. False when none is left, or when folding clashes.
+bool description_settle(Description *description, Disjunction kept);
+
 #endif

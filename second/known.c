@@ -2,21 +2,11 @@
 #include "check.h"
 
 #include "call.h"
+#include "known.h"
 #include "shapes.h"
 
 #include <stdlib.h>
 #include <string.h>
-
-#define N "1 0 0 "
-#define A "2 1 1 1 65546 0 "
-#define B "2 1 1 1 65547 0 "
-#define C "2 1 2 1 65546 0 "
-#define D "2 1 2 1 65547 0 "
-#define E "2 2 1 1 2 1 0 0 "
-#define A_AND_C "3 2 1 1 2 2 65546 65546 0 "
-#define P "1 0 1 2 " A B
-#define S "1 0 1 2 " A A_AND_C
-#define L "1 1 1 0 0 "
 
 enum { EVERY_MODE = -1, FIT = -2 };
 
@@ -65,7 +55,7 @@ static const Known cases[] = {
     {"equal atoms are two nodes", FIT, A_AND_C, E, 0, 6, 0, 0, ""},
 };
 
-static Words words_from(const char *text) {
+Words words_from(const char *text) {
     Words words = {0};
     char *end = NULL;
     for (unsigned long word = strtoul(text, &end, 10); end != text;

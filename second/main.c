@@ -1,6 +1,8 @@
 // The program `second`: chooses the way to run by its arguments.
 #include "call.h"
 #include "check.h"
+#include "formula_call.h"
+#include "formula_texts.h"
 #include "generate.h"
 
 #include <inttypes.h>
@@ -9,10 +11,13 @@
 static int usage(void) {
     fputs("usage: second\n"
           "       second batch\n"
+          "       second formula\n"
+          "       second formulas\n"
           "       second known\n"
           "       second check SEED COUNT\n"
           "       second generate SEED COUNT\n"
-          "       second vectors SEED COUNT calls|fits|reading|joins [COUNT KIND ..]\n",
+          "       second texts SEED COUNT\n"
+          "       second vectors SEED COUNT calls|fits|reading|joins|formula [COUNT KIND ..]\n",
           stderr);
     return 2;
 }
@@ -42,13 +47,33 @@ static int run_seeded(int argument_count, char **arguments) {
         return usage();
     }
     if (argument_count == 4 && strcmp(arguments[1], "check") == 0) {
-        return run_check(seed, count);
+        return run_check(seed, count) + run_check_formulas(seed, count) > 0;
     }
     if (argument_count == 4 && strcmp(arguments[1], "generate") == 0) {
         return run_generate(seed, count);
     }
+    if (argument_count == 4 && strcmp(arguments[1], "texts") == 0) {
+        return run_texts(seed, count);
+    }
     if (argument_count % 2 == 1 && strcmp(arguments[1], "vectors") == 0) {
         return run_vectors(seed, arguments + 3);
+    }
+    return usage();
+}
+
+// The ways without further arguments.
+static int run_plain(const char *way) {
+    if (strcmp(way, "batch") == 0) {
+        return run_batch();
+    }
+    if (strcmp(way, "formula") == 0) {
+        return run_formula();
+    }
+    if (strcmp(way, "formulas") == 0) {
+        return run_formulas();
+    }
+    if (strcmp(way, "known") == 0) {
+        return run_known() + run_known_formulas() + run_short_texts() > 0;
     }
     return usage();
 }
@@ -57,11 +82,5 @@ int main(int argument_count, char **arguments) {
     if (argument_count == 1) {
         return run_meet();
     }
-    if (argument_count == 2 && strcmp(arguments[1], "batch") == 0) {
-        return run_batch();
-    }
-    if (argument_count == 2 && strcmp(arguments[1], "known") == 0) {
-        return run_known();
-    }
-    return run_seeded(argument_count, arguments);
+    return argument_count == 2 ? run_plain(arguments[1]) : run_seeded(argument_count, arguments);
 }

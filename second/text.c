@@ -1,8 +1,8 @@
 // Reading calls as text: the interface of `meet`, and the batch format.
+#include "bytes.h"
 #include "call.h"
 
 #include <inttypes.h>
-#include <stdlib.h>
 #include <string.h>
 
 enum { LONGEST_TEXT = 65536, LARGEST_COUNT = 2048, MEET_ROOM = 2048 };
@@ -158,46 +158,17 @@ static void answer_line(const Call *call) {
     words_free(&outcome.result);
 }
 
-// A line of standard input without its newline, ended by a zero byte that is not counted.
-typedef struct {
-    char *text;
-    size_t length;
-    size_t room;
-} Line;
-
-static void line_add(Line *line, char character) {
-    if (line->length == line->room) {
-        line->room = line->room == 0 ? 4096 : 2 * line->room;
-        line->text = resized(line->text, line->room, 1);
-    }
-    line->text[line->length++] = character;
-}
-
-// False at the end of the input.
-static bool line_next(Line *line) {
-    line->length = 0;
-    int character = getchar();
-    bool found = character != EOF;
-    while (character != EOF && character != '\n') {
-        line_add(line, (char)character);
-        character = getchar();
-    }
-    line_add(line, '\0');
-    line->length--;
-    return found;
-}
-
 int run_batch(void) {
-    Line line = {0};
+    Bytes line = {0};
     while (line_next(&line)) {
         Call call;
-        if (parse_line(line.text, line.length, &call)) {
+        if (parse_line(line.at, line.count, &call)) {
             answer_line(&call);
         } else {
             puts("bad input");
         }
         call_free(&call);
     }
-    free(line.text);
+    bytes_free(&line);
     return 0;
 }

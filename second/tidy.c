@@ -18,23 +18,6 @@ static Disjunction tidy_alternatives(const Disjunction *disjunction, const Graph
     return kept;
 }
 
-// Puts what is left of a disjunction into a description; false when nothing is left, or when
-// folding clashes.
-static bool settle(Description *next, Disjunction kept, bool *folded) {
-    if (kept.alternative_count >= 2) {
-        description_add(next, kept);
-        return true;
-    }
-    bool alive = false;
-    if (kept.alternative_count == 1) {
-        *folded = true;
-        alive = description_fold(next, kept.alternatives[0]);
-        kept.alternatives[0] = (Description){0};
-    }
-    disjunction_free(&kept);
-    return alive;
-}
-
 // One round: every alternative is tidied under the join as it stood at the start.
 static bool tidy_round(const Description *current, const Graph *start, Description *next,
                        bool *folded) {
@@ -42,7 +25,8 @@ static bool tidy_round(const Description *current, const Graph *start, Descripti
     *folded = false;
     for (uint32_t index = 0; index < current->disjunction_count; index++) {
         Disjunction kept = tidy_alternatives(&current->disjunctions[index], start);
-        if (!settle(next, kept, folded)) {
+        *folded |= kept.alternative_count == 1;
+        if (!description_settle(next, kept)) {
             description_free(next);
             return false;
         }

@@ -2,11 +2,15 @@
 #include "generate.h"
 
 #include "faults.h"
+#include "formula_texts.h"
 #include "shapes.h"
 
 #include <string.h>
 
 enum { LONGEST_STORED = 2048 };
+
+// Bytes of a text and of the words it gives, over which three of four are left out.
+enum { LONGEST_USUAL = 2000 };
 
 // What a vector is of.
 enum { STORED_UNIFY, STORED_FIT, STORED_JOIN };
@@ -131,12 +135,53 @@ static void put_random_reading(Random *random) {
     words_free(&words);
 }
 
+// Bytes after their number, four to a word and the first of them lowest; zeros fill the last word.
+static void put_counted_bytes(const Bytes *bytes) {
+    put_word((uint32_t)bytes->count);
+    for (size_t index = 0; index < bytes->count; index++) {
+        putchar((unsigned char)bytes->at[index]);
+    }
+    for (size_t index = bytes->count; index % 4 != 0; index++) {
+        putchar(0);
+    }
+}
+
+// Room, number, what is told, the text, and the words of a result.
+static void put_formula(const FormulaCall *call, const FormulaOutcome *outcome) {
+    put_word(call->room);
+    put_word(outcome->number);
+    put_word(outcome->told);
+    put_counted_bytes(&call->text);
+    put_counted(&outcome->result);
+}
+
+// Whether it is stored: three of four long ones are left out, to keep the stream short.
+static bool stores_formula(Random *random, const FormulaCall *call, const FormulaOutcome *outcome) {
+    size_t bytes = call->text.count + 4 * outcome->result.count;
+    return bytes <= LONGEST_USUAL || random_one_in(random, 4);
+}
+
+static void put_random_formula(Random *random) {
+    bool stored = false;
+    while (!stored) {
+        FormulaCall call = random_formula_call(random);
+        FormulaOutcome outcome = formula_call_run(&call);
+        stored = stores_formula(random, &call, &outcome);
+        if (stored) {
+            put_formula(&call, &outcome);
+        }
+        words_free(&outcome.result);
+        formula_call_free(&call);
+    }
+}
+
 bool put_vectors(uint64_t seed, uint64_t count, const char *kind) {
     Random random = {seed};
     void (*put)(Random *) = strcmp(kind, "calls") == 0     ? put_random_call
                             : strcmp(kind, "fits") == 0    ? put_random_fit
                             : strcmp(kind, "reading") == 0 ? put_random_reading
                             : strcmp(kind, "joins") == 0   ? put_random_join
+                            : strcmp(kind, "formula") == 0 ? put_random_formula
                                                            : NULL;
     if (put == NULL) {
         return false;

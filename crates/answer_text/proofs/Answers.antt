@@ -57,7 +57,7 @@ module _ (number : ℕ) (ws : List ℕ) where
 ten-digits : (v : ℕ) → v ≤ largest → length (decimal v) ≤ 10
 ten-digits v h = decimal-most 9 v (omega arith)
 
-labelled-most : (label : List ℕ) (v : ℕ) → v ≤ largest → length (labelled label v) ≤ length label + 10
+pub labelled-most : (label : List ℕ) (v : ℕ) → v ≤ largest → length (labelled label v) ≤ length label + 10
 unfolding labelled
 labelled-most label v h = let d = ten-digits v h in let e = length-append label (decimal v) in omega arith
 
@@ -75,6 +75,15 @@ unfolding spaced after-spaces
 spaced-most [] h = omega arith
 spaced-most (w ∷ ws) h = let d = spaces-most (w ∷ ws) h in omega arith
 
+module _ (number : ℕ) (ws : List ℕ) (fits : (i : ℕ) → i < length ws → getD ws i 0 ≤ largest) where
+  pub second-most : length (second-line number ws) ≤ 11 * length ws + 1
+  unfolding second-line
+  second-most = go (eqb number 0)
+    where
+      go : (t : Bool) → length {A = ℕ} (elim t [ true ↦ spaced ws ++ newline | false ↦ [] ]) ≤ 11 * length ws + 1
+      go true = let m = spaced-most ws fits in let e = length-append (spaced ws) newline in omega arith
+      go false = omega arith
+
 module _ (number count readings : ℕ) (few : number ≤ largest) (short : count ≤ largest) (known : readings ≤ largest) where
   first-most : length (first-line number count readings) ≤ 55
   unfolding first-line
@@ -88,20 +97,12 @@ module _ (number count readings : ℕ) (few : number ≤ largest) (short : count
       omega arith
 
   module _ (ws : List ℕ) (fits : (i : ℕ) → i < length ws → getD ws i 0 ≤ largest) where
-    second-most : length (second-line number ws) ≤ 11 * length ws + 1
-    unfolding second-line
-    second-most = go (eqb number 0)
-      where
-        go : (t : Bool) → length {A = ℕ} (elim t [ true ↦ spaced ws ++ newline | false ↦ [] ]) ≤ 11 * length ws + 1
-        go true = let m = spaced-most ws fits in let e = length-append (spaced ws) newline in omega arith
-        go false = omega arith
-
     -- an answer with at most 2,048 words has at most 23,000 bytes
     pub text-small : length ws ≤ 2048 → length (answer-text number count readings ws) ≤ 23000
     unfolding answer-text
     text-small h =
         let a = first-most in
-        let b = second-most in
+        let b = second-most number ws fits in
         let e = length-append (first-line number count readings) (second-line number ws) in
         omega arith
 

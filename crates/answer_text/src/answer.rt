@@ -1,24 +1,12 @@
 // Writing what `meet` prints: an answer, or `bad input`.
 use crate::line::Written;
-use crate::line::put;
 use crate::line::put_labelled;
+use crate::line::put_last;
 use crate::line::put_run;
 use crate::line::put_words_line;
 use crate::line::wide;
-ghost use mathlib.Core.List.{_++_};
-ghost use Rattle.answer_text.specs.Answer.{first-line, labelled, readings-label, newline, answer-text, bad-text, Wrote};
+ghost use Rattle.answer_text.specs.Answer.{first-line, answer-text, bad-text, Wrote};
 ghost use Rattle.answer_text.specs.Going.{Appends};
-
-// Writes how many readings there are, and ends the line.
-fn put_readings(dst: &mut [u8], at: usize, readings: u32) -> Written
-    ensures { λ r. ⌜ Appends (labelled readings-label readings ++ newline) (now (dst .entry)) at (now (dst .exit)) r ⌝ }
-{
-    let front = put_labelled(dst, at, b" readings ", wide(readings));
-    let Written::Bytes(next) = front else {
-        return Written::NoRoom;
-    };
-    put(dst, next, 10)
-}
 
 // Writes the first line.
 fn put_first_line(dst: &mut [u8], number: u32, length: usize, readings: u32) -> Written
@@ -32,7 +20,7 @@ fn put_first_line(dst: &mut [u8], number: u32, length: usize, readings: u32) -> 
     let Written::Bytes(next) = two else {
         return Written::NoRoom;
     };
-    put_readings(dst, next, readings)
+    put_last(dst, next, b" readings ", wide(readings))
 }
 
 // Writes an answer to the start of dst: a line with its numbers and, after number 0 only, a line with the words.

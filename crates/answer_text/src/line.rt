@@ -13,7 +13,7 @@ pub enum Written {
 }
 
 // Writes one byte.
-pub(crate) fn put(dst: &mut [u8], at: usize, byte: u8) -> Written
+pub fn put(dst: &mut [u8], at: usize, byte: u8) -> Written
     ensures { λ r. ⌜ Appends (byte ∷ []) (now (dst .entry)) at (now (dst .exit)) r ⌝ }
 {
     if at < dst.len() {
@@ -68,7 +68,7 @@ fn put_decimal(dst: &mut [u8], at: usize, value: u64) -> Written
 }
 
 // Writes a label and a number.
-pub(crate) fn put_labelled(dst: &mut [u8], at: usize, label: &[u8], value: u64) -> Written
+pub fn put_labelled(dst: &mut [u8], at: usize, label: &[u8], value: u64) -> Written
     ensures { λ r. ⌜ Appends (labelled (now (label .entry)) value) (now (dst .entry)) at (now (dst .exit)) r ⌝ }
 {
     let front = put_run(dst, at, label);
@@ -78,7 +78,18 @@ pub(crate) fn put_labelled(dst: &mut [u8], at: usize, label: &[u8], value: u64) 
     put_decimal(dst, next, value)
 }
 
-pub(crate) fn wide(x: u32) -> u64
+// Writes a label and a number, and ends the line.
+pub fn put_last(dst: &mut [u8], at: usize, label: &[u8], value: u64) -> Written
+    ensures { λ r. ⌜ Appends (labelled (now (label .entry)) value ++ newline) (now (dst .entry)) at (now (dst .exit)) r ⌝ }
+{
+    let front = put_labelled(dst, at, label, value);
+    let Written::Bytes(end) = front else {
+        return Written::NoRoom;
+    };
+    put(dst, end, 10)
+}
+
+pub fn wide(x: u32) -> u64
     ensures { λ r. ⌜ r ≡ x ⌝ }
 {
     x as u64
@@ -133,7 +144,7 @@ fn put_words(dst: &mut [u8], at: usize, words: &[u32]) -> Written
 }
 
 // Writes a line of words.
-pub(crate) fn put_words_line(dst: &mut [u8], at: usize, words: &[u32]) -> Written
+pub fn put_words_line(dst: &mut [u8], at: usize, words: &[u32]) -> Written
     ensures { λ r. ⌜ Appends (spaced (now (words .entry)) ++ newline) (now (dst .entry)) at (now (dst .exit)) r ⌝ }
 {
     let front = put_words(dst, at, words);

@@ -1,6 +1,7 @@
 // What a mode made is handed over.
 use crate::answer::Answer;
 use crate::areas::copy_out;
+use area::map::RESULT;
 ghost use Rattle.answering.specs.Handing.{ResultInside, Handed};
 
 // What was made: a result of so many words, which stand in the working area, with so many readings; or the definite graphs clash,
@@ -27,7 +28,7 @@ pub fn hand_over(made: Made, working: &[u32], result: &mut [u32]) -> Answer
             if result.len() < length {
                 return Answer::NoRoom { length };
             }
-            copy_out(working, result, length);
+            copy_out(working, RESULT, result, length);
             Answer::Done { length, readings }
         }
     }

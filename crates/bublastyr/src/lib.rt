@@ -2,6 +2,7 @@
 ghost use lib.ListN.{getD};
 ghost use Rattle.theory.specs.FitTest.{FitGiven};
 ghost use Rattle.theory.specs.Outcome.{Outcome};
+ghost use Rattle.translate.specs.Answered.{Answered};
 
 // Unifies two descriptions. Answers document 01's number; length and readings go to `told`.
 #[no_mangle]
@@ -31,4 +32,16 @@ pub extern "C" fn bublastyr_fit(structure: &[u32], description: &[u32]) -> u32
 {
     let verdict = fit::fit(structure, description);
     fit::number(verdict)
+}
+
+// Writes the description that a formula stands for. Answers the number; length and byte go to `told`.
+#[no_mangle]
+pub extern "C" fn bublastyr_formula(text: &[u8], result: &mut [u32], told: &mut [u32; 2]) -> u32
+    ensures { λ r. ⌜ Answered (now (text .entry)) (now (result .entry)) r (getD (now (told .exit)) 0 0) (getD (now (told .exit)) 1 0)
+        (now (result .exit)) ⌝ }
+{
+    let answer = translate::formula::formula(text, result);
+    let row = translate::answer::told(answer);
+    *told = [row.length as u32, row.byte as u32];
+    row.number
 }

@@ -6,8 +6,8 @@ use native.Mathlib.Numerals.{add-one}
 use mathlib.Core.Path.{_≡_, refl, sym, subst, ap, _∙_}
 use mathlib.Core.Logic.{_↔_}
 use mathlib.Core.List.{List, [], _∷_, _++_, append-nil}
-use lib.ListN.{length, getD, drop, length-drop}
-use lib.Seq.{drop-cons, drop-length}
+use lib.ListN.{length, getD, take, drop, length-drop}
+use lib.Seq.{drop-cons, drop-length, take-at}
 use Rattle.theory.specs.Limits.{code-limit}
 use Rattle.theory.specs.Net.{Node, atom, arcs, Graph}
 use Rattle.theory.specs.Descr.{Desc, desc, Disjs, _and_, Alts, _or_, disjs, alts}
@@ -65,6 +65,10 @@ module _ (ws : List ℕ) where
   stands-drop (x ∷ xs) p q s =
       let r = stands-drop xs (p + 1) q (s .2) in
       drop-cons ws p 0 (s .0) ∙ rw (s .1, ← add-one, r)
+
+  -- they are what is taken there
+  pub stands-taken : (xs : List ℕ) (p q : ℕ) → Stands ws p xs q → take (length xs) (drop p ws) ≡ xs
+  stands-taken xs p q s = ap (take (length xs)) (stands-drop xs p q s) ∙ take-at xs (drop q ws) (length xs) refl
 
   drop-stands : (xs : List ℕ) (p : ℕ) → p ≤ length ws → drop p ws ≡ xs → Stands ws p xs (length ws)
   unfolding Stands
@@ -130,3 +134,25 @@ module _ (ws : List ℕ) where
       twice : (l : List (ℕ × ℕ)) → length (arc-words l) ≡ length l + length l
       twice [] = refl
       twice (e ∷ l) = let h = twice l in omega arith
+
+-- ---- words that stay where they stand
+-- t′ has the words of t from p up to q
+abbrev pub Agrees : List ℕ → List ℕ → ℕ → ℕ → Type 0
+Agrees t t′ p q = (j : ℕ) → p ≤ j → j < q → j < length t → (j < length t′) × (getD t′ j 0 ≡ getD t j 0)
+
+module _ (t t′ : List ℕ) where
+  pub agrees-part : (p r s q : ℕ) → p ≤ r → s ≤ q → Agrees t t′ p q → Agrees t t′ r s
+  agrees-part p r s q h k same j l u = same j (omega arith) (omega arith)
+
+  pub stands-frame : (xs : List ℕ) (p q : ℕ) → Agrees t t′ p q → Stands t p xs q → Stands t′ p xs q
+  stands-frame [] p q same s = stands-nil t′ p q .1 (stands-nil t p q .0 s)
+  stands-frame (x ∷ xs) p q same s =
+      let parts = stands-cons t x xs p q .0 s in
+      let far = stands-order t xs (p + 1) q (parts .2) in
+      let here = same p (omega arith) (omega arith) (parts .0) in
+      stands-cons t′ x xs p q .1 (
+        here .0,
+        here .1
+            ∙ parts .1,
+        stands-frame xs (p + 1) q (agrees-part p (p + 1) q q (omega arith) (omega arith) same) (parts .2),
+      )

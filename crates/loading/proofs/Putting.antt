@@ -1,4 +1,4 @@
--- Words that stay where they stand, and words that are put somewhere: one after the other, and one before others.
+-- Words that are put somewhere: one after the other, and one before others.
 -- Assumes nothing.
 use Prim.Native.Nat.{ℕ, _+_, _≤_, _<_}
 use native.Mathlib.Omega.{arith}
@@ -8,29 +8,8 @@ use mathlib.Core.List.{List, [], _∷_, _++_}
 use lib.ListN.{length, getD, set, length-set}
 use lib.Seq.{getD-set-same, getD-set-other}
 use Rattle.layout.specs.Standing.{Stands}
-use Rattle.layout.proofs.Standing.{stands-append, stands-nil, stands-cons, stands-order}
+use Rattle.layout.proofs.Standing.{stands-append, stands-nil, stands-cons, stands-order, stands-frame}
 use Rattle.loading.specs.Loading.{Put}
-
--- t′ has the words of t from p up to q
-abbrev pub Agrees : List ℕ → List ℕ → ℕ → ℕ → Type 0
-Agrees t t′ p q = (j : ℕ) → p ≤ j → j < q → j < length t → (j < length t′) × (getD t′ j 0 ≡ getD t j 0)
-
-module _ (t t′ : List ℕ) where
-  pub agrees-part : (p r s q : ℕ) → p ≤ r → s ≤ q → Agrees t t′ p q → Agrees t t′ r s
-  agrees-part p r s q h k same j l u = same j (omega arith) (omega arith)
-
-  pub stands-frame : (xs : List ℕ) (p q : ℕ) → Agrees t t′ p q → Stands t p xs q → Stands t′ p xs q
-  stands-frame [] p q same s = stands-nil t′ p q .1 (stands-nil t p q .0 s)
-  stands-frame (x ∷ xs) p q same s =
-      let parts = stands-cons t x xs p q .0 s in
-      let far = stands-order t xs (p + 1) q (parts .2) in
-      let here = same p (omega arith) (omega arith) (parts .0) in
-      stands-cons t′ x xs p q .1 (
-        here .0,
-        here .1
-            ∙ parts .1,
-        stands-frame xs (p + 1) q (agrees-part p (p + 1) q q (omega arith) (omega arith) same) (parts .2),
-      )
 
 pub put-nil : (t : List ℕ) (p : ℕ) → Put t t p [] p
 put-nil t p = record { same = refl; stands = stands-nil t p p .1 refl; rest = λ j h. refl }

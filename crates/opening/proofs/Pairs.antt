@@ -14,7 +14,7 @@ use Rattle.layout.specs.Standing.{Stands}
 use Rattle.loading.specs.Loaded.{nodes-in, input-loaded}
 use Rattle.loading.specs.Loading.{Put, Loadable, LoadedAt}
 use Rattle.loading.proofs.Sizes.{nodes-few}
-use Rattle.loading.proofs.Putting.{stands-frame}
+use Rattle.layout.proofs.Standing.{stands-frame}
 use Rattle.area.specs.Map.{SECOND}
 use Rattle.opening.specs.Opening.{Pairing, Read, Stand, Paired}
 

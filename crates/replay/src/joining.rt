@@ -1,11 +1,11 @@
 // Joins the definite graphs of two inputs by the layers below the modes: opened, and written.
-use crate::areas::starts;
 use crate::areas::work_space;
 use area::map::RESULT;
 use layout::reading::Judgement;
 use layout::reading::judge;
 use opening::Opened;
 use opening::open;
+use vectors::lent::starts;
 use writing::graph::write_graph;
 ghost use Prim.Native.Nat.{_≤_};
 ghost use lib.ListN.{length};

@@ -5,11 +5,7 @@
 mod areas;
 mod joining;
 
-use crate::areas::MOST_ROOM;
 use crate::areas::MOST_WORK;
-use crate::areas::prepare;
-use crate::areas::result_right;
-use crate::areas::space;
 use crate::areas::work_space;
 use crate::areas::working_right;
 use crate::joining::joined;
@@ -18,6 +14,10 @@ use answering::answer::told;
 use unify::unify;
 use vectors::Run;
 use vectors::Word;
+use vectors::lent::MOST_ROOM;
+use vectors::lent::prepare;
+use vectors::lent::result_right;
+use vectors::lent::space;
 ghost use Prim.Native.Nat.{_≤_};
 
 // How many kinds of vectors there are; another word ends them.
@@ -148,16 +148,6 @@ fn column(v: Vector) -> usize
     10
 }
 
-// Counts one more at i.
-fn count(counts: &mut [u32], i: usize) {
-    if i < counts.len() {
-        let x = counts[i];
-        if x < 4294967295 {
-            counts[i] = x + 1;
-        }
-    }
-}
-
 // Runs the next vector and counts what came of it. Whether there was one.
 fn turn(counts: &mut [u32]) -> bool {
     let word = vectors::next(0);
@@ -178,7 +168,7 @@ fn turn(counts: &mut [u32]) -> bool {
         length: row[4],
         readings: row[5],
     };
-    count(counts, kind as usize * COUNTS + column(v));
+    vectors::count(counts, kind as usize * COUNTS + column(v));
     filled
 }
 

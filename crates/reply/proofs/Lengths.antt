@@ -5,22 +5,20 @@ use native.Mathlib.Omega.{arith}
 use mathlib.Core.Path.{_≡_, refl, ap, _∙_}
 use mathlib.Core.Logic.{inr}
 use mathlib.Core.Option.{Option, none, some}
-use mathlib.Core.List.{List, [], _∷_, _++_, List·Memᴰ, List·Memᴰ·head, List·Memᴰ·tail}
-use lib.ListN.{length, getD, take, drop, length-append}
+use mathlib.Core.List.{List, []}
+use lib.ListN.{length, take, drop}
 use lib.Seq.{take-append-seam}
 use Rattle.theory.specs.Limits.{depth-limit, choice-limit}
-use Rattle.theory.specs.Net.{Node, atom, arcs, Graph, nodeAt, arcsOf}
-use Rattle.theory.specs.Descr.{Desc, desc, Disjs, end, _and_, Alts, fail, _or_, disjs, alts, number, readings}
-use Rattle.theory.specs.Layout.{arc-words, node-words, nodes-words, words, disjs-words, alts-words, ArcsFit, NodeFits, GraphFits}
-use Rattle.theory.specs.Layout.{WellFormed, WellAll, WellAny}
+use Rattle.theory.specs.Descr.{Desc, number, readings}
+use Rattle.theory.specs.Layout.{words}
 use Rattle.theory.specs.Modes.{joined, quick}
 use Rattle.theory.specs.Answer.{Answer, Call, consistent}
 use Rattle.theory.specs.Rules.{mode-result, mode-readings, Accepted, Clashes, TooMany, Given, one, two, three, four, five, six, seven}
 use Rattle.theory.specs.Rules.{six-after, eight, done}
 use Rattle.theory.specs.Unified.{unified}
-use Rattle.theory.proofs.Instance.{numbered-target}
 use Rattle.theory.proofs.Counting.{readings-number}
 use Rattle.theory.proofs.Reading.{well-can, result-words, result-well, reads}
+use Rattle.theory.proofs.Small.{Below, below-at, words-below}
 use Rattle.theory.proofs.Laws.{laws}
 use Rattle.descriptions.proofs.Modes.{mode-readings-kept}
 use Rattle.descriptions.proofs.Table.{unified-given}
@@ -31,84 +29,6 @@ use Rattle.answer_text.specs.declared.line.Written.{Written}
 use Rattle.answer_text.specs.declared.line.Written.the-variants.{Bytes}
 use Rattle.answer_text.proofs.Answers.{text-small, wrote-fits}
 use Rattle.reply.specs.Printed.{spoken, printed}
-
--- ---- every word of a description is a 32-bit word
-abbrev Below : List ℕ → Type 0
-Below [] = Unit {0}
-Below (w ∷ ws) = (w ≤ largest) × Below ws
-
-below-append : (xs ys : List ℕ) → Below xs → Below ys → Below (xs ++ ys)
-below-append [] ys p q = q
-below-append (x ∷ xs) ys p q = (p .0, below-append xs ys (p .1) q)
-
-below-at : (ws : List ℕ) → Below ws → (i : ℕ) → i < length ws → getD ws i 0 ≤ largest
-below-at [] b i h = absurd (omega arith)
-below-at (w ∷ ws) b zero h = b .0
-below-at (w ∷ ws) b (suc i) h = below-at ws (b .1) i (omega arith)
-
-module _ (n : ℕ) (few : n ≤ largest) where
-  arcs-below : (l : List (ℕ × ℕ)) → ArcsFit l → ((f t : ℕ) → List·Memᴰ (f, t) l → t < n) → Below (arc-words l)
-  arcs-below [] a h = tt
-  arcs-below (p ∷ l) a h =
-      let f = a .0 in
-      let t = h (p .0) (p .1) (List·Memᴰ·head refl) in
-      (omega arith, (omega arith, arcs-below l (a .1) (λ f t m. h f t (List·Memᴰ·tail m))))
-
-  node-below : (v : Node) → NodeFits v → ((f t : ℕ) → List·Memᴰ (f, t) (arcsOf v) → t < n) → Below (node-words v)
-  node-below (atom a) p h = (omega arith, tt)
-  node-below (arcs l) p h = let k = p .0 in (omega arith, arcs-below l (p .1) h)
-
-  nodes-below : (g : Graph) → GraphFits g → ((i f t : ℕ) → List·Memᴰ (f, t) (arcsOf (nodeAt g i)) → t < n) → Below (nodes-words g)
-  nodes-below [] p h = tt
-  nodes-below (v ∷ vs) p h =
-      below-append (node-words v) (nodes-words vs) (node-below v (p .0) (h 0)) (nodes-below vs (p .1) (λ i. h (suc i)))
-
--- nothing is counted that has no word
-node-long : (v : Node) → 1 ≤ length (node-words v)
-node-long (atom a) = omega arith
-node-long (arcs l) = omega arith
-
-nodes-long : (g : Graph) → length g ≤ length (nodes-words g)
-nodes-long [] = omega arith
-nodes-long (v ∷ vs) = let a = node-long v in let b = nodes-long vs in let e = length-append (node-words v) (nodes-words vs) in omega arith
-
-disjs-long : (ds : Disjs) → disjs ds ≤ length (disjs-words ds)
-disjs-long end = omega arith
-disjs-long (a and ds) = let b = disjs-long ds in let e = length-append (alts a ∷ alts-words a) (disjs-words ds) in omega arith
-
-words-long : (d : Desc) → 1 ≤ length (words d)
-words-long (desc g ds) = omega arith
-
-alts-long : (a : Alts) → alts a ≤ length (alts-words a)
-alts-long fail = omega arith
-alts-long (d or a) = let b = words-long d in let c = alts-long a in let e = length-append (words d) (alts-words a) in omega arith
-
-mutual
-  words-below : (d : Desc) (n : ℕ) → WellFormed d n → length (words d) ≤ largest → Below (words d)
-  words-below (desc g ds) n w h =
-      let e = length-append (length g ∷ nodes-words g) (disjs ds ∷ disjs-words ds) in
-      let a = nodes-long g in
-      let b = disjs-long ds in
-      let few : length g ≤ largest = omega arith in
-      below-append (length g ∷ nodes-words g) (disjs ds ∷ disjs-words ds)
-      (few, nodes-below (length g) few g (w .1) (λ i f t m. let k = numbered-target 0 1 g (w .0) i f t m in omega arith))
-      (omega arith, disjs-below ds n (w .2) (omega arith))
-
-  disjs-below : (ds : Disjs) (n : ℕ) → WellAll ds n → length (disjs-words ds) ≤ largest → Below (disjs-words ds)
-  disjs-below end n w h = tt
-  disjs-below (a and ds) zero w h = absurd w
-  disjs-below (a and ds) (suc n) w h =
-      let e = length-append (alts a ∷ alts-words a) (disjs-words ds) in
-      let b = alts-long a in
-      below-append (alts a ∷ alts-words a) (disjs-words ds)
-      (omega arith, alts-below a n (w .1) (omega arith))
-      (disjs-below ds (suc n) (w .2) (omega arith))
-
-  alts-below : (a : Alts) (n : ℕ) → WellAny a n → length (alts-words a) ≤ largest → Below (alts-words a)
-  alts-below fail n w h = tt
-  alts-below (d or a) n w h =
-      let e = length-append (words d) (alts-words a) in
-      below-append (words d) (alts-words a) (words-below d n (w .0) (omega arith)) (alts-below a n (w .1) (omega arith))
 
 -- ---- the numbers of an answer
 -- number, length, readings and words are 32-bit words, and the words have room
@@ -192,7 +112,7 @@ spoken-small asked =
     let r : Answer = unified asked 2048 16384 in
     let s = given-short asked 2048 16384 r (unified-given reads asked 2048 16384) in
     text-small (r .number) (r .extent) (r .readings) (s .few) (s .short) (s .known)
-    (r .result) (below-at (r .result) (s .below)) (s .inside)
+    (r .result) (λ i l. let k = below-at (r .result) (s .below) i l in omega arith) (s .inside)
 
 -- whatever the text is, an answer to it is short
 pub printed-small : (text : List ℕ) → length (printed text) ≤ 23000

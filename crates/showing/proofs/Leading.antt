@@ -24,7 +24,7 @@ use Rattle.engine.specs.Shown.{or-else, shown-all}
 use Rattle.engine.proofs.Sane.{fine-flat}
 use Rattle.engine.specs.Sane.{Sane}
 use Rattle.loading.specs.Entry.{graphs}
-use Rattle.loading.proofs.Putting.{stands-frame}
+use Rattle.layout.proofs.Standing.{stands-frame}
 use Rattle.marks.specs.Marked.{marking}
 use Rattle.classes.specs.Holds.{Backs, Remembers}
 use Rattle.classes.specs.declared.push.Pushed.{Pushed}

@@ -19,7 +19,7 @@ use Rattle.area.specs.Map.{RESULT, SECOND, SIZE}
 use Rattle.area.specs.Region.{loaded-words}
 use Rattle.area.proofs.Region.{words-same}
 use Rattle.layout.specs.Standing.{Stands, graph-words}
-use Rattle.layout.proofs.Standing.{stands-append, stands-nil, stands-cons, stands-length}
+use Rattle.layout.proofs.Standing.{stands-append, stands-nil, stands-cons, stands-length, stands-frame}
 use Rattle.engine.specs.Placed.{Placed, place, Places, stop, _also_, strip, strip-all}
 use Rattle.engine.specs.Marks.{Marking, keep, keep-all}
 use Rattle.engine.specs.Beside.{_next_, joined-placed}
@@ -32,7 +32,6 @@ use Rattle.modes_by_marks.proofs.Joined.{keep-next}
 use Rattle.loading.specs.Entry.{graphs}
 use Rattle.loading.specs.Numbered.{places}
 use Rattle.loading.specs.Lying.{Here}
-use Rattle.loading.proofs.Putting.{stands-frame}
 use Rattle.marks.specs.Positions.{tail-at, disjunctions-at}
 use Rattle.marks.specs.Marked.{marking}
 use Rattle.marks.specs.Readable.{Readable}

@@ -10,8 +10,7 @@ use Rattle.area.specs.Map.{RESULT}
 use Rattle.area.specs.Region.{loaded-words}
 use Rattle.area.proofs.Region.{words-same}
 use Rattle.layout.specs.Standing.{Stands}
-use Rattle.layout.proofs.Standing.{stands-append, stands-nil, stands-cons, stands-order, stands-length}
-use Rattle.loading.proofs.Putting.{stands-frame}
+use Rattle.layout.proofs.Standing.{stands-append, stands-nil, stands-cons, stands-order, stands-length, stands-frame}
 use Rattle.marks.specs.Marked.{marking}
 use Rattle.marks.proofs.Marks.{marking-frame}
 use Rattle.classes.specs.Holds.{Holds}

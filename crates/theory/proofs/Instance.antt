@@ -57,7 +57,7 @@ pair-from e (c ∷ l) q m = go (eqb (e .1) (c .1)) (test (e .1) (c .1)) m (pair-
     go true (equal p) i s = ⊎-elim (λ k. (c, List·Memᴰ·head refl, p, k)) (λ j. up (s j)) (List·Memᴰ·cases-cons i)
     go false (differ n) i s = up (s i)
 
-edge-rule-in : (k l : List Edge) (e d : Edge) → List·Memᴰ e k → List·Memᴰ d l → e .1 ≡ d .1 →
+pub edge-rule-in : (k l : List Edge) (e d : Edge) → List·Memᴰ e k → List·Memᴰ d l → e .1 ≡ d .1 →
     List·Memᴰ {A = Rule} (e .0, d .0, e .2, d .2) (edge-rules k l)
 edge-rule-in [] l e d m n h = absurd (List·Memᴰ·not-nil m)
 edge-rule-in (c ∷ k) l e d m n h = go (List·Memᴰ·cases-cons m) (edge-rule-in k l e d)
@@ -69,7 +69,7 @@ edge-rule-in (c ∷ k) l e d m n h = go (List·Memᴰ·cases-cons m) (edge-rule-
         (subst (λ (z : Edge). List·Memᴰ {A = Rule} (e .0, d .0, e .2, d .2) (pair-rules z l)) i (pair-in e d l n h))
     go (inr i) s = Memᴰ·append-right (pair-rules c l) (s i n h)
 
-edge-rule-from : (k l : List Edge) (q : Rule) → List·Memᴰ q (edge-rules k l) →
+pub edge-rule-from : (k l : List Edge) (q : Rule) → List·Memᴰ q (edge-rules k l) →
     (e : Edge) × (d : Edge) × List·Memᴰ e k × List·Memᴰ d l × (e .1 ≡ d .1) × (_≡_ {A = Rule} q (e .0, d .0, e .2, d .2))
 edge-rule-from [] l q m = absurd (List·Memᴰ·not-nil m)
 edge-rule-from (c ∷ k) l q m = go (List·Memᴰ·append-cases (pair-rules c l) m) (edge-rule-from k l q)
@@ -84,7 +84,7 @@ edge-rule-from (c ∷ k) l q m = go (List·Memᴰ·append-cases (pair-rules c l)
     go (inl i) s = let (d, j, h, p) = pair-from c l q i in (c, d, List·Memᴰ·head refl, j, h, p)
     go (inr i) s = up (s i)
 
-seed-rule-in : (l : List Arc) (p : Arc) → List·Memᴰ p l → List·Memᴰ {A = Rule} (p .0, p .0, p .0, p .1) (seed-rules l)
+pub seed-rule-in : (l : List Arc) (p : Arc) → List·Memᴰ p l → List·Memᴰ {A = Rule} (p .0, p .0, p .0, p .1) (seed-rules l)
 seed-rule-in [] p m = absurd (List·Memᴰ·not-nil m)
 seed-rule-in (r ∷ l) p m = go (List·Memᴰ·cases-cons m) (seed-rule-in l p)
   where
@@ -93,7 +93,7 @@ seed-rule-in (r ∷ l) p m = go (List·Memᴰ·cases-cons m) (seed-rule-in l p)
     go (inl e) s = List·Memᴰ·head (ap (λ (z : Arc). (z .0, z .0, z .0, z .1)) e)
     go (inr i) s = List·Memᴰ·tail (s i)
 
-seed-rule-from : (l : List Arc) (q : Rule) → List·Memᴰ q (seed-rules l) →
+pub seed-rule-from : (l : List Arc) (q : Rule) → List·Memᴰ q (seed-rules l) →
     (p : Arc) × List·Memᴰ p l × (_≡_ {A = Rule} q (p .0, p .0, p .0, p .1))
 seed-rule-from [] q m = absurd (List·Memᴰ·not-nil m)
 seed-rule-from (r ∷ l) q m = go (List·Memᴰ·cases-cons m) (seed-rule-from l q)
@@ -218,7 +218,7 @@ module _ (P : ℕ → Type 0) where
       j (omega arith)
 
 -- the numbers of the nodes side by side
-abbrev code : ℕ → (gs : List Graph) → beside gs .Spot → ℕ
+abbrev pub code : ℕ → (gs : List Graph) → beside gs .Spot → ℕ
 code o (g ∷ gs) (inl n) = o + n .0
 code o (g ∷ gs) (inr x) = code (o + length g) gs x
 
@@ -226,7 +226,7 @@ code-low : (o : ℕ) (gs : List Graph) (x : beside gs .Spot) → o ≤ code o gs
 code-low o (g ∷ gs) (inl n) = omega arith
 code-low o (g ∷ gs) (inr x) = omega (arith, code-low (o + length g) gs x)
 
-code-one : (o : ℕ) (gs : List Graph) (x y : beside gs .Spot) → code o gs x ≡ code o gs y → x ≡ y
+pub code-one : (o : ℕ) (gs : List Graph) (x y : beside gs .Spot) → code o gs x ≡ code o gs y → x ≡ y
 code-one o (g ∷ gs) (inl n) (inl m) e = let d : n .0 ≡ m .0 = omega arith in
     ap {B = beside (g ∷ gs) .Spot} inl (Σ-prop-path (λ k. le-prop) d)
 code-one o (g ∷ gs) (inl n) (inr y) e = absurd (omega (arith, code-low (o + length g) gs y, n .1))
@@ -236,7 +236,7 @@ code-one o (g ∷ gs) (inr x) (inr y) e = ap {B = beside (g ∷ gs) .Spot} inr (
 abbrev pub AllCanonical : List Graph → Type 0
 AllCanonical = All Canonical
 
-edge-of : (o : ℕ) (gs : List Graph) (x : beside gs .Spot) (f : ℕ) (y : beside gs .Spot) → beside gs .Arc x f y →
+pub edge-of : (o : ℕ) (gs : List Graph) (x : beside gs .Spot) (f : ℕ) (y : beside gs .Spot) → beside gs .Arc x f y →
     List·Memᴰ {A = Edge} (code o gs x, f, code o gs y) (edges o gs)
 edge-of o (g ∷ gs) (inl n) f (inl m) u =
     Memᴰ·append-left (edges (o + length g) gs) (let e : 0 + n .0 ≡ n .0 = omega arith in rw e at (edges-in o 0 g (n .0) f (m .0) (n .1) u))
@@ -244,7 +244,7 @@ edge-of o (g ∷ gs) (inl n) f (inr y) u = absurd u
 edge-of o (g ∷ gs) (inr x) f (inl m) u = absurd u
 edge-of o (g ∷ gs) (inr x) f (inr y) u = Memᴰ·append-right (edges-from o 0 g) (edge-of (o + length g) gs x f y u)
 
-edge-from : (o : ℕ) (gs : List Graph) → AllCanonical gs → (e : Edge) → List·Memᴰ e (edges o gs) →
+pub edge-from : (o : ℕ) (gs : List Graph) → AllCanonical gs → (e : Edge) → List·Memᴰ e (edges o gs) →
     (x : beside gs .Spot) × (y : beside gs .Spot) × (code o gs x ≡ e .0) × (code o gs y ≡ e .2) × beside gs .Arc x (e .1) y
 edge-from o [] c e m = absurd (List·Memᴰ·not-nil m)
 edge-from o (g ∷ gs) c e m = go (List·Memᴰ·append-cases (edges-from o 0 g) m) (edge-from (o + length g) gs (c .1) e)
@@ -258,13 +258,13 @@ edge-from o (g ∷ gs) c e m = go (List·Memᴰ·append-cases (edges-from o 0 g)
         (inl (n, h), inl (t, omega (arith, numbered-target 0 1 g (c .0) n (e .1) t j)), omega arith, b, j)
     go (inr i) s = let (x, y, a, b, u) = s i in (inr x, inr y, a, b, u)
 
-atom-in : (o : ℕ) (gs : List Graph) (x : beside gs .Spot) (a : ℕ) → beside gs .Atom x a →
+pub atom-in : (o : ℕ) (gs : List Graph) (x : beside gs .Spot) (a : ℕ) → beside gs .Atom x a →
     List·Memᴰ {A = Arc} (code o gs x, a) (atom-list o gs)
 atom-in o (g ∷ gs) (inl n) a u =
     Memᴰ·append-left (atom-list (o + length g) gs) (let e : 0 + n .0 ≡ n .0 = omega arith in rw e at (atoms-in o 0 g (n .0) a (n .1) u))
 atom-in o (g ∷ gs) (inr x) a u = Memᴰ·append-right (atoms-from o 0 g) (atom-in (o + length g) gs x a u)
 
-atom-from : (o : ℕ) (gs : List Graph) (p : Arc) → List·Memᴰ p (atom-list o gs) →
+pub atom-from : (o : ℕ) (gs : List Graph) (p : Arc) → List·Memᴰ p (atom-list o gs) →
     (x : beside gs .Spot) × (code o gs x ≡ p .0) × beside gs .Atom x (p .1)
 atom-from o [] p m = absurd (List·Memᴰ·not-nil m)
 atom-from o (g ∷ gs) p m = go (List·Memᴰ·append-cases (atoms-from o 0 g) m) (atom-from (o + length g) gs p)
@@ -277,11 +277,11 @@ atom-from o (g ∷ gs) p m = go (List·Memᴰ·append-cases (atoms-from o 0 g) m
     go (inl i) s = let (n, h, b, a) = atoms-out o 0 g p i in (inl (n, h), omega arith, b)
     go (inr i) s = let (x, a, u) = s i in (inr x, a, u)
 
-root-in : (o : ℕ) (gs : List Graph) (x : beside gs .Spot) → beside gs .Root x → List·Memᴰ {A = Arc} (0, code o gs x) (root-seeds o gs)
+pub root-in : (o : ℕ) (gs : List Graph) (x : beside gs .Spot) → beside gs .Root x → List·Memᴰ {A = Arc} (0, code o gs x) (root-seeds o gs)
 root-in o (g ∷ gs) (inl n) r = List·Memᴰ·head (let e : o + n .0 ≡ o = omega arith in λ i. (0, e i))
 root-in o (g ∷ gs) (inr x) r = List·Memᴰ·tail (root-in (o + length g) gs x r)
 
-root-from : (o : ℕ) (gs : List Graph) → AllCanonical gs → (p : Arc) → List·Memᴰ p (root-seeds o gs) →
+pub root-from : (o : ℕ) (gs : List Graph) → AllCanonical gs → (p : Arc) → List·Memᴰ p (root-seeds o gs) →
     (x : beside gs .Spot) × beside gs .Root x × (code o gs x ≡ p .1) × (0 ≡ p .0)
 root-from o [] c p m = absurd (List·Memᴰ·not-nil m)
 root-from o (g ∷ gs) c p m = go (List·Memᴰ·cases-cons m) (root-from (o + length g) gs (c .1) p)

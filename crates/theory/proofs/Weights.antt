@@ -86,13 +86,13 @@ weights-one = record {
   weight-join = λ gs p f K e. rw (← weights-total gs) (joined-weight gs f K (joined-of gs (p, f) K e));
 }
 
-abbrev Soft : ℕ → Desc → ℕ → Type 0
+abbrev pub Soft : ℕ → Desc → ℕ → Type 0
 Soft = Rattle.descriptions.proofs.Soft.Soft weights-one
 
-abbrev SoftAll : ℕ → Disjs → ℕ → Type 0
+abbrev pub SoftAll : ℕ → Disjs → ℕ → Type 0
 SoftAll = Rattle.descriptions.proofs.Soft.SoftAll weights-one
 
-abbrev SoftAny : ℕ → Alts → ℕ → Type 0
+abbrev pub SoftAny : ℕ → Alts → ℕ → Type 0
 SoftAny = Rattle.descriptions.proofs.Soft.SoftAny weights-one
 
 abbrev len : Desc → ℕ

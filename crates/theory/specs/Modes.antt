@@ -5,7 +5,7 @@ use mathlib.Core.Option.{Option}
 use mathlib.Core.List.{List}
 use Prim.Native.Nat.{ℕ}
 use Rattle.theory.specs.Net.{Graph}
-use Rattle.theory.specs.Descr.{Desc, Disjs}
+use Rattle.theory.specs.Descr.{Desc, Disjs, Alts}
 use Rattle.theory.specs.JoiningOne.{joining-one}
 unfoldable pub use Rattle.descriptions.specs.Modes.{size, folded-in}
 
@@ -14,6 +14,9 @@ joined = Rattle.descriptions.specs.Modes.joined joining-one
 
 abbrev pub Round : Type 0
 Round = Rattle.descriptions.specs.Modes.Round Graph
+
+abbrev pub after : Alts → Round → Option Round
+after = Rattle.descriptions.specs.Modes.after joining-one
 
 abbrev pub round : (Desc → Option Desc) → Disjs → Option Round
 round = Rattle.descriptions.specs.Modes.round joining-one

@@ -1,11 +1,11 @@
 -- Each return of a call is the table's. Assumes nothing.
 use mathlib.Core.Path.{_≡_, refl, sym, ap, _∙_, subst}
 use mathlib.Core.Logic.{_⊎_, inl, inr}
-use mathlib.Core.List.{List, [], _∷_, _++_}
-use Prim.Native.Nat.{ℕ, suc, _+_, _≤_, _<_}
+use mathlib.Core.List.{List, [], _++_}
+use Prim.Native.Nat.{ℕ, _+_, _≤_, _<_}
 use native.Mathlib.Omega.{arith}
-use lib.ListN.{length, take, drop, getD, replicate, length-drop}
-use lib.Seq.{ext-getD, getD-drop, drop-cons}
+use lib.ListN.{length, drop, getD, replicate, length-drop}
+use lib.Seq.{ext-getD, getD-drop}
 use Rattle.theory.specs.Limits.{input-limit, working-size}
 use Rattle.theory.specs.Descr.{Desc}
 use Rattle.theory.specs.Layout.{words}
@@ -18,7 +18,7 @@ use Rattle.layout.specs.Standing.{Stands}
 use Rattle.layout.specs.Judged.{Judged}
 use Rattle.layout.specs.declared.reading.Judgement.{Judgement}
 use Rattle.layout.specs.declared.reading.Judgement.the-variants.{Accepted as Fine, Malformed}
-use Rattle.layout.proofs.Standing.{stands-cons, stands-within}
+use Rattle.layout.proofs.Standing.{stands-within, stands-taken}
 use Rattle.area.specs.Map.{RESULT}
 use Rattle.area.specs.Region.{region}
 use Rattle.opening.specs.Opening.{Read, Opening}
@@ -34,13 +34,7 @@ use Rattle.answering.specs.Handing.{ResultInside, Handed}
 -- words that stand at a place are the region there
 stands-region : (ws xs : List ℕ) (p q : ℕ) → Stands ws p xs q → region p (length xs) ws ≡ xs
 unfolding region
-stands-region ws [] p q h = refl
-stands-region ws (x ∷ xs) p q h =
-    let (l, e, t) = stands-cons ws x xs p q .0 h in
-    let i : take (length xs) (drop (p + 1) ws) ≡ xs = stands-region ws xs (p + 1) q t in
-    let z : p + 1 ≡ suc p = omega arith in
-    ap (take (suc (length xs))) (drop-cons ws p 0 l) ∙ ap (λ (y : ℕ). y ∷ take (length xs) (drop (suc p) ws)) e
-    ∙ ap (λ (k : ℕ). x ∷ take (length xs) (drop k ws)) (sym z) ∙ ap (λ (l : List ℕ). x ∷ l) i
+stands-region ws xs p q h = stands-taken ws xs p q h
 
 -- only the first n words of two areas differ
 wiped-alike : (n : ℕ) (w w′ : List ℕ) → length w′ ≡ length w → ((j : ℕ) → n ≤ j → getD w′ j 0 ≡ getD w j 0) → wiped n w′ ≡ wiped n w

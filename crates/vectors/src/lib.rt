@@ -1,5 +1,7 @@
 // Stored vectors: runs of little-endian 32-bit words on a file descriptor.
 // No contract can say which bytes a read brings; what is proved is that each function is safe and ends, and that what is read had room.
+pub mod lent;
+
 ghost use mathlib.Core.Path.{_≡_};
 ghost use Prim.Native.Nat.{ℕ, _≤_, _<_};
 ghost use lib.ListN.{length};
@@ -106,4 +108,34 @@ pub fn counted(fd: i32, dst: &mut [u32]) -> Run
         return Run::Broken;
     }
     Run::Of(n)
+}
+
+// Fills the front of dst with the next bytes, as many as the word before them says; zeros fill the last word.
+pub fn counted_bytes(fd: i32, dst: &mut [u8]) -> Run
+    ensures { λ r. ⌜ ((n : ℕ) → r ≡ Run.Of n → n ≤ length (now (dst .entry))) ⌝ }
+{
+    let first = next(fd);
+    let Word::Is(len) = first else {
+        return Run::Broken;
+    };
+    let n = len as usize;
+    let whole = (n + 3) / WORD_BYTES * WORD_BYTES;
+    if dst.len() < whole {
+        return Run::Broken;
+    }
+    let got = io::read_full(fd, &mut dst[..whole]);
+    if got < whole {
+        return Run::Broken;
+    }
+    Run::Of(n)
+}
+
+// Counts one more at i.
+pub fn count(counts: &mut [u32], i: usize) {
+    if i < counts.len() {
+        let x = counts[i];
+        if x < 4294967295 {
+            counts[i] = x + 1;
+        }
+    }
 }

@@ -10,13 +10,12 @@ use Rattle.theory.specs.Net.{Node, atom, arcs, Graph, nodeAt, arcsOf, Rising, I
 use Rattle.theory.specs.Layout.{arc-words, node-words, nodes-words}
 use Rattle.theory.proofs.Weight.{arc-length}
 use Rattle.layout.specs.Standing.{Stands}
-use Rattle.layout.proofs.Standing.{stands-append, stands-length}
+use Rattle.layout.proofs.Standing.{stands-append, stands-length, stands-frame}
 use Rattle.area.specs.Map.{LOG, RESULT, SIZE}
 use Rattle.forest.specs.Held.{ChainCode, AtomCode}
 use Rattle.writing.specs.Classes.{Fan, Classes, Met}
 use Rattle.writing.specs.Writing.{Kept, Arcing, Arced, NodeWriting, NodeWritten, NodesWriting, NodesWritten}
 use Rattle.writing.proofs.Keeping.{kept-refl, kept-trans, kept-both, kept-wider, kept-put, kept-stands, kept-classes, met-kept}
-use Rattle.loading.proofs.Putting.{stands-frame}
 
 node-some : (v : Node) → 0 < length (node-words v)
 node-some (atom a) = omega arith

@@ -18,7 +18,7 @@ use Rattle.forest.proofs.Links.{chain-same}
 use Rattle.forest.proofs.Places.{chain-low}
 use Rattle.writing.specs.Classes.{Fan, Classes, Met}
 use Rattle.writing.specs.Writing.{Kept, Unnumbered}
-use Rattle.loading.proofs.Putting.{stands-frame}
+use Rattle.layout.proofs.Standing.{stands-frame}
 
 pub kept-refl : (k at : ℕ) (w : List ℕ) → Kept k at at w w
 kept-refl k at w = record { len = refl; more = omega arith; low = λ j h. refl; mid = λ j h l. refl; high = λ j h. refl }

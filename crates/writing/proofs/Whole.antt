@@ -9,7 +9,7 @@ use Rattle.theory.specs.Net.{Graph}
 use Rattle.theory.specs.Layout.{nodes-words}
 use Rattle.theory.specs.Weight.{weight}
 use Rattle.layout.specs.Standing.{Stands}
-use Rattle.layout.proofs.Standing.{stands-length}
+use Rattle.layout.proofs.Standing.{stands-length, stands-frame}
 use Rattle.area.specs.Map.{PARENT, RESULT, SIZE}
 use Rattle.area.specs.Region.{region}
 use Rattle.forest.specs.Forest.{Shape, Root}
@@ -19,7 +19,6 @@ use Rattle.writing.specs.Classes.{Classes, Met}
 use Rattle.writing.specs.Writing.{Kept, Unnumbered, Numbering, Numbers, NodesWriting, NodesWritten, Writing, Writes}
 use Rattle.writing.proofs.Keeping.{kept-trans, kept-both, kept-wider, kept-put, kept-classes}
 use Rattle.writing.proofs.Source.{ord, source}
-use Rattle.loading.proofs.Putting.{stands-frame}
 
 module _ (n k : ℕ) (w : List ℕ) (o : ℕ) (p : Writing n k w o) where
   few : k ≤ 4096

@@ -1,17 +1,16 @@
 -- `answering::areas::copy_out` meets its contract. Assumes nothing.
 use Prim.Native.Nat.{_-_, _≤_}
 use native.Mathlib.Omega.{arith}
-use Rattle.area.specs.Map.{RESULT}
 use Rattle.area.specs.Region.{region}
 use Rattle.answering.proofs.Fronts.{Front, front-none, copy-one, copied}
 use Rattle.answering.proofs.areas.copy_out.Statement.{statement}
 use Rattle.answering.proofs.areas.copy_out.Tie as tie
 
 abbrev Inv-loop : tie.InvT-loop
-Inv-loop w result₀ n i₀ result i = (i ≤ n) × Front (region RESULT n w) result₀ i result
+Inv-loop w from result₀ n i₀ result i = (i ≤ n) × Front (region from n w) result₀ i result
 
 abbrev μ-loop : tie.MeasureT-loop
-μ-loop w result₀ n i₀ result i = n - i
+μ-loop w from result₀ n i₀ result i = n - i
 
 loop-holds : tie.Need-loop-holds Inv-loop μ-loop
 loop-holds c = (omega arith, front-none _ _)
@@ -40,7 +39,7 @@ loop-less c = omega arith
 loop-again : tie.Need-loop-again Inv-loop μ-loop
 loop-again c = (
   omega arith,
-  copy-one RESULT _ _ _ (c .before .before .before .pre .0) (c .before .before .before .pre .1) _ _
+  copy-one (c .before .before .before .args .from) _ _ _ (c .before .before .before .pre .0) (c .before .before .before .pre .1) _ _
       (c .before .before .loop .inv .1) (omega arith),
 )
 
@@ -48,7 +47,7 @@ same-length : tie.Need-same-length Inv-loop μ-loop
 same-length c = omega arith
 
 returns : tie.Need-returns Inv-loop μ-loop
-returns c = copied RESULT _ _ _ (c .before .before .pre .0) (c .before .before .pre .1) _ _ (omega arith) (c .before .loop .inv .1)
+returns c = copied (c .before .before .args .from) _ _ _ (c .before .before .pre .0) (c .before .before .pre .1) _ _ (omega arith) (c .before .loop .inv .1)
 
 pub copy-out-spec : {M : Type 1} → statement M
 copy-out-spec =
