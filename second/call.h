@@ -26,6 +26,15 @@ void call_print(const Call *call, FILE *to);
 // Prints words parted by single spaces.
 void words_print(const Words *words, FILE *to);
 
+// Reads digits parted by spaces and newlines, which may also stand at both ends.
+bool parse_numbers(const char *text, size_t length, Words *numbers);
+
+// Reads a call of `meet` from standard input; false for bad input. The call is freed in both cases.
+bool meet_read(Call *call);
+
+// Makes a call, prints its answer as `meet` does, and returns the number.
+uint32_t answer_meet(const Call *call);
+
 // The text interface of `meet`: one call from standard input, answered on standard output.
 int run_meet(void);
 

@@ -19,4 +19,13 @@ int run_known_formulas(void);
 // Checks which short texts over small alphabets are formulas, or can become one; 0 when all hold.
 int run_short_texts(void);
 
+// Checks causes and places of so many random runs of words; 0 when all hold.
+int run_check_causes(uint64_t seed, uint64_t count);
+
+// Checks known causes and places; 0 when all hold.
+int run_known_causes(void);
+
+// Checks causes and places of all short runs of words over small stocks; 0 when all hold.
+int run_short_words(void);
+
 #endif

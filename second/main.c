@@ -1,6 +1,7 @@
 // The program `second`: chooses the way to run by its arguments.
 #include "call.h"
 #include "check.h"
+#include "explain.h"
 #include "formula_call.h"
 #include "formula_texts.h"
 #include "generate.h"
@@ -13,11 +14,16 @@ static int usage(void) {
           "       second batch\n"
           "       second formula\n"
           "       second formulas\n"
+          "       second explain\n"
+          "       second told\n"
+          "       second causes\n"
           "       second known\n"
           "       second check SEED COUNT\n"
           "       second generate SEED COUNT\n"
           "       second texts SEED COUNT\n"
-          "       second vectors SEED COUNT calls|fits|reading|joins|formula [COUNT KIND ..]\n",
+          "       second broken SEED COUNT\n"
+          "       second vectors SEED COUNT calls|fits|reading|faults|joins|formula "
+          "[COUNT KIND ..]\n",
           stderr);
     return 2;
 }
@@ -39,48 +45,76 @@ static int run_vectors(uint64_t seed, char **parts) {
     return 0;
 }
 
-// The ways with a seed and a count.
-static int run_seeded(int argument_count, char **arguments) {
-    uint64_t seed;
-    uint64_t count;
-    if (argument_count < 4 || !number_of(arguments[2], &seed) || !number_of(arguments[3], &count)) {
-        return usage();
-    }
-    if (argument_count == 4 && strcmp(arguments[1], "check") == 0) {
-        return run_check(seed, count) + run_check_formulas(seed, count) > 0;
-    }
-    if (argument_count == 4 && strcmp(arguments[1], "generate") == 0) {
-        return run_generate(seed, count);
-    }
-    if (argument_count == 4 && strcmp(arguments[1], "texts") == 0) {
-        return run_texts(seed, count);
-    }
-    if (argument_count % 2 == 1 && strcmp(arguments[1], "vectors") == 0) {
-        return run_vectors(seed, arguments + 3);
+static int run_checks(uint64_t seed, uint64_t count) {
+    int failures = run_check(seed, count);
+    failures += run_check_formulas(seed, count);
+    failures += run_check_causes(seed, count);
+    return failures > 0;
+}
+
+static int run_all_known(void) {
+    int failures = run_known() + run_known_formulas() + run_short_texts();
+    failures += run_known_causes() + run_short_words();
+    return failures > 0;
+}
+
+typedef struct {
+    const char *name;
+    int (*run)(void);
+} PlainWay;
+
+// The ways without further arguments.
+static const PlainWay plain_ways[] = {
+    {"batch", run_batch},     {"formula", run_formula}, {"formulas", run_formulas},
+    {"explain", run_explain}, {"told", run_told},       {"causes", run_causes},
+    {"known", run_all_known},
+};
+
+typedef struct {
+    const char *name;
+    int (*run)(uint64_t seed, uint64_t count);
+} SeededWay;
+
+// The ways with a seed and a count alone.
+static const SeededWay seeded_ways[] = {
+    {"check", run_checks},
+    {"generate", run_generate},
+    {"texts", run_texts},
+    {"broken", run_broken},
+};
+
+static int run_plain(const char *name) {
+    for (size_t index = 0; index < sizeof plain_ways / sizeof *plain_ways; index++) {
+        if (strcmp(name, plain_ways[index].name) == 0) {
+            return plain_ways[index].run();
+        }
     }
     return usage();
 }
 
-// The ways without further arguments.
-static int run_plain(const char *way) {
-    if (strcmp(way, "batch") == 0) {
-        return run_batch();
-    }
-    if (strcmp(way, "formula") == 0) {
-        return run_formula();
-    }
-    if (strcmp(way, "formulas") == 0) {
-        return run_formulas();
-    }
-    if (strcmp(way, "known") == 0) {
-        return run_known() + run_known_formulas() + run_short_texts() > 0;
+static int run_seeded(const char *name, uint64_t seed, uint64_t count) {
+    for (size_t index = 0; index < sizeof seeded_ways / sizeof *seeded_ways; index++) {
+        if (strcmp(name, seeded_ways[index].name) == 0) {
+            return seeded_ways[index].run(seed, count);
+        }
     }
     return usage();
 }
 
 int main(int argument_count, char **arguments) {
+    uint64_t seed;
+    uint64_t count;
     if (argument_count == 1) {
         return run_meet();
     }
-    return argument_count == 2 ? run_plain(arguments[1]) : run_seeded(argument_count, arguments);
+    if (argument_count == 2) {
+        return run_plain(arguments[1]);
+    }
+    if (argument_count < 4 || !number_of(arguments[2], &seed) || !number_of(arguments[3], &count)) {
+        return usage();
+    }
+    if (argument_count % 2 == 1 && strcmp(arguments[1], "vectors") == 0) {
+        return run_vectors(seed, arguments + 3);
+    }
+    return argument_count == 4 ? run_seeded(arguments[1], seed, count) : usage();
 }

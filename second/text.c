@@ -26,8 +26,7 @@ static bool parse_number(const char *text, size_t length, size_t *position, uint
     return value <= UINT32_MAX;
 }
 
-// Reads digits parted by spaces and newlines, which may also stand at both ends.
-static bool parse_numbers(const char *text, size_t length, Words *numbers) {
+bool parse_numbers(const char *text, size_t length, Words *numbers) {
     size_t position = 0;
     while (position < length) {
         if (is_separator(text[position])) {
@@ -81,7 +80,7 @@ static void print_answer(const Outcome *outcome) {
            outcome->length, outcome->readings);
 }
 
-static void answer_meet(const Call *call) {
+uint32_t answer_meet(const Call *call) {
     Outcome outcome = call_run(call);
     print_answer(&outcome);
     putchar('\n');
@@ -90,13 +89,18 @@ static void answer_meet(const Call *call) {
         putchar('\n');
     }
     words_free(&outcome.result);
+    return outcome.number;
+}
+
+bool meet_read(Call *call) {
+    static char text[LONGEST_TEXT + 1];
+    size_t length = fread(text, 1, sizeof text, stdin);
+    return parse_meet(text, length, call);
 }
 
 int run_meet(void) {
-    static char text[LONGEST_TEXT + 1];
-    size_t length = fread(text, 1, sizeof text, stdin);
     Call call;
-    if (parse_meet(text, length, &call)) {
+    if (meet_read(&call)) {
         answer_meet(&call);
     } else {
         puts("bad input");

@@ -1,6 +1,8 @@
 // Stored vectors: a stream of little-endian 32-bit words, ended by 0xFFFFFFFF.
 #include "generate.h"
 
+#include "causes.h"
+#include "causes_words.h"
 #include "faults.h"
 #include "formula_texts.h"
 #include "shapes.h"
@@ -135,6 +137,17 @@ static void put_random_reading(Random *random) {
     words_free(&words);
 }
 
+// At most 1,024 words, the number of the cause or 0, its data, and the place.
+static void put_random_fault(Random *random) {
+    Words words = random_words_with_cause(random);
+    Finding finding = find_cause(words.at, words.count, NULL);
+    put_counted(&words);
+    put_word(finding.cause);
+    put_word(finding.data);
+    put_word((uint32_t)finding.place);
+    words_free(&words);
+}
+
 // Bytes after their number, four to a word and the first of them lowest; zeros fill the last word.
 static void put_counted_bytes(const Bytes *bytes) {
     put_word((uint32_t)bytes->count);
@@ -180,6 +193,7 @@ bool put_vectors(uint64_t seed, uint64_t count, const char *kind) {
     void (*put)(Random *) = strcmp(kind, "calls") == 0     ? put_random_call
                             : strcmp(kind, "fits") == 0    ? put_random_fit
                             : strcmp(kind, "reading") == 0 ? put_random_reading
+                            : strcmp(kind, "faults") == 0  ? put_random_fault
                             : strcmp(kind, "joins") == 0   ? put_random_join
                             : strcmp(kind, "formula") == 0 ? put_random_formula
                                                            : NULL;
