@@ -6,16 +6,35 @@ use answering::answer::Answer;
 use answering::areas::wipe;
 use answering::hand::hand_over;
 use area::map::SIZE;
+use faults::cause::Cause;
+use faults::fault::Fault;
+use faults::fault::find_fault;
 use layout::reading::Judgement;
 use layout::reading::judge;
 use limits::INPUT_LIMIT;
-ghost use Prim.Native.Nat.{_≤_};
+ghost use Prim.Native.Nat.{ℕ, _≤_};
+ghost use Rattle.theory.specs.LayoutOne.{Image};
 ghost use Rattle.theory.specs.Outcome.{Outcome};
+ghost use Rattle.faults.specs.Faults.{Faulty};
+ghost use Rattle.faults.specs.Coded.{cause-of};
 ghost use Rattle.opening.specs.Opening.{Opening};
 ghost use Rattle.answering.specs.Number.{row-of};
+ghost use Rattle.unify.specs.Caused.{Caused};
 
 // "mode above 2"
 const LAST_MODE: u32 = 2;
+
+// Why these words are malformed: found only where that is known, so that what is accepted costs nothing more.
+fn cause_in(ws: &[u32]) -> Cause
+    requires { ⌜ (Image (now ws) → ⊥) ⌝ }
+    ensures { λ r. ⌜ ((p : ℕ) × Faulty (now (ws .entry)) (cause-of r) p) ⌝ }
+{
+    let fault = find_fault(ws);
+    match fault {
+        Fault::At(cause, at) => cause,
+        Fault::None => Cause::WordsEnd,
+    }
+}
 
 // The answer to two inputs that are well formed and not too long.
 fn conclude(
@@ -29,6 +48,7 @@ fn conclude(
     ensures { λ r. ⌜ Outcome (record { mode = mode; first = now (first .entry); second = now (second .entry) })
         (record { result = now (result .entry); working = now (working .entry) }) (row-of r)
         (record { result = now (result .exit); working = now (working .exit) }) ⌝ }
+    ensures { λ r. ⌜ Caused (now (first .entry)) (now (second .entry)) r ⌝ }
 {
     let made = make(mode, working, first, second);
     let answer = hand_over(made, working, result);
@@ -47,6 +67,7 @@ pub fn unify(
     ensures { λ r. ⌜ Outcome (record { mode = mode; first = now (first .entry); second = now (second .entry) })
         (record { result = now (result .entry); working = now (working .entry) }) (row-of r)
         (record { result = now (result .exit); working = now (working .exit) }) ⌝ }
+    ensures { λ r. ⌜ Caused (now (first .entry)) (now (second .entry)) r ⌝ }
 {
     if LAST_MODE < mode {
         return Answer::BadMode;
@@ -62,11 +83,11 @@ pub fn unify(
     }
     let one = judge(first);
     let Judgement::Accepted = one else {
-        return Answer::BadFirst;
+        return Answer::BadFirst(cause_in(first));
     };
     let two = judge(second);
     let Judgement::Accepted = two else {
-        return Answer::BadSecond;
+        return Answer::BadSecond(cause_in(second));
     };
     conclude(mode, first, second, result, working)
 }
