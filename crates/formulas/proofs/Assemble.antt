@@ -12,8 +12,8 @@ use Rattle.formulas.specs.Formula.{Path, Formula}
 use Rattle.formulas.specs.Part.{Fact, part-graph}
 use Rattle.formulas.specs.Draft.{Draft, draft, Splits, done, _beside_, Sides, out, _versus_, drafted}
 use Rattle.formulas.specs.Describe.{describe}
-use Rattle.formulas.specs.Gather.{Gathered, as-desc, as-alts, gathered-desc, Gain, gained, gather-closed, put-before, gather}
-use Rattle.formulas.specs.Gather.{gather-all, gather-left}
+use Rattle.formulas.proofs.Gathering.{Gathered, as-desc, as-alts, gathered-desc, Gain, gained, gather-closed, put-before, gather}
+use Rattle.formulas.proofs.Gathering.{gather-all, gather-left}
 use Rattle.formulas.specs.Sheet.{Sheet, blank-sheet, _plus_, Laid, laid, Rows, over, _besides_, Cells, gone, _against_, laid-out}
 use Rattle.formulas.specs.Sheet.{sheet-graph, SheetPiece, piece-desc, piece-alts, as-piece, Share, won, piece-closed, piece-before}
 use Rattle.formulas.specs.Sheet.{assemble, assemble-all, assemble-left, paths, path-of}

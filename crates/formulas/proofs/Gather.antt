@@ -12,8 +12,8 @@ use Rattle.theory.proofs.Instance.{AllCanonical}
 use Rattle.formulas.specs.Part.{Fact, part-graph, Definite}
 use Rattle.formulas.specs.Draft.{Draft, draft, Splits, done, _beside_, Sides, out, _versus_}
 use Rattle.formulas.specs.Describe.{with-graph, kept-before, settle-draft, settle-all, left-of}
-use Rattle.formulas.specs.Gather.{Gathered, as-desc, as-alts, gathered-desc, Gain, gained, gather-closed, put-before, gather}
-use Rattle.formulas.specs.Gather.{gather-all, gather-left}
+use Rattle.formulas.proofs.Gathering.{Gathered, as-desc, as-alts, gathered-desc, Gain, gained, gather-closed, put-before, gather}
+use Rattle.formulas.proofs.Gathering.{gather-all, gather-left}
 use Rattle.formulas.proofs.Definite.{definite-iff}
 use Rattle.formulas.proofs.Facts.{FactsHold, hold-both, hold-each, definite-sat}
 use Rattle.formulas.proofs.Alike.{part-same}

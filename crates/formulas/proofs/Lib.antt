@@ -2,7 +2,8 @@
 -- them.
 -- `Drafts`, `Settled` and `Well` conclude for formulas: what satisfies a description, what a clash is, and that it is well formed. `Cases`
 -- has known formulas.
--- `Alike` has the graph of a part from what it says; `Gather` folds facts; `Spots`, `Rows`, `Told`, `Sheets`, `Laid` and `Assemble` go to
+-- `Alike` has the graph of a part from what it says; `Gathering` folds facts, and `Gather` says that this comes to the
+-- same; `Spots`, `Rows`, `Told`, `Sheets`, `Laid` and `Assemble` go to
 -- numbered spots, `Order` to any labels and any order, `Flat` to one list and `Homes` to numbers of alternatives.
 pub mod Chains
 pub mod Definite
@@ -14,6 +15,7 @@ pub mod Settled
 pub mod Well
 pub mod Cases
 pub mod Alike
+pub mod Gathering
 pub mod Gather
 pub mod Spots
 pub mod Rows
