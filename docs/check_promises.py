@@ -26,10 +26,10 @@ import sys
 TOP = pathlib.Path(__file__).resolve().parent.parent
 # where wrong edits stand: those that the gate tries, and those that mutation/edits tries
 EDITS = ("must-fail", "edits")
-READ = ["descriptions", "theory", "answering", "unify", "fit", "call_text", "answer_text", "reply", "formula_text"]
+READ = ["descriptions", "theory", "answering", "unify", "fit", "call_text", "answer_text", "reply", "formula_text", "malformed", "explaining"]
 # of other crates, the files that are read
 READ_FILES = {"formulas": ["Formula", "Part", "Draft", "Describe", "Known"], "signs": ["Limits", "Signs", "Grammar"],
-              "translate": ["Translated", "Row", "Answered"]}
+              "translate": ["Translated", "Row", "Answered"], "roles": ["Faults", "Causes"], "faults": ["Hints"]}
 DOCS = sorted(TOP.glob("*.md")) + sorted(TOP.glob("docs/**/*.md"))
 CITED = re.compile(r"`(\w+)(?:(!)(\w+)|:(fn|proof of) ([\w, ]+)|:([A-Z]\w*)(?:\.([^`\s]+))?)`")
 PATH = re.compile(r"`((?:crates|second|docs|include|examples|bench|fuzz|mutation)/[^` ]+)`")

@@ -1,4 +1,5 @@
-# What the tests of the commands share. Read by `exit_status` and `formula_status`, where $name is the command that is tested.
+# What the tests of the commands share. Read by `exit_status`, `formula_status` and `explain_status`, where $name is the command
+# that is tested.
 work=$(mktemp -d)
 trap 'rm -rf "$work"' EXIT
 
@@ -51,6 +52,13 @@ copy_program() {
     printf '#!/bin/sh\ncat >/dev/null\nprintf "$SAYS"\neval "$ENDS"\n' >"$copy/target/bin/$1"
     chmod +x "$copy/target/bin/$1"
     export SAYS ENDS
+}
+
+# In the copy, the command from $2 on for the program $1.
+stand_in() {
+    mkdir -p "$copy/target/bin"
+    printf '#!/bin/sh\nexec %s\n' "$(printf '%q ' "${@:2}")" >"$copy/target/bin/$1"
+    chmod +x "$copy/target/bin/$1"
 }
 
 # What a command says where the program $1 cannot be built.

@@ -1,5 +1,6 @@
-// Bublastyr: unification of disjunctive feature descriptions, the fit test, and formulas as they are printed. All
-// are proved to answer exactly what the documents say, for every input and every size of the areas.
+// Bublastyr: unification of disjunctive feature descriptions, the fit test, what is malformed in an input, and formulas
+// as they are printed. All are proved to answer exactly what the documents say, for every input and every size of the
+// areas.
 #ifndef BUBLASTYR_H
 #define BUBLASTYR_H
 
@@ -36,6 +37,20 @@ enum {
     BUBLASTYR_LONG_TEXT = 25,     // the text has more than 4,096 bytes
 };
 
+// The causes that bublastyr_malformed tells. The first word, in reading order, that breaks a rule by itself or with the
+// words before it decides.
+enum {
+    BUBLASTYR_WORDS_END = 1,        // the words end before the description does
+    BUBLASTYR_WORDS_LEFT_OVER = 2,  // a word stands after the description
+    BUBLASTYR_NO_NODES = 3,         // a node count is 0
+    BUBLASTYR_BAD_HEAD = 4,         // a head is over 131,071; told[1] is that head
+    BUBLASTYR_BAD_FEATURE = 5,      // a feature is over 65,535, or not over the one before it
+    BUBLASTYR_BAD_TARGET = 6,       // a target is out of turn; told[1] is that target
+    BUBLASTYR_NODE_NOT_MET = 7,     // a head stands before an arc has led to its node
+    BUBLASTYR_FEW_ALTERNATIVES = 8, // a disjunction has fewer than two alternatives
+    BUBLASTYR_NESTED_TOO_DEEP = 9,  // an alternative at depth 4 has disjunctions
+};
+
 // The words that a working area must have.
 #define BUBLASTYR_WORKING 16384
 
@@ -62,6 +77,20 @@ uint32_t bublastyr_unify(uint32_t mode, const uint32_t *first, size_t first_len,
 // 0 or 6, checked in that order. Writes nothing. Here too a pointer may be null where its length is 0.
 uint32_t bublastyr_fit(const uint32_t *structure, size_t structure_len, const uint32_t *description,
                        size_t description_len);
+
+// Tells what is malformed in two inputs, and where. Answers 3, 4, 5 or 0, checked in that order: 3 where either has
+// more than 1,024 words, 4 where the first is malformed, 5 where only the second is, 0 where neither is. It looks at no
+// mode and no areas.
+//
+// told[0] is the cause after 4 and 5, one of the numbers 1 to 9; else 0.
+// told[1] is the cause's own value: the head of BUBLASTYR_BAD_HEAD, the target of BUBLASTYR_BAD_TARGET; else 0.
+// told[2] is after 4 and 5 the position, from 0, of the word that decides, in the input that is malformed: first +
+// told[2] or second + told[2] is where the wrong part starts. After BUBLASTYR_WORDS_END it is the length of that input,
+// and after 0 and 3 the length of the first.
+//
+// Writes told alone. The inputs and told must not overlap. A pointer may be null where its length is 0.
+uint32_t bublastyr_malformed(const uint32_t *first, size_t first_len, const uint32_t *second,
+                             size_t second_len, uint32_t told[3]);
 
 // Writes the description that a formula stands for, and answers 0, 20, 21, 22, 23, 24 or 25. The checks run in the
 // order 25, 20, 21, 22, 23, 24. The text is that of the formula alone, with no newline or other byte after it.

@@ -1,4 +1,4 @@
-// Saying in sentences what came of a call, and what is malformed; EXPLAIN.md has the
+// Saying in sentences what came of a call, and what is malformed; docs/EXPLAIN.md has the
 // sentences.
 #ifndef EXPLAIN_H
 #define EXPLAIN_H

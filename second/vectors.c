@@ -120,31 +120,30 @@ static Words random_words_to_read(Random *random) {
     return words;
 }
 
-// At most 1,024 words, and the verdict of the word layout: 1 is well formed, 0 malformed.
+// Words, the number of their cause or 0, its data, and the place.
+static void put_with_cause(const Words *words) {
+    Finding finding = find_cause(words->at, words->count, NULL);
+    put_counted(words);
+    put_word(finding.cause);
+    put_word(finding.data);
+    put_word((uint32_t)finding.place);
+}
+
+// At most 1,024 words, a third of them well formed.
 static void put_random_reading(Random *random) {
     Words words = random_words_to_read(random);
     while (words.count > LONGEST_INPUT) {
         words_free(&words);
         words = random_words_to_read(random);
     }
-    Description description;
-    bool well_formed = description_read(words.at, words.count, &description);
-    if (well_formed) {
-        description_free(&description);
-    }
-    put_counted(&words);
-    put_word(well_formed);
+    put_with_cause(&words);
     words_free(&words);
 }
 
-// At most 1,024 words, the number of the cause or 0, its data, and the place.
+// At most 1,024 words, by each cause as often.
 static void put_random_fault(Random *random) {
     Words words = random_words_with_cause(random);
-    Finding finding = find_cause(words.at, words.count, NULL);
-    put_counted(&words);
-    put_word(finding.cause);
-    put_word(finding.data);
-    put_word((uint32_t)finding.place);
+    put_with_cause(&words);
     words_free(&words);
 }
 

@@ -90,13 +90,36 @@ module _ (dst₀ : List ℕ) (at : ℕ) (xs dst : List ℕ) (end : ℕ) (ys : Li
     turns-stop b old whole left g = subst (λ (w : Written). Gone old whole (zs ++ left) mid w) (sym b) (turned old whole left g)
 
 -- ---- a text from the start on
+-- where nothing is left, the whole is written
+all-written : (text dst dst′ : List ℕ) (r : Written) → Gone dst text [] dst′ r → Wrote text dst dst′ r
+all-written text dst dst′ (Bytes n) g =
+    let e : text ≡ g .written = g .splits ∙ append-nil (g .written) in
+    (sym (g .place) ∙ ap length (sym e), g .room, g .holds ∙ ap (λ (l : List ℕ). l ++ drop n dst) (sym e))
+all-written text dst dst′ NoRoom g = g
+
 module _ (text dst dst′ : List ℕ) where
   starts : Going dst text dst 0 (text ++ [])
   starts = record { written = []; splits = sym (append-nil text); place = refl; holds = refl; room = omega arith }
 
   pub wrote : (r : Written) → Appends text dst 0 dst′ r → Wrote text dst dst′ r
-  wrote (Bytes n) f =
-      let g : Going dst text dst′ n [] = f dst text [] starts in
-      let e : text ≡ g .written = g .splits ∙ append-nil (g .written) in
-      (sym (g .place) ∙ ap length (sym e), g .room, g .holds ∙ ap (λ (l : List ℕ). l ++ drop n dst) (sym e))
-  wrote NoRoom f = f dst text [] starts
+  wrote r f = all-written text dst dst′ r (f dst text [] starts)
+
+-- ---- a piece after a text
+module _ (text piece dst mid : List ℕ) (q : Written) (w : Wrote text dst mid q) where
+  pub text-then : (n : ℕ) → q ≡ Bytes n → (end : List ℕ) (r : Written) → Appends piece mid n end r → Wrote (text ++ piece) dst end r
+  text-then n e end r f =
+      let there : Wrote text dst mid (Bytes n) = subst (Wrote text dst mid) e w in
+      let goes : Going dst (text ++ piece) mid n (piece ++ []) = record {
+        written = text;
+        splits = ap (λ (l : List ℕ). text ++ l) (sym (append-nil piece));
+        place = sym (there .0);
+        holds = there .2;
+        room = there .1;
+      } in
+      all-written (text ++ piece) dst end r (f dst (text ++ piece) [] goes)
+
+  pub text-stops : NoRoom ≡ q → (end : List ℕ) → Wrote (text ++ piece) dst end NoRoom
+  text-stops e end =
+      let short : length dst < length text = subst (Wrote text dst mid) (sym e) w in
+      let s = length-append text piece in
+      omega arith

@@ -1,5 +1,6 @@
--- What was made is handed over. Assumes nothing.
-use mathlib.Core.Path.{_≡_, refl, subst}
+-- What was made is handed over, and carries no cause.
+-- Assumes nothing.
+use mathlib.Core.Path.{_≡_, refl, sym, subst}
 use mathlib.Core.Logic.{inl, inr}
 use mathlib.Core.List.{List, _++_}
 use Prim.Native.Nat.{ℕ, _+_, _≤_, _<_}
@@ -8,8 +9,10 @@ use Rattle.area.specs.Map.{RESULT}
 use Rattle.area.specs.Region.{region}
 use Rattle.answering.specs.declared.hand.Made.{Made}
 use Rattle.answering.specs.declared.hand.Made.the-variants as made
+use Rattle.answering.specs.declared.answer.Answer.{Answer}
 use Rattle.answering.specs.declared.answer.Answer.the-variants.{Done, Clash, TooMany, NoRoom}
 use Rattle.answering.specs.Handing.{ResultInside, Handed}
+use Rattle.answering.specs.Caused.{Caused}
 
 pub handed-room : (w : List ℕ) (m : Made) (n k : ℕ) → m ≡ made.Ready n k → ResultInside w m → RESULT + n ≤ length w
 handed-room w m n k e h = subst (ResultInside w) e h
@@ -33,3 +36,12 @@ module _ (w s : List ℕ) where
 
     pub handed-done : (s′ : List ℕ) → n ≤ length s → s′ ≡ region RESULT n w ++ drop n s → Handed w s m (Done n k) s′
     handed-done s′ h q = rw e (inr (h, refl, q))
+
+-- only a malformed input has a cause, and of such nothing is made
+pub handed-caused : (a b w s : List ℕ) (m : Made) (r : Answer) (s′ : List ℕ) → Handed w s m r s′ → Caused a b r
+handed-caused a b w s made.Clash r s′ (e, same) = subst (Caused a b) (sym e) tt
+handed-caused a b w s made.QuickFails r s′ (e, same) = subst (Caused a b) (sym e) tt
+handed-caused a b w s made.TooMany r s′ (e, same) = subst (Caused a b) (sym e) tt
+handed-caused a b w s made.NoChoice r s′ (e, same) = subst (Caused a b) (sym e) tt
+handed-caused a b w s (made.Ready n k) r s′ (inl (short, e, same)) = subst (Caused a b) (sym e) tt
+handed-caused a b w s (made.Ready n k) r s′ (inr (fits, e, wrote)) = subst (Caused a b) (sym e) tt

@@ -11,8 +11,8 @@ row-of (Done n r) = record { number = 0; extent = n; readings = r }
 row-of BadMode = record { number = 1; extent = 0; readings = 0 }
 row-of SmallArea = record { number = 2; extent = 0; readings = 0 }
 row-of TooLong = record { number = 3; extent = 0; readings = 0 }
-row-of BadFirst = record { number = 4; extent = 0; readings = 0 }
-row-of BadSecond = record { number = 5; extent = 0; readings = 0 }
+row-of (BadFirst c) = record { number = 4; extent = 0; readings = 0 }
+row-of (BadSecond c) = record { number = 5; extent = 0; readings = 0 }
 row-of Clash = record { number = 6; extent = 0; readings = 0 }
 row-of TooMany = record { number = 7; extent = 0; readings = 0 }
 row-of (NoRoom n) = record { number = 8; extent = n; readings = 0 }

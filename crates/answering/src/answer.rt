@@ -1,15 +1,16 @@
 // The answers of unification, and document 01's row for each.
+use roles::cause::Cause;
 ghost use mathlib.Core.Path.{_≡_};
 ghost use Rattle.answering.specs.Number.{row-of};
 
-// What comes of a call; `row-of` gives document 01's number, length and readings of each.
+// What comes of a call, of a malformed input with its cause; `row-of` gives document 01's number, length and readings of each.
 pub enum Answer {
     Done { length: usize, readings: u32 },
     BadMode,
     SmallArea,
     TooLong,
-    BadFirst,
-    BadSecond,
+    BadFirst(Cause),
+    BadSecond(Cause),
     Clash,
     TooMany,
     NoRoom { length: usize },
@@ -36,8 +37,8 @@ pub fn told(answer: Answer) -> Row
         Answer::BadMode => refusal(1),
         Answer::SmallArea => refusal(2),
         Answer::TooLong => refusal(3),
-        Answer::BadFirst => refusal(4),
-        Answer::BadSecond => refusal(5),
+        Answer::BadFirst(_) => refusal(4),
+        Answer::BadSecond(_) => refusal(5),
         Answer::Clash => refusal(6),
         Answer::TooMany => refusal(7),
         Answer::NoRoom { length } => Row {

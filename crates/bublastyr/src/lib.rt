@@ -2,6 +2,7 @@
 ghost use lib.ListN.{getD};
 ghost use Rattle.theory.specs.FitTest.{FitGiven};
 ghost use Rattle.theory.specs.Outcome.{Outcome};
+ghost use Rattle.malformed.specs.Malformed.{Reported};
 ghost use Rattle.translate.specs.Answered.{Answered};
 
 // Unifies two descriptions. Answers document 01's number; length and readings go to `told`.
@@ -32,6 +33,18 @@ pub extern "C" fn bublastyr_fit(structure: &[u32], description: &[u32]) -> u32
 {
     let verdict = fit::fit(structure, description);
     fit::number(verdict)
+}
+
+// Tells what is malformed of two inputs. Answers document 01's number; cause, its own data and the place of the word go to `told`.
+#[no_mangle]
+pub extern "C" fn bublastyr_malformed(first: &[u32], second: &[u32], told: &mut [u32; 3]) -> u32
+    ensures { λ r. ⌜ Reported (now (first .entry)) (now (second .entry)) r (getD (now (told .exit)) 0 0) (getD (now (told .exit)) 1 0)
+        (getD (now (told .exit)) 2 0) ⌝ }
+{
+    let what = malformed::judging::find_malformed(first, second);
+    let report = malformed::judging::told(what, first.len());
+    *told = [report.cause, report.value, report.place];
+    report.number
 }
 
 // Writes the description that a formula stands for. Answers the number; length and byte go to `told`.

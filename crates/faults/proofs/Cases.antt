@@ -4,8 +4,8 @@ use mathlib.Core.Path.{_≡_, refl}
 use mathlib.Core.Option.{Option, some}
 use mathlib.Core.List.{List, [], _∷_, _++_, map}
 use Prim.Native.Nat.{ℕ}
-use Rattle.faults.specs.Faults.{Cause, words-end, words-left-over, no-nodes, bad-head, bad-feature, bad-target, not-met}
-use Rattle.faults.specs.Faults.{few-alternatives, too-deep, Faulty}
+use Rattle.roles.specs.Faults.{Cause, words-end, words-left-over, no-nodes, bad-head, bad-feature, bad-target, not-met}
+use Rattle.roles.specs.Faults.{few-alternatives, too-deep, Faulty}
 use Rattle.faults.proofs.Run.{start, found, found-faulty}
 
 -- words, the cause, and the place of the word that decides

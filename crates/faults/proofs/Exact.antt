@@ -6,15 +6,15 @@ use mathlib.Core.List.{List, []}
 use Prim.Native.Nat.{ℕ}
 use Rattle.theory.specs.Limits.{depth-limit}
 use Rattle.theory.specs.LayoutOne.{Image}
-use Rattle.faults.specs.Faults.{Cause, words-end, words-left-over, no-nodes, bad-head, bad-feature, bad-target, not-met}
-use Rattle.faults.specs.Faults.{few-alternatives, too-deep, the-end, Expected, expect, role, Faulty}
-use Rattle.faults.specs.Coded.{cause-of}
+use Rattle.roles.specs.Faults.{Cause, words-end, words-left-over, no-nodes, bad-head, bad-feature, bad-target, not-met}
+use Rattle.roles.specs.Faults.{few-alternatives, too-deep, the-end, Expected, expect, role, Faulty}
+use Rattle.roles.specs.Coded.{cause-of}
 use Rattle.faults.specs.Told.{Told}
-use Rattle.faults.specs.declared.cause.Cause as Coded
-use Rattle.faults.specs.declared.cause.Cause.the-variants.{WordsEnd, WordsLeftOver, NoNodes, BadHead, BadFeature, BadTarget, NotMet}
-use Rattle.faults.specs.declared.cause.Cause.the-variants.{FewAlternatives, TooDeep}
-use Rattle.faults.specs.declared.cause.Fault.{Fault}
-use Rattle.faults.specs.declared.cause.Fault.the-variants.{None, At}
+use Rattle.roles.specs.declared.cause.Cause as Coded
+use Rattle.roles.specs.declared.cause.Cause.the-variants.{WordsEnd, WordsLeftOver, NoNodes, BadHead, BadFeature, BadTarget, NotMet}
+use Rattle.roles.specs.declared.cause.Cause.the-variants.{FewAlternatives, TooDeep}
+use Rattle.faults.specs.declared.verdict.Fault.{Fault}
+use Rattle.faults.specs.declared.verdict.Fault.the-variants.{None, At}
 use Rattle.faults.proofs.Run.{Goes, start, ends-or-faulty, ends-faultless}
 use Rattle.faults.proofs.Reach.{desc-goes}
 use Rattle.faults.proofs.Rests.{ends-image}

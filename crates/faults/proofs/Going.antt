@@ -10,16 +10,11 @@ use native.Mathlib.Omega.{arith}
 use lib.ListN.{length, take, getD}
 use lib.Dec.{ltb}
 use borrow.Author.Tests.{ltb-true, ltb-false}
-use Rattle.theory.specs.LayoutOne.{Image}
-use Rattle.faults.specs.Faults.{Cause, words-end, the-end, Nesting, Expected, expect, role, breaks, expected-after}
-use Rattle.faults.specs.Faults.{expected-from, expected-at, Faulty}
-use Rattle.faults.specs.Coded.{role-of, Bounded, ended-of}
-use Rattle.faults.specs.Told.{Told}
-use Rattle.faults.specs.declared.role.Role.{Role}
-use Rattle.faults.specs.declared.role.Role.the-variants.{NodeCount, Head, Feature, Target, DisjunctionCount, AlternativeCount, End}
+use Rattle.roles.specs.Faults.{Cause, Expected, role, breaks, expected-after, expected-from, expected-at}
+use Rattle.faults.specs.Stops.{Stopped}
+use Rattle.faults.specs.Coded.{Bounded}
 use Rattle.faults.proofs.Rules.{bounded-after}
-use Rattle.faults.proofs.Run.{Goes, start}
-use Rattle.faults.proofs.Rests.{ends-image}
+use Rattle.faults.proofs.Run.{start}
 
 abbrev W : Type 0
 W = List ℕ
@@ -63,35 +58,10 @@ module _ (ws : W) (e : Expected) (at : ℕ) (g : Going ws e at) (l : at < length
       before : (i : ℕ) → i < suc at → breaks (expected-at ws i) (getD ws i 0) ≡ none
       before i m = ⊎-elim (λ (a : i < at). g .before i a) (λ (q : i ≡ at). last i q) (earlier i m)
 
-  pub going-stop : (c : Cause) → breaks e (getD ws at 0) ≡ some c → Faulty ws c at
+  pub going-stop : (c : Cause) → breaks e (getD ws at 0) ≡ some c → Stopped ws (role e) (some c) at
   going-stop c b =
-      record { before = g .before; here = inl (l, ap (λ (x : Expected). breaks x (getD ws at 0)) (g .here) ∙ b) }
+      record { before = g .before; there = ap role (g .here); by = (l, ap (λ (x : Expected). breaks x (getD ws at 0)) (g .here) ∙ b) }
 
-all-go : (e : Expected) (ws : W) → ((i : ℕ) → i < length ws → breaks (expected-from e (take i ws)) (getD ws i 0) ≡ none) →
-    Goes e ws (expected-from e (take (length ws) ws))
-all-go e [] b = refl
-all-go e (w ∷ ws) b = (b 0 (omega arith), all-go (expected-after e w) ws (λ i l. b (suc i) (omega arith)))
-
--- the words end where others are expected
-module _ (ws : W) (e : Expected) (g : Going ws e (length ws)) where
-  cut-short : ¬ (role e ≡ the-end) → Faulty ws words-end (length ws)
-  cut-short n = record { before = g .before; here = inr (refl, λ z. n (ap role (sym (g .here)) ∙ z), refl) }
-
-  whole : role e ≡ the-end → Image ws
-  whole h = ends-image ws (expected-at ws (length ws)) (ap role (g .here) ∙ h) (all-go start ws (g .before))
-
-told-end : (ws : W) (r : Role) (s : Nesting) → Going ws (expect (role-of r) s) (length ws) → Told ws (ended-of r (length ws))
-told-end ws NodeCount s g = cut-short ws _ g (λ z. let y : _≡_ {A = ℕ} 0 1 = cc in omega arith)
-told-end ws (Head n) s g = cut-short ws _ g (λ z. let y : _≡_ {A = ℕ} 0 1 = cc in omega arith)
-told-end ws (Feature n k b) s g = cut-short ws _ g (λ z. let y : _≡_ {A = ℕ} 0 1 = cc in omega arith)
-told-end ws (Target n k b) s g = cut-short ws _ g (λ z. let y : _≡_ {A = ℕ} 0 1 = cc in omega arith)
-told-end ws DisjunctionCount s g = cut-short ws _ g (λ z. let y : _≡_ {A = ℕ} 0 1 = cc in omega arith)
-told-end ws (AlternativeCount d) s g = cut-short ws _ g (λ z. let y : _≡_ {A = ℕ} 0 1 = cc in omega arith)
-told-end ws End s g = whole ws _ g refl
-
-pub going-end : (ws : W) (r : Role) (s : Nesting) (at : ℕ) → Going ws (expect (role-of r) s) at → length ws ≤ at →
-    Told ws (ended-of r at)
-going-end ws r s at g h =
-    let i = g .inside in
-    let e : at ≡ length ws = omega (arith, i, h) in
-    subst (λ (p : ℕ). Told ws (ended-of r p)) (sym e) (told-end ws r s (subst (Going ws (expect (role-of r) s)) e g))
+pub going-end : (ws : W) (e : Expected) (at : ℕ) → Going ws e at → length ws ≤ at → Stopped ws (role e) none at
+going-end ws e at g h =
+    let i = g .inside in record { before = g .before; there = ap role (g .here); by = omega (arith, i, h) }

@@ -13,10 +13,10 @@ use Rattle.theory.specs.Net.{Node, atom, arcs, Graph, arcsOf, Rising, InOrder, 
 use Rattle.theory.specs.Descr.{Desc, desc, Disjs, end, _and_, Alts, fail, _or_, disjs, alts}
 use Rattle.theory.specs.Layout.{arc-words, node-words, nodes-words, words, disjs-words, alts-words, ArcsFit, NodeFits, GraphFits}
 use Rattle.theory.specs.Layout.{WellFormed, WellAll, WellAny}
-use Rattle.faults.specs.Faults.{Role, Nesting, Expected, expect, breaks, next-node, next-arc, completed}
-use Rattle.faults.specs.Faults.{no-nodes, not-met, bad-head, bad-feature, bad-target, few-alternatives, too-deep}
-use Rattle.faults.specs.Faults.{node-count, node-head, disjunction-count}
-use Rattle.faults.specs.Faults.{disjunctions-from, expected-after}
+use Rattle.roles.specs.Faults.{Role, Nesting, Expected, expect, breaks, next-node, next-arc, completed}
+use Rattle.roles.specs.Faults.{no-nodes, not-met, bad-head, bad-feature, bad-target, few-alternatives, too-deep}
+use Rattle.roles.specs.Faults.{node-count, node-head, disjunction-count}
+use Rattle.roles.specs.Faults.{disjunctions-from, expected-after}
 use Rattle.faults.proofs.Rules.{unbroken, opened, followed, atom-after, arcs-after, node-after, graph-after}
 use Rattle.faults.proofs.Run.{Goes}
 

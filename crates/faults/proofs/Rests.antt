@@ -15,9 +15,9 @@ use Rattle.theory.specs.Descr.{Desc, desc, Disjs, end, _and_, Alts, fail, _or_,
 use Rattle.theory.specs.Layout.{arc-words, nodes-words, words, disjs-words, alts-words, ArcsFit, GraphFits}
 use Rattle.theory.specs.Layout.{WellFormed, WellAll, WellAny}
 use Rattle.theory.specs.LayoutOne.{Image}
-use Rattle.faults.specs.Faults.{Role, Nesting, Expected, expect, role, breaks, next-node, next-arc, after-head, completed}
-use Rattle.faults.specs.Faults.{node-count, node-head, arc-feature, arc-target, disjunction-count, alternative-count, the-end}
-use Rattle.faults.specs.Faults.{disjunctions-from, expected-after, words-left-over}
+use Rattle.roles.specs.Faults.{Role, Nesting, Expected, expect, role, breaks, next-node, next-arc, after-head, completed}
+use Rattle.roles.specs.Faults.{node-count, node-head, arc-feature, arc-target, disjunction-count, alternative-count, the-end}
+use Rattle.roles.specs.Faults.{disjunctions-from, expected-after, words-left-over}
 use Rattle.faults.proofs.Rules.{kept-first, kept-others, head-met, feature-small, alternatives-two, target-low, target-inside}
 use Rattle.faults.proofs.Rules.{bounded-after}
 use Rattle.faults.proofs.Run.{Goes, start}

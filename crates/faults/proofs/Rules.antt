@@ -10,9 +10,9 @@ use lib.ListN.{length}
 use lib.Dec.{ltb, leb, eqb}
 use borrow.Author.Tests.{ltb-true, ltb-false, leb-false, eqb-false, le-ltb, lt-ltb}
 use Rattle.theory.specs.Limits.{code-limit, depth-limit}
-use Rattle.faults.specs.Faults.{Cause, Role, Nesting, Expected, expect, broken-if, breaks, next-node, next-arc, after-head, completed}
-use Rattle.faults.specs.Faults.{node-count, node-head, arc-feature, arc-target, disjunction-count, alternative-count, the-end}
-use Rattle.faults.specs.Faults.{disjunctions-from, expected-after}
+use Rattle.roles.specs.Faults.{Cause, Role, Nesting, Expected, expect, broken-if, breaks, next-node, next-arc, after-head, completed}
+use Rattle.roles.specs.Faults.{node-count, node-head, arc-feature, arc-target, disjunction-count, alternative-count, the-end}
+use Rattle.roles.specs.Faults.{disjunctions-from, expected-after}
 use Rattle.faults.specs.Coded.{Bounded}
 use Rattle.descriptions.proofs.Tests.{none-is}
 

@@ -7,9 +7,9 @@ use mathlib.Core.List.{List, [], _∷_}
 use Prim.Native.Nat.{ℕ, zero, suc, _<_}
 use native.Mathlib.Omega.{arith}
 use lib.ListN.{length, take, getD}
-use Rattle.faults.specs.Faults.{Cause, words-end, Role, the-end, Expected, expect, role, breaks, expected-after}
-use Rattle.faults.specs.Faults.{node-count, node-head, arc-feature, arc-target, disjunction-count, alternative-count}
-use Rattle.faults.specs.Faults.{expected-from, Faulty}
+use Rattle.roles.specs.Faults.{Cause, words-end, Role, the-end, Expected, expect, role, breaks, expected-after}
+use Rattle.roles.specs.Faults.{node-count, node-head, arc-feature, arc-target, disjunction-count, alternative-count}
+use Rattle.roles.specs.Faults.{expected-from, Faulty}
 use Rattle.descriptions.proofs.Tests.{none-is}
 
 abbrev W : Type 0

@@ -1,50 +1,20 @@
 -- What the values of the code stand for, and what is so of them between two words.
 -- Assumes nothing: these are definitions.
 use mathlib.Core.Path.{_≡_}
-use mathlib.Core.Option.{Option, none, some}
 use mathlib.Core.List.{List, [], _∷_}
 use Prim.Native.Nat.{ℕ, zero, suc, _<_, _≤_}
 use lib.ListN.{length, getD}
 use Rattle.theory.specs.Limits.{depth-limit}
-use Rattle.faults.specs.Faults as F
-use Rattle.faults.specs.Faults.{words-end, words-left-over, no-nodes, bad-head, bad-feature, bad-target, not-met, few-alternatives}
-use Rattle.faults.specs.Faults.{too-deep, node-count, node-head, arc-feature, arc-target, disjunction-count, alternative-count}
-use Rattle.faults.specs.Faults.{the-end, expect}
-use Rattle.faults.specs.declared.cause.Cause.{Cause}
-use Rattle.faults.specs.declared.cause.Cause.the-variants.{WordsEnd, WordsLeftOver, NoNodes, BadHead, BadFeature, BadTarget, NotMet}
-use Rattle.faults.specs.declared.cause.Cause.the-variants.{FewAlternatives, TooDeep}
-use Rattle.faults.specs.declared.role.Role.{Role}
-use Rattle.faults.specs.declared.role.Role.the-variants.{NodeCount, Head, Feature, Target, DisjunctionCount, AlternativeCount, End}
-use Rattle.faults.specs.declared.role.Rule.{Rule}
-use Rattle.faults.specs.declared.role.Rule.the-variants.{Kept, Broken}
+use Rattle.roles.specs.Faults as F
+use Rattle.roles.specs.Faults.{node-count, node-head, arc-feature, arc-target, disjunction-count, alternative-count, the-end, expect}
+use Rattle.roles.specs.Coded.{role-of}
+use Rattle.roles.specs.declared.cause.Cause.the-variants.{WordsEnd}
+use Rattle.roles.specs.declared.role.Role.{Role}
+use Rattle.roles.specs.declared.role.Role.the-variants.{NodeCount, Head, Feature, Target, DisjunctionCount, AlternativeCount, End}
 use Rattle.faults.specs.declared.nesting.Nesting.{Nesting}
 use Rattle.faults.specs.declared.nesting.Expected.{Expected}
-use Rattle.faults.specs.declared.cause.Fault.{Fault}
-use Rattle.faults.specs.declared.cause.Fault.the-variants.{None, At}
-
-abbrev pub cause-of : Cause → F.Cause
-cause-of WordsEnd = words-end
-cause-of WordsLeftOver = words-left-over
-cause-of NoNodes = no-nodes
-cause-of (BadHead w) = bad-head w
-cause-of BadFeature = bad-feature
-cause-of (BadTarget w) = bad-target w
-cause-of NotMet = not-met
-cause-of FewAlternatives = few-alternatives
-cause-of TooDeep = too-deep
-
-abbrev pub rule-of : Rule → Option F.Cause
-rule-of Kept = none
-rule-of (Broken c) = some (cause-of c)
-
-abbrev pub role-of : Role → F.Role
-role-of NodeCount = node-count
-role-of (Head g) = node-head (g .count) (g .node) (g .met)
-role-of (Feature g k b) = arc-feature (g .count) (g .node) (g .met) k b
-role-of (Target g k b) = arc-target (g .count) (g .node) (g .met) k b
-role-of DisjunctionCount = disjunction-count
-role-of (AlternativeCount d) = alternative-count d
-role-of End = the-end
+use Rattle.faults.specs.declared.verdict.Fault.{Fault}
+use Rattle.faults.specs.declared.verdict.Fault.the-variants.{None, At}
 
 -- the first k of the open alternatives, the innermost first
 abbrev pub open-of : List ℕ → List ℕ → ℕ → F.Nesting

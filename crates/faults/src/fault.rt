@@ -1,12 +1,9 @@
 // The first word that breaks a rule.
-use crate::cause::Cause;
-use crate::cause::Fault;
-use crate::nesting::Expected;
-use crate::nesting::Nesting;
-use crate::nesting::expected_after;
-use crate::role::Role;
-use crate::role::Rule;
-use crate::role::breaks;
+use crate::stop::first_stop;
+use crate::verdict::Fault;
+use roles::cause::Cause;
+use roles::role::Role;
+use roles::role::Rule;
 ghost use mathlib.Core.Path.{_≡_};
 ghost use Rattle.faults.specs.Coded.{ended-of};
 ghost use Rattle.faults.specs.Told.{Told};
@@ -30,25 +27,12 @@ fn ended(role: Role, at: usize) -> Fault
 pub fn fault(ws: &[u32]) -> Fault
     ensures { λ r. ⌜ Told (now (ws .entry)) r ⌝ }
 {
-    let mut expected = Expected {
-        role: Role::NodeCount,
-        nesting: Nesting {
-            depth: 0,
-            alternatives: [0; 4],
-            disjunctions: [0; 4],
-        },
-    };
-    let mut at: usize = 0;
-    while at < ws.len() {
-        let word = ws[at];
-        let role = expected.role;
-        let rule = breaks(role, expected.nesting.depth, word);
-        if let Rule::Broken(cause) = rule {
-            return Fault::At(cause, at);
-        }
-        expected = expected_after(expected, word);
-        at += 1;
+    let stop = first_stop(ws);
+    let role = stop.role;
+    let rule = stop.rule;
+    let at = stop.at;
+    match rule {
+        Rule::Broken(cause) => Fault::At(cause, at),
+        Rule::Kept => ended(role, at),
     }
-    let role = expected.role;
-    ended(role, at)
 }

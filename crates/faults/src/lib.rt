@@ -1,5 +1,7 @@
 // The first word that breaks a rule of document 01's section "Word layout", and why.
-pub mod cause;
 pub mod fault;
+pub mod hint;
 mod nesting;
-mod role;
+mod next;
+mod stop;
+pub mod verdict;

@@ -1,15 +1,15 @@
 // What the words before determine: the role of the next one, and the open alternatives.
-use crate::role::Nodes;
-use crate::role::Role;
-use crate::role::after_head;
-use crate::role::after_target;
+use crate::next::after_head;
+use crate::next::after_target;
 use limits::wide;
+use roles::role::Nodes;
+use roles::role::Role;
 ghost use mathlib.Core.Path.{_≡_};
 ghost use mathlib.Core.Option.{none};
 ghost use mathlib.Core.List.{_∷_};
 ghost use Prim.Native.Nat.{_<_, _≤_};
 ghost use Rattle.theory.specs.Limits.{depth-limit};
-ghost use Rattle.faults.specs.Faults.{breaks, completed, disjunctions-from, expected-after};
+ghost use Rattle.roles.specs.Faults.{breaks, completed, disjunctions-from, expected-after};
 ghost use Rattle.faults.specs.Coded.{nesting-of, RoomForFour, expected-of, Bounded};
 
 // How many alternatives are open, one in the other; for each, from the outermost, how many alternatives follow it and how many

@@ -106,7 +106,7 @@ given-short asked room work r (done d e s A c t f l) =
     record { few = omega arith; short = omega arith; known = omega arith; below = result-below asked work d e A s f; inside = l }
 
 -- ---- the text
-spoken-small : (asked : Call) → length (spoken asked) ≤ 23000
+pub spoken-small : (asked : Call) → length (spoken asked) ≤ 23000
 unfolding spoken
 spoken-small asked =
     let r : Answer = unified asked 2048 16384 in

@@ -75,18 +75,12 @@ take-count k l h = let e = length-take k l in omega arith
 abbrev asked : ℕ → List ℕ → List ℕ → theory.Call
 asked mode a b = record { mode = mode; first = a; second = b }
 
+abbrev typed : ℕ → List ℕ → List ℕ → Typed
+typed mode a b = record { mode = mode; first = a; second = b }
+
 -- what is printed for a call, or for bad input
-abbrev replied : Option Typed → List ℕ
-replied none = bad-text
-replied (some c) = spoken (asked (c .mode) (c .first) (c .second))
-
-replied-is : (o : Option Typed) → replied o ≡ elim o [ none ↦ bad-text | some c ↦ spoken (asked (c .mode) (c .first) (c .second)) ]
-replied-is none = refl
-replied-is (some c) = refl
-
-printed-is : (text : List ℕ) → replied (heard text) ≡ printed text
-unfolding printed
-printed-is text = replied-is (heard text)
+abbrev printed-for : Option Typed → List ℕ
+printed-for o = elim o [ none ↦ bad-text | some c ↦ spoken (asked (c .mode) (c .first) (c .second)) ]
 
 -- words that stand at the start
 front : (ws l l′ : List ℕ) (n : ℕ) → n ≡ length ws → l′ ≡ upon ws l → take n l′ ≡ ws
@@ -103,22 +97,26 @@ module _ (text first second first′ second′ : List ℕ) (r : Counts) (lf : le
       subst (λ (o : Option Typed). Heard o first second first′ second′ r)
       (with-room (length first) (length second) text (omega arith) (omega arith)) h
 
-  pub printed-bad : r ≡ BadInput → bad-text ≡ printed text
-  printed-bad q = go (heard text) is-heard ∙ printed-is text
+  pub heard-bad : r ≡ BadInput → heard text ≡ none
+  heard-bad q = go (heard text) is-heard
     where
-      go : (o : Option Typed) → Heard o first second first′ second′ r → bad-text ≡ replied o
+      go : (o : Option Typed) → Heard o first second first′ second′ r → o ≡ none
       go none k = refl
       go (some c) k = let e = k .answer in let z : _≡_ {A = ℕ} 0 1 = cc in absurd (omega arith)
 
-  module _ (mode n m : ℕ) (q : r ≡ Good mode n m) where
-    -- the inputs stand at the start of each list, and what they say is the text
-    abbrev Says : List ℕ → Type 0
-    Says l = (n ≤ length first′) × (m ≤ length second′) × (spoken (asked mode (take n first′) (take m second′)) ≡ l)
+  pub printed-bad : r ≡ BadInput → bad-text ≡ printed text
+  unfolding printed
+  printed-bad q = sym (ap printed-for (heard-bad q))
 
-    good : Says (replied (heard text))
-    good = go (heard text) is-heard
+  module _ (mode n m : ℕ) (q : r ≡ Good mode n m) where
+    -- the inputs stand at the start of each list
+    abbrev Stands : Option Typed → Type 0
+    Stands o = (n ≤ length first′) × (m ≤ length second′) × (o ≡ some (typed mode (take n first′) (take m second′)))
+
+    stands : Stands (heard text)
+    stands = go (heard text) is-heard
       where
-        go : (o : Option Typed) → Heard o first second first′ second′ r → Says (replied o)
+        go : (o : Option Typed) → Heard o first second first′ second′ r → Stands o
         go none k = let e = k .answer in let z : _≡_ {A = ℕ} 0 1 = cc in absurd (omega arith)
         go (some c) k =
             let e : Good mode n m ≡ Good (c .mode) (length (c .first)) (length (c .second)) = sym q ∙ k .answer in
@@ -129,15 +127,19 @@ module _ (text first second first′ second′ : List ℕ) (r : Counts) (lf : le
             let g = front (c .second) second second′ m z (k .the-second) in (
               front-room (c .first) first first′ n y (k .the-first),
               front-room (c .second) second second′ m z (k .the-second),
-              ap (λ (v : ℕ). spoken (asked v (take n first′) (take m second′))) x
-                  ∙ ap₂ {C = List ℕ} (λ (a b : List ℕ). spoken (asked (c .mode) a b)) f g,
+              sym (ap (λ (v : ℕ). some (typed v (take n first′) (take m second′))) x
+                  ∙ ap₂ {C = Option Typed} (λ (a b : List ℕ). some (typed (c .mode) a b)) f g),
             )
 
     pub rooms : (n ≤ length first′) × (m ≤ length second′)
-    rooms = (good .0, good .1)
+    rooms = (stands .0, stands .1)
+
+    pub heard-good : heard text ≡ some (typed mode (take n first′) (take m second′))
+    heard-good = stands .2
 
     pub printed-good : spoken (asked mode (take n first′) (take m second′)) ≡ printed text
-    printed-good = good .2 ∙ printed-is text
+    unfolding printed
+    printed-good = sym (ap printed-for heard-good)
 
 -- ---- a text by another name
 pub wrote-same : (x y dst dst′ : List ℕ) (r : Written) → x ≡ y → Wrote x dst dst′ r → Wrote y dst dst′ r

@@ -55,7 +55,7 @@ fn answer_in(
 }
 
 // Unifies two inputs, and writes the answer to the start of out.
-fn answer(mode: u32, first: &[u32], second: &[u32], out: &mut [u8]) -> Written
+pub fn answer(mode: u32, first: &[u32], second: &[u32], out: &mut [u8]) -> Written
     ensures { λ r. ⌜ Wrote (spoken (record { mode = mode; first = now (first .entry); second = now (second .entry) }))
         (now (out .entry)) (now (out .exit)) r ⌝ }
 {

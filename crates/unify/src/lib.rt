@@ -4,6 +4,7 @@ pub mod making;
 use crate::making::make;
 use answering::answer::Answer;
 use answering::areas::wipe;
+use answering::cause::cause_in;
 use answering::hand::hand_over;
 use area::map::SIZE;
 use layout::reading::Judgement;
@@ -13,6 +14,7 @@ ghost use Prim.Native.Nat.{_≤_};
 ghost use Rattle.theory.specs.Outcome.{Outcome};
 ghost use Rattle.opening.specs.Opening.{Opening};
 ghost use Rattle.answering.specs.Number.{row-of};
+ghost use Rattle.answering.specs.Caused.{Caused};
 
 // "mode above 2"
 const LAST_MODE: u32 = 2;
@@ -29,6 +31,7 @@ fn conclude(
     ensures { λ r. ⌜ Outcome (record { mode = mode; first = now (first .entry); second = now (second .entry) })
         (record { result = now (result .entry); working = now (working .entry) }) (row-of r)
         (record { result = now (result .exit); working = now (working .exit) }) ⌝ }
+    ensures { λ r. ⌜ Caused (now (first .entry)) (now (second .entry)) r ⌝ }
 {
     let made = make(mode, working, first, second);
     let answer = hand_over(made, working, result);
@@ -47,6 +50,7 @@ pub fn unify(
     ensures { λ r. ⌜ Outcome (record { mode = mode; first = now (first .entry); second = now (second .entry) })
         (record { result = now (result .entry); working = now (working .entry) }) (row-of r)
         (record { result = now (result .exit); working = now (working .exit) }) ⌝ }
+    ensures { λ r. ⌜ Caused (now (first .entry)) (now (second .entry)) r ⌝ }
 {
     if LAST_MODE < mode {
         return Answer::BadMode;
@@ -62,11 +66,11 @@ pub fn unify(
     }
     let one = judge(first);
     let Judgement::Accepted = one else {
-        return Answer::BadFirst;
+        return Answer::BadFirst(cause_in(first));
     };
     let two = judge(second);
     let Judgement::Accepted = two else {
-        return Answer::BadSecond;
+        return Answer::BadSecond(cause_in(second));
     };
     conclude(mode, first, second, result, working)
 }

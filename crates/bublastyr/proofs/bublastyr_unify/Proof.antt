@@ -14,7 +14,7 @@ told-requires c κs = search needs
 cast-t13 : tie.Need-cast-t13
 cast-t13 c =
     let call = c .before .before .before .before .before .before in
-    let h = outcome-small _ _ _ _ (outcome-told _ _ _ (call .unify .result) _ _ _ (call .unify .ensures) (c .before .told .ensures)) in
+    let h = outcome-small _ _ _ _ (outcome-told _ _ _ (call .unify .result) _ _ _ (call .unify .ensures .0) (c .before .told .ensures)) in
     omega arith
 
 same-length : tie.Need-same-length
@@ -26,7 +26,7 @@ same-length-2 c = search needs
 returns : tie.Need-returns
 returns c =
     let call = c .before .before .before .before .before .before .before in
-    outcome-told _ _ _ (call .unify .result) _ _ _ (call .unify .ensures) (c .before .before .told .ensures)
+    outcome-told _ _ _ (call .unify .result) _ _ _ (call .unify .ensures .0) (c .before .before .told .ensures)
 
 pub bublastyr-unify-spec : {M : Type 1} → statement M
 bublastyr-unify-spec =

@@ -17,7 +17,7 @@ slice-reshare-prefix-write-answer c =
     let told = c .before .before in
     let call = told .before .before .before .before .before in
     let asked = call .before .before .before .before .before .before .before .before .pre in
-    let o = outcome-told _ _ _ (call .unify .result) _ _ _ (call .unify .ensures) (told .told .ensures) in
+    let o = outcome-told _ _ _ (call .unify .result) _ _ _ (call .unify .ensures .0) (told .told .ensures) in
     let h = said-room _ _ _ _ (asked .0) (asked .1) o (omega arith) in
     omega arith
 
@@ -26,7 +26,7 @@ slice-aggregate-write-answer c =
     let told = c .before .before .before in
     let call = told .before .before .before .before .before in
     let asked = call .before .before .before .before .before .before .before .before .pre in
-    let o = outcome-told _ _ _ (call .unify .result) _ _ _ (call .unify .ensures) (told .told .ensures) in
+    let o = outcome-told _ _ _ (call .unify .result) _ _ _ (call .unify .ensures .0) (told .told .ensures) in
     let h = said-room _ _ _ _ (asked .0) (asked .1) o (omega arith) in
     take-count _ _ (omega arith)
 
@@ -48,7 +48,7 @@ returns c =
     let told = c .before .before .before .before .before .before in
     let call = told .before .before .before .before .before in
     let asked = call .before .before .before .before .before .before .before .before .pre in
-    let o = outcome-told _ _ _ (call .unify .result) _ _ _ (call .unify .ensures) (told .told .ensures) in
+    let o = outcome-told _ _ _ (call .unify .result) _ _ _ (call .unify .ensures .0) (told .told .ensures) in
     let out = call .before .before .before .before .before .before .before .before .args .out .now in
     wrote-same _ _ out (wrote .last .0) (wrote .result) (said-done _ _ _ _ (asked .0) (asked .1) o (omega arith)) (wrote .ensures)
 
@@ -76,7 +76,7 @@ returns-2 c =
     let told = c .before .before .before .before .before .before in
     let call = told .before .before .before .before .before in
     let asked = call .before .before .before .before .before .before .before .before .pre in
-    let o = outcome-told _ _ _ (call .unify .result) _ _ _ (call .unify .ensures) (told .told .ensures) in
+    let o = outcome-told _ _ _ (call .unify .result) _ _ _ (call .unify .ensures .0) (told .told .ensures) in
     let out = call .before .before .before .before .before .before .before .before .args .out .now in
     wrote-same _ _ out (wrote .last .0) (wrote .result) (said-other _ _ _ _ (asked .0) (asked .1) o _ (λ e. omega arith)) (wrote .ensures)
 

@@ -5,7 +5,7 @@ use Prim.Native.Nat.{_≤_}
 use native.Mathlib.Omega.{arith}
 use borrow.Author.Needs.{needs}
 use Rattle.theory.specs.Limits.{depth-limit}
-use Rattle.faults.specs.Faults.{expect, node-count, completed}
+use Rattle.roles.specs.Faults.{expect, node-count, completed}
 use Rattle.faults.specs.Coded.{nesting-of, RoomForFour}
 use Rattle.faults.proofs.Laws.{alternative-open, disjunction-open, none-open, all-closed}
 use Rattle.faults.proofs.nesting.completed.Statement.{statement}

@@ -3,8 +3,9 @@
 use mathlib.Core.Path.{refl, ap}
 use native.Mathlib.Omega.{arith}
 use borrow.Author.Needs.{needs}
-use Rattle.faults.specs.Faults.{expect, node-count}
-use Rattle.faults.specs.Coded.{role-of, nesting-of}
+use Rattle.roles.specs.Faults.{expect, node-count}
+use Rattle.roles.specs.Coded.{role-of}
+use Rattle.faults.specs.Coded.{nesting-of}
 use Rattle.faults.proofs.Rules.{feature-small, target-inside, alternatives-two}
 use Rattle.faults.proofs.Laws.{target-next, bounded-told, kept-told, after-told, in-role, nesting-depth}
 use Rattle.faults.proofs.nesting.expected_after.Statement.{statement}

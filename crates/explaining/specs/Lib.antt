@@ -1,0 +1,2 @@
+-- `Explained` says what `explain` prints for a text.
+pub mod Explained
