@@ -204,17 +204,8 @@ module _ (n k : ℕ) (w : List ℕ) (p count : ℕ) (a : Agenda) where
             go (skipped e f q) = subst (Moved k w k) (sym f) mv
             go (took r w' e u f q) = subst (Moved k w k) (sym f) (moved-trans k w k w₁ k w' mv (u .moved))
 
-        room₂ : 16384 ≤ length w₂
-        room₂ = omega (arith, turn-moved .len, c .s .holds .long)
-
-        loaded₂ : loaded-words w₂ ≡ c .s .t
-        loaded₂ = moved-words k w k w₂ (c .s .holds .long) turn-moved ∙ c .s .loaded
-
-        pub turn-inside : ((at < 2048) × (16384 ≤ length w₂)) × (tail-at w₂ at < 2048)
-        turn-inside = let r = read w₂ room₂ loaded₂ in ((r .here, room₂), r .inside)
-
-        pub turn-on : (at' : ℕ) → at' ≡ after-at w₂ at → Going c (left - 1) at' sum' w₂
-        turn-on at' z = subst (λ (j : ℕ). Going c (left - 1) j sum' w₂) (sym (z ∙ read w₂ room₂ loaded₂ .after)) (record {
+        pub turn-on : (at' : ℕ) → at' ≡ after-at w₁ at → Going c (left - 1) at' sum' w₂
+        turn-on at' z = subst (λ (j : ℕ). Going c (left - 1) j sum' w₂) (sym (z ∙ read w₁ room₁ loaded₁ .after)) (record {
           b = next .b;
           l = next .o .1;
           stand = next .o .4;

@@ -78,11 +78,12 @@ fn choose(w: &mut [u32], k: usize, n: usize, p: usize, count: usize, a: Agenda) 
     let mut sum: u32 = 0;
     while 0 < left {
         let x = mark_at(w, at);
+        let next = after_at(w, at);
         if kept(w, x) {
             let found = take(w, k, n, at, a);
             sum = capped(sum + found);
         }
-        at = after_at(w, at);
+        at = next;
         left -= 1;
     }
     sum

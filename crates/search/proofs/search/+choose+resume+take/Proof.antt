@@ -12,7 +12,7 @@ use Rattle.search.proofs.Planning.{reach}
 use Rattle.search.proofs.Taking.{asks-enter, takes-clash, take-opens, take-asks, take-falls, take-back, take-notes, takes-found}
 use Rattle.search.proofs.Foreseeing.{takes-none, alone-notes, takes-one}
 use Rattle.search.proofs.Choosing.{Going, Turn, skipped, took, choose-moved, choose-start, choose-done, choose-small, choose-here}
-use Rattle.search.proofs.Choosing.{choose-asks, turn-moved, turn-inside, turn-on}
+use Rattle.search.proofs.Choosing.{choose-asks, turn-moved, turn-on}
 use Rattle.search.proofs.Resuming.{resumes-leaf, resume-here, resume-reach, resume-some, resume-counts, resume-room, resumes-none}
 use Rattle.search.proofs.Resuming.{one-opens, one-asks, one-falls, one-notes, resumes-one, several-asks, resumes-several}
 use Prim.Native.Nat.{ℕ, _+_, _-_, _*_, _<_}
@@ -81,14 +81,14 @@ abbrev choose-claims : ℕ → choose-lts.Claims
 choose-claims t = (
   mark-at-reads.Asked,
   mark-at-reads.Learnt,
+  after-at-reads.Asked,
+  after-at-reads.Learnt,
   kept-reads.Asked,
   kept-reads.Learnt,
   take-below t,
   take.Post,
   capped-reads.Asked,
   capped-reads.Learnt,
-  after-at-reads.Asked,
-  after-at-reads.Learnt,
 )
 
 choose-loop-holds : (t : ℕ) → choose-lts.Need-loop-holds (choose-claims t) (choose-at t) choose.Post choose-Inv-loop choose-μ-loop
@@ -99,49 +99,47 @@ choose-mark-at-requires : (t : ℕ) →
 choose-mark-at-requires t c κs = let p = c .before .before .before .before .pre .1 in let v = c .before .before .loop .inv in
     let q = c .before .loop-test in choose-here _ _ _ _ _ _ p _ _ _ _ (v .0) (v .1 p) (omega arith)
 
+choose-after-at-requires : (t : ℕ) →
+    choose-lts.Need-after-at-requires (choose-claims t) (choose-at t) choose.Post choose-Inv-loop choose-μ-loop
+choose-after-at-requires t c κs = let p = c .before .before .before .before .before .before .pre .1 in let v = c .before .before .before .before .loop .inv in
+    let q = c .before .before .before .loop-test in choose-here _ _ _ _ _ _ p _ _ _ _ (v .0) (v .1 p) (omega arith)
+
 choose-kept-requires : (t : ℕ) → choose-lts.Need-kept-requires (choose-claims t) (choose-at t) choose.Post choose-Inv-loop choose-μ-loop
-choose-kept-requires t c κs = let p = c .before .before .before .before .before .before .pre .1 in
-    let v = c .before .before .before .before .loop .inv in
-    (c .before .mark-at .ensures .1, omega (arith, v .0 .len, p .s .holds .long))
+choose-kept-requires t c κs =
+    let turn = c .before .before .before .before .before .before in
+    let p = turn .before .before .pre .1 in
+    (c .before .before .before .mark-at .ensures .1, omega (arith, turn .loop .inv .0 .len, p .s .holds .long))
 
 choose-take-requires : (t : ℕ) → choose-lts.Need-take-requires (choose-claims t) (choose-at t) choose.Post choose-Inv-loop choose-μ-loop
-choose-take-requires t c κs = let p = c .before .before .before .before .before .before .before .before .before .pre .1 in
-    let v = c .before .before .before .before .before .before .before .loop .inv in
-    let q = c .before .before .before .before .before .before .loop-test in (
-      let e = c .before .before .before .before .before .before .before .before .before .pre .0 in let on = v .1 p .on in
-          omega arith,
-      choose-asks _ _ _ _ _ _ p _ _ _ _ (v .0) (v .1 p) (omega arith) _ (c .before .before .before .before .mark-at .ensures)
-          (cc),
+choose-take-requires t c κs =
+    let turn = c .before .before .before .before .before .before .before .before .before in
+    let (e, p) = turn .before .before .pre in
+    let v = turn .loop .inv in
+    let q = c .before .before .before .before .before .before .before .before .loop-test in
+    let on = v .1 p .on in (
+      omega arith,
+      choose-asks _ _ _ _ _ _ p _ _ _ _ (v .0) (v .1 p) (omega arith) _ (c .before .before .before .before .before .before .mark-at .ensures) (cc),
     )
 
 choose-add-capped : (t : ℕ) → choose-lts.Need-add-capped (choose-claims t) (choose-at t) choose.Post choose-Inv-loop choose-μ-loop
-choose-add-capped t c = let p = c .before .before .before .before .before .before .before .before .before .before .before .before .pre .1 in
-    let v = c .before .before .before .before .before .before .before .before .before .before .loop .inv in
-    let q = c .before .before .before .before .before .before .before .before .before .loop-test in
+choose-add-capped t c =
+    let turn = c .before .before .before .before .before .before .before .before .before .before .before .before in
+    let p = turn .before .before .pre .1 in
+    let v = turn .loop .inv in
+    let q = c .before .before .before .before .before .before .before .before .before .before .before .loop-test in
     let x = choose-small _ _ _ _ _ _ p _ _ _ _ (v .1 p) in
-    let y = finds-small _ _ _ _ _ _ _
-    (c .before .before .take .ensures .found
-    (choose-asks _ _ _ _ _ _ p _ _ _ _ (v .0) (v .1 p) (omega arith) _
-    (c .before .before .before .before .before .before .before .mark-at .ensures) (cc))) in omega arith
+    let y = finds-small _ _ _ _ _ _ _ (c .before .before .take .ensures .found
+    (choose-asks _ _ _ _ _ _ p _ _ _ _ (v .0) (v .1 p) (omega arith) _ (c .before .before .before .before .before .before .before .before .before .mark-at .ensures) (cc))) in
+    omega arith
 
 choose-capped-requires : (t : ℕ) → choose-lts.Need-capped-requires (choose-claims t) (choose-at t) choose.Post choose-Inv-loop choose-μ-loop
 choose-capped-requires t c κs = search needs
 
 turned : (t : ℕ) (c : choose-lts.Joined1 (choose-claims t) (choose-at t) choose.Post choose-Inv-loop choose-μ-loop) →
-    Turn (c .before .before .before .before .before .before .before .before .args .n)
-    (c .before .before .before .before .before .before .before .before .args .k)
-    (c .before .before .before .before .before .before .loop .w) (c .before .before .before .before .before .before .loop .at)
-    (c .before .before .before .mark-at .result) (c .before .before .before .before .before .before .before .before .args .a)
-    (c .before .before .before .before .before .before .loop .sum) (c .if1 .sum) (c .if1 .w)
+    let turn = c .before .before .before .before .before .before .before .before in
+    Turn (turn .before .before .args .n) (turn .before .before .args .k) (turn .loop .w) (turn .loop .at)
+    (c .before .before .before .before .before .mark-at .result) (turn .before .before .args .a) (turn .loop .sum) (c .if1 .sum) (c .if1 .w)
 turned t c = ⊎-elim (λ u. took _ _ (cc) (u .2 .ensures) (u .6) (u .7 ∙ u .5 .ensures)) (λ u. skipped (cc) (u .1) (u .2)) (c .if1 .came)
-
-choose-after-at-requires : (t : ℕ) →
-    choose-lts.Need-after-at-requires (choose-claims t) (choose-at t) choose.Post choose-Inv-loop choose-μ-loop
-choose-after-at-requires t c κs = let p = c .before .before .before .before .before .before .before .before .before .pre .1 in
-    let v = c .before .before .before .before .before .before .before .loop .inv in
-    let q = c .before .before .before .before .before .before .loop-test in
-    turn-inside _ _ _ _ _ _ p _ _ _ _ (v .0) (v .1 p) (omega arith) _ (c .before .before .before .before .mark-at .ensures) _ _
-    (turned t (c .before))
 
 choose-sub-left : (t : ℕ) → choose-lts.Need-sub-left (choose-claims t) (choose-at t) choose.Post choose-Inv-loop choose-μ-loop
 choose-sub-left t c = let q = c .before .before .before .before .before .before .before .loop-test in omega arith
@@ -150,13 +148,14 @@ choose-loop-less : (t : ℕ) → choose-lts.Need-loop-less (choose-claims t) (ch
 choose-loop-less t c = let q = c .before .before .before .before .before .before .before .loop-test in omega arith
 
 choose-loop-again : (t : ℕ) → choose-lts.Need-loop-again (choose-claims t) (choose-at t) choose.Post choose-Inv-loop choose-μ-loop
-choose-loop-again t c = let p = c .before .before .before .before .before .before .before .before .before .before .pre .1 in
-    let v = c .before .before .before .before .before .before .before .before .loop .inv in
-    let q = c .before .before .before .before .before .before .before .loop-test in (
-      turn-moved _ _ _ _ _ _ p _ _ _ _ (v .0) (v .1 p) (omega arith) _ (c .before .before .before .before .before .mark-at .ensures) _ _
-          (turned t (c .before .before)),
-      λ d. turn-on _ _ _ _ _ _ d _ _ _ _ (v .0) (v .1 d) (omega arith) _ (c .before .before .before .before .before .mark-at .ensures) _ _
-          (turned t (c .before .before)) _ (c .after-at .ensures),
+choose-loop-again t c =
+    let turn = c .before .before .before .before .before .before .before .before in
+    let p = turn .before .before .pre .1 in
+    let v = turn .loop .inv in
+    let q = c .before .before .before .before .before .before .before .loop-test in
+    let x = c .before .before .before .before .before .mark-at .ensures in (
+      turn-moved _ _ _ _ _ _ p _ _ _ _ (v .0) (v .1 p) (omega arith) _ x _ _ (turned t c),
+      λ d. turn-on _ _ _ _ _ _ d _ _ _ _ (v .0) (v .1 d) (omega arith) _ x _ _ (turned t c) _ (c .before .before .before .after-at .ensures),
     )
 
 choose-same-length : (t : ℕ) → choose-lts.Need-same-length (choose-claims t) (choose-at t) choose.Post choose-Inv-loop choose-μ-loop
@@ -462,11 +461,11 @@ pub +choose+resume+take-spec : {M : Type 1} → statement M
     choose-μ-loop
     (choose-loop-holds t)
     (choose-mark-at-requires t)
+    (choose-after-at-requires t)
     (choose-kept-requires t)
     (choose-take-requires t)
     (choose-add-capped t)
     (choose-capped-requires t)
-    (choose-after-at-requires t)
     (choose-sub-left t)
     (choose-loop-less t)
     (choose-loop-again t)
