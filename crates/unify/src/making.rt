@@ -1,7 +1,7 @@
 // What a mode makes of two inputs, in the working area.
 use answering::hand::Made;
-use full::full::Fully;
 use full::full::full;
+use leaving::leave::Fully;
 use marks::marking::clear_marks;
 use marks::marking::douse;
 use opening::Opened;

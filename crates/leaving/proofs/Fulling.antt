@@ -1,4 +1,4 @@
--- The full step, return by return.
+-- The full step, return by return: too many choices, or what is kept of what an engine found.
 -- Assumes nothing.
 use Prim.Native.Nat.{ℕ, zero, suc, _≤_, _<_}
 use native.Mathlib.Omega.{arith}
@@ -32,13 +32,13 @@ use Rattle.classes.specs.Holds.{Undoable}
 use Rattle.classes.proofs.Laws.{undoable-on, undoable-frame}
 use Rattle.classes.specs.declared.push.Pushed.{Pushed}
 use Rattle.classes.specs.declared.push.Pushed.the-variants.{In, Clashed}
-use Rattle.entering.proofs.Moves.{moved-words}
-use Rattle.search.specs.Searched.{Finds, Searching, Searches}
-use Rattle.full.specs.declared.full.Fully.the-variants.{Over, Nothing, Left}
-use Rattle.full.specs.Restarted.{Restarting, Restarts}
-use Rattle.full.specs.Fulled.{Fulling, few-enough, Leaving, Fulls}
-use Rattle.full.proofs.Premises.{pair-full, readings-few}
-use Rattle.full.proofs.Stages.{pair-keeps, both-agrees, both-stage}
+use Rattle.leaving.specs.Found.{Finds, Searching, Searches}
+use Rattle.leaving.specs.declared.leave.Fully.the-variants.{Over, Nothing, Left}
+use Rattle.leaving.specs.Restarted.{Restarting, Restarts}
+use Rattle.leaving.specs.Fulled.{Fulling, few-enough, Leaving, Fulls}
+use Rattle.leaving.specs.Kept.{Ended, Keeping, Keeps}
+use Rattle.leaving.proofs.Premises.{pair-full, readings-few}
+use Rattle.leaving.proofs.Stages.{pair-keeps, both-agrees, both-stage}
 
 -- ---- engine's full step, by whether anything was found
 left-none : (m : Marking) (d : Placed) → length (engine.search (keep m d)) ≡ 0 → full-left m d ≡ none
@@ -107,10 +107,10 @@ module _ (n k : ℕ) (w : List ℕ) where
       readings-is c = omega (arith, finds c .count, readings-few n (c .t) (c .p) (marking w) (omega (arith, count-is c)))
 
       -- no consistent choice
-      pub fulls-nothing : r ≡ 0 → Fulls n k w Nothing w₁
+      fulls-nothing : r ≡ 0 → Fulls n k w Nothing w₁
       fulls-nothing z = record {
-        len = v .moved .len;
-        rest = v .moved .rest;
+        len = v .len;
+        rest = v .rest;
         over = λ y c. let x : _≡_ {A = ℕ} 0 1 = cc in absurd (omega arith);
         nothing = λ y c. (few-is c, left-none (marking w) (c .p .j) (sym (readings-is c) ∙ z));
         leaves = λ a b y c. let x : _≡_ {A = ℕ} 0 1 = cc in absurd (omega arith);
@@ -127,14 +127,14 @@ module _ (n k : ℕ) (w : List ℕ) where
         module _ (w₂ : List ℕ) (l : LitKept w₁ n w₂) where
           module _ (c : Fulling n k w) where
             room₁ : 16384 ≤ length w₁
-            room₁ = omega (arith, v .moved .len, c .stage .ready .holds .long)
+            room₁ = omega (arith, v .len, c .stage .ready .holds .long)
 
             loaded₂ : loaded-words w₂ ≡ c .t
             loaded₂ = words-same w₁ w₂ room₁ (l .len) (λ j a b. l .rest j (inl b))
-                ∙ moved-words k w k w₁ (c .stage .ready .holds .long) (v .moved) ∙ c .stage .ready .loaded
+                ∙ words-same w w₁ (c .stage .ready .holds .long) (v .len) (v .since .same) ∙ c .stage .ready .loaded
 
             undoable₂ : Undoable n k w₂
-            undoable₂ = undoable-frame n k w₁ (undoable-on n k w (c .stage .undoable) k w₁ (v .moved .since)) w₂ (l .len)
+            undoable₂ = undoable-frame n k w₁ (undoable-on n k w (c .stage .undoable) k w₁ (v .since)) w₂ (l .len)
                 (λ j h. l .rest j (inl h))
 
             abbrev restarting : Restarting n k w₂
@@ -147,7 +147,7 @@ module _ (n k : ℕ) (w : List ℕ) where
                   undoable₂;
             }
 
-            pub full-restarts : Restarting n k w₂
+            full-restarts : Restarting n k w₂
             full-restarts = restarting
 
             -- the marks are now those that the search lit
@@ -163,8 +163,8 @@ module _ (n k : ℕ) (w : List ℕ) where
 
           module _ (o : Pushed) (w₃ : List ℕ) (q : Restarts n k w₂ o w₃) where
             -- every consistent choice takes what is certain: there is no clash
-            pub fulls-never : o ≡ Clashed → Fulling n k w → Fulls n k w Nothing w₃
-            fulls-never z c = absurd (both-agrees n (c .t) (c .p) (marking w₂) (folds c .0) (folds c .1) (q .clashed z (restarting c)))
+            never : o ≡ Clashed → Fulling n k w → ⊥
+            never z c = both-agrees n (c .t) (c .p) (marking w₂) (folds c .0) (folds c .1) (q .clashed z (restarting c))
 
             module _ (log : ℕ) (z : o ≡ In log) where
               left : (c : Fulling n k w) → Leaving n (c .t) (c .p) (marking w) log r w₃
@@ -184,10 +184,10 @@ module _ (n k : ℕ) (w : List ℕ) where
                     sane = subst (λ (d : Placed). Sane (strip d)) (sym same) (folds c .1);
                   }
 
-              pub fulls-left : n ≤ 1024 → Fulls n k w (Left log r) w₃
+              fulls-left : n ≤ 1024 → Fulls n k w (Left log r) w₃
               fulls-left small = record {
-                len = q .len ∙ l .len ∙ v .moved .len;
-                rest = λ j h. q .rest j (omega arith) ∙ l .rest j (inr (omega arith)) ∙ v .moved .rest j h;
+                len = q .len ∙ l .len ∙ v .len;
+                rest = λ j h. q .rest j (omega arith) ∙ l .rest j (inr (omega arith)) ∙ v .rest j h;
                 over = λ y c. let x : _≡_ {A = ℕ} 0 1 = cc in absurd (omega arith);
                 nothing = λ y c. let x : _≡_ {A = ℕ} 0 1 = cc in absurd (omega arith);
                 leaves = λ a b y c.
@@ -198,3 +198,28 @@ module _ (n k : ℕ) (w : List ℕ) where
                           (subst (λ (b : ℕ). Leaving n (c .t) (c .p) (marking w) log b w₃) f (left c)),
                     );
               }
+
+-- ---- what is kept of what was found
+module _ (n k : ℕ) (w₁ : List ℕ) (r : ℕ) where
+  pub keeps-nothing : r ≡ 0 → Keeps n k w₁ r Nothing w₁
+  keeps-nothing z = record {
+    len = refl;
+    told = λ w e. fulls-nothing n k w (e .count) (e .counted) (e .few) r w₁ (e .searches) z;
+  }
+
+  module _ (more : r ≡ 0 → ⊥) (w₂ : List ℕ) (l : LitKept w₁ n w₂) where
+    pub keep-restarts : Keeping n k w₁ r → Restarting n k w₂
+    keep-restarts c = let e = c .ended in
+        full-restarts n k (c .w) (e .count) (e .counted) (e .few) r w₁ (e .searches) more w₂ l (c .fulling)
+
+    module _ (o : Pushed) (w₃ : List ℕ) (q : Restarts n k w₂ o w₃) where
+      pub keeps-never : o ≡ Clashed → Keeping n k w₁ r → Keeps n k w₁ r Nothing w₃
+      keeps-never z c = let e = c .ended in
+          absurd (never n k (c .w) (e .count) (e .counted) (e .few) r w₁ (e .searches) more w₂ l o w₃ q z (c .fulling))
+
+      pub keeps-left : (log : ℕ) → o ≡ In log → Keeping n k w₁ r → Keeps n k w₁ r (Left log r) w₃
+      keeps-left log z c = record {
+        len = q .len ∙ l .len;
+        told = λ w e. fulls-left n k w (e .count) (e .counted) (e .few) r w₁ (e .searches) more w₂ l o w₃ q log z
+            (omega (arith, c .fulling .p .inputs .ground .few));
+      }

@@ -9,7 +9,7 @@ use lib.Dec.{ltb}
 use lib.ListN.{length, getD}
 use Rattle.theory.specs.Limits.{choice-limit, choice-stop}
 use Rattle.theory.specs.Canonical.{Can}
-use Rattle.area.specs.Map.{RESULT}
+use Rattle.area.specs.Map.{SIZE}
 use Rattle.engine.specs.Placed.{Placed, strip}
 use Rattle.engine.specs.Marks.{Marking, keep}
 use Rattle.engine.specs.Quickly.{Leaves}
@@ -18,8 +18,8 @@ use Rattle.engine.specs.Search.{full-left, full-readings-by}
 use Rattle.engine.specs.Sane.{Sane}
 use Rattle.marks.specs.Marked.{marking, lights}
 use Rattle.entering.specs.Stage.{Pair, Stage}
-use Rattle.full.specs.declared.full.Fully.{Fully}
-use Rattle.full.specs.declared.full.Fully.the-variants.{Over, Nothing, Left}
+use Rattle.leaving.specs.declared.leave.Fully.{Fully}
+use Rattle.leaving.specs.declared.leave.Fully.the-variants.{Over, Nothing, Left}
 
 -- the marks are those of the quick step, none of them found, and what is certain then is pushed
 pub record Fulling (n k : ℕ) (w : List ℕ) : Type 0 where
@@ -47,7 +47,7 @@ pub record Leaving (n : ℕ) (t : List ℕ) (p : Pair n t) (m : Marking) (log re
 
 pub record Fulls (n k : ℕ) (w : List ℕ) (r : Fully) (w' : List ℕ) : Type 0 where
   pub len : length w' ≡ length w
-  pub rest : (j : ℕ) → RESULT ≤ j → getD w' j 0 ≡ getD w j 0
+  pub rest : (j : ℕ) → SIZE ≤ j → getD w' j 0 ≡ getD w j 0
   pub over : r ≡ Over → (c : Fulling n k w) → too-many (marking w) (c .p .j)
   pub nothing : r ≡ Nothing → (c : Fulling n k w) → few-enough (marking w) (c .p .j) × (full-left (marking w) (c .p .j) ≡ none)
   pub leaves : (log readings : ℕ) → r ≡ Left log readings → (c : Fulling n k w) →

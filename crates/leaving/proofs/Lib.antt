@@ -3,5 +3,5 @@
 mod Restarting
 pub mod Premises
 mod Stages
-mod Fulling
+pub mod Fulling
 pub mod Whole

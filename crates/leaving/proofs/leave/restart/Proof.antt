@@ -1,8 +1,8 @@
--- `full::full::restart` meets its contract: all is taken back, then the first input is entered, and the second. Assumes nothing.
-use Rattle.full.proofs.Restarting.{restart-back, restart-first, restarts-clash, restart-second, restarts}
+-- `leaving::leave::restart` meets its contract: all is taken back, then the first input is entered, and the second. Assumes nothing.
+use Rattle.leaving.proofs.Restarting.{restart-back, restart-first, restarts-clash, restart-second, restarts}
 use borrow.Author.Needs.{needs}
-use Rattle.full.proofs.full.restart.Statement.{statement}
-use Rattle.full.proofs.full.restart.Tie as tie
+use Rattle.leaving.proofs.leave.restart.Statement.{statement}
+use Rattle.leaving.proofs.leave.restart.Tie as tie
 
 back-requires : tie.Need-back-requires
 back-requires c κs = restart-back _ _ _ (c .before .before .pre)

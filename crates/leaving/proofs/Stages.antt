@@ -36,9 +36,9 @@ use Rattle.entering.specs.Stage.{Pair, Stage}
 use Rattle.entering.proofs.Certain.{flat-of, between-of}
 use Rattle.entering.proofs.Clearing.{clear-of}
 use Rattle.entering.proofs.Settling.{clash-false}
-use Rattle.full.specs.Restarted.{certain-both}
+use Rattle.leaving.specs.Restarted.{certain-both}
 use Rattle.entering.proofs.Pairs.{first-can, second-can}
-use Rattle.full.proofs.Restarting.{certain-inside}
+use Rattle.leaving.proofs.Restarting.{certain-inside}
 
 -- ---- what is certain in both says what is certain in the joined description
 both-same : (a b j : Placed) → joined-placed a b ≡ some j → Can (strip a) → Can (strip b) → (m : Marking) →

@@ -18,9 +18,9 @@ use Rattle.engine.specs.Search.{full-left, full-readings-by}
 use Rattle.engine.proofs.Shown.{shown-some}
 use Rattle.engine.proofs.Whole as engine
 use Rattle.marks.specs.Marked.{marking}
-use Rattle.full.specs.declared.full.Fully.{Fully}
-use Rattle.full.specs.declared.full.Fully.the-variants.{Over, Nothing, Left}
-use Rattle.full.specs.Fulled.{Fulling, few-enough, Fulls}
+use Rattle.leaving.specs.declared.leave.Fully.{Fully}
+use Rattle.leaving.specs.declared.leave.Fully.the-variants.{Over, Nothing, Left}
+use Rattle.leaving.specs.Fulled.{Fulling, few-enough, Fulls}
 use Rattle.entering.proofs.Pairs.{strip-first, strip-second, first-can, second-can, first-proper, second-proper, first-distinct}
 use Rattle.entering.proofs.Pairs.{second-distinct, both-apart}
 

@@ -24,7 +24,7 @@ use Rattle.entering.specs.Entered.{Entering, entered, Enters}
 use Rattle.entering.specs.Inputs.{Inputs}
 use Rattle.entering.proofs.Certain.{between-of, inside-of}
 use Rattle.entering.proofs.Entering.{inside-append, clash-more}
-use Rattle.full.specs.Restarted.{Restarting, certain-both, Restarts}
+use Rattle.leaving.specs.Restarted.{Restarting, certain-both, Restarts}
 
 -- what is certain in both is among the graphs that lie in the words
 pub certain-inside : (n : ℕ) (t : List ℕ) (i : Inputs n t) (m : Marking) → Inside (i .U) (certain-both i m)
