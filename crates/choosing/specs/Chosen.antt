@@ -1,24 +1,20 @@
 -- What writing down the way with a given number asks, and what it promises.
 -- Assumes nothing: these are definitions.
-use Prim.Native.Nat.{ℕ, _+_, _≤_, _<_}
+use Prim.Native.Nat.{ℕ, _+_, _≤_, _<_, min}
 use mathlib.Core.Path.{_≡_}
 use mathlib.Core.Logic.{_⊎_}
 use mathlib.Core.Bool.{Bool}
 use mathlib.Core.List.{List}
 use lib.ListN.{length, getD}
 use Rattle.theory.specs.Limits.{choice-limit, choice-stop}
-use Rattle.descriptions.specs.Descr.{number-any}
 use Rattle.area.specs.Map.{SIZE, RESULT, NODES}
 use Rattle.area.specs.Region.{loaded-words}
-use Rattle.engine.specs.Placed.{strip-any}
-use Rattle.engine.specs.Marks.{keep-any}
-use Rattle.engine.specs.Counting.{count-any-at}
 use Rattle.packing.specs.Packed.{number-step}
 use Rattle.layout.specs.Standing.{Stands}
 use Rattle.loading.specs.Lying.{Lying, LyingAny}
 use Rattle.marks.specs.Marked.{marking}
 use Rattle.entering.specs.Inputs.{Inputs}
-use Rattle.choosing.specs.Ways.{words-of, way-of, way-any-of, number-of, number-both, way-both}
+use Rattle.choosing.specs.Ways.{words-of, way-of, way-any-of, choices-of, choices-any-of, number-both, way-both}
 
 -- ---- the number of choices with one of some alternatives
 -- `count` alternatives stand loaded from p on that nest at most `left` deep
@@ -30,10 +26,10 @@ pub record Summing (w : List ℕ) (p count left : ℕ) : Type 0 where
   pub few : n < number-step
   pub lies : LyingAny n t p count left
 
--- the sum over the kept ones, "stopping at 4,097"
+-- over the kept ones, "stopping at 4,097"
 pub record Sums (w : List ℕ) (p count left r : ℕ) : Type 0 where
   pub small : r ≤ choice-stop
-  pub is : (c : Summing w p count left) → r ≡ count-any-at choice-stop (marking w) (c .lies .a)
+  pub is : (c : Summing w p count left) → r ≡ min (choices-any-of (marking w) (c .lies)) choice-stop
 
 -- ---- a way is written
 -- the words xs stand at the result from `at` up to r
@@ -53,7 +49,7 @@ pub record ChoosingIn (w : List ℕ) (g left total at : ℕ) : Type 0 where
   pub n : ℕ
   pub few : n < number-step
   pub lies : Lying n t g left
-  pub all : number-of (marking w) lies ≡ total
+  pub all : choices-of (marking w) lies ≡ total
   pub some : 0 < total
   pub most : total ≤ choice-limit
   pub fits : at ≤ lies .from + 1
@@ -65,7 +61,7 @@ pub record ChoosesIn (w : List ℕ) (g left c total : ℕ) (new : Bool) (at r : 
 -- `count` alternatives stand so from p on
 pub record Picking (w : List ℕ) (p count left at : ℕ) : Type 0 where
   pub sums : Summing w p count left
-  pub most : number-any (strip-any (keep-any (marking w) (sums .lies .a))) ≤ choice-limit
+  pub most : choices-any-of (marking w) (sums .lies) ≤ choice-limit
   pub fits : at ≤ sums .lies .from
 
 pub record Picks (w : List ℕ) (p count left i : ℕ) (new : Bool) (at r : ℕ) (w' : List ℕ) : Type 0 where

@@ -5,10 +5,10 @@ use mathlib.Core.Bool.{Bool, true, false, _||_}
 use mathlib.Core.List.{List, [], _∷_, _++_}
 use lib.Dec.{ltb}
 use lib.ListN.{length}
-use Rattle.descriptions.specs.Descr.{number, number-all}
+use Rattle.descriptions.specs.Descr.{number, number-all, number-any}
 use Rattle.descriptions.specs.Remnant.{Remnant, remnant, nothing, alone, several}
-use Rattle.engine.specs.Placed.{Placed, place, Places, stop, _also_, Options, no-more, option, own, strip, strip-all}
-use Rattle.engine.specs.Marks.{Marking, kept-of, keep, keep-all}
+use Rattle.engine.specs.Placed.{Placed, place, Places, stop, _also_, Options, no-more, option, own, strip, strip-all, strip-any}
+use Rattle.engine.specs.Marks.{Marking, kept-of, keep, keep-all, keep-any}
 use Rattle.area.specs.Map.{LOADED}
 use Rattle.loading.specs.Entry.{Entry, entry}
 use Rattle.loading.specs.Loaded.{extent}
@@ -65,17 +65,20 @@ module _ {n : ℕ} {t : List ℕ} {p left : ℕ} (m : Marking) (new : Bool) wher
   way-any-of l i = way-any t m new p (l .from) (l .a) (l .end) (l .to) (l .at) i
 
 -- how many choices are kept of what stands loaded
-abbrev pub number-of : {n : ℕ} {t : List ℕ} {p left : ℕ} → Marking → Lying n t p left → ℕ
-number-of m l = number (strip (keep m (l .d)))
+abbrev pub choices-of : {n : ℕ} {t : List ℕ} {p left : ℕ} → Marking → Lying n t p left → ℕ
+choices-of m l = number (strip (keep m (l .d)))
+
+abbrev pub choices-any-of : {n : ℕ} {t : List ℕ} {p count left : ℕ} → Marking → LyingAny n t p count left → ℕ
+choices-any-of m l = number-any (strip-any (keep-any m (l .a)))
 
 module _ {n : ℕ} {t : List ℕ} (i : Inputs n t) (m : Marking) where
   -- and of both inputs together
   unfoldable pub number-both : ℕ
-  number-both = number-of m (i .first) * number-of m (i .second)
+  number-both = choices-of m (i .first) * choices-of m (i .second)
 
   -- the way with the number c through both, where what stands alone is certain
   unfoldable pub way-both : ℕ → List Take
-  way-both c = way-of m false (i .first) (c / number-of m (i .second)) ++ way-of m false (i .second) (c % number-of m (i .second))
+  way-both c = way-of m false (i .first) (c / choices-of m (i .second)) ++ way-of m false (i .second) (c % choices-of m (i .second))
 
 -- what is taken: the entries, and the marks
 abbrev pub entries-of : List Take → List Entry

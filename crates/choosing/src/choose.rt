@@ -41,12 +41,14 @@ fn choose(w: &mut [u32], g: usize, left: u32, c: u32, total: u32, new: bool, at:
     let mut to = at;
     while 0 < more {
         let count = alternatives_at(w, p);
-        let tally = count_kept(w, p + 1, count);
+        let first = p + 1;
+        let inside = left - 1;
+        let tally = count_kept(w, first, count);
         let which = tally.remnant;
         let beside = beside_other(which, new);
-        let sum = sum_choices(w, p + 1, count, left - 1);
+        let sum = sum_choices(w, first, count, inside);
         rest /= sum;
-        to = pick(w, p + 1, count, left - 1, index / rest, beside, to);
+        to = pick(w, first, count, inside, index / rest, beside, to);
         index %= rest;
         p = tally.after;
         more -= 1;
