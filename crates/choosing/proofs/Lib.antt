@@ -8,3 +8,6 @@ pub mod Finds
 mod Walks
 mod Sums
 mod Words
+mod Frames
+mod Picked
+mod Going
