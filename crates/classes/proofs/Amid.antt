@@ -1,6 +1,6 @@
 -- A graph that comes node by node: its root is joined, some of its nodes are done, and all of it can be taken back to a mark.
 -- Assumes nothing.
-use mathlib.Core.Path.{_≡_, refl, sym, ap, _∙_}
+use mathlib.Core.Path.{_≡_, refl, ap, _∙_}
 use mathlib.Core.Bool.{Bool, true, false}
 use mathlib.Core.List.{List, [], _∷_, _++_}
 use Prim.Native.Nat.{ℕ, _+_, _*_, _-_, _≤_, _<_}
@@ -16,7 +16,7 @@ use Rattle.forest.proofs.Words.{words-later, targets-later}
 use Rattle.loading.specs.Entry.{Entry, graphs}
 use Rattle.classes.specs.Entry.{Comes}
 use Rattle.classes.specs.Nodes.{span, NodeAt, Noding, Noded, Listing}
-use Rattle.classes.specs.Holds.{Holds, Adding, Adds}
+use Rattle.classes.specs.Holds.{Holds, Adding}
 use Rattle.classes.proofs.Laws.{holds-again}
 use Rattle.classes.proofs.Pushings.{add-asked, add-low, add-listing, adds-bad, adds}
 use Rattle.classes.proofs.Runs.{node-low, node-span, Marching, marching-start, marching-noding, marching-turn, listed-bad}
@@ -54,9 +54,6 @@ module _ {n m : ℕ} {w₀ : List ℕ} {es : List Entry} {e : Entry} where
       pub onto-clash : bad ≡ true → Clash (graphs es ++ e .graph ∷ [])
       onto-clash z = adds-bad n k w (e .at) (e .number) (length (e .graph)) k₁ bad w₁ u z .clash refl es e refl refl refl (o .holds)
           (o .comes)
-
-      pub onto-later : Later m w₀ k₁ w₁
-      onto-later = later-trans m w₀ k w k₁ w₁ (o .later) (u .later)
 
       pub amid-start : bad ≡ false → Amid n m w₀ es e (e .number) (e .at + 1) (length (e .graph)) k₁ w₁
       amid-start z = record {
@@ -138,7 +135,8 @@ module _ {n m : ℕ} {w₀ : List ℕ} {es : List Entry} {e : Entry} where
         pub amid-span : at + d ≤ LOADED
         amid-span =
             let g = noding h in
-            inside (g .G) (g .v) (g .node) (node-span (loaded-words (a .w)) (g .G) n y at (g .v) (g .node) d (λ b. s .0 (omega (arith, head-is))) few)
+            inside (g .G) (g .v) (g .node)
+            (node-span (loaded-words (a .w)) (g .G) n y at (g .v) (g .node) d (λ b. s .0 (omega (arith, head-is))) few)
           where
             inside : (G : Pile) (x : Node) → NodeAt (loaded-words (a .w)) G n y at x → d ≡ span x → at + d ≤ LOADED
             inside G (atom c) t z = let l = t .low in omega arith
