@@ -36,7 +36,7 @@ use Rattle.choosing.proofs.Nth.{some-rest}
 use Rattle.choosing.proofs.Frames.{beyond-trans, beyond-room, beyond-words, beyond-marks, written-none, written-long, written-append}
 
 -- both factors of a small product that is not 0 are small and not 0
-factors : (x y r : ℕ) → x * y ≡ r → 0 < r → (0 < x) × (0 < y) × (x ≤ r) × (y ≤ r)
+pub factors : (x y r : ℕ) → x * y ≡ r → 0 < r → (0 < x) × (0 < y) × (x ≤ r) × (y ≤ r)
 factors x y r e h =
     let b : 0 < y = some-rest 0 x y (omega arith) in
     let a : 0 < x = some-rest 0 y x (omega (arith, mul-comm x y)) in

@@ -11,3 +11,4 @@ mod Words
 mod Frames
 mod Picked
 mod Going
+mod Both

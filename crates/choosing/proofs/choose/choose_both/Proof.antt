@@ -1,42 +1,53 @@
+-- `choosing::choose::choose_both` meets its contract. Assumes nothing.
 use borrow.Author.Needs.{needs}
+use Rattle.choosing.proofs.Both.{both-asks, both-some, both-first, both-second, both-beyond, both-long, both-writes}
 use Rattle.choosing.proofs.choose.choose_both.Statement.{statement}
 use Rattle.choosing.proofs.choose.choose_both.Tie as tie
-use Rattle.choosing.proofs.choose.choose_both.Reads as reads
-use Rattle.choosing.proofs.choose.choose_both.Lts as lts
-use Rattle.choosing.proofs.choose.choose.Reads as choose-reads
-use Rattle.counting.proofs.choices.count_choices.Reads as count-choices-reads
 
--- src/choose.rt:87:9
 count-choices-requires : tie.Need-count-choices-requires
-count-choices-requires c κs = ?
+count-choices-requires c κs = both-asks (c .before .before .pre) .0
 
--- src/choose.rt:88:9
 count-choices-requires-2 : tie.Need-count-choices-requires-2
-count-choices-requires-2 c κs = ?
+count-choices-requires-2 c κs = both-asks (c .before .before .before .before .pre) .1
 
--- src/choose.rt:89:40
 div-choose : tie.Need-div-choose
-div-choose c = ?
+div-choose c =
+    both-some (c .before .before .before .before .before .before .pre) _ _ (c .before .before .before .count-choices .ensures)
+    (c .before .count-choices2 .ensures)
 
--- src/choose.rt:89:9
 choose-requires : tie.Need-choose-requires
-choose-requires c κs = ?
+choose-requires c κs =
+    both-first (c .before .before .before .before .before .before .pre) _ _ (c .before .before .before .count-choices .ensures)
+    (c .before .count-choices2 .ensures)
 
--- src/choose.rt:90:36
 rem-choose : tie.Need-rem-choose
-rem-choose c = ?
+rem-choose c =
+    both-some (c .before .before .before .before .before .before .before .before .before .before .pre) _ _
+    (c .before .before .before .before .before .before .before .count-choices .ensures)
+    (c .before .before .before .before .before .count-choices2 .ensures)
 
--- src/choose.rt:90:5
 choose-requires-2 : tie.Need-choose-requires-2
-choose-requires-2 c κs = ?
+choose-requires-2 c κs =
+    both-second (c .before .before .before .before .before .before .before .before .before .before .pre) _ _
+    (c .before .before .before .before .before .before .before .count-choices .ensures)
+    (c .before .before .before .before .before .count-choices2 .ensures) _ _ (c .before .before .before .choose .ensures)
 
--- src/choose.rt:83:1
 same-length : tie.Need-same-length
 same-length c = search needs
 
--- src/choose.rt:83:1
 returns : tie.Need-returns
-returns c = ?
+returns c =
+    let first = c .before .before .before .before .before .before .before .before .before .before .count-choices .ensures in
+    let second = c .before .before .before .before .before .before .before .before .count-choices2 .ensures in
+    let one = c .before .before .before .before .before .before .choose .ensures in
+    let two = c .before .before .choose2 .ensures in
+    record {
+      beyond =
+          both-beyond (c .before .before .before .before .before .before .before .before .before .before .before .before .before .pre) _ _
+          first second _ _ one _ _ two;
+      long = λ k. both-long k _ _ first second _ _ one _ _ two;
+      stands = λ k. both-writes k _ _ first second _ _ one _ _ two;
+    }
 
 pub choose-both-spec : {M : Type 1} → statement M
 choose-both-spec =
