@@ -1,10 +1,10 @@
--- `unify::unify` meets its contract: each return is the table's. Assumes nothing.
+-- `unify::run` meets its contract: each return is the table's. Assumes nothing.
 use borrow.Author.Needs.{needs}
 use native.Mathlib.Omega.{arith}
 use mathlib.Core.Logic.{inl, inr}
 use Rattle.unify.proofs.Outcomes.{bad-mode, small-area, too-long, bad-first, bad-second, no-image, opening}
-use Rattle.unify.proofs.unify.Statement.{statement}
-use Rattle.unify.proofs.unify.Tie as tie
+use Rattle.unify.proofs.run.Statement.{statement}
+use Rattle.unify.proofs.run.Tie as tie
 
 returns : tie.Need-returns
 returns c = (bad-mode _ _ _ (omega arith), tt)
@@ -74,7 +74,7 @@ same-length-2 c = search needs
 returns-7 : tie.Need-returns-7
 returns-7 c = search needs
 
-pub unify-spec : {M : Type 1} → statement M
-unify-spec =
+pub run-spec : {M : Type 1} → statement M
+run-spec =
     tie.close (tie.spec returns returns-2 returns-3 returns-4 judge-requires enum-told enum-told-2 cause-in-requires returns-5
     judge-requires-2 enum-told-3 enum-told-4 cause-in-requires-2 returns-6 conclude-requires same-length same-length-2 returns-7)
