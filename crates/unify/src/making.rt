@@ -6,6 +6,7 @@ use marks::marking::clear_marks;
 use marks::marking::douse;
 use opening::Opened;
 use opening::open;
+use plain::full::full_by_choices;
 use quick::quick::quick;
 use quick::step::Step;
 use showing::show::show;
@@ -37,7 +38,7 @@ fn full_by(engine: Engine, w: &mut [u32], k: usize, n: usize) -> Fully
 {
     match engine {
         Engine::Fast => full(w, k, n),
-        Engine::Plain => full(w, k, n),
+        Engine::Plain => full_by_choices(w, k, n),
     }
 }
 
