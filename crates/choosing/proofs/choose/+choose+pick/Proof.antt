@@ -108,28 +108,32 @@ choose-loop-holds t c =
 choose-alternatives-at-requires : (t : ℕ) →
     choose-lts.Need-alternatives-at-requires (choose-claims t) (choose-at t) choose.Post choose-Inv-loop choose-μ-loop
 choose-alternatives-at-requires t c κs =
-    let k = c .before .before .before .before .before .before .before .before .pre .1 in
-    let v = c .before .before .loop .inv in
+    let at = c .before .before in
+    let k = at .before .before .before .before .before .before .pre .1 in
+    let v = at .loop .inv in
     going-here k _ _ (v .1 k) (v .0) (omega arith)
 
 choose-add-first : (t : ℕ) → choose-lts.Need-add-first (choose-claims t) (choose-at t) choose.Post choose-Inv-loop choose-μ-loop
 choose-add-first t c =
-    let k = c .before .before .before .before .before .before .before .before .before .pre .1 in
-    let v = c .before .before .before .loop .inv in
+    let at = c .before .before .before in
+    let k = at .before .before .before .before .before .before .pre .1 in
+    let v = at .loop .inv in
     let h = going-here k _ _ (v .1 k) (v .0) (omega arith) .0 in
     omega arith
 
 choose-sub-inside : (t : ℕ) → choose-lts.Need-sub-inside (choose-claims t) (choose-at t) choose.Post choose-Inv-loop choose-μ-loop
 choose-sub-inside t c =
-    let k = c .before .before .before .before .before .before .before .before .before .pre .1 in
-    let v = c .before .before .before .loop .inv in
+    let at = c .before .before .before in
+    let k = at .before .before .before .before .before .before .pre .1 in
+    let v = at .loop .inv in
     going-deep k _ _ (v .1 k) (v .0) (omega arith)
 
 choose-count-kept-requires : (t : ℕ) →
     choose-lts.Need-count-kept-requires (choose-claims t) (choose-at t) choose.Post choose-Inv-loop choose-μ-loop
 choose-count-kept-requires t c κs =
-    let k = c .before .before .before .before .before .before .before .before .before .before .pre .1 in
-    let v = c .before .before .before .before .loop .inv in
+    let at = c .before .before .before .before in
+    let k = at .before .before .before .before .before .before .pre .1 in
+    let v = at .loop .inv in
     let counts = c .before .alternatives-at .ensures in
     going-told k _ _ (v .1 k) (v .0) (omega arith) counts
 
@@ -140,41 +144,46 @@ choose-beside-other-requires t c κs = search needs
 choose-sum-choices-requires : (t : ℕ) →
     choose-lts.Need-sum-choices-requires (choose-claims t) (choose-at t) choose.Post choose-Inv-loop choose-μ-loop
 choose-sum-choices-requires t c κs =
-    let k = c .before .before .before .before .before .before .before .before .before .before .before .before .before .pre .1 in
-    let v = c .before .before .before .before .before .before .before .loop .inv in
+    let at = c .before .before .before .before .before .before .before in
+    let k = at .before .before .before .before .before .before .pre .1 in
+    let v = at .loop .inv in
     let counts = c .before .before .before .before .alternatives-at .ensures in
     going-sums k _ _ (v .1 k) (v .0) (omega arith) counts
 
 choose-div-rest : (t : ℕ) → choose-lts.Need-div-rest (choose-claims t) (choose-at t) choose.Post choose-Inv-loop choose-μ-loop
 choose-div-rest t c =
-    let k = c .before .before .before .before .before .before .before .before .before .before .before .before .before .before .pre .1 in
-    let v = c .before .before .before .before .before .before .before .before .loop .inv in
+    let at = c .before .before .before .before .before .before .before .before in
+    let k = at .before .before .before .before .before .before .pre .1 in
+    let v = at .loop .inv in
     let counts = c .before .before .before .before .before .alternatives-at .ensures in
     let sums = c .sum-choices .ensures in
     going-some k _ _ (v .1 k) (v .0) (omega arith) counts sums
 
 choose-div-pick : (t : ℕ) → choose-lts.Need-div-pick (choose-claims t) (choose-at t) choose.Post choose-Inv-loop choose-μ-loop
 choose-div-pick t c =
-    let k = c .before .before .before .before .before .before .before .before .before .before .before .before .before .before .before .pre .1 in
-    let v = c .before .before .before .before .before .before .before .before .before .loop .inv in
+    let at = c .before .before .before .before .before .before .before .before .before in
+    let k = at .before .before .before .before .before .before .pre .1 in
+    let v = at .loop .inv in
     let counts = c .before .before .before .before .before .before .alternatives-at .ensures in
     let sums = c .before .sum-choices .ensures in
     going-rest k _ _ (v .1 k) (v .0) (omega arith) counts sums _ refl
 
 choose-pick-requires : (t : ℕ) → choose-lts.Need-pick-requires (choose-claims t) (choose-at t) choose.Post choose-Inv-loop choose-μ-loop
 choose-pick-requires t c κs =
-    let k = c .before .before .before .before .before .before .before .before .before .before .before .before .before .before .before .pre .1 in
-    let v = c .before .before .before .before .before .before .before .before .before .loop .inv in
+    let at = c .before .before .before .before .before .before .before .before .before in
+    let k = at .before .before .before .before .before .before .pre .1 in
+    let v = at .loop .inv in
     let counts = c .before .before .before .before .before .before .alternatives-at .ensures in
     let sums = c .before .sum-choices .ensures in
-    let depth = c .before .before .before .before .before .before .before .before .before .before .before .before .before .before .before .pre .0 in
+    let depth = at .before .before .before .before .before .before .pre .0 in
     let deep = going-deep k _ _ (v .1 k) (v .0) (omega arith) in
     (omega arith, going-asks k _ _ (v .1 k) (v .0) (omega arith) counts sums _ refl)
 
 choose-rem-index : (t : ℕ) → choose-lts.Need-rem-index (choose-claims t) (choose-at t) choose.Post choose-Inv-loop choose-μ-loop
 choose-rem-index t c =
-    let k = c .before .before .before .before .before .before .before .before .before .before .before .before .before .before .before .before .before .before .pre .1 in
-    let v = c .before .before .before .before .before .before .before .before .before .before .before .before .loop .inv in
+    let at = c .before .before .before .before .before .before .before .before .before .before .before .before in
+    let k = at .before .before .before .before .before .before .pre .1 in
+    let v = at .loop .inv in
     let counts = c .before .before .before .before .before .before .before .before .before .alternatives-at .ensures in
     let sums = c .before .before .before .before .sum-choices .ensures in
     going-rest k _ _ (v .1 k) (v .0) (omega arith) counts sums _ refl
@@ -191,8 +200,10 @@ choose-loop-less t c =
 
 choose-loop-again : (t : ℕ) → choose-lts.Need-loop-again (choose-claims t) (choose-at t) choose.Post choose-Inv-loop choose-μ-loop
 choose-loop-again t c =
-    let k = c .before .before .before .before .before .before .before .before .before .before .before .before .before .before .before .before .before .before .pre .1 in
-    let v = c .before .before .before .before .before .before .before .before .before .before .before .before .loop .inv in
+    let at = c .before .before .before .before .before .before .before .before .before .before .before .before in
+    let k = at .before .before .before .before .before .before .pre .1 in
+    let v = at .loop .inv in
+    let test = c .before .before .before .before .before .before .before .before .before .before .before .loop-test in
     let counts = c .before .before .before .before .before .before .before .before .before .alternatives-at .ensures in
     let tallied = c .before .before .before .before .before .before .before .count-kept .ensures in
     let tells = c .before .before .before .before .before .before .beside-other .ensures in
@@ -244,74 +255,84 @@ pick-loop-holds t c = (refl, λ k. goes-all k _ _)
 
 pick-mark-at-requires : (t : ℕ) → pick-lts.Need-mark-at-requires (pick-claims t) (pick-at t) pick.Post pick-Inv-loop pick-μ-loop
 pick-mark-at-requires t c κs =
-    let v = c .before .before .loop .inv in
-    let k = still-asks (v .0) (c .before .before .before .before .pre .1) in
+    let at = c .before .before in
+    let v = at .loop .inv in
+    let k = still-asks (v .0) (at .before .before .pre .1) in
     goes-here k _ _ _ (v .1 k) (omega arith)
 
 pick-kept-requires : (t : ℕ) → pick-lts.Need-kept-requires (pick-claims t) (pick-at t) pick.Post pick-Inv-loop pick-μ-loop
 pick-kept-requires t c κs =
-    let v = c .before .before .before .loop .inv in
-    let k = still-asks (v .0) (c .before .before .before .before .before .pre .1) in
+    let at = c .before .before .before in
+    let v = at .loop .inv in
+    let k = still-asks (v .0) (at .before .before .pre .1) in
     (c .mark-at .ensures .1, k .sums .room)
 
 pick-count-choices-requires : (t : ℕ) → pick-lts.Need-count-choices-requires (pick-claims t) (pick-at t) pick.Post pick-Inv-loop pick-μ-loop
 pick-count-choices-requires t c κs =
-    let v = c .before .before .before .before .before .before .loop .inv in
-    let k = still-asks (v .0) (c .before .before .before .before .before .before .before .before .pre .1) in
+    let at = c .before .before .before .before .before .before in
+    let v = at .loop .inv in
+    let k = still-asks (v .0) (at .before .before .pre .1) in
     goes-asks k _ _ _ (v .1 k) (omega arith)
 
 pick-word-of-requires : (t : ℕ) → pick-lts.Need-word-of-requires (pick-claims t) (pick-at t) pick.Post pick-Inv-loop pick-μ-loop
 pick-word-of-requires t c κs =
-    let v = c .before .before .before .before .before .before .before .before .loop .inv in
-    let k = still-asks (v .0) (c .before .before .before .before .before .before .before .before .before .before .pre .1) in
+    let at = c .before .before .before .before .before .before .before .before in
+    let v = at .loop .inv in
+    let k = still-asks (v .0) (at .before .before .pre .1) in
     goes-here k _ _ _ (v .1 k) (omega arith) .0 .0
 
 pick-add-w : (t : ℕ) → pick-lts.Need-add-w (pick-claims t) (pick-at t) pick.Post pick-Inv-loop pick-μ-loop
 pick-add-w t c =
-    let v = c .before .before .before .before .before .before .before .before .before .loop .inv in
-    let k = still-asks (v .0) (c .before .before .before .before .before .before .before .before .before .before .before .pre .1) in
+    let at = c .before .before .before .before .before .before .before .before .before in
+    let v = at .loop .inv in
+    let k = still-asks (v .0) (at .before .before .pre .1) in
     let h = goes-room k _ _ _ (v .1 k) (omega arith) in
     let l = k .sums .room in
     omega arith
 
 pick-mul-w : (t : ℕ) → pick-lts.Need-mul-w (pick-claims t) (pick-at t) pick.Post pick-Inv-loop pick-μ-loop
 pick-mul-w t c =
-    let v = c .before .before .before .before .before .before .before .before .before .loop .inv in
-    let k = still-asks (v .0) (c .before .before .before .before .before .before .before .before .before .before .before .pre .1) in
+    let at = c .before .before .before .before .before .before .before .before .before in
+    let v = at .loop .inv in
+    let k = still-asks (v .0) (at .before .before .pre .1) in
     let h = goes-room k _ _ _ (v .1 k) (omega arith) in
     let l = k .sums .room in
     omega arith
 
 pick-slice-write-w : (t : ℕ) → pick-lts.Need-slice-write-w (pick-claims t) (pick-at t) pick.Post pick-Inv-loop pick-μ-loop
 pick-slice-write-w t c =
-    let v = c .before .before .before .before .before .before .before .before .before .loop .inv in
-    let k = still-asks (v .0) (c .before .before .before .before .before .before .before .before .before .before .before .pre .1) in
+    let at = c .before .before .before .before .before .before .before .before .before in
+    let v = at .loop .inv in
+    let k = still-asks (v .0) (at .before .before .pre .1) in
     let h = goes-room k _ _ _ (v .1 k) (omega arith) in
     let l = k .sums .room in
     omega arith
 
 pick-add-choose : (t : ℕ) → pick-lts.Need-add-choose (pick-claims t) (pick-at t) pick.Post pick-Inv-loop pick-μ-loop
 pick-add-choose t c =
-    let v = c .before .before .before .before .before .before .before .before .before .before .loop .inv in
-    let k = still-asks (v .0) (c .before .before .before .before .before .before .before .before .before .before .before .before .pre .1) in
+    let at = c .before .before .before .before .before .before .before .before .before .before in
+    let v = at .loop .inv in
+    let k = still-asks (v .0) (at .before .before .pre .1) in
     let h = goes-room k _ _ _ (v .1 k) (omega arith) in
     let l = k .sums .room in
     omega arith
 
 pick-choose-requires : (t : ℕ) → pick-lts.Need-choose-requires (pick-claims t) (pick-at t) pick.Post pick-Inv-loop pick-μ-loop
 pick-choose-requires t c κs =
-    let v = c .before .before .before .before .before .before .before .before .before .before .loop .inv in
-    let k = still-asks (v .0) (c .before .before .before .before .before .before .before .before .before .before .before .before .pre .1) in
+    let at = c .before .before .before .before .before .before .before .before .before .before in
+    let v = at .loop .inv in
+    let k = still-asks (v .0) (at .before .before .pre .1) in
     let mark = c .before .before .before .before .before .before .before .mark-at .ensures in
     let counted = c .before .before .before .count-choices .ensures in
     let word = c .before .word-of .ensures in
-    let depth = c .before .before .before .before .before .before .before .before .before .before .before .before .pre .0 in
+    let depth = at .before .before .pre .0 in
     (omega arith, goes-asks-in k _ _ _ (v .1 k) (omega arith) _ mark _ (cc) counted (omega arith) _ word)
 
 pick-same-length : (t : ℕ) → pick-lts.Need-same-length (pick-claims t) (pick-at t) pick.Post pick-Inv-loop pick-μ-loop
 pick-same-length t c =
-    let v = c .before .before .before .before .before .before .before .before .before .before .before .before .before .loop .inv in
-    let k = still-asks (v .0) (c .before .before .before .before .before .before .before .before .before .before .before .before .before .before .before .pre .1) in
+    let at = c .before .before .before .before .before .before .before .before .before .before .before .before .before in
+    let v = at .loop .inv in
+    let k = still-asks (v .0) (at .before .before .pre .1) in
     let mark = c .before .before .before .before .before .before .before .before .before .before .mark-at .ensures in
     let counted = c .before .before .before .before .before .before .count-choices .ensures in
     let word = c .before .before .before .before .word-of .ensures in
@@ -320,8 +341,9 @@ pick-same-length t c =
 
 pick-returns : (t : ℕ) → pick-lts.Need-returns (pick-claims t) (pick-at t) pick.Post pick-Inv-loop pick-μ-loop
 pick-returns t c =
-    let v = c .before .before .before .before .before .before .before .before .before .before .before .before .before .loop .inv in
-    let k = still-asks (v .0) (c .before .before .before .before .before .before .before .before .before .before .before .before .before .before .before .pre .1) in
+    let at = c .before .before .before .before .before .before .before .before .before .before .before .before .before in
+    let v = at .loop .inv in
+    let k = still-asks (v .0) (at .before .before .pre .1) in
     let mark = c .before .before .before .before .before .before .before .before .before .before .mark-at .ensures in
     let counted = c .before .before .before .before .before .before .count-choices .ensures in
     let word = c .before .before .before .before .word-of .ensures in
@@ -333,8 +355,9 @@ pick-returns t c =
 
 pick-after-at-requires : (t : ℕ) → pick-lts.Need-after-at-requires (pick-claims t) (pick-at t) pick.Post pick-Inv-loop pick-μ-loop
 pick-after-at-requires t c κs =
-    let v = c .before .before .before .before .before .before .loop .inv in
-    let k = still-asks (v .0) (c .before .before .before .before .before .before .before .before .pre .1) in
+    let at = c .before .before .before .before .before .before in
+    let v = at .loop .inv in
+    let k = still-asks (v .0) (at .before .before .pre .1) in
     goes-here k _ _ _ (v .1 k) (omega arith)
 
 pick-sub-more : (t : ℕ) → pick-lts.Need-sub-more (pick-claims t) (pick-at t) pick.Post pick-Inv-loop pick-μ-loop
