@@ -1,12 +1,12 @@
 -- The way through both inputs: that through the first, and then that through the second.
 -- Assumes nothing.
-use Prim.Native.Nat.{ℕ, _+_, _*_, _/_, _%_, _≤_, _<_, min}
+use Prim.Native.Nat.{ℕ, _+_, _/_, _%_, _≤_, _<_}
 use native.Mathlib.Omega.{arith}
-use mathlib.Core.Path.{_≡_, refl, sym, ap, ap₂, subst, _∙_}
+use mathlib.Core.Path.{_≡_, refl, sym, ap, subst, _∙_}
 use mathlib.Core.Bool.{false}
-use mathlib.Core.List.{List, _++_}
+use mathlib.Core.List.{List}
 use lib.ListN.{length}
-use Rattle.theory.specs.Limits.{depth-limit, choice-limit, choice-stop}
+use Rattle.theory.specs.Limits.{depth-limit, choice-stop}
 use Rattle.area.specs.Map.{SECOND}
 use Rattle.engine.specs.Marks.{Marking}
 use Rattle.modes_by_marks.proofs.Counting.{count-left}
@@ -120,7 +120,8 @@ module _ {w : List ℕ} {c : ℕ} (k : ChoosingBoth w c) where
             let after = way-of m false (k .inputs .second) (c % choices-of m (k .inputs .second)) in
             written-append w₁ 0 before to w₂ after r room₁ written-first (v .beyond)
             (subst (λ (z : ℕ). Written w₂ to (words-of (way-of m false (k .inputs .second) (c % z))) r) second-is
-            (subst (λ (z : Marking). Written w₂ to (words-of (way-of z false (k .inputs .second) (c % y))) r) marks₁ (v .writes asks-second)))
+            (subst (λ (z : Marking). Written w₂ to (words-of (way-of z false (k .inputs .second) (c % y))) r) marks₁
+            (v .writes asks-second)))
 
         pub both-long : r ≡ length (way-both (k .inputs) (marking w) c)
         both-long = omega (arith, written-long w₂ 0 (way-both (k .inputs) m c) r both-writes)

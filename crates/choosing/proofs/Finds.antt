@@ -1,11 +1,11 @@
 -- What is found in the ways up to a number: nothing at first, with each way that agrees one choice more, and in all what the search finds.
 -- Assumes nothing.
-use Prim.Native.Nat.{ℕ, suc, _≤_, _<_, min}
+use Prim.Native.Nat.{ℕ, suc, _≤_, _<_}
 use native.Mathlib.Omega.{arith}
 use mathlib.Core.Path.{_≡_, refl, sym, ap, subst, _∙_}
 use mathlib.Core.Logic.{_⊎_, inl, inr, ⊎-elim}
 use mathlib.Core.Bool.{Bool, true, false}
-use mathlib.Core.List.{List, [], _∷_, _++_, append-nil, List·Memᴰ, List·Memᴰ·head, List·Memᴰ·tail, List·Memᴰ·not-nil}
+use mathlib.Core.List.{List, [], _∷_, _++_, append-nil, List·Memᴰ, List·Memᴰ·head, List·Memᴰ·tail}
 use mathlib.Core.List.{List·Memᴰ·cases-cons}
 use lib.ListN.{length, take}
 use lib.Seq.{take-all}
@@ -80,8 +80,8 @@ new-within (k ∷ ks) g i = go (k .new) (λ j. new-within ks g j) i
 new-or-said : (P : Graph → Type 0) (ks : List Take) → Each (λ k. k .new ≡ false → P (k .entry .graph)) ks → (g : Graph) →
     List·Memᴰ g (graphs (entries-of ks)) → List·Memᴰ g (graphs (entries-of (new-of ks))) ⊎ P g
 new-or-said P [] f g i = inl i
-new-or-said P (k ∷ ks) f g i = ⊎-elim (λ e. here (k .new) refl e) (λ j. there (k .new) (new-or-said P ks (λ o l. f o (List·Memᴰ·tail l)) g j))
-    (List·Memᴰ·cases-cons i)
+new-or-said P (k ∷ ks) f g i = ⊎-elim (λ e. here (k .new) refl e)
+    (λ j. there (k .new) (new-or-said P ks (λ o l. f o (List·Memᴰ·tail l)) g j)) (List·Memᴰ·cases-cons i)
   where
     here : (b : Bool) → k .new ≡ b → g ≡ k .entry .graph →
         List·Memᴰ g (graphs (entries-of (elim b [ true ↦ k ∷ new-of ks | false ↦ new-of ks ]))) ⊎ P g

@@ -8,7 +8,6 @@ use mathlib.Core.Bool.{Bool}
 use mathlib.Core.List.{List, [], _++_, append-nil, append-assoc}
 use lib.ListN.{length}
 use Rattle.theory.specs.Limits.{choice-limit, choice-stop}
-use Rattle.theory.specs.Net.{Graph}
 use Rattle.descriptions.specs.Descr.{number, number-all, number-any}
 use Rattle.descriptions.specs.Remnant.{remnant}
 use Rattle.area.specs.Region.{loaded-words}
@@ -17,7 +16,7 @@ use Rattle.engine.specs.Placed.{Placed, place, Places, stop, _also_, Options, s
 use Rattle.engine.specs.Marks.{Marking, kept-of, keep, keep-all, keep-any}
 use Rattle.packing.specs.Packed.{number-step}
 use Rattle.loading.specs.Loaded.{extent}
-use Rattle.loading.specs.Numbered.{places, options}
+use Rattle.loading.specs.Numbered.{places}
 use Rattle.loading.specs.Nesting.{Nests, NestsAll}
 use Rattle.loading.specs.At.{At, AtAll}
 use Rattle.loading.specs.Lying.{Here, LyingAny}
@@ -53,7 +52,7 @@ beside-told (suc (suc l)) first new = refl
 pub going-starts : {w : List ℕ} {g left total at : ℕ} → ChoosingIn w g left total at → (g < 2048) × (tail-at w g < 2048)
 going-starts {w} k = let r = reads-lying w (k .room) (k .loaded) (k .few) (k .lies) in (r .here, r .inside)
 
-module _ (w₀ : List ℕ) (g left c total : ℕ) (new : Bool) (at : ℕ) (k : ChoosingIn w₀ g left total at) where
+module _ {w₀ : List ℕ} {g left total at : ℕ} (k : ChoosingIn w₀ g left total at) (c : ℕ) (new : Bool) where
   abbrev m : Marking
   m = marking w₀
 
@@ -106,7 +105,7 @@ module _ (w₀ : List ℕ) (g left c total : ℕ) (new : Bool) (at : ℕ) (k : C
             writes = written-none w₀ at;
           })
 
-  module _ (more p rest index to : ℕ) (w : List ℕ) (s : Going more p rest index to w) where
+  module _ {more p rest index to : ℕ} {w : List ℕ} (s : Going more p rest index to w) where
     pub going-none : more ≤ 0 → Written w at (words-of (way-of (marking w₀) new (k .lies) c)) to
     going-none h = go (s .ds) (s .stand) (s .many) (s .is)
       where
@@ -156,7 +155,7 @@ module _ (w₀ : List ℕ) (g left c total : ℕ) (new : Bool) (at : ℕ) (k : C
       pub going-deep : 0 < left
       going-deep = next .nests .0
 
-      module _ (count : ℕ) (counts : count ≡ alternatives-at w p) where
+      module _ {count : ℕ} (counts : count ≡ alternatives-at w p) where
         bounds : (p + 1 ≤ next .o .0) × (next .o .0 ≤ length (k .t)) × (s .l ≤ next .o .1)
         bounds = let there = next .o .2 in
             any-bounds (k .t) (next .a) (p + 1) (s .l) (next .o .0) (next .o .1) (omega arith) (next .o .4)
@@ -191,7 +190,7 @@ module _ (w₀ : List ℕ) (g left c total : ℕ) (new : Bool) (at : ℕ) (k : C
         pub going-sums : Summing w (p + 1) count (left - 1)
         going-sums = sums
 
-        module _ (sum : ℕ) (summed : Sums w (p + 1) count (left - 1) sum) where
+        module _ {sum : ℕ} (summed : Sums w (p + 1) count (left - 1) sum) where
           abbrev here : ℕ
           here = number-any (strip-any (keep-any m (next .a)))
 
@@ -232,42 +231,43 @@ module _ (w₀ : List ℕ) (g left c total : ℕ) (new : Bool) (at : ℕ) (k : C
             pub going-asks : Picking w (p + 1) count (left - 1) to
             going-asks = picking
 
-            module _ (which : Remnant) (after : ℕ) (tallied : (r : Alternatives w (p + 1) count) → Tallied w r which after) (beside : Bool)
-                (tells : beside ≡ told-beside which new) (to' : ℕ) (w' : List ℕ)
+            module _ {which : Remnant} {after : ℕ} (tallied : (r : Alternatives w (p + 1) count) → Tallied w r which after) {beside : Bool}
+                (tells : beside ≡ told-beside which new) {to' : ℕ} {w' : List ℕ}
                 (u : Picks w (p + 1) count (left - 1) (index / rest') beside to to' w') where
               pub going-beyond : Beyond w₀ at w'
               going-beyond = beyond-trans w₀ at w to w' going-up beyond (u .beyond)
 
-              abbrev ks : List Take
-              ks = way-any (k .t) m (beside-other (remnant (kept-of m (next .a))) new) (p + 1) (s .l) (next .a) (next .o .0) (next .o .1)
-                  (next .o .4) (index / later)
+              -- the ways through this disjunction
+              abbrev way-at : Marking → Bool → ℕ → List Take
+              way-at z b i = way-any (k .t) z b (p + 1) (s .l) (next .a) (next .o .0) (next .o .1) (next .o .4) i
 
-              beside-is : beside ≡ beside-other (remnant (kept-of m (next .a))) new
+              abbrev besides : Bool
+              besides = beside-other (remnant (kept-of m (next .a))) new
+
+              abbrev ks : List Take
+              ks = way-at m besides (index / later)
+
+              -- the ways through the disjunctions after it
+              abbrev others : ℕ → List Take
+              others i = way-all (k .t) m new (next .o .0) (next .o .1) (next .ds) (k .lies .end) (k .lies .to) (next .o .5) i
+
+              beside-is : beside ≡ besides
               beside-is = tells ∙ ap (λ (z : Remnant). told-beside z new) (tallied told .remnant-is)
                   ∙ beside-told (kept-of (marking w) (next .a)) (tallied told .first) new
                   ∙ ap (λ (z : Marking). beside-other (remnant (kept-of z (next .a))) new) marks
 
-              way-at : Marking → Bool → ℕ → List Take
-              way-at z b i = way-any (k .t) z b (p + 1) (s .l) (next .a) (next .o .0) (next .o .1) (next .o .4) i
-
               written : Written w' to (words-of ks) to'
-              unfolding way-at
               written =
                   let e : way-at (marking w) beside (index / rest') ≡ ks = ap (λ (z : Marking). way-at z beside (index / rest')) marks
-                  ∙ ap (λ (b : Bool). way-at m b (index / rest')) beside-is
-                  ∙ ap (λ (z : ℕ). way-at m (beside-other (remnant (kept-of m (next .a))) new) (index / z)) rest-is in
+                  ∙ ap (λ (b : Bool). way-at m b (index / rest')) beside-is ∙ ap (λ (z : ℕ). way-at m besides (index / z)) rest-is in
                   subst (λ (os : List Take). Written w' to (words-of os) to') e (u .writes picking)
 
               fitting : to' ≤ next .o .1
-              fitting = let there = next .o .2 in
-                  omega (
-                    arith,
-                    s .fits,
-                    written-long w' to ks to' written,
-                    rises-few (s .l) (next .o .1) ks
-                        (any-rises (k .t) m (beside-other (remnant (kept-of m (next .a))) new) (p + 1) (s .l) (next .a) (next .o .0) (next .o .1)
-                        (omega arith) (next .o .4) (index / later)),
-                  )
+              fitting =
+                  let there = next .o .2 in
+                  let rises = any-rises (k .t) m besides (p + 1) (s .l) (next .a) (next .o .0) (next .o .1) (omega arith) (next .o .4)
+                  (index / later) in
+                  omega (arith, s .fits, written-long w' to ks to' written, rises-few (s .l) (next .o .1) ks rises)
 
               pub going-on : (index' : ℕ) → index' ≡ index % rest' → Going (more - 1) after rest' index' to' w'
               going-on index' e = subst (λ (j : ℕ). Going (more - 1) j rest' index' to' w') (sym (tallied told .after-is)) (record {
@@ -282,9 +282,7 @@ module _ (w₀ : List ℕ) (g left c total : ℕ) (new : Bool) (at : ℕ) (k : C
                 most = omega (arith, rest-is, parts .3, s .most);
                 fits = fitting;
                 done = s .done ++ ks;
-                is = next .is ∙ sym (append-assoc (s .done) ks (way-all (k .t) m new (next .o .0) (next .o .1) (next .ds) (k .lies .end)
-                    (k .lies .to) (next .o .5) (index % later)))
-                    ∙ ap (λ (z : ℕ). (s .done ++ ks) ++ way-all (k .t) m new (next .o .0) (next .o .1) (next .ds) (k .lies .end)
-                    (k .lies .to) (next .o .5) z) (sym (e ∙ ap (λ (z : ℕ). index % z) rest-is));
+                is = next .is ∙ sym (append-assoc (s .done) ks (others (index % later)))
+                    ∙ ap (λ (z : ℕ). (s .done ++ ks) ++ others z) (sym (e ∙ ap (λ (z : ℕ). index % z) rest-is));
                 writes = written-append w at (s .done) to w' ks to' room (s .writes) (u .beyond) written;
               })

@@ -2,7 +2,7 @@
 -- Assumes nothing.
 use Prim.Native.Nat.{ℕ, zero, suc, _+_, _-_, _/_, _%_, _≤_}
 use native.Mathlib.Omega.{arith}
-use mathlib.Core.Path.{_≡_, refl, sym, ap, subst, _∙_}
+use mathlib.Core.Path.{_≡_, refl, sym, subst, _∙_}
 use mathlib.Core.Logic.{⊎-elim}
 use mathlib.Core.Bool.{Bool, true, false}
 use mathlib.Core.List.{List, [], _∷_, _++_, List·Memᴰ, List·Memᴰ·head, List·Memᴰ·tail, Memᴰ·append-left, Memᴰ·append-right}
@@ -11,10 +11,10 @@ use lib.ListN.{length}
 use Rattle.descriptions.specs.Descr.{number, number-all}
 use Rattle.descriptions.specs.Remnant.{Remnant, remnant, nothing, alone, several}
 use Rattle.theory.specs.Net.{Graph}
-use Rattle.theory.specs.Descr.{Desc, alts}
+use Rattle.theory.specs.Descr.{alts}
 use Rattle.engine.specs.Placed.{Placed, place, Places, stop, _also_, Options, no-more, option, own, inner, strip, strip-all, strip-any}
 use Rattle.engine.specs.Marks.{Marking, kept-of, keep, keep-all, keep-any}
-use Rattle.engine.specs.Certain.{flat, sure, sure-any, certain}
+use Rattle.engine.specs.Certain.{flat, sure-any, certain}
 use Rattle.modes_by_marks.proofs.Marks.{kept-alts}
 use Rattle.modes_by_marks.proofs.Joined.{certain-next}
 use Rattle.loading.specs.Entry.{Entry, entry}
@@ -159,8 +159,8 @@ module _ (t : List ℕ) (m : Marking) where
               let high = b .1 in
               ⊎-elim (λ u. omega arith) (λ u. omega arith) (y o j)
 
-      any-off : (p n : ℕ) (a : Options) (q r : ℕ) → p ≤ length t → (at : AtAny t p n a q r) → kept-of m a ≡ 1 → ClearLone es t m p n a q r at →
-          (i : ℕ) → Each (Off es) (way-any t m false p n a q r at i)
+      any-off : (p n : ℕ) (a : Options) (q r : ℕ) → p ≤ length t → (at : AtAny t p n a q r) → kept-of m a ≡ 1 →
+          ClearLone es t m p n a q r at → (i : ℕ) → Each (Off es) (way-any t m false p n a q r at i)
       any-off p n no-more q r h at e x i = each-none (Off es)
       any-off p n (option x d a) q r h at e y i =
           let first = at-bounds t d p n (at .0) (at .1) (at .3) in

@@ -14,7 +14,6 @@ use Rattle.descriptions.specs.Remnant.{remnant}
 use Rattle.theory.specs.Net.{Graph}
 use Rattle.engine.specs.Placed.{Placed, place, Places, stop, _also_, Options, no-more, option, own, inner, strip, strip-all, strip-any}
 use Rattle.engine.specs.Marks.{Marking, kept-of, keep, keep-all, keep-any}
-use Rattle.engine.specs.Beside.{_next_}
 use Rattle.modes_by_marks.proofs.Finding.{Pick, pick-as, pick-pairs, picks, picks-all, picks-any}
 use Rattle.modes_by_marks.proofs.Joined.{keep-next}
 use Rattle.modes_by_marks.proofs.Picks.{Nth, nth-left, nth-right, nth-each, nth-as, nth-pairs, as-long, picks-long, picks-all-long}
@@ -63,8 +62,8 @@ module _ (t : List ℕ) (m : Marking) where
         nth-each g (picks-all (keep-all m ds)) c (pick-of (way-all t m new (p + extent g + 1) (n + length g) ds q r (at .6) c))
         (all-nth new (p + extent g + 1) (n + length g) ds q r (at .6) c h)
 
-    all-nth : (new : Bool) (p n : ℕ) (ds : Places) (q r : ℕ) (at : AtAll t p n ds q r) (c : ℕ) → c < number-all (strip-all (keep-all m ds)) →
-        Nth (picks-all (keep-all m ds)) c (pick-of (way-all t m new p n ds q r at c))
+    all-nth : (new : Bool) (p n : ℕ) (ds : Places) (q r : ℕ) (at : AtAll t p n ds q r) (c : ℕ) →
+        c < number-all (strip-all (keep-all m ds)) → Nth (picks-all (keep-all m ds)) c (pick-of (way-all t m new p n ds q r at c))
     all-nth new p n stop q r at c h = record { u = []; v = []; is = refl; long = omega arith }
     all-nth new p n (a also ds) q r at c h =
         let many = number-any (strip-any (keep-any m a)) in

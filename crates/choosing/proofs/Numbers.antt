@@ -2,7 +2,7 @@
 -- Assumes nothing.
 use Prim.Native.Nat.{ℕ, _+_, _-_, _/_, _%_, _≤_, _<_}
 use native.Mathlib.Omega.{arith}
-use mathlib.Core.Path.{_≡_, refl, sym, ap, subst}
+use mathlib.Core.Path.{_≡_, sym, ap, subst}
 use mathlib.Core.Logic.{⊎-elim}
 use mathlib.Core.Bool.{Bool, true, false}
 use mathlib.Core.List.{List, [], _∷_, _++_, List·Memᴰ, List·Memᴰ·not-nil, List·Memᴰ·cases-cons, List·Memᴰ·append-cases}
@@ -16,7 +16,7 @@ use Rattle.loading.specs.Entry.{Entry, entry}
 use Rattle.loading.specs.Loaded.{extent}
 use Rattle.loading.specs.At.{At, AtAll, AtAny}
 use Rattle.loading.specs.Lying.{Lying}
-use Rattle.loading.proofs.Walking.{at-bounds, all-bounds, any-bounds}
+use Rattle.loading.proofs.Walking.{at-bounds, any-bounds}
 use Rattle.entering.specs.Taken.{Among, AmongAll, AmongAny, AmongOf}
 use Rattle.entering.specs.Inputs.{Inputs}
 use Rattle.choosing.specs.Ways.{Take, take-as, beside-other, way-in, way-all, way-any, way-of, way-both}
@@ -195,8 +195,10 @@ module _ {n : ℕ} {t : List ℕ} (i : Inputs n t) (m : Marking) (c : ℕ) where
       let high = i .second .low in
       let apart = i .apart in
       rises-append 0 (i .first .to) n xs ys
-      (rises-wide (i .first .from + 1) (i .first .to) 0 (i .first .to) xs (omega arith) (omega arith) (of-rises m false (i .first) (c / many)))
-      (rises-wide (i .second .from + 1) (i .second .to) (i .first .to) n ys (omega arith) high (of-rises m false (i .second) (c % many)))
+      (rises-wide (i .first .from + 1) (i .first .to) 0 (i .first .to) xs (omega arith) (omega arith)
+      (of-rises m false (i .first) (c / many)))
+      (rises-wide (i .second .from + 1) (i .second .to) (i .first .to) n ys (omega arith) high
+      (of-rises m false (i .second) (c % many)))
 
   -- there are no more than nodes
   pub way-few : length (way-both i m c) ≤ n

@@ -1,17 +1,17 @@
 -- The alternative is found that has the choice with a given number: those before it are passed over, with their choices.
 -- Assumes nothing.
-use Prim.Native.Nat.{ℕ, _+_, _-_, _≤_, _<_, min}
+use Prim.Native.Nat.{ℕ, _+_, _-_, _≤_, _<_}
 use native.Mathlib.Omega.{arith}
 use mathlib.Core.Path.{_≡_, refl, sym, ap, subst, _∙_}
 use mathlib.Core.Bool.{Bool, true, false}
-use mathlib.Core.List.{List, [], _∷_}
+use mathlib.Core.List.{List, _∷_}
 use borrow.Author.Tests.{lt-ltb, le-ltb}
 use lib.Dec.{ltb}
 use lib.ListN.{length, set}
-use Rattle.theory.specs.Limits.{choice-limit, choice-stop}
+use Rattle.theory.specs.Limits.{choice-limit}
 use Rattle.descriptions.specs.Descr.{number, number-any}
 use Rattle.area.specs.Map.{RESULT, NODES}
-use Rattle.engine.specs.Placed.{Placed, Options, no-more, option, own, strip, strip-any}
+use Rattle.engine.specs.Placed.{Placed, Options, option, own, strip, strip-any}
 use Rattle.engine.specs.Marks.{Marking, keep, keep-any}
 use Rattle.loading.specs.Entry.{entry}
 use Rattle.loading.specs.At.{AtAny}
@@ -24,9 +24,9 @@ use Rattle.marks.proofs.Reading.{readable}
 use Rattle.counting.specs.Counted.{Counted}
 use Rattle.choosing.specs.Ways.{Take, take-as, new-part, way-in, way-any, way-any-of, words-of}
 use Rattle.choosing.specs.Chosen.{Beyond, Written, ChoosingIn, ChoosesIn, Picking}
-use Rattle.choosing.proofs.Walks.{Still, still-all, still-none, Next, next, next-here, next-mark, next-lies, next-last, next-on}
+use Rattle.choosing.proofs.Walks.{Still, still-all, still-none, Next, next, next-here, next-mark, next-lies, next-on}
 use Rattle.choosing.proofs.Sums.{number-kept, number-dropped, counted-of}
-use Rattle.choosing.proofs.Frames.{beyond-none, beyond-trans, beyond-set, beyond-room, beyond-words, beyond-marks}
+use Rattle.choosing.proofs.Frames.{beyond-trans, beyond-set, beyond-room, beyond-words, beyond-marks}
 use Rattle.choosing.proofs.Frames.{written-none, written-cons}
 
 -- ---- a way through the first of some alternatives, or through a later one
@@ -41,20 +41,19 @@ module _ (t : List ℕ) (m : Marking) (new : Bool) (p n x : ℕ) (d : Placed) (a
   abbrev on : ℕ → List Take
   on j = way-any t m new (at .0) (at .1) a q r (at .4) j
 
+  abbrev told : Bool → Bool → List Take
+  told b c = elim b [ true ↦ elim c [ true ↦ one | false ↦ on (i - many) ] | false ↦ on i ]
+
   pub way-skip : m x ≡ false → way-any t m new p n (option x d a) q r at i ≡ way-any t m new (at .0) (at .1) a q r (at .4) i
-  way-skip e = ap {B = List Take} (λ (b : Bool). elim b [ true ↦ elim (ltb i many) [ true ↦ one | false ↦ on (i - many) ] | false ↦ on i ]) e
+  way-skip e = ap (λ (b : Bool). told b (ltb i many)) e
 
   pub way-pass : m x ≡ true → number (strip (keep m d)) ≤ i →
       way-any t m new p n (option x d a) q r at i ≡ way-any t m new (at .0) (at .1) a q r (at .4) (i - number (strip (keep m d)))
-  way-pass e h =
-      ap {B = List Take} (λ (b : Bool). elim b [ true ↦ elim (ltb i many) [ true ↦ one | false ↦ on (i - many) ] | false ↦ on i ]) e
-      ∙ ap {B = List Take} (λ (b : Bool). elim b [ true ↦ one | false ↦ on (i - many) ]) (le-ltb i many h)
+  way-pass e h = ap (λ (b : Bool). told b (ltb i many)) e ∙ ap (told true) (le-ltb i many h)
 
   pub way-take : m x ≡ true → i < number (strip (keep m d)) → way-any t m new p n (option x d a) q r at i
       ≡ take-as (entry p n (own d)) x new ∷ way-in t m new p n d (at .0) (at .1) (at .3) i
-  way-take e h =
-      ap {B = List Take} (λ (b : Bool). elim b [ true ↦ elim (ltb i many) [ true ↦ one | false ↦ on (i - many) ] | false ↦ on i ]) e
-      ∙ ap {B = List Take} (λ (b : Bool). elim b [ true ↦ one | false ↦ on (i - many) ]) (lt-ltb i many h)
+  way-take e h = ap (λ (b : Bool). told b (ltb i many)) e ∙ ap (told true) (lt-ltb i many h)
 
 -- what a turn at `g` does to the number
 pub data Turn (w : List ℕ) (left g x index index' : ℕ) : Type 0 where

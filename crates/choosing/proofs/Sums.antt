@@ -2,13 +2,13 @@
 -- Assumes nothing.
 use Prim.Native.Nat.{ℕ, _+_, _-_, _≤_, _<_, min}
 use native.Mathlib.Omega.{arith}
-use mathlib.Core.Path.{_≡_, refl, sym, ap, _∙_}
+use mathlib.Core.Path.{_≡_, sym, ap, _∙_}
 use mathlib.Core.Bool.{true, false}
 use mathlib.Core.List.{List}
 use lib.ListN.{length}
 use Rattle.theory.specs.Limits.{choice-stop}
 use Rattle.descriptions.specs.Descr.{number, number-any}
-use Rattle.engine.specs.Placed.{Placed, Options, no-more, option, strip, strip-any}
+use Rattle.engine.specs.Placed.{Placed, Options, option, strip, strip-any}
 use Rattle.engine.specs.Marks.{Marking, keep, keep-any}
 use Rattle.modes_by_marks.proofs.Counting.{count-left}
 use Rattle.modes_by_marks.proofs.Marks.{keep-true, keep-false}

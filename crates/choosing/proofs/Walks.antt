@@ -5,9 +5,7 @@ use native.Mathlib.Omega.{arith}
 use mathlib.Core.Path.{_≡_, sym, subst, _∙_}
 use mathlib.Core.List.{List}
 use lib.ListN.{length}
-use Rattle.area.specs.Region.{loaded-words}
 use Rattle.engine.specs.Placed.{Placed, Options, no-more, option}
-use Rattle.packing.specs.Packed.{number-step}
 use Rattle.loading.specs.Numbered.{options}
 use Rattle.loading.specs.Nesting.{NestsAny}
 use Rattle.loading.specs.At.{AtAny}

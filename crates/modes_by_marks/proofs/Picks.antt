@@ -6,12 +6,12 @@ use Prim.Native.Nat.{ℕ, suc, _+_, _*_}
 use native.Mathlib.Omega.{arith}
 use native.Mathlib.Nat.{suc-mul, zero-mul}
 use lib.ListN.{length, length-append}
-use Rattle.descriptions.specs.Descr.{number-all, number-any, number}
-use Rattle.descriptions.proofs.Counting.{number-all-choices, number-choices, number-any-choices}
-use Rattle.modes_by_marks.specs.Placed.{Options, Placed, Places, _also_, stop, strip, strip-all, strip-any}
+use Rattle.descriptions.specs.Descr.{number-all, number}
+use Rattle.descriptions.proofs.Counting.{number-all-choices, number-choices}
+use Rattle.modes_by_marks.specs.Placed.{Placed, Places, _also_, stop, strip, strip-all}
 use Rattle.modes_by_marks.specs.Beside.{_next_}
 use Rattle.modes_by_marks.proofs.Finding.{Pick, pick-each, pick-after, pick-pairs, pick-as, picks, picks-all, picks-any, graphs}
-use Rattle.modes_by_marks.proofs.Finding.{graphs-are, graphs-all-are, graphs-any-are}
+use Rattle.modes_by_marks.proofs.Finding.{graphs-are, graphs-all-are}
 
 -- x is what stands in l after i others
 pub record Nth {A : Type 0} (l : List A) (i : ℕ) (x : A) : Type 0 where
@@ -51,9 +51,6 @@ module _ {Graph : Type 0} where
 
   pub picks-all-long : (ds : Places Graph) → length (picks-all ds) ≡ number-all (strip-all ds)
   picks-all-long ds = sym (graphs-long (picks-all ds)) ∙ ap length (graphs-all-are ds) ∙ sym (number-all-choices (strip-all ds))
-
-  pub picks-any-long : (a : Options Graph) → length (picks-any a) ≡ number-any (strip-any a)
-  picks-any-long a = sym (graphs-long (picks-any a)) ∙ ap length (graphs-any-are a) ∙ sym (number-any-choices (strip-any a))
 
   after-long : (p : Pick Graph) (l : Picks Graph) → length (pick-after p l) ≡ length l
   after-long p [] = refl
@@ -132,7 +129,8 @@ module _ {Graph : Type 0} where
   after-after : (p q : Pick Graph) (l : Picks Graph) → pick-after (p .0 ++ q .0, p .1 ++ q .1) l ≡ pick-after p (pick-after q l)
   after-after p q [] = refl
   after-after p q (r ∷ l) = ap₂ {C = Picks Graph} _∷_
-      (ap₂ {C = Pick Graph} (λ (a : List Graph) (b : List ℕ). (a, b)) (append-assoc (p .0) (q .0) (r .0)) (append-assoc (p .1) (q .1) (r .1)))
+      (ap₂ {C = Pick Graph} (λ (a : List Graph) (b : List ℕ). (a, b)) (append-assoc (p .0) (q .0) (r .0))
+      (append-assoc (p .1) (q .1) (r .1)))
       (after-after p q l)
 
   after-pairs : (p : Pick Graph) (l m : Picks Graph) → pick-pairs (pick-after p l) m ≡ pick-after p (pick-pairs l m)

@@ -51,7 +51,8 @@ loop-less c = omega arith
 
 loop-again : tie.Need-loop-again Inv-loop μ-loop
 loop-again c = (
-  λ k. sum-on k _ (c .before .before .before .before .before .loop .inv .0 k) (omega arith) _ (c .before .before .before .mark-at .ensures) _
+  λ k. sum-on k _ (c .before .before .before .before .before .loop .inv .0 k) (omega arith) _
+      (c .before .before .before .mark-at .ensures) _
       (⊎-elim (λ u. one _ (cc) (u .1 .ensures) (u .3 ∙ u .2 .ensures)) (λ u. none (cc) (u .1)) (c .before .if1 .came)) _
       (c .after-at .ensures),
   ⊎-elim (λ u. let e = u .2 .ensures in let f = u .3 in omega arith) (λ u. let f = u .1 in omega arith) (c .before .if1 .came),
