@@ -1,5 +1,6 @@
 // Times both engines in mode 2 on files in the form of `meet`: the least of nine rounds each, a round being as many calls as
 // fill some milliseconds. Prints a table in Markdown; exits with 1 where the engines answer differently.
+#define _POSIX_C_SOURCE 200809L
 #include "bublastyr.h"
 
 #include <stdio.h>
