@@ -5,7 +5,7 @@ use area::log::undo;
 use choosing::choose::choose_both;
 use choosing::word::is_new;
 use choosing::word::place_of;
-use classes::visit::node;
+use classes::visit::one_node;
 use classes::visit::span;
 use forest::chain::loaded;
 use forest::settle::unite;
@@ -45,7 +45,7 @@ pub fn expand(w: &mut [u32], k: usize, n: usize, total: u32) -> u32
             }
             let mut at = g + 1;
             while left != 0 {
-                let one = node(w, e, n, y, at);
+                let one = one_node(w, e, n, y, at);
                 e = one.k;
                 if one.bad {
                     undo(w, e, k);

@@ -14,7 +14,7 @@ use Rattle.plain.proofs.expand.expand.Tie as tie
 use Rattle.plain.proofs.expand.expand.Reads as reads
 use Rattle.plain.proofs.expand.expand.Lts as lts
 use Rattle.area.proofs.log.undo.Reads as undo-reads
-use Rattle.classes.proofs.visit.node.Reads as node-reads
+use Rattle.classes.proofs.visit.one_node.Reads as one-node-reads
 use Rattle.classes.proofs.visit.span.Reads as span-reads
 use Rattle.forest.proofs.chain.loaded.Reads as loaded-reads
 use Rattle.forest.proofs.settle.unite.Reads as unite-reads
@@ -65,8 +65,8 @@ Claims = (
   unite-reads.Learnt,
   undo-reads.Asked,
   undo-reads.Learnt,
-  node-reads.Asked,
-  node-reads.Learnt,
+  one-node-reads.Asked,
+  one-node-reads.Learnt,
   span-reads.Asked,
   span-reads.Learnt,
   light-taken-reads.Asked,
@@ -86,7 +86,7 @@ abbrev InGraph : Type 0
 InGraph = lts.At-loop2 Claims reads.Pre reads.Post Inv-loop2 μ-loop2 Inv-loop μ-loop Inv-choices μ-choices
 
 abbrev NodeJoined : Type 0
-NodeJoined = lts.After-node Claims reads.Pre reads.Post Inv-loop2 μ-loop2 Inv-loop μ-loop Inv-choices μ-choices
+NodeJoined = lts.After-one-node Claims reads.Pre reads.Post Inv-loop2 μ-loop2 Inv-loop μ-loop Inv-choices μ-choices
 
 step : (c : Listed) → Step (c .before .before .before .before .before .args .n) (c .before .before .before .before .before .args .k)
     (c .before .before .before .before .before .args .w .now) (c .before .before .before .before .before .args .total)
@@ -244,15 +244,15 @@ loop-again-2 c =
     let u = c .before in
     through-next (nodes u) (choice (list (graph u))) (c .loop2-test .left)
 
-node-requires : tie.Need-node-requires Inv-loop2 μ-loop2 Inv-loop μ-loop Inv-choices μ-choices
-node-requires c κs =
+one-node-requires : tie.Need-one-node-requires Inv-loop2 μ-loop2 Inv-loop μ-loop Inv-choices μ-choices
+one-node-requires c κs =
     let u = c .before .before in
     node-asks (nodes u) (choice (list (graph u))) (some _ (c .before .loop2-test .taken))
 
 undo-requires-2 : tie.Need-undo-requires-2 Inv-loop2 μ-loop2 Inv-loop μ-loop Inv-choices μ-choices
 undo-requires-2 c κs =
     let v = c .before .before .before .before in
-    let l = joined-later (nodes (within v)) (more v) (v .node .ensures) (choice (list (graph (within v)))) in
+    let l = joined-later (nodes (within v)) (more v) (v .one-node .ensures) (choice (list (graph (within v)))) in
     (l .logged, omega (arith, l .more))
 
 choices-less-2 : tie.Need-choices-less-2 Inv-loop2 μ-loop2 Inv-loop μ-loop Inv-choices μ-choices
@@ -265,13 +265,13 @@ choices-again-2 c =
     let v = c .before .before .before .before .before .before .before in
     let u = nodes (within v) in
     let l = list (graph (within v)) in
-    step-clash (step l) (joined-later u (more v) (v .node .ensures) (choice l)) (c .before .before .undo2 .ensures)
-    (node-clash u (more v) (v .node .ensures) (c .before .before .before .before .if3 .taken))
+    step-clash (step l) (joined-later u (more v) (v .one-node .ensures) (choice l)) (c .before .before .undo2 .ensures)
+    (node-clash u (more v) (v .one-node .ensures) (c .before .before .before .before .if3 .taken))
 
 loaded-requires-2 : tie.Need-loaded-requires-2 Inv-loop2 μ-loop2 Inv-loop μ-loop Inv-choices μ-choices
 loaded-requires-2 c κs =
     let v = c .before .before .before .before in
-    let l = node-here (nodes (within v)) (more v) (v .node .ensures) (choice (list (graph (within v)))) in
+    let l = node-here (nodes (within v)) (more v) (v .one-node .ensures) (choice (list (graph (within v)))) in
     (l .0, l .1 .1 .1)
 
 span-requires : tie.Need-span-requires Inv-loop2 μ-loop2 Inv-loop μ-loop Inv-choices μ-choices
@@ -280,14 +280,14 @@ span-requires c κs = search needs
 add-at-2 : tie.Need-add-at-2 Inv-loop2 μ-loop2 Inv-loop μ-loop Inv-choices μ-choices
 add-at-2 c =
     let v = c .before .before .before .before .before .before in
-    let room = node-room (nodes (within v)) (more v) (v .node .ensures) (choice (list (graph (within v)))) (c .before .loaded2 .ensures)
+    let room = node-room (nodes (within v)) (more v) (v .one-node .ensures) (choice (list (graph (within v)))) (c .before .loaded2 .ensures)
     (c .span .ensures) in
     search needs
 
 add-y : tie.Need-add-y Inv-loop2 μ-loop2 Inv-loop μ-loop Inv-choices μ-choices
 add-y c =
     let v = c .before .before .before .before .before .before in
-    let l = node-here (nodes (within v)) (more v) (v .node .ensures) (choice (list (graph (within v)))) in
+    let l = node-here (nodes (within v)) (more v) (v .one-node .ensures) (choice (list (graph (within v)))) in
     let low = l .1 .0 in
     let few = l .1 .1 .0 in
     search needs
@@ -305,7 +305,7 @@ loop2-less c =
 loop2-again : tie.Need-loop2-again Inv-loop2 μ-loop2 Inv-loop μ-loop Inv-choices μ-choices
 loop2-again c =
     let v = c .before .before .before .before .before .before in
-    onward-turn (within v .loop2 .inv) (more v) (v .node .ensures) (c .before .before .before .if3 .left)
+    onward-turn (within v .loop2 .inv) (more v) (v .one-node .ensures) (c .before .before .before .if3 .left)
     (c .before .loaded2 .ensures) (c .span .ensures)
 
 -- ---- all are joined
@@ -375,7 +375,7 @@ expand-spec =
     loop2-holds
     loop-less-2
     loop-again-2
-    node-requires
+    one-node-requires
     undo-requires-2
     choices-less-2
     choices-again-2
