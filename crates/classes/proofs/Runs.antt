@@ -310,4 +310,3 @@ module _ (F T : List ℕ) (n k : ℕ) (w : List ℕ) (x p : ℕ) where
     fine = λ z G H v u s a. l .fine z G H (v ∷ []) refl u (s, tt) (ahead-alone H (span v) a);
     clash = λ z G H v u s a. l .clash z G H (v ∷ []) refl u (s, tt) (ahead-alone H (span v) a);
   }
-
