@@ -73,6 +73,13 @@ uint32_t bublastyr_unify(uint32_t mode, const uint32_t *first, size_t first_len,
                          size_t result_len, uint32_t *working, size_t working_len,
                          uint32_t told[2]);
 
+// Unifies two descriptions in mode 2 by the plain engine, which expands what the quick step leaves to every choice and joins
+// each. It answers and leaves, on every input, what bublastyr_unify does in mode 2, and takes longer: it is there to be
+// compared with it.
+uint32_t bublastyr_plain(const uint32_t *first, size_t first_len, const uint32_t *second,
+                         size_t second_len, uint32_t *result, size_t result_len, uint32_t *working,
+                         size_t working_len, uint32_t told[2]);
+
 // Tells whether a structure, a description with no disjunctions, satisfies a description. Answers 3, 4, 5, 9,
 // 0 or 6, checked in that order. Writes nothing. Here too a pointer may be null where its length is 0.
 uint32_t bublastyr_fit(const uint32_t *structure, size_t structure_len, const uint32_t *description,

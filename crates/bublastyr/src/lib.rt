@@ -26,6 +26,26 @@ pub extern "C" fn bublastyr_unify(
     row.number
 }
 
+// Unifies two descriptions in mode 2 by the plain engine. Answers document 01's number; length and readings go to `told`.
+#[no_mangle]
+pub extern "C" fn bublastyr_plain(
+    first: &[u32],
+    second: &[u32],
+    result: &mut [u32],
+    working: &mut [u32],
+    told: &mut [u32; 2],
+) -> u32
+    ensures { λ r. ⌜ Outcome (record { mode = 2; first = now (first .entry); second = now (second .entry) })
+        (record { result = now (result .entry); working = now (working .entry) })
+        (record { number = r; extent = getD (now (told .exit)) 0 0; readings = getD (now (told .exit)) 1 0 })
+        (record { result = now (result .exit); working = now (working .exit) }) ⌝ }
+{
+    let answer = unify::plain(first, second, result, working);
+    let row = answering::answer::told(answer);
+    *told = [row.length as u32, row.readings];
+    row.number
+}
+
 // Tells whether the structure satisfies the description: document 01's number.
 #[no_mangle]
 pub extern "C" fn bublastyr_fit(structure: &[u32], description: &[u32]) -> u32

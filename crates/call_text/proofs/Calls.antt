@@ -84,7 +84,7 @@ module _ (o : Option Typed) (first second : List ℕ) (r : Counts) where
 
 -- ---- the inputs, by what is found of them
 -- a run that is found is there, with the text after it
-there : (text : List ℕ) (run : Option Taken) (next : ℕ) → beyond run ≡ some (drop next text)
+pub there : (text : List ℕ) (run : Option Taken) (next : ℕ) → beyond run ≡ some (drop next text)
     → (xs : List ℕ) × (some (xs, drop next text) ≡ run)
 there text none next e = let z : _≡_ {A = ℕ} 0 1 = cc in absurd (omega arith)
 there text (some t) next e = let f : t .1 ≡ drop next text = cc in (t .0, ap (λ (l : List ℕ). some (t .0, l)) (sym f))

@@ -5,7 +5,7 @@ ghost use mathlib.Core.Path.{_≡_};
 ghost use Prim.Native.Nat.{_≤_};
 ghost use lib.ListN.{length, drop};
 ghost use Rattle.call_text.specs.Call.{count-limit, words-in, counted, done, inputs, heard-in, Heard};
-ghost use Rattle.call_text.specs.Finding.{FindsRun, Puts};
+ghost use Rattle.call_text.specs.Finding.{FindsRun, Puts, leading, FindsEnd};
 
 // The most words that a run may have.
 pub const COUNT_LIMIT: usize = 2048;
@@ -157,4 +157,39 @@ pub fn read_call(text: &[u8], first: &mut [u32], second: &mut [u32]) -> Counts
         Token::Over => Counts::BadInput,
         Token::Bad => Counts::BadInput,
     }
+}
+
+// The position after a call, or no call.
+pub enum Ends {
+    At(usize),
+    Nowhere,
+}
+
+// Finds where the call ends that begins at p, after which others may stand.
+pub fn call_end(text: &[u8], p: usize) -> Ends
+    ensures { λ r. ⌜ FindsEnd (now (text .entry)) (leading (drop p (now (text .entry)))) r ⌝ }
+{
+    let start = read_token(text, p);
+    let Token::Is { value: _, next } = start else {
+        return Ends::Nowhere;
+    };
+    let one = find_counted(text, next);
+    let Words::Run {
+        count: _,
+        start: _,
+        next: after,
+    } = one
+    else {
+        return Ends::Nowhere;
+    };
+    let two = find_counted(text, after);
+    let Words::Run {
+        count: _,
+        start: _,
+        next: end,
+    } = two
+    else {
+        return Ends::Nowhere;
+    };
+    Ends::At(end)
 }

@@ -286,3 +286,27 @@ module _ (F T : List ℕ) (n k : ℕ) (w : List ℕ) (x p c : ℕ) where
             State G D F T n e 0 [] w'
         end G D o [] l q = subst (λ (K : Done). State G K F T n e 0 [] w') q (o .state)
         end G D o (u ∷ us) l q = absurd (omega arith)
+
+-- ---- one node by itself
+module _ (F T : List ℕ) (n k : ℕ) (w : List ℕ) (x p : ℕ) where
+  -- its words are all
+  ahead-alone : (H : Done) (d : ℕ) → Ahead H n p d → Ahead H n p (d + 0)
+  ahead-alone H d a = let e : d + 0 ≡ d = omega arith in rw e a
+
+  pub listing-one : Noding F T n k w x p → Listing F T n k w x p 1
+  listing-one g = record {
+    G = g .G;
+    H = g .H;
+    vs = g .v ∷ [];
+    many = refl;
+    state = g .state;
+    nodes = (g .node, tt);
+    ahead = ahead-alone (g .H) (span (g .v)) (g .ahead);
+  }
+
+  pub noded-one : (k' : ℕ) (bad : Bool) (w' : List ℕ) → Listed F T n k w x p 1 k' bad w' → Noded F T n k w x p k' bad w'
+  noded-one k' bad w' l = record {
+    later = l .later;
+    fine = λ z G H v u s a. l .fine z G H (v ∷ []) refl u (s, tt) (ahead-alone H (span v) a);
+    clash = λ z G H v u s a. l .clash z G H (v ∷ []) refl u (s, tt) (ahead-alone H (span v) a);
+  }

@@ -220,7 +220,7 @@ fn node(w: &mut [u32], k: usize, n: usize, x: usize, p: usize) -> Progress
 }
 
 // How many words a node with the head h takes.
-fn span(h: u32) -> usize
+pub fn span(h: u32) -> usize
     ensures { λ r. ⌜ ((code-limit ≤ h → r ≡ 1) × (h < code-limit → r ≡ 1 + 2 * h)) ⌝ }
 {
     if h >= CODE_LIMIT { 1 } else { 1 + 2 * wide(h) }
@@ -256,4 +256,14 @@ pub fn nodes(w: &mut [u32], k: usize, n: usize, x: usize, p: usize, c: usize) ->
         s: 0,
         bad: false,
     }
+}
+
+// One node, x, whose head stands at p: the same as `node`, by the loop that a push goes through, so that the step is there once.
+pub fn one_node(w: &mut [u32], k: usize, n: usize, x: usize, p: usize) -> Progress
+    requires { ⌜ (n ≤ NODES) × (SIZE ≤ length (now w)) ⌝ }
+    requires { ⌜ Noding (loaded-words (now w)) (targets (now w)) n k (now w) x p ⌝ }
+    ensures { λ r. ⌜ Noded (loaded-words (now (w .entry))) (targets (now (w .entry))) n k (now (w .entry)) x p (r .k) (r .bad)
+        (now (w .exit)) ⌝ }
+{
+    nodes(w, k, n, x, p, 1)
 }

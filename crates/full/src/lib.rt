@@ -1,2 +1,2 @@
-// The full step: the limit on choices, the search, and what is certain after it.
+// The full step: the limit on choices, the search, and what is left after it.
 pub mod full;

@@ -2,7 +2,7 @@
 -- for what it joins.
 -- Assumes nothing.
 use mathlib.Core.Path.{_≡_, refl, ap, sym, _∙_, subst}
-use mathlib.Core.Logic.{⊎-elim}
+use mathlib.Core.Logic.{_⊎_, ⊎-elim}
 use mathlib.Core.Option.{Option, none, some}
 use mathlib.Core.List.{[], _∷_, _++_, append-nil, List·Memᴰ, List·Memᴰ·head, List·Memᴰ·tail, List·Memᴰ·cases-cons, List·Memᴰ·not-nil}
 use mathlib.Core.List.{List·Memᴰ·append-cases, Memᴰ·append-left, Memᴰ·append-right, List}
@@ -188,3 +188,15 @@ module _ {Graph : Type 0} {J : Joining Graph} (𝓛 : Laws J) where
       ∙ join-order 𝓛 (A ++ B) (B ++ A) (fine-append 𝓛 A B fa (fb .1)) (fine-append 𝓛 B A fb (fa .1))
       (within-both A B (B ++ A) (in-r B A) (in-l B A)) (within-both B A (A ++ B) (in-r A B) (in-l A B))
       ∙ sym (ap (λ (z : List Graph). join (B ++ z)) (append-nil A)) ∙ sym (says-list B A [] (fa .1) tt t) ∙ ap join (append-nil B)
+
+  -- what A says already may be left out of what comes after it
+  pub join-without : (A B C : List Graph) → Fine 𝓛 A → All Canonical B → All Canonical C → Within C B →
+      ((g : Graph) → List·Memᴰ g B → List·Memᴰ g C ⊎ Says A g) → join (A ++ B) ≡ join (A ++ C)
+  join-without A B C f b c w s =
+      let fb = fine-append 𝓛 A B f b in
+      let fc = fine-append 𝓛 A C f c in
+      join-both (A ++ B) (A ++ C) fb fc
+      (says-within (A ++ B) (A ++ C) fb (within-both A C (A ++ B) (in-l A B) (w-right C A B w)))
+      (says-append (A ++ C) A B (says-within (A ++ C) A fc (in-l A C))
+      (λ g m. ⊎-elim (λ i. says-within (A ++ C) C fc (in-r A C) g i)
+      (λ t. says-more A (A ++ C) g f fc (canon-in B b g m) (in-l A C) t) (s g m)))

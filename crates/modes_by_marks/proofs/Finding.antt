@@ -26,6 +26,7 @@ use Rattle.modes_by_marks.proofs.Stable.{flat-can, says-left, sure-can}
 use Rattle.modes_by_marks.proofs.Passes.{Agreeing, agreeing-view, can, cannot}
 use Rattle.descriptions.specs.Joining.{Joining}
 use Rattle.descriptions.specs.Canonical.{All}
+use Rattle.modes_by_marks.specs.Stack.{Equivalent}
 
 -- what is found from the choices
 abbrev pub put : List ℕ → Found → Found
@@ -107,7 +108,7 @@ module _ {Graph : Type 0} where
   go-through [] S k = []
   go-through (p ∷ l) S k = put (p .1) (k (S ++ p .0)) ++ go-through l S k
 
-  through-append : (l m : List (Pick Graph)) (S : List Graph) (k : List Graph → Found) →
+  pub through-append : (l m : List (Pick Graph)) (S : List Graph) (k : List Graph → Found) →
       go-through (l ++ m) S k ≡ go-through l S k ++ go-through m S k
   through-append [] m S k = refl
   through-append (p ∷ l) m S k = ap (λ (z : Found). put (p .1) (k (S ++ p .0)) ++ z) (through-append l m S k)
@@ -455,3 +456,25 @@ module _ {Graph : Type 0} {J : Joining Graph} (𝓛 : Laws J) where
   pub search-count : (d : Placed Graph) → Can 𝓛 (strip d) → length (search J d) ≡ readings J (strip d)
   unfolding readings
   search-count d c = ap length (search-ok d c) ∙ found-count J (picks d) ∙ ap (agreeing J) (graphs-are d)
+
+  -- it goes through the choices of the disjunctions, on any stack that says what is certain
+  pub search-through : (g : Graph) (ds : Places Graph) → Can 𝓛 (strip (place g ds)) → (S : List Graph) →
+      Equivalent J Canonical S (flat (strip (place g ds))) → search J (place g ds) ≡ go-through (picks-all ds) S (leaf-asked J)
+  search-through g ds c S s = search-ok (place g ds) c ∙ sym (through-found J (picks (place g ds)))
+      ∙ through-each g (picks-all ds) [] (leaf-asked J) ∙ through-cong (picks-all ds) (g ∷ []) S (leaf-asked J) (leaf-asked J) same
+    where
+      same : (p : Pick Graph) → List·Memᴰ p (picks-all ds) → leaf-asked J (g ∷ p .0) ≡ leaf-asked J (S ++ p .0)
+      same p m =
+          let es : Disjs Graph = strip-all ds in
+          let A = g ∷ p .0 in
+          let fp = choices-all-fine 𝓛 es (c .1) (p .0) (choice-all-of ds p m) in
+          let fA : Fine 𝓛 A = fine-cons 𝓛 g (p .0) (c .0) fp in
+          let fB = fine-append 𝓛 S (p .0) (s .fine₁) fp in
+          let all : SaysAll 𝓛 A (g ∷ sure es) = says-within 𝓛 A (g ∷ sure es) fA
+          (w-cons g (sure es) A (List·Memᴰ·head refl) (w-tail g (sure es) (p .0) (sure-in es (p .0) (choice-all-of ds p m)))) in
+          leaf-follows .same A (S ++ p .0) fA fB (says-none 𝓛 A)
+          (says-append 𝓛 A S (p .0) (says-trans 𝓛 A (g ∷ sure es) S fA (s .fine₂) (s .fine₁ .1) all (s .from))
+          (says-within 𝓛 A (p .0) fA (w-tail g (p .0) (p .0) (w-self (p .0)))))
+          (says-cons 𝓛 (S ++ p .0) g (p .0)
+          (says-more 𝓛 S (S ++ p .0) g (s .fine₁) fB (c .0) (in-l S (p .0)) (s .to g (List·Memᴰ·head refl)))
+          (says-within 𝓛 (S ++ p .0) (p .0) fB (in-r S (p .0))))

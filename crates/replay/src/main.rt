@@ -1,5 +1,5 @@
 // Runs stored vectors of the second program and compares what comes of each with what is stored: number, length, readings and every word of
-// both areas of a unification, the number of a fit test, the number and the words of a join.
+// both areas of a unification, in mode 2 by both engines, the number of a fit test, the number and the words of a join.
 // Standard input has for each vector: 0 for a unification, 1 for a fit test or 2 for a join, mode, words of the result area, words of the
 // working area, number, length, readings, and the words of both inputs and of the result, each after their length; 4,294,967,295 ends them.
 mod areas;
@@ -9,8 +9,10 @@ use crate::areas::MOST_WORK;
 use crate::areas::work_space;
 use crate::areas::working_right;
 use crate::joining::joined;
+use answering::answer::Answer;
 use answering::answer::Row;
 use answering::answer::told;
+use unify::plain;
 use unify::unify;
 use vectors::Run;
 use vectors::Word;
@@ -57,8 +59,24 @@ fn row_right(row: Row, v: Vector) -> bool {
     row.readings == v.readings
 }
 
+// Unifies in these areas, by the plain engine or in the stored mode.
+fn answered(
+    plainly: bool,
+    mode: u32,
+    a: &[u32],
+    b: &[u32],
+    result: &mut [u32],
+    working: &mut [u32],
+) -> Answer {
+    if plainly {
+        return plain(a, b, result, working);
+    }
+    unify(mode, a, b, result, working)
+}
+
 // Unifies in these areas: whether all comes out as stored.
 fn unified(
+    plainly: bool,
     v: Vector,
     a: &[u32],
     b: &[u32],
@@ -68,12 +86,30 @@ fn unified(
 ) -> bool {
     prepare(result);
     prepare(working);
-    let answer = unify(v.mode, a, b, result, working);
+    let answer = answered(plainly, v.mode, a, b, result, working);
     let row = told(answer);
     if row_right(row, v) {
         if result_right(result, words) {
             return working_right(v.number, working);
         }
+    }
+    false
+}
+
+// Unifies in these areas, in mode 2 by both engines: whether all comes out as stored.
+fn unified_both(
+    v: Vector,
+    a: &[u32],
+    b: &[u32],
+    words: &[u32],
+    result: &mut [u32],
+    working: &mut [u32],
+) -> bool {
+    if unified(false, v, a, b, words, result, working) {
+        if v.mode == 2 {
+            return unified(true, v, a, b, words, result, working);
+        }
+        return true;
     }
     false
 }
@@ -92,7 +128,7 @@ fn lent(v: Vector, a: &[u32], b: &[u32], words: &[u32]) -> bool {
     let result: &mut [u32] = &mut here;
     let mut there = work_space();
     let working: &mut [u32] = &mut there;
-    unified(v, a, b, words, &mut result[..room], &mut working[..work])
+    unified_both(v, a, b, words, &mut result[..room], &mut working[..work])
 }
 
 // Tests the fit: whether its number is the stored one.

@@ -36,7 +36,8 @@ use Rattle.entering.proofs.Settling.{agrees-true}
 use Rattle.entering.proofs.Pairs.{whole-comes}
 use Rattle.search.specs.declared.agenda.Agenda.{Agenda}
 use Rattle.search.specs.Frames.{Slot, Lists, onto, FramesOn, plan-on}
-use Rattle.search.specs.Searched.{Resuming, resumed, Resumes, Searching, Searches}
+use Rattle.leaving.specs.Found.{Searching, Searches}
+use Rattle.search.specs.Searched.{Resuming, resumed, Resumes}
 use Rattle.search.proofs.Planning.{frames-wide, Before, Opened, opened, open-asks}
 use Rattle.search.proofs.Finding.{finds-same}
 
@@ -144,7 +145,9 @@ module _ (n k : ℕ) (w : List ℕ) where
     where
       pub searches : (r : ℕ) (w' : List ℕ) → Resumes n k w a r w' → Searches n k w r w'
       searches r w' v = record {
-        moved = v .moved;
+        len = v .moved .len;
+        rest = λ j h. v .moved .rest j (omega arith);
+        since = v .moved .since;
         found = λ c. finds-same n k w (c .stage .es) (resumed (resuming c a lists)) (engine.search (keep (marking w) (c .p .j))) r w'
             (found-is c a lists) (v .found (resuming c a lists));
       }

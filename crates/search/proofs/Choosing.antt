@@ -31,7 +31,8 @@ use Rattle.entering.proofs.Certain.{free-narrow}
 use Rattle.entering.proofs.Moves.{moved-trans, moved-words}
 use Rattle.search.specs.declared.agenda.Agenda.{Agenda}
 use Rattle.search.specs.Frames.{FramesOn, plan-on}
-use Rattle.search.specs.Searched.{Finds, Taking, taken-with, Takes, Branching, chosen}
+use Rattle.leaving.specs.Found.{Finds}
+use Rattle.search.specs.Searched.{Taking, taken-with, Takes, Branching, chosen}
 use Rattle.search.proofs.Planning.{frames-wide}
 use Rattle.search.proofs.Finding.{finds-none, finds-same, finds-small, finds-append}
 

@@ -19,7 +19,8 @@ use Rattle.marks.specs.Positions.{mark-at}
 use Rattle.classes.specs.Holds.{Holds}
 use Rattle.classes.proofs.Laws.{holds-frame, since-frame}
 use Rattle.entering.specs.Moved.{Moved}
-use Rattle.search.specs.Searched.{Notes, Finds}
+use Rattle.leaving.specs.Found.{Finds}
+use Rattle.search.specs.Searched.{Notes}
 
 -- ---- an alternative is noted
 or-none : (b : Bool) → b ≡ (b || false)

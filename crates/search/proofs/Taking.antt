@@ -39,7 +39,8 @@ use Rattle.entering.proofs.Within.{entered-graphs, entered-inside, entered-clea
 use Rattle.entering.proofs.Moves.{moved-words}
 use Rattle.search.specs.declared.agenda.Agenda.{Agenda}
 use Rattle.search.specs.Frames.{Slot, slots, Lists, onto, FramesOn, plan-on}
-use Rattle.search.specs.Searched.{Noting, Notes, Finds, Resuming, resumed, Resumes, Taking, taken-with, Takes}
+use Rattle.leaving.specs.Found.{Finds}
+use Rattle.search.specs.Searched.{Noting, Notes, Resuming, resumed, Resumes, Taking, taken-with, Takes}
 use Rattle.search.proofs.Planning.{lying-deeper, reach, frames-reach, frames-wide, frames-pushed, Before, Opened, opened}
 use Rattle.search.proofs.Planning.{open-asks}
 use Rattle.search.proofs.Finding.{finds-none, finds-same, finds-under, finds-taking, moved-noted}

@@ -1,27 +1,24 @@
 -- What the search asks, and what it does: engine's search by its agenda, on the area.
 -- Assumes nothing: these are definitions.
-use Prim.Native.Nat.{ℕ, _+_, _≤_, _<_, min}
+use Prim.Native.Nat.{ℕ, _+_, _≤_, _<_}
 use mathlib.Core.Path.{_≡_}
 use mathlib.Core.Logic.{_⊎_}
 use mathlib.Core.Bool.{true, _||_, _&&_}
 use mathlib.Core.List.{List}
 use lib.Dec.{eqb, ltb}
 use lib.ListN.{length, getD}
-use Rattle.theory.specs.Limits.{depth-limit, choice-stop}
+use Rattle.theory.specs.Limits.{depth-limit}
 use Rattle.area.specs.Map.{MARKS, RESULT, SIZE, LOADED}
-use Rattle.engine.specs.Marks.{keep}
-use Rattle.engine.specs.Search.{Found, taking, lit}
-use Rattle.engine.specs.Search as engine
+use Rattle.engine.specs.Search.{Found, taking}
 use Rattle.engine.specs.Agenda.{resume-at, dive-at, each-at}
 use Rattle.loading.specs.Entry.{Entry, graphs}
 use Rattle.loading.specs.Lying.{Lying, LyingAny, mark-of}
 use Rattle.marks.specs.Marked.{marking, lights}
 use Rattle.marks.specs.Positions.{tail-at, mark-at}
-use Rattle.classes.specs.Holds.{Holds}
 use Rattle.entering.specs.Taken.{AmongOf, AmongAnyOf, FreeOf, FreeAnyOf}
 use Rattle.entering.specs.Footing.{Footing}
 use Rattle.entering.specs.Moved.{Moved}
-use Rattle.entering.specs.Stage.{Pair, Stage}
+use Rattle.leaving.specs.Found.{Finds}
 use Rattle.search.specs.declared.agenda.Agenda.{Agenda}
 use Rattle.search.specs.Frames.{Slot, Lists, FramesOn, plan-on}
 
@@ -36,14 +33,6 @@ pub record Notes (w : List ℕ) (g found : ℕ) (w' : List ℕ) : Type 0 where
   pub rest : (j : ℕ) → (j < MARKS) ⊎ (RESULT ≤ j) → getD w' j 0 ≡ getD w j 0
   pub seen : (y : ℕ) → lights w' y ≡ (lights w y || (ltb 0 found && eqb y (mark-at w g)))
   pub marks : marking w (mark-at w g) ≡ true → marking w' ≡ marking w
-
--- ---- what is found
--- the choices f were found: they are counted, stopping at 4,097, and what they take is marked; what was pushed is as it was
-pub record Finds (n k : ℕ) (w : List ℕ) (es : List Entry) (f : Found) (r : ℕ) (w' : List ℕ) : Type 0 where
-  pub count : r ≡ min (length f) choice-stop
-  pub seen : (y : ℕ) → lights w' y ≡ (lights w y || lit f y)
-  pub marks : marking w' ≡ marking w
-  pub holds : Holds n es k w'
 
 -- ---- what is left
 pub record Resuming (n k : ℕ) (w : List ℕ) (a : Agenda) : Type 0 where
@@ -105,14 +94,3 @@ chosen {n} {k} {w} {p} {count} {a} c =
 pub record Branches (n k : ℕ) (w : List ℕ) (p count : ℕ) (a : Agenda) (r : ℕ) (w' : List ℕ) : Type 0 where
   pub moved : Moved k w k w'
   pub found : (c : Branching n k w p count a) → Finds n k w (c .es) (chosen c) r w'
-
--- ---- both inputs
-pub record Searching (n k : ℕ) (w : List ℕ) : Type 0 where
-  pub t : List ℕ
-  pub p : Pair n t
-  pub stage : Stage n t p k w
-
--- what is found is what engine's search finds in what the marks leave of the joined description
-pub record Searches (n k : ℕ) (w : List ℕ) (r : ℕ) (w' : List ℕ) : Type 0 where
-  pub moved : Moved k w k w'
-  pub found : (c : Searching n k w) → Finds n k w (c .stage .es) (engine.search (keep (marking w) (c .p .j))) r w'

@@ -19,7 +19,8 @@ use marks::positions::mark_at;
 use marks::tally::Remnant;
 use marks::tally::count_kept;
 use trying::told::Guess;
-ghost use Rattle.search.specs.Searched.{Noting, Notes, Resuming, Resumes, Taking, Takes, Branching, Branches, Searching, Searches};
+ghost use Rattle.leaving.specs.Found.{Searching, Searches};
+ghost use Rattle.search.specs.Searched.{Noting, Notes, Resuming, Resumes, Taking, Takes, Branching, Branches};
 
 // The consistent choices with an alternative that clashes.
 const NONE: u32 = 0;

@@ -8,10 +8,10 @@ use Rattle.engine.specs.Quickly.{Leaves}
 use Rattle.marks.specs.Marked.{marking, Doused}
 use Rattle.entering.specs.Stage.{Pair, Stage}
 use Rattle.entering.proofs.Stages.{stage-again}
-use Rattle.full.specs.Fulled.{Fulling, Fulls}
-use Rattle.full.specs.declared.full.Fully.{Fully}
-use Rattle.full.specs.declared.full.Fully.the-variants.{Over, Nothing, Left}
-use Rattle.full.proofs.Whole.{over-whole, few-whole, nothing-whole, left-whole}
+use Rattle.leaving.specs.Fulled.{Fulling, Fulls}
+use Rattle.leaving.specs.declared.leave.Fully.{Fully}
+use Rattle.leaving.specs.declared.leave.Fully.the-variants.{Over, Nothing, Left}
+use Rattle.leaving.proofs.Whole.{over-whole, few-whole, nothing-whole, left-whole}
 use Rattle.showing.specs.Showing.{outcome, Showing, Shows}
 use Rattle.showing.proofs.Fitting.{showing}
 use Rattle.answering.specs.declared.hand.Made.{Made}

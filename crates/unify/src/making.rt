@@ -1,15 +1,17 @@
 // What a mode makes of two inputs, in the working area.
 use answering::hand::Made;
-use full::full::Fully;
 use full::full::full;
+use leaving::leave::Fully;
 use marks::marking::clear_marks;
 use marks::marking::douse;
 use opening::Opened;
 use opening::open;
+use plain::full::full_by_choices;
 use quick::quick::quick;
 use quick::step::Step;
 use showing::show::show;
 ghost use Prim.Native.Nat.{_≤_};
+ghost use Rattle.leaving.specs.Fulled.{Fulling, Fulls};
 ghost use Rattle.opening.specs.Opening.{Opening};
 ghost use Rattle.unify.specs.Making.{Begins, Makes, Completing, Completes};
 
@@ -23,13 +25,30 @@ fn begin(w: &mut [u32], a: &[u32], b: &[u32]) -> Opened
     opened
 }
 
+// What finds the consistent choices in mode 2: the search, or the plain expansion to every choice.
+pub enum Engine {
+    Fast,
+    Plain,
+}
+
+// The full step by either engine.
+fn full_by(engine: Engine, w: &mut [u32], k: usize, n: usize) -> Fully
+    requires { ⌜ Fulling n k (now w) ⌝ }
+    ensures { λ r. ⌜ Fulls n k (now (w .entry)) r (now (w .exit)) ⌝ }
+{
+    match engine {
+        Engine::Fast => full(w, k, n),
+        Engine::Plain => full_by_choices(w, k, n),
+    }
+}
+
 // The full step after the quick one.
-fn complete(w: &mut [u32], k: usize, n: usize) -> Made
+fn complete(engine: Engine, w: &mut [u32], k: usize, n: usize) -> Made
     requires { ⌜ Completing n k (now w) ⌝ }
     ensures { λ r. ⌜ Completes n k (now (w .entry)) r (now (w .exit)) ⌝ }
 {
     douse(w);
-    let left = full(w, k, n);
+    let left = full_by(engine, w, k, n);
     match left {
         Fully::Over => Made::TooMany,
         Fully::Nothing => Made::NoChoice,
@@ -40,8 +59,8 @@ fn complete(w: &mut [u32], k: usize, n: usize) -> Made
     }
 }
 
-// Makes what the mode makes of both inputs.
-pub fn make(mode: u32, w: &mut [u32], a: &[u32], b: &[u32]) -> Made
+// Makes what the mode makes of both inputs, whichever engine completes it.
+pub fn make(mode: u32, engine: Engine, w: &mut [u32], a: &[u32], b: &[u32]) -> Made
     requires { ⌜ (mode ≤ 2) × Opening (now w) (now a) (now b) ⌝ }
     ensures { λ r. ⌜ Makes mode (now (w .entry)) (now (a .entry)) (now (b .entry)) r (now (w .exit)) ⌝ }
 {
@@ -67,5 +86,5 @@ pub fn make(mode: u32, w: &mut [u32], a: &[u32], b: &[u32]) -> Made
             readings: 0,
         };
     }
-    complete(w, k, nodes)
+    complete(engine, w, k, nodes)
 }

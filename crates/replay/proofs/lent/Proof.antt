@@ -30,14 +30,14 @@ work-space-requires c κs = tt
 slice-aggregate-working : tie.Need-slice-aggregate-working
 slice-aggregate-working c = search needs
 
-slice-aggregate-unified : tie.Need-slice-aggregate-unified
-slice-aggregate-unified c = sym (length-take-le _ _ (omega arith))
+slice-aggregate-unified-both : tie.Need-slice-aggregate-unified-both
+slice-aggregate-unified-both c = sym (length-take-le _ _ (omega arith))
 
-slice-aggregate-unified-2 : tie.Need-slice-aggregate-unified-2
-slice-aggregate-unified-2 c = sym (length-take-le _ _ (omega arith))
+slice-aggregate-unified-both-2 : tie.Need-slice-aggregate-unified-both-2
+slice-aggregate-unified-both-2 c = sym (length-take-le _ _ (omega arith))
 
-unified-requires : tie.Need-unified-requires
-unified-requires c κs = tt
+unified-both-requires : tie.Need-unified-both-requires
+unified-both-requires c κs = tt
 
 returns-3 : tie.Need-returns-3
 returns-3 c = tt
@@ -45,4 +45,4 @@ returns-3 c = tt
 pub lent-spec : {M : Type 1} → statement M
 lent-spec =
     tie.close (tie.spec cast-room cast-work returns returns-2 space-requires slice-aggregate-result work-space-requires
-    slice-aggregate-working slice-aggregate-unified slice-aggregate-unified-2 unified-requires returns-3)
+    slice-aggregate-working slice-aggregate-unified-both slice-aggregate-unified-both-2 unified-both-requires returns-3)

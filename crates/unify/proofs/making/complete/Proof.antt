@@ -7,8 +7,8 @@ use Rattle.unify.proofs.making.complete.Tie as tie
 douse-requires : tie.Need-douse-requires
 douse-requires c κs = search needs
 
-full-requires : tie.Need-full-requires
-full-requires c κs = asks-full _ _ _ _ (c .before .before .before .douse .ensures) (c .before .before .before .before .before .before .pre)
+full-by-requires : tie.Need-full-by-requires
+full-by-requires c κs = asks-full _ _ _ _ (c .before .before .before .douse .ensures) (c .before .before .before .before .before .before .pre)
 
 enum-told : tie.Need-enum-told
 enum-told c = search needs
@@ -22,7 +22,7 @@ enum-known-left c = search needs
 show-requires : tie.Need-show-requires
 show-requires c κs = asks-show-full _ _ _ _
     (c .before .before .before .before .before .before .before .before .before .before .douse .ensures)
-    (c .before .before .before .before .before .before .full .result) _ (c .before .before .before .before .before .before .full .ensures) _
+    (c .before .before .before .before .before .before .full-by .result) _ (c .before .before .before .before .before .before .full-by .ensures) _
     _ (c .before .before .left .given .1)
     (c .before .before .before .before .before .before .before .before .before .before .before .before .before .pre)
 
@@ -31,14 +31,14 @@ same-length c = search needs
 
 returns : tie.Need-returns
 returns c = completes-many _ _ _ _ (c .before .before .before .before .before .before .before .before .douse .ensures)
-    (c .before .before .before .before .full .result) _ (c .before .before .before .before .full .ensures) (cc)
+    (c .before .before .before .before .full-by .result) _ (c .before .before .before .before .full-by .ensures) (cc)
 
 same-length-2 : tie.Need-same-length-2
 same-length-2 c = search needs
 
 returns-2 : tie.Need-returns-2
 returns-2 c = completes-nothing _ _ _ _ (c .before .before .before .before .before .before .before .before .douse .ensures)
-    (c .before .before .before .before .full .result) _ (c .before .before .before .before .full .ensures) (cc)
+    (c .before .before .before .before .full-by .result) _ (c .before .before .before .before .full-by .ensures) (cc)
 
 same-length-3 : tie.Need-same-length-3
 same-length-3 c = search needs
@@ -46,11 +46,11 @@ same-length-3 c = search needs
 returns-3 : tie.Need-returns-3
 returns-3 c = completes-left _ _ _ _
     (c .before .before .before .before .before .before .before .before .before .before .before .before .before .douse .ensures)
-    (c .before .before .before .before .before .before .before .before .before .full .result) _
-    (c .before .before .before .before .before .before .before .before .before .full .ensures) _ _
+    (c .before .before .before .before .before .before .before .before .before .full-by .result) _
+    (c .before .before .before .before .before .before .before .before .before .full-by .ensures) _ _
     (c .before .before .before .before .before .left .given .1) _ _ (c .before .before .show .ensures)
 
 pub complete-spec : {M : Type 1} → statement M
 complete-spec =
-    tie.close (tie.spec douse-requires full-requires enum-told enum-told-2 enum-known-left show-requires same-length returns same-length-2
+    tie.close (tie.spec douse-requires full-by-requires enum-told enum-told-2 enum-known-left show-requires same-length returns same-length-2
     returns-2 same-length-3 returns-3)

@@ -1,0 +1,33 @@
+-- `bublastyr::bublastyr_plain` meets its contract. Assumes nothing.
+use borrow.Author.Needs.{needs}
+use native.Mathlib.Omega.{arith}
+use Rattle.unify.proofs.Sizes.{outcome-small, outcome-told}
+use Rattle.bublastyr.proofs.bublastyr_plain.Statement.{statement}
+use Rattle.bublastyr.proofs.bublastyr_plain.Tie as tie
+
+plain-requires : tie.Need-plain-requires
+plain-requires c κs = search needs
+
+told-requires : tie.Need-told-requires
+told-requires c κs = search needs
+
+cast-t12 : tie.Need-cast-t12
+cast-t12 c =
+    let call = c .before .before .before .before .before .before in
+    let h = outcome-small _ _ _ _ (outcome-told _ _ _ (call .plain .result) _ _ _ (call .plain .ensures .0) (c .before .told .ensures)) in
+    omega arith
+
+same-length : tie.Need-same-length
+same-length c = search needs
+
+same-length-2 : tie.Need-same-length-2
+same-length-2 c = search needs
+
+returns : tie.Need-returns
+returns c =
+    let call = c .before .before .before .before .before .before .before in
+    outcome-told _ _ _ (call .plain .result) _ _ _ (call .plain .ensures .0) (c .before .before .told .ensures)
+
+pub bublastyr-plain-spec : {M : Type 1} → statement M
+bublastyr-plain-spec =
+    tie.close (tie.spec plain-requires told-requires cast-t12 same-length same-length-2 returns)

@@ -1,0 +1,3 @@
+-- `Lit` says what lighting the marks of a choice asks and does, `Expanded` what going through all choices asks.
+pub mod Lit
+pub mod Expanded
