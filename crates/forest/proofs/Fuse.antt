@@ -19,7 +19,7 @@ use Rattle.forest.specs.State.{Pile, Done, Equal, Chain, First, None, Ne
 use Rattle.forest.specs.State.{one-of, withPair, SomeState}
 use Rattle.forest.proofs.Kernel.{relab-hit, relab-miss, relab-case}
 use Rattle.forest.proofs.Wood.{label-root, label-top, label, length-relabelled, raised-at, raised-off, link-shape}
-use Rattle.forest.proofs.Wood.{link-forest, one-labelling, tops-link}
+use Rattle.forest.proofs.Wood.{link-forest, shape-on, one-labelling, tops-link}
 use Rattle.forest.proofs.Parents.{length-parents}
 use Rattle.forest.proofs.Sizes.{many-two, many-joined, many-other, rank-joined, rank-low}
 use Rattle.forest.proofs.Links.{chain-same, seg-grow, way-grow, first-left, first-right, first-case, total-set, total-one, chained-set}
@@ -123,8 +123,8 @@ module _ (G : Pile) (H : Done) (F T : List ℕ) (n k s : ℕ) (fs : List (ℕ ×
     together i j t =
         let l = length-M in
         let r = length-relabelled b a (u .M) in
-        let ti = t .0 .0 in let tj = t .0 .1 in
-        ((omega arith, omega arith), coarse i j (omega arith) (omega arith) (t .1))
+        ⊎-elim (λ e. (inl e, ap (λ (v : ℕ). getD N v 0) e))
+        (λ o. let x = o .0 in let y = o .1 in (inr (omega arith, omega arith), coarse i j (omega arith) (omega arith) (t .1))) (t .0)
 
     pub Ca : getD (fused (u .C) a b) a [] ≡ getD (u .C) b [] ++ getD (u .C) a []
     Ca = getD-set-same (set (u .C) b []) a (getD (u .C) b [] ++ getD (u .C) a []) [] (let l = u .wide in simp length-set (omega arith))
@@ -414,16 +414,8 @@ module _ (G : Pile) (H : Done) (F T : List ℕ) (n k s : ℕ) (fs : List (ℕ ×
       sizes c h e (no x) = let o = old-root c h e x in
           ap size-of (z .sizes c h x (o .0)) ∙ u .size c h (o .1) ∙ sym (many-other a b (fu .other) c x (o .0) (u .M))
 
-      linked-shape : Shape (parents n w')
-      linked-shape = record {
-        inside = rw (z .par) (link-low .inside);
-        rank = link-low .rank;
-        up = rw (z .par) (link-low .up);
-        ten = rw (z .par) (link-low .ten);
-      }
-
-      heavies : (c : ℕ) → c < n → getD N c 0 ≡ c → Dec (c ≡ a) → 2 ^ linked-shape .rank c ≤ how-many c N
-      unfolding link-shape link-low linked-shape
+      heavies : (c : ℕ) → c < n → getD N c 0 ≡ c → Dec (c ≡ a) → 2 ^ link-low .rank c ≤ how-many c N
+      unfolding link-shape link-low
       heavies c h e (yes q) = rw (q, raised-at b a (u .shape .rank), both)
           (rank-joined (u .shape .rank a) (u .shape .rank b) (how-many a (u .M)) (how-many b (u .M)) (u .heavy a ha Ma) (u .heavy b hb Mb) fewer)
       heavies c h e (no x) = let o = old-root c h e x in
@@ -439,7 +431,7 @@ module _ (G : Pile) (H : Done) (F T : List ℕ) (n k s : ℕ) (fs : List (ℕ ×
           let r4 = z .s-up in
           record {
             logged = z .logged;
-            shape = linked-shape;
+            shape = shape-on (z .par) link-low;
             few = u .few;
             stack = omega arith;
             arcs = u .arcs;
@@ -468,7 +460,7 @@ module _ (G : Pile) (H : Done) (F T : List ℕ) (n k s : ℕ) (fs : List (ℕ ×
         where
           ab : Together N a b
           ab = let l = length-M in let r = length-relabelled b a (u .M) in let x = ha in let y = hb in
-              ((omega arith, omega arith), Na ∙ sym Nb)
+              (inr (omega arith, omega arith), Na ∙ sym Nb)
 
           kept : (x y : ℕ) → Framed n (u .M) (u .C) w x y → Framed n N (fused (u .C) a b) w' x y
           kept x y r = record {

@@ -14,6 +14,7 @@ use Rattle.forest.specs.State.{Pile, Done, Equal, Chain, Seg, First, Way
 use Rattle.forest.specs.State.{withPair}
 use Rattle.forest.specs.State.{Working, Turned}
 use Rattle.forest.proofs.Parents.{length-parents}
+use Rattle.forest.proofs.Kernel.{together-back, together-on}
 use Rattle.area.proofs.Undo.{later-refl}
 use Rattle.forest.proofs.Links.{calm-refl, chain-from, first-mem, first-feature, none-first, way-first, way-grow, seg-grow, hops-is}
 use Rattle.forest.proofs.Links.{first-way}
@@ -124,11 +125,11 @@ module _ (n k s : ℕ) (w : List ℕ) (x y : ℕ) (hx : x < n) (hy : y < n) (hn 
 
     x-a : Together (u .M) x a
     x-a = let l = length-P in let m = length-L in let i = p .low in
-        ((omega arith, omega arith), p .is (u .M) (u .forest) ∙ sym (u .forest .tops a (omega arith) (p .top)))
+        (inr (omega arith, omega arith), p .is (u .M) (u .forest) ∙ sym (u .forest .tops a (omega arith) (p .top)))
 
     y-b : Together (u .M) y b
     y-b = let l = length-P in let m = length-L in let i = q .low in
-        ((omega arith, omega arith), q .is (u .M) (u .forest) ∙ sym (u .forest .tops b (omega arith) (q .top)))
+        (inr (omega arith, omega arith), q .is (u .M) (u .forest) ∙ sym (u .forest .tops b (omega arith) (q .top)))
 
     pub same-roots : Equal G F T x y → Equal G F T a b
     same-roots r = Equal.on (Equal.back (u .sound x a hx (p .low) (x-a .1)))
@@ -153,7 +154,7 @@ module _ (n k s : ℕ) (w : List ℕ) (x y : ℕ) (hx : x < n) (hy : y < n) (hn 
     under = under-same n k s w g;
     fine = λ z G H F T fs u r.
         let l = length-L G H F T fs u in
-        hold-pair G H F T n k s fs w u x y ((omega arith, omega arith), p .is (u .M) (u .forest) ∙ e ∙ sym (q .is (u .M) (u .forest)));
+        hold-pair G H F T n k s fs w u x y (inr (omega arith, omega arith), p .is (u .M) (u .forest) ∙ e ∙ sym (q .is (u .M) (u .forest)));
     clash = λ z. let y : _≡_ {A = ℕ} 0 1 = cc in absurd (omega arith);
   }
 
@@ -165,15 +166,12 @@ module _ (n k s : ℕ) (w : List ℕ) (x y : ℕ) (hx : x < n) (hy : y < n) (hn 
         let J = withPair (withPair (withPair H x a) y b) c d in
         let h1 = v .held y b (List·Memᴰ·tail (List·Memᴰ·head refl)) in
         let h2 = v .held x a (List·Memᴰ·tail (List·Memᴰ·tail (List·Memᴰ·head refl))) in
-        let e1 : Eq (v .M) y b = h1 .1 in
-        let e2 : Eq (v .M) x a = h2 .1 in
-        let e3 : Eq (v .M) c d = v .held c d (List·Memᴰ·head refl) .1 in
-        let e4 : Eq (v .M) a b = ⊎-elim (λ z. ap (λ (i : ℕ). getD (v .M) i 0) (sym (z .0)) ∙ e3
-        ∙ ap (λ (i : ℕ). getD (v .M) i 0) (z .1)) (λ z. ap (λ (i : ℕ). getD (v .M) i 0) (sym (z .1)) ∙ sym e3
-        ∙ ap (λ (i : ℕ). getD (v .M) i 0) (z .0)) o in
+        let h3 = v .held c d (List·Memᴰ·head refl) in
+        let h4 : Together (v .M) a b = ⊎-elim (λ z. rw (z .0, z .1) at h3) (λ z. together-back (v .M) b a (rw (z .0, z .1) at h3)) o in
+        let h5 = together-on (v .M) x a y h2 (together-on (v .M) a b y h4 (together-back (v .M) y b h1)) in
         hold G J F T n k' s' fs w' v ((x, y) ∷ H .E)
         (λ i j m. ⊎-elim
-        (λ r. subst (λ (t : ℕ × ℕ). Together (v .M) (t .0) (t .1)) (sym r) ((h2 .0 .0, h1 .0 .0), e2 ∙ e4 ∙ sym e1))
+        (λ r. subst (λ (t : ℕ × ℕ). Together (v .M) (t .0) (t .1)) (sym r) h5)
         (λ r. v .held i j (List·Memᴰ·tail (List·Memᴰ·tail (List·Memᴰ·tail r)))) (List·Memᴰ·cases-cons m))
 
     pub joined-up : Merged n k s w a b k' s' bad w' → Merged n k s w x y k' s' bad w'

@@ -175,6 +175,10 @@ module _ (P : List ℕ) (a b : ℕ) (ha : a < length P) (hb : b < length P) (ne 
           let g : getD P i 0 ≡ i = sym (getD-set-other P a i b 0 n) ∙ e in
           at i h ∙ ap (relab a b) (f .tops i h g) ∙ relab-miss a b i n
 
+-- ---- the same forest
+abbrev pub shape-on : {P Q : List ℕ} → Q ≡ P → Shape P → Shape Q
+shape-on e s = record { inside = rw e (s .inside); rank = s .rank; up = rw e (s .up); ten = rw e (s .ten) }
+
 -- ---- the number of roots
 pub tops-link : (i : ℕ) (P : List ℕ) (a b : ℕ) → a < length P → getD P a 0 ≡ i + a → (b ≡ i + a → ⊥) → suc (tops i (set P a b)) ≡ tops i P
 unfolding tops

@@ -81,8 +81,8 @@ sieved-since n k w w' t b h p s = record { tells = λ c root. tells c (root .low
     body-same : (j : ℕ) → j < LOG → getD w' j 0 ≡ getD w j 0
     body-same = word w w' (same-body k w w' (p .keeps k (omega arith)))
 
-    parents : region PARENT n w' ≡ region PARENT n w
-    parents = region-ext PARENT n w' w (omega (arith, p .len)) (p .len) (λ j l. body-same (PARENT + j) (omega arith))
+    parents : parents n w' ≡ parents n w
+    parents = parents-ext n w' w (omega (arith, p .len)) (p .len) (λ j l. body-same (PARENT + j) (omega arith))
 
     loaded-same : loaded-words w' ≡ loaded-words w
     loaded-same = words-same w w' h (p .len) (p .same)

@@ -24,7 +24,7 @@ pub record Sieves (w t : List ℕ) (x : ℕ) : Type 0 where
 
 -- c is the class of all roots, with which the number 0 is united
 abbrev pub OfRoots : ℕ → List ℕ → ℕ → Type 0
-OfRoots n w c = Root (region PARENT n w) 0 c
+OfRoots n w c = Root n w 0 c
 
 -- t tells of the chain of the class of all roots
 pub record Sieved (n : ℕ) (w t : List ℕ) : Type 0 where

@@ -90,8 +90,8 @@ module _ (n k at at' : ℕ) (w w' : List ℕ) (r : Kept k at at' w w') (lab : �
     pub kept-classes : Classes n k w' G lab ord
     kept-classes =
         let b = c .below in let h = c .long in let l = r .len in
-        let par : region PARENT n w' ≡ region PARENT n w =
-        region-ext PARENT n w' w (omega arith) l (λ j h. r .low (PARENT + j) (omega arith)) in
+        let par : parents n w' ≡ parents n w =
+        parents-ext n w' w (omega arith) l (λ j h. r .low (PARENT + j) (omega arith)) in
         record {
           long = omega arith;
           below = b;

@@ -143,12 +143,12 @@ module _ (n : ℕ) (es : List Entry) (k : ℕ) (w : List ℕ) (h : Holds n es k 
       rw (p .1 .1) (class-top n es k w h (spot-number es (p .0)) (spot-low n es k w h (p .0)))
 
   abbrev P : List ℕ
-  P = region PARENT n w
+  P = parents n w
 
   root : (c : ℕ) → c < n → class h c ≡ c → getD P c 0 ≡ c
   root c l e =
       let long = h .long in let few = h .below in
-      let m : length P ≡ n = length-region PARENT n w (omega arith) in
+      let m : length P ≡ n = length-parents n w (omega arith) in
       let a = h .state .shape .down c (omega arith) in
       let b = h .state .forest .follow c (omega arith) in
       let d = label-low P (h .state .M) (h .state .shape) (h .state .forest) (getD P c 0) (omega arith) in
@@ -157,7 +157,7 @@ module _ (n : ℕ) (es : List Entry) (k : ℕ) (w : List ℕ) (h : Holds n es k 
   room : k + length ord ≤ 4096
   room =
       let long = h .long in let few = h .below in
-      let m : length P ≡ n = length-region PARENT n w (omega arith) in
+      let m : length P ≡ n = length-parents n w (omega arith) in
       let r = holds-room n es k w h in
       let d : length ord ≤ length (roots-from 0 P) = distinct-length ord (roots-from 0 P) (distinct ord own)
       (λ x i. let p = position x ord i in let a = low (p .0) (p .1 .0) in
