@@ -13,7 +13,7 @@ use Rattle.area.specs.Region.{region}
 use Rattle.area.specs.Log.{Stores}
 use Rattle.area.proofs.Region.{length-region, getD-region, region-ext}
 use Rattle.area.proofs.Undo.{later-trans, put-at, put-off}
-use Rattle.forest.specs.Forest.{parents, parent-of, root-word}
+use Rattle.forest.specs.Forest.{parents, parent-of, root-word, Root}
 use Rattle.forest.specs.Roots.{Linking, Linked}
 
 pub length-parents : (n : ℕ) (w : List ℕ) → PARENT + n ≤ length w → length (parents n w) ≡ n
@@ -29,6 +29,10 @@ pub parents-ext : (n : ℕ) (u w : List ℕ) → PARENT + n ≤ length u → len
     ((j : ℕ) → j < n → getD u (PARENT + j) 0 ≡ getD w (PARENT + j) 0) → parents n u ≡ parents n w
 unfolding parents
 parents-ext n u w h e f = ap (map parent-of) (region-ext PARENT n u w h e f)
+
+-- the same parents have the same roots
+pub root-on : (n : ℕ) (u w : List ℕ) (i r : ℕ) → parents n u ≡ parents n w → Root n u i r → Root n w i r
+root-on n u w i r e t = record { low = t .low; top = rw e at (t .top); is = λ L f. t .is L (rw e f) }
 
 -- ---- the stores of a link
 module _ (n k : ℕ) (w : List ℕ) (a b : ℕ) (hn : n ≤ 1024) (hw : SIZE ≤ length w) (g : Linking n k w a b) (m : ℕ)

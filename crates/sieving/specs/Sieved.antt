@@ -3,8 +3,7 @@ use mathlib.Core.Path.{_≡_}
 use mathlib.Core.List.{List}
 use Prim.Native.Nat.{ℕ, _%_, _<_}
 use lib.ListN.{length, getD}
-use Rattle.area.specs.Map.{PARENT}
-use Rattle.area.specs.Region.{region, loaded-words}
+use Rattle.area.specs.Region.{loaded-words}
 use Rattle.forest.specs.Forest.{Root}
 use Rattle.forest.specs.State.{Runs, Looked}
 

@@ -14,18 +14,17 @@ use Rattle.descriptions.proofs.Tests.{Test, differ, test}
 use Rattle.theory.proofs.Meaning.{joined-root}
 use Rattle.theory.proofs.Weight.{distinct-length, range, range-length}
 use Rattle.descriptions.proofs.Tests.{Distinct}
-use Rattle.area.specs.Map.{PARENT}
-use Rattle.area.specs.Region.{region, loaded-words}
-use Rattle.area.proofs.Region.{length-region}
+use Rattle.area.specs.Region.{loaded-words}
 use Rattle.loading.specs.Entry.{Entry, graphs}
 use Rattle.forest.specs.Labels.{by-test}
-use Rattle.forest.specs.Forest.{tops}
+use Rattle.forest.specs.Forest.{parents, tops}
 use Rattle.forest.specs.Held.{last-arc, ChainCode, AtomCode}
 use Rattle.classes.specs.Entry.{Spots, spot-number}
 use Rattle.classes.specs.Holds.{Holds, class}
 use Rattle.classes.proofs.Content.{Content}
 use Rattle.forest.proofs.Links.{first-mem, first-feature}
-use Rattle.forest.proofs.Fuse.{label-low}
+use Rattle.forest.proofs.Wood.{label-root}
+use Rattle.forest.proofs.Parents.{length-parents}
 use Rattle.classes.proofs.Writer.{holds-room, spot-low, class-low, class-top, class-root, same-class, class-same, content}
 use Rattle.writing.specs.Classes.{Fan, Classes}
 
@@ -149,10 +148,7 @@ module _ (n : ℕ) (es : List Entry) (k : ℕ) (w : List ℕ) (h : Holds n es k 
   root c l e =
       let long = h .long in let few = h .below in
       let m : length P ≡ n = length-parents n w (omega arith) in
-      let a = h .state .shape .down c (omega arith) in
-      let b = h .state .forest .follow c (omega arith) in
-      let d = label-low P (h .state .M) (h .state .shape) (h .state .forest) (getD P c 0) (omega arith) in
-      omega arith
+      rw e at (label-root P (h .state .shape) (h .state .M) (h .state .forest) c (omega arith) .1)
 
   room : k + length ord ≤ 4096
   room =

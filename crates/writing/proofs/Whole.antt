@@ -10,9 +10,8 @@ use Rattle.theory.specs.Layout.{nodes-words}
 use Rattle.theory.specs.Weight.{weight}
 use Rattle.layout.specs.Standing.{Stands}
 use Rattle.layout.proofs.Standing.{stands-length, stands-frame}
-use Rattle.area.specs.Map.{PARENT, RESULT, SIZE}
-use Rattle.area.specs.Region.{region}
-use Rattle.forest.specs.Forest.{Shape, Root}
+use Rattle.area.specs.Map.{RESULT, SIZE}
+use Rattle.forest.specs.Forest.{parents, Shape, Root}
 use Rattle.classes.specs.Holds.{class}
 use Rattle.classes.proofs.Laws.{holds-few, holds-again, since-again}
 use Rattle.writing.specs.Classes.{Classes, Met}

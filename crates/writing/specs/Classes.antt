@@ -5,9 +5,9 @@ use Prim.Native.Nat.{ℕ, suc, _+_, _≤_, _<_}
 use lib.ListN.{length, getD}
 use Rattle.theory.specs.Limits.{code-limit}
 use Rattle.theory.specs.Net.{Graph, atom, arcs, nodeAt}
-use Rattle.area.specs.Map.{PARENT, LOG, STACK, SIZE, LOADED, TARGETS, NODES, ENTRIES}
-use Rattle.area.specs.Region.{region, loaded-words}
-use Rattle.forest.specs.Forest.{Shape, Root}
+use Rattle.area.specs.Map.{LOG, STACK, SIZE, LOADED, TARGETS, NODES, ENTRIES}
+use Rattle.area.specs.Region.{loaded-words}
+use Rattle.forest.specs.Forest.{parents, Shape, Root}
 use Rattle.forest.specs.Held.{ChainCode}
 use Rattle.forest.specs.State.{targets, Chain}
 
