@@ -12,12 +12,11 @@ use lib.ListN.{length, set, getD, length-set}
 use lib.Seq.{getD-set-same, getD-set-other}
 use Rattle.area.specs.Map.{PARENT, NEXT, LOG, STACK, SIZE}
 use Rattle.forest.proofs.Relabel.{relabelled}
-use Rattle.forest.specs.Labels.{how-many, Yields}
 use Rattle.forest.specs.Roots.{Fusing, Linking, Linked}
 use Rattle.area.specs.Log.{Later, Stores}
 use Rattle.forest.specs.declared.held.Held.{Held}
 use Rattle.forest.specs.declared.held.Held.the-variants.{Nothing, Arcs, Atom}
-use Rattle.forest.specs.Forest.{size-of, parents, Forest, tops}
+use Rattle.forest.specs.Forest.{size-of, parents, SmallerUnder, tops}
 use Rattle.forest.specs.Held.{last-arc, ChainCode, AtomCode, held-by, Covered}
 use Rattle.forest.specs.State.{Pile, Done, Equal, ClashIn, Chain, Seg, First, Near, Framed, Bears, State, SomeState, Merged, Grow}
 use Rattle.forest.specs.State.{Last, Runs}
@@ -59,8 +58,7 @@ module _ (n k s : ℕ) (w : List ℕ) (a b : ℕ) (fu : Fusing n w a b) (hn : n 
       let sb = u .size b hb (Mb (g .G) (g .H) (g .F) (g .T) n k s (g .fs) w hn hw u a b fu) in
       record { logged = u .logged; room = omega arith; own = fu .top-a; low = (ha, hb); other = fu .other; fits = omega arith }
 
-  abbrev went : (w' : List ℕ) → parents n w' ≡ set (parents n w) b a → (L L' : List ℕ) → Forest (parents n w) L → Forest (parents n w') L' →
-      (i : ℕ) → i < n → (getD L' i 0 ≡ getD L i 0 → ⊥) → Yields (getD L i 0) (how-many (getD L i 0) L) (getD L' i 0) (how-many (getD L' i 0) L)
+  abbrev went : (w' : List ℕ) → parents n w' ≡ set (parents n w) b a → SmallerUnder (parents n w) (parents n w')
   went = went-under (g .G) (g .H) (g .F) (g .T) n k s (g .fs) w hn hw (g .state) a b fu
 
   -- the roots are one fewer
@@ -191,7 +189,9 @@ module _ (n k s : ℕ) (w : List ℕ) (a b : ℕ) (fu : Fusing n w a b) (hn : n 
             par = par2;
             sum = ap size-of (word2 a ha) ∙ p .sum;
             sizes = λ c h x y. word2 c h ∙ size1 c h x y;
-            k-up = let e = p .next in let e' = p2 .next in let m = no-more-chained G H F T n k s fs w (omega arith) hw u a b fu in omega arith;
+            k-up =
+                let e = p .next in let e' = p2 .next in
+                let m = no-more-chained G H F T n k s fs w (omega arith) hw u a b fu in omega arith;
             s-up = omega arith;
             first = λ c h x. first2 c (omega arith) x;
             nexts = λ q h x. next2 q h;

@@ -3,7 +3,7 @@ use mathlib.Core.Path.{_≡_, refl, sym, ap, _∙_, subst}
 use mathlib.Core.List.{List, [], _++_, List·Memᴰ, List·Memᴰ·not-nil, List·Memᴰ·cases-cons, List·Memᴰ·append-cases, Memᴰ·append-left}
 use mathlib.Core.List.{Memᴰ·append-right}
 use mathlib.Core.Logic.{_⊎_, inl, inr, ⊎-elim}
-use Prim.Native.Nat.{ℕ, suc, _+_, _-_, _^_, _≤_, _<_}
+use Prim.Native.Nat.{ℕ, suc, _+_, _^_, _≤_, _<_}
 use native.Mathlib.Omega.{arith}
 use native.Mathlib.Decide.{ℕ-discrete, decLt}
 use lib.ListN.{length, set, getD, length-set, length-append}
@@ -12,7 +12,7 @@ use Rattle.area.specs.Map.{PARENT, NEXT, SIZE}
 use Rattle.forest.specs.Labels.{Eq, Together, how-many, Yields}
 use Rattle.forest.proofs.Relabel.{relab, relabelled}
 use Rattle.area.specs.Log.{Logged}
-use Rattle.forest.specs.Forest.{size-of, parents, Shape, Forest, tops}
+use Rattle.forest.specs.Forest.{size-of, parents, Shape, Forest, SmallerUnder, tops}
 use Rattle.forest.specs.Roots.{Fusing}
 use Rattle.forest.specs.Held.{last-arc, ChainCode, AtomCode}
 use Rattle.forest.specs.State.{Pile, Done, Equal, Chain, First, None, Near, Framed, Bears, State, Grow, total-length, chained}
@@ -22,12 +22,11 @@ use Rattle.forest.proofs.Wood.{label-root, label-top, label, length-rel
 use Rattle.forest.proofs.Wood.{link-forest, shape-on, one-labelling, tops-link}
 use Rattle.forest.proofs.Parents.{length-parents}
 use Rattle.forest.proofs.Sizes.{many-two, many-joined, many-other, rank-joined, rank-low}
-use Rattle.forest.proofs.Links.{chain-same, seg-grow, way-grow, first-left, first-right, first-case, total-set, total-one, chained-set}
-use Rattle.forest.proofs.Links.{one-append}
+use Rattle.forest.proofs.Links.{chain-same, seg-grow, way-grow, first-left, first-right, first-case, total-set, total-one}
+use Rattle.forest.proofs.Links.{chained-set, one-append}
 
 -- ---- where nothing is stored, no class goes under another
-pub under-same : (n k s : ℕ) (w : List ℕ) → SomeState n k s w → (L L' : List ℕ) → Forest (parents n w) L → Forest (parents n w) L' →
-    (i : ℕ) → i < n → (getD L' i 0 ≡ getD L i 0 → ⊥) → Yields (getD L i 0) (how-many (getD L i 0) L) (getD L' i 0) (how-many (getD L' i 0) L)
+pub under-same : (n k s : ℕ) (w : List ℕ) → SomeState n k s w → SmallerUnder (parents n w) (parents n w)
 under-same n k s w g L L' f f' i h d =
     absurd (d (ap (λ (l : List ℕ). getD l i 0) (one-labelling (parents n w) (g .state .shape) L' L f' f)))
 
@@ -198,14 +197,13 @@ module _ (G : Pile) (H : Done) (F T : List ℕ) (n k s : ℕ) (fs : List (ℕ ×
         link-forest (parents n w) b a (omega arith) (omega arith) (fu .other) rb ra (u .shape) L f
 
     -- a node that has another label was in b, and is in a
-    pub went-under : (w' : List ℕ) → parents n w' ≡ set (parents n w) b a → (L L' : List ℕ) → Forest (parents n w) L →
-        Forest (parents n w') L' → (i : ℕ) → i < n → (getD L' i 0 ≡ getD L i 0 → ⊥) →
-        Yields (getD L i 0) (how-many (getD L i 0) L) (getD L' i 0) (how-many (getD L' i 0) L)
-    went-under w' e L L' f f' i h d = ⊎-elim (λ z. yields (z .0) (there ∙ z .1)) (λ z. absurd (d (there ∙ z .1))) (relab-case b a (getD L i 0))
+    pub went-under : (w' : List ℕ) → parents n w' ≡ set (parents n w) b a → SmallerUnder (parents n w) (parents n w')
+    went-under w' e L L' f f' i h d =
+        ⊎-elim (λ z. yields (z .0) (there ∙ z .1)) (λ z. absurd (d (there ∙ z .1))) (relab-case b a (getD L i 0))
       where
         there : getD L' i 0 ≡ relab b a (getD L i 0)
         there =
-            let l = length-P in let m = f .len in
+            let m = f .len in
             let one = one-labelling (set (parents n w) b a) link-low L' (relabelled b a L) (rw e at f') (link-labels L f) in
             ap (λ (l : List ℕ). getD l i 0) one ∙ label b a L i (omega arith)
 
@@ -395,7 +393,8 @@ module _ (G : Pile) (H : Done) (F T : List ℕ) (n k s : ℕ) (fs : List (ℕ ×
       sounds : (i j : ℕ) → i < n → j < n → Eq N i j → Equal G F T i j
       sounds i j hi hj e = ⊎-elim
           (λ p. ⊎-elim (λ q. u .sound i j hi hj (p .0 ∙ sym (q .0)))
-          (λ q. Equal.on (to-b i hi (p .0)) (Equal.on (Equal.back same) (Equal.back (from-a j hj (sym (q .1) ∙ sym e ∙ p .1))))) (split j hj))
+          (λ q. Equal.on (to-b i hi (p .0)) (Equal.on (Equal.back same) (Equal.back (from-a j hj (sym (q .1) ∙ sym e ∙ p .1)))))
+          (split j hj))
           (λ p. ⊎-elim (λ q. Equal.on (from-a i hi (sym (p .1) ∙ e ∙ q .1)) (Equal.on same (Equal.back (to-b j hj (q .0)))))
           (λ q. u .sound i j hi hj (sym (p .1) ∙ e ∙ q .1)) (split j hj))
           (split i hi)
@@ -407,7 +406,8 @@ module _ (G : Pile) (H : Done) (F T : List ℕ) (n k s : ℕ) (fs : List (ℕ ×
           from-a i h p = u .sound i a h ha (p ∙ sym Ma)
 
       tops-less : suc (tops 0 (parents n w')) ≡ tops 0 (parents n w)
-      tops-less = let l = length-P in rw (z .par) (tops-link 0 (parents n w) b a (omega arith) (omega (arith, rb)) (λ e. fu .other (omega arith)))
+      tops-less = let l = length-P in
+          rw (z .par) (tops-link 0 (parents n w) b a (omega arith) (omega (arith, rb)) (λ e. fu .other (omega arith)))
 
       sizes : (c : ℕ) → c < n → getD N c 0 ≡ c → Dec (c ≡ a) → size-of (getD w' (PARENT + c) 0) ≡ how-many c N
       sizes c h e (yes q) = let x = size-a in let y = size-b in let t = both in rw q (z .sum ∙ omega arith)
@@ -417,7 +417,8 @@ module _ (G : Pile) (H : Done) (F T : List ℕ) (n k s : ℕ) (fs : List (ℕ ×
       heavies : (c : ℕ) → c < n → getD N c 0 ≡ c → Dec (c ≡ a) → 2 ^ link-low .rank c ≤ how-many c N
       unfolding link-shape link-low
       heavies c h e (yes q) = rw (q, raised-at b a (u .shape .rank), both)
-          (rank-joined (u .shape .rank a) (u .shape .rank b) (how-many a (u .M)) (how-many b (u .M)) (u .heavy a ha Ma) (u .heavy b hb Mb) fewer)
+          (rank-joined (u .shape .rank a) (u .shape .rank b) (how-many a (u .M)) (how-many b (u .M)) (u .heavy a ha Ma)
+          (u .heavy b hb Mb) fewer)
       heavies c h e (no x) = let o = old-root c h e x in
           rw (raised-off b a (u .shape .rank) c x, many-other a b (fu .other) c x (o .0) (u .M)) (u .heavy c h (o .1))
 

@@ -1,14 +1,12 @@
 -- The laws of the numbers of nodes that have a label. Assumes nothing.
 use mathlib.Core.Path.{_≡_, refl, _∙_}
-use mathlib.Core.Bool.{Bool, true, false}
 use mathlib.Core.List.{List, [], _∷_}
-use Prim.Native.Nat.{ℕ, zero, suc, _+_, _*_, _-_, _^_, _≤_, _<_}
+use Prim.Native.Nat.{ℕ, zero, suc, _+_, _-_, _^_, _≤_, _<_}
 use native.Mathlib.Omega.{arith}
 use native.Mathlib.Decide.{ℕ-discrete, decLt}
-use lib.Dec.{eqb}
 use lib.ListN.{length, getD}
 use borrow.Author.Tests.{eq-eqb, ne-eqb}
-use Rattle.forest.specs.Labels.{by-test, how-many}
+use Rattle.forest.specs.Labels.{how-many}
 use Rattle.forest.proofs.Relabel.{relab, relabelled}
 use Rattle.forest.proofs.Kernel.{relab-hit, relab-miss}
 
@@ -46,7 +44,12 @@ module _ (a b : ℕ) (n : a ≡ b → ⊥) where
       go : Dec (x ≡ a) → Dec (x ≡ b) → how-many a (relabelled b a l) ≡ how-many a l + how-many b l →
           how-many a (relab b a x ∷ relabelled b a l) ≡ how-many a (x ∷ l) + how-many b (x ∷ l)
       go (yes e) (yes d) r = absurd (n (omega arith))
-      go (yes e) (no d) r = omega (arith, one-hit a (relab b a x) (relabelled b a l) (relab-miss b a x d ∙ e), one-hit a x l e, one-miss b x l d)
+      go (yes e) (no d) r = omega (
+        arith,
+        one-hit a (relab b a x) (relabelled b a l) (relab-miss b a x d ∙ e),
+        one-hit a x l e,
+        one-miss b x l d,
+      )
       go (no e) (yes d) r = omega (arith, one-hit a (relab b a x) (relabelled b a l) (relab-hit b a x d), one-miss a x l e, one-hit b x l d)
       go (no e) (no d) r = omega (
         arith,

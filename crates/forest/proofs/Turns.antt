@@ -8,9 +8,10 @@ use Prim.Native.Nat.{ℕ, suc, _+_, _-_, _≤_, _<_}
 use native.Mathlib.Omega.{arith}
 use lib.ListN.{length, getD}
 use Rattle.area.specs.Map.{NEXT, SIZE}
-use Rattle.forest.specs.Labels.{Eq, Together}
+use Rattle.forest.specs.Labels.{Together}
 use Rattle.forest.specs.Forest.{parents, Root, tops}
-use Rattle.forest.specs.State.{Pile, Done, Equal, Chain, Seg, First, Way, Near, Framed, State, Merged, Grow, Looked, Runs, hops, SomeState}
+use Rattle.forest.specs.State.{Pile, Done, Equal, Chain, Seg, First, Way, Near, Framed, State, Merged, Grow, Looked, Runs, hops}
+use Rattle.forest.specs.State.{SomeState}
 use Rattle.forest.specs.State.{withPair}
 use Rattle.forest.specs.State.{Working, Turned}
 use Rattle.forest.proofs.Parents.{length-parents}
@@ -22,7 +23,8 @@ use Rattle.forest.proofs.Fuse.{under-same, low, top, length-M, chain-of
 
 -- ---- the same state with other pairs
 pub hold : (G : Pile) (H : Done) (F T : List ℕ) (n k s : ℕ) (fs : List (ℕ × ℕ)) (w : List ℕ) (u : State G H F T n k s fs w)
-    (E : List (ℕ × ℕ)) → ((x y : ℕ) → List·Memᴰ (x, y) E → Together (u .M) x y) → State G (record { K = H .K; U = H .U; E = E }) F T n k s fs w
+    (E : List (ℕ × ℕ)) → ((x y : ℕ) → List·Memᴰ (x, y) E → Together (u .M) x y) →
+    State G (record { K = H .K; U = H .U; E = E }) F T n k s fs w
 hold G H F T n k s fs w u E f = record {
   logged = u .logged;
   shape = u .shape;

@@ -1,7 +1,7 @@
 -- The laws of a forest: its roots, its labels, and a link of two roots. Assumes nothing.
 use mathlib.Core.Path.{_≡_, refl, sym, ap, _∙_}
-use mathlib.Core.Bool.{Bool, true, false}
-use mathlib.Core.List.{List, [], _∷_, map}
+use mathlib.Core.Bool.{true, false}
+use mathlib.Core.List.{List, [], _∷_}
 use Prim.Native.Nat.{ℕ, zero, suc, _+_, _-_, _≤_, _<_}
 use native.Mathlib.Omega.{arith}
 use native.Mathlib.Decide.{ℕ-discrete}
@@ -141,8 +141,10 @@ module _ (P : List ℕ) (a b : ℕ) (ha : a < length P) (hb : b < length P) (ne 
       grows : (p : ℕ) → s .rank p ≤ raised a b (s .rank) p
       grows p = omega arith
 
-      up : (i : ℕ) → i < length P → (getD (set P a b) i 0 ≡ i → ⊥) → Dec (i ≡ a) → raised a b (s .rank) i < raised a b (s .rank) (getD (set P a b) i 0)
-      up i h d (yes e) = rw (e, getD-set-same P a b 0 ha) (omega (arith, raised-at a b (s .rank), raised-off a b (s .rank) a (λ z. ne (sym z))))
+      up : (i : ℕ) → i < length P → (getD (set P a b) i 0 ≡ i → ⊥) → Dec (i ≡ a) →
+          raised a b (s .rank) i < raised a b (s .rank) (getD (set P a b) i 0)
+      up i h d (yes e) = rw (e, getD-set-same P a b 0 ha)
+          (omega (arith, raised-at a b (s .rank), raised-off a b (s .rank) a (λ z. ne (sym z))))
       up i h d (no n) =
           let p : getD (set P a b) i 0 ≡ getD P i 0 = getD-set-other P a i b 0 n in
           let m : getD P i 0 ≡ i → ⊥ = λ z. d (p ∙ z) in

@@ -6,7 +6,7 @@ use lib.Dec.{eqb}
 use lib.ListN.{length, getD}
 use Rattle.area.specs.Map.{PARENT}
 use Rattle.area.specs.Region.{region}
-use Rattle.forest.specs.Labels.{by-test}
+use Rattle.forest.specs.Labels.{by-test, how-many, Yields}
 
 -- ---- the word of a node: its parent's number; that of a root has its own number, and this times how many nodes its class has beside it
 abbrev pub SIZE_STEP : ℕ
@@ -38,6 +38,12 @@ pub record Forest (P L : List ℕ) : Type 0 where
   pub len : length L ≡ length P
   pub follow : (i : ℕ) → i < length P → getD L i 0 ≡ getD L (getD P i 0) 0
   pub tops : (i : ℕ) → i < length P → getD P i 0 ≡ i → getD L i 0 ≡ i
+
+-- P' has classes of P together: a node has another label only where its class went under one that had more nodes, or as many and the
+-- lower number
+abbrev pub SmallerUnder : List ℕ → List ℕ → Type 0
+SmallerUnder P P' = (L L' : List ℕ) → Forest P L → Forest P' L' → (i : ℕ) → i < length P → (getD L' i 0 ≡ getD L i 0 → ⊥) →
+    Yields (getD L i 0) (how-many (getD L i 0) L) (getD L' i 0) (how-many (getD L' i 0) L)
 
 -- r is the root of i
 pub record Root (n : ℕ) (w : List ℕ) (i r : ℕ) : Type 0 where

@@ -7,10 +7,10 @@ use mathlib.Core.List.{List, [], _∷_, _++_, List·Memᴰ}
 use lib.Dec.{eqb}
 use lib.ListN.{length, getD}
 use Rattle.area.specs.Map.{PARENT, NEXT, STACK, WORDS, TARGETS, LOADED, FRAME_STEP, ENTRIES, NODES}
-use Rattle.area.specs.Region.{region, loaded-words}
-use Rattle.forest.specs.Labels.{Eq, Together, how-many, Yields}
+use Rattle.area.specs.Region.{region}
+use Rattle.forest.specs.Labels.{Eq, Together, how-many}
 use Rattle.area.specs.Log.{Logged, Later}
-use Rattle.forest.specs.Forest.{size-of, parents, Shape, Forest, tops}
+use Rattle.forest.specs.Forest.{size-of, parents, Shape, Forest, SmallerUnder, tops}
 use Rattle.forest.specs.Held.{ChainCode, AtomCode}
 
 -- ---- what follows each of the loaded words
@@ -204,9 +204,7 @@ pub record Merged (n k s : ℕ) (w : List ℕ) (x y k' s' : ℕ) (bad : Bool) (w
   pub count : s' + tops 0 (parents n w') ≤ s + tops 0 (parents n w)
   pub grow : Grow w w'
   pub calm : k' ≤ k + 3 → (s' ≡ s) × Calm w w'
-  -- a node has another label only where its class went under one that had more nodes, or as many and the lower number
-  pub under : (L L' : List ℕ) → Forest (parents n w) L → Forest (parents n w') L' → (i : ℕ) → i < n → (getD L' i 0 ≡ getD L i 0 → ⊥) →
-      Yields (getD L i 0) (how-many (getD L i 0) L) (getD L' i 0) (how-many (getD L' i 0) L)
+  pub under : SmallerUnder (parents n w) (parents n w')
   pub fine : bad ≡ false → (G : Pile) (H : Done) (F T : List ℕ) (fs : List (ℕ × ℕ)) → State G H F T n k s fs w → Equal G F T x y →
       State G (withPair H x y) F T n k' s' (new ++ fs) w'
   pub clash : bad ≡ true → (G : Pile) (H : Done) (F T : List ℕ) (fs : List (ℕ × ℕ)) → State G H F T n k s fs w → Equal G F T x y →

@@ -6,7 +6,8 @@ use limits::wide;
 ghost use mathlib.Core.Path.{_≡_};
 ghost use Prim.Native.Nat.{_+_, _≤_, _<_};
 ghost use lib.ListN.{length, getD};
-ghost use Rattle.area.specs.Map.{PARENT, SIZE, NODES};
+ghost use Rattle.area.specs.Map.{PARENT, SIZE, NODES, ENTRIES, ENTRY_MOST};
+ghost use Rattle.area.specs.Log.{Logged, Stores};
 ghost use Rattle.forest.specs.Forest.{parents, size-of, root-word, Shape, Root};
 ghost use Rattle.forest.specs.Roots.{YieldTold, Linking, Linked};
 
@@ -67,14 +68,24 @@ pub fn yields(w: &[u32], b: usize, a: usize) -> bool
     m < k
 }
 
+// The word of the root a becomes v.
+fn put_root(w: &mut [u32], k: usize, a: usize, v: u32) -> usize
+    requires { ⌜ Logged k (now w) ⌝ }
+    requires { ⌜ (a < NODES) × ((k < ENTRIES) × ((v < ENTRY_MOST) × (SIZE ≤ length (now w)))) ⌝ }
+    ensures { λ r. ⌜ Stores k (now (w .entry)) (PARENT + a) v r (now (w .exit)) ⌝ }
+{
+    put(w, k, PARENT + a, v)
+}
+
 // The root b goes under the root a, whose word then tells the nodes of both classes.
 pub fn link(w: &mut [u32], k: usize, n: usize, a: usize, b: usize) -> usize
     requires { ⌜ (n ≤ NODES) × (SIZE ≤ length (now w)) ⌝ }
     requires { ⌜ Linking n k (now w) a b ⌝ }
     ensures { λ r. ⌜ Linked n k (now (w .entry)) a b r (now (w .exit)) ⌝ }
 {
-    let nodes = class_size(w, a) + class_size(w, b);
-    let v = root_word(a, nodes);
+    let there = class_size(w, a);
+    let came = class_size(w, b);
+    let v = root_word(a, there + came);
     let e = put(w, k, PARENT + b, a as u32);
-    put(w, e, PARENT + a, v)
+    put_root(w, e, a, v)
 }

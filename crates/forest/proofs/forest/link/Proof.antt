@@ -12,8 +12,8 @@ class-size-requires c κs = search needs
 class-size-requires-2 : tie.Need-class-size-requires-2
 class-size-requires-2 c κs = search needs
 
-add-nodes : tie.Need-add-nodes
-add-nodes c = search needs
+add-root-word : tie.Need-add-root-word
+add-root-word c = search needs
 
 root-word-requires : tie.Need-root-word-requires
 root-word-requires c κs = search needs
@@ -27,11 +27,8 @@ cast-put c = search needs
 put-requires : tie.Need-put-requires
 put-requires c κs = search needs
 
-add-put-2 : tie.Need-add-put-2
-add-put-2 c = search needs
-
-put-requires-2 : tie.Need-put-requires-2
-put-requires-2 c κs = search needs
+put-root-requires : tie.Need-put-root-requires
+put-root-requires c κs = search needs
 
 same-length : tie.Need-same-length
 same-length c = search needs
@@ -43,12 +40,13 @@ returns c =
     let other = r .before .class-size2 in
     let s = r .before .before .before .before .before .before in
     let put = c .before .before .before .before .before .before .put in
-    let put2 = c .before .before .put2 in
+    let root = c .before .before .put-root in
     let a = s .args in
     linked (a .n) (a .k) (a .w .now) (a .a) (a .b) (s .pre .0 .0) (s .pre .0 .1) (s .pre .1) (one .result + other .result)
-    (omega (arith, one .ensures, other .ensures)) (put .result) (put2 .result) (put .last .0) (put2 .last .0) (put .ensures)
-    (rw (r .root-word .ensures) at (put2 .ensures))
+    (omega (arith, one .ensures, other .ensures)) (put .result) (root .result) (put .last .0) (root .last .0) (put .ensures)
+    (rw (r .root-word .ensures) at (root .ensures))
 
 pub link-spec : {M : Type 1} → statement M
 link-spec =
-    tie.close (tie.spec class-size-requires class-size-requires-2 add-nodes root-word-requires add-put cast-put put-requires add-put-2 put-requires-2 same-length returns)
+    tie.close (tie.spec class-size-requires class-size-requires-2 add-root-word root-word-requires add-put cast-put put-requires
+    put-root-requires same-length returns)

@@ -2,7 +2,6 @@
 use mathlib.Core.Path.{_≡_, sym, _∙_}
 use native.Mathlib.Omega.{arith}
 use lib.ListN.{length}
-use Rattle.area.specs.Map.{PARENT}
 use Rattle.forest.specs.Forest.{parents}
 use Rattle.forest.proofs.Parents.{length-parents, getD-parents}
 use borrow.Author.Needs.{needs}

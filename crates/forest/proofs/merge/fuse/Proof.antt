@@ -98,7 +98,8 @@ returns-2 c =
     let v = getD (a .w .now) (HELD + a .b) 0 in
     let none = sym (c .before .before .before .before .before .before .before .before .before .before .before .held-by2 .ensures)
     ∙ c .before .before .before .before .before .before .before .before .before .enum-told2 .given .1 in
-    moved (a .n) (a .k) (a .s) (a .w .now) (a .a) (a .b) (p .0) (h .0) (h .1) (p .1) (link .result) (link .last .0) (link .ensures) v (put .result) (put .last .0)
+    moved (a .n) (a .k) (a .s) (a .w .now) (a .a) (a .b) (p .0) (h .0) (h .1) (p .1) (link .result) (link .last .0)
+    (link .ensures) v (put .result) (put .last .0)
     (ap (λ (i : ℕ). getD (a .w .now) i 0) (held-at (a .b)))
     (subst (λ (i : ℕ). Stores (link .result) (link .last .0) i v (put .result) (put .last .0)) (held-at (a .a)) (put .ensures))
     (told-nothing (a .w .now) (a .a) none)
@@ -132,7 +133,8 @@ returns-4 c =
     let a = s .args in
     let h = s .pre .0 in
     let p = s .pre .1 in
-    clash-met (a .n) (a .k) (a .s) (a .w .now) (a .a) (a .b) (p .0) (h .0) (h .1) (p .1) _ _ (c .before .before .before .before .before .before .before .held-by .ensures)
+    clash-met (a .n) (a .k) (a .s) (a .w .now) (a .a) (a .b) (p .0) (h .0) (h .1) (p .1) _ _
+    (c .before .before .before .before .before .before .before .held-by .ensures)
     (c .before .before .before .before .held-by2 .ensures) (c .before .before .covered .ensures .1 (c .before .if1 .left))
     (some-held _ (c .before .before .before .match2 .keys2)) (λ x y e i. no-arcs _ x (c .match3 .keys2) e)
 
@@ -148,7 +150,8 @@ returns-5 c =
     let a = s .args in
     let h = s .pre .0 in
     let p = s .pre .1 in
-    clash-met (a .n) (a .k) (a .s) (a .w .now) (a .a) (a .b) (p .0) (h .0) (h .1) (p .1) _ _ (c .before .before .before .before .before .before .before .before .before .before .held-by .ensures)
+    clash-met (a .n) (a .k) (a .s) (a .w .now) (a .a) (a .b) (p .0) (h .0) (h .1) (p .1) _ _
+    (c .before .before .before .before .before .before .before .before .before .before .held-by .ensures)
     (c .before .before .before .before .before .before .before .held-by2 .ensures)
     (c .before .before .before .before .before .covered .ensures .1 (c .before .before .before .before .if1 .left))
     (some-held _ (c .before .before .before .before .before .before .match2 .keys2)) (λ x y e i. no-arcs _ y (c .match4 .keys2) i)

@@ -1,5 +1,4 @@
 -- `forest::merge::tuck` meets its contract. Assumes nothing.
-use native.Mathlib.Omega.{arith}
 use Rattle.forest.proofs.Cases.{linking, plain}
 use borrow.Author.Needs.{needs}
 use Rattle.forest.proofs.merge.tuck.Statement.{statement}

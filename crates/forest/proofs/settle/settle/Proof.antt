@@ -3,7 +3,6 @@ use Prim.Native.Nat.{_+_}
 use mathlib.Core.Path.{_≡_, _∙_}
 use native.Mathlib.Omega.{arith}
 use lib.ListN.{length}
-use Rattle.area.specs.Map.{PARENT}
 use Rattle.area.specs.Region.{loaded-words}
 use Rattle.forest.specs.Forest.{parents, tops}
 use Rattle.forest.specs.State.{targets}
