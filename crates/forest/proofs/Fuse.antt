@@ -112,7 +112,7 @@ module _ (G : Pile) (H : Done) (F T : List ℕ) (n k s : ℕ) (fs : List (ℕ ×
     pub Na : getD N a 0 ≡ a
     Na = lab a ha ∙ ap (relab b a) Ma ∙ relab-miss b a a (fu .other)
 
-    pub Nb : getD N b 0 ≡ a
+    Nb : getD N b 0 ≡ a
     Nb = lab b hb ∙ relab-hit b a (getD (u .M) b 0) Mb
 
     coarse : (i j : ℕ) → i < n → j < n → Eq (u .M) i j → Eq N i j
@@ -187,7 +187,7 @@ module _ (G : Pile) (H : Done) (F T : List ℕ) (n k s : ℕ) (fs : List (ℕ ×
         let p = u .heavy b hb Mb in
         rank-low (suc (u .shape .rank b)) (omega arith)
 
-    pub link-low : Shape (set (parents n w) b a)
+    link-low : Shape (set (parents n w) b a)
     unfolding link-shape
     link-low = let l = length-P in let x = ha in let y = hb in
         link-shape (parents n w) b a (omega arith) (omega arith) (fu .other) rb ra (u .shape) rank-b

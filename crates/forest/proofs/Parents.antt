@@ -2,7 +2,7 @@
 use mathlib.Core.Path.{_≡_, sym, ap, _∙_}
 use mathlib.Core.List.{List, map}
 use mathlib.Core.Logic.{_⊎_, inl}
-use Prim.Native.Nat.{ℕ, _+_, _/_, _%_, _≤_, _<_}
+use Prim.Native.Nat.{ℕ, _+_, _%_, _≤_, _<_}
 use native.Mathlib.Omega.{arith}
 use native.Mathlib.Decide.{ℕ-discrete}
 use lib.ListN.{length, set, getD, length-map, length-set, List·getD-map}
@@ -12,7 +12,7 @@ use Rattle.area.specs.Region.{region}
 use Rattle.area.specs.Log.{Stores}
 use Rattle.area.proofs.Region.{length-region, getD-region, region-ext}
 use Rattle.area.proofs.Undo.{later-trans, put-at, put-off}
-use Rattle.forest.specs.Forest.{parents, parent-of, root-word, Root}
+use Rattle.forest.specs.Forest.{parents, parent-of, size-of, root-word, Root}
 use Rattle.forest.specs.Roots.{Linking, Linked}
 
 pub length-parents : (n : ℕ) (w : List ℕ) → PARENT + n ≤ length w → length (parents n w) ≡ n
@@ -34,21 +34,21 @@ pub root-on : (n : ℕ) (u w : List ℕ) (i r : ℕ) → parents n u ≡ parents
 root-on n u w i r e t = record { low = t .low; top = rw e at (t .top); is = λ L f. t .is L (rw e f) }
 
 -- ---- the stores of a link
-module _ (n k : ℕ) (w : List ℕ) (a b : ℕ) (hn : n ≤ 1024) (hw : SIZE ≤ length w) (g : Linking n k w a b) (m : ℕ)
-    (em : m ≡ getD w (PARENT + a) 0 / 1024 + 1 + (getD w (PARENT + b) 0 / 1024 + 1)) (r t : ℕ) (w1 w2 : List ℕ)
-    (p : Stores k w (PARENT + b) a r w1) (q : Stores r w1 (PARENT + a) (root-word a m) t w2) where
+module _ (n k : ℕ) (w : List ℕ) (a b : ℕ) (hn : n ≤ 1024) (hw : SIZE ≤ length w) (g : Linking n k w a b) (v : ℕ)
+    (ev : v ≡ root-word a (size-of (getD w (PARENT + a) 0) + size-of (getD w (PARENT + b) 0))) (r t : ℕ) (w1 w2 : List ℕ)
+    (p : Stores k w (PARENT + b) a r w1) (q : Stores r w1 (PARENT + a) v t w2) where
   off : (j : ℕ) → (j ≡ PARENT + a → ⊥) → (j ≡ PARENT + b → ⊥) → (j < LOG) ⊎ (STACK ≤ j) → getD w2 j 0 ≡ getD w j 0
   off j x y c =
       let l = g .room in let e = p .next in
-      put-off r w1 (PARENT + a) (root-word a m) t w2 q (omega arith) j x c ∙ put-off k w (PARENT + b) a r w1 p (omega arith) j y c
+      put-off r w1 (PARENT + a) v t w2 q (omega arith) j x c ∙ put-off k w (PARENT + b) a r w1 p (omega arith) j y c
 
-  at-a : getD w2 (PARENT + a) 0 ≡ root-word a m
-  at-a = let l = g .low in put-at r w1 (PARENT + a) (root-word a m) t w2 q (omega arith) (omega (arith, p .later .len))
+  at-a : getD w2 (PARENT + a) 0 ≡ v
+  at-a = let l = g .low in put-at r w1 (PARENT + a) v t w2 q (omega arith) (omega (arith, p .later .len))
 
   at-b : getD w2 (PARENT + b) 0 ≡ a
   at-b =
       let l = g .low in let d = g .room in let e = p .next in
-      put-off r w1 (PARENT + a) (root-word a m) t w2 q (omega arith) (PARENT + b) (λ e. g .other (omega arith)) (inl (omega arith))
+      put-off r w1 (PARENT + a) v t w2 q (omega arith) (PARENT + b) (λ e. g .other (omega arith)) (inl (omega arith))
       ∙ put-at k w (PARENT + b) a r w1 p (omega arith) (omega arith)
 
   len : length w2 ≡ length w

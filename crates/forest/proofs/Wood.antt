@@ -58,7 +58,7 @@ module _ (P : List ℕ) (s : Shape P) where
       (λ i h. from-roots (λ i. getD L i 0 ≡ getD M i 0) (λ i h e. f .tops i h e ∙ sym (g .tops i h e))
       (λ i h q. f .follow i h ∙ q ∙ sym (g .follow i h)) i (let l = f .len in omega arith))
 
-  -- ---- ten steps up from any node lead to a root
+  -- ---- ten steps up from any node lead to its root
   stay : (f i : ℕ) → getD P i 0 ≡ i → ascend f P i ≡ i
   unfolding ascend
   stay zero i e = refl
@@ -82,8 +82,18 @@ module _ (P : List ℕ) (s : Shape P) where
       go (yes e) k = rw (e, stay f i e) e
       go (no d) k = k d
 
-  pub ten-steps : (i : ℕ) → i < length P → getD P (ascend 10 P i) 0 ≡ ascend 10 P i
-  ten-steps i h = arrive 10 i h (omega arith)
+  within : (f i : ℕ) → i < length P → ascend f P i < length P
+  unfolding ascend
+  within zero i h = h
+  within (suc f) i h = within f (getD P i 0) (s .inside i h)
+
+  along : (L : List ℕ) → Forest P L → (f i : ℕ) → i < length P → getD L (ascend f P i) 0 ≡ getD L i 0
+  unfolding ascend
+  along L g zero i h = refl
+  along L g (suc f) i h = along L g f (getD P i 0) (s .inside i h) ∙ sym (g .follow i h)
+
+  pub ten-steps : (L : List ℕ) → Forest P L → (i : ℕ) → i < length P → ascend 10 P i ≡ getD L i 0
+  ten-steps L g i h = sym (g .tops (ascend 10 P i) (within 10 i h) (arrive 10 i h (omega arith))) ∙ along L g 10 i h
 
   enough : (f i : ℕ) → i < length P → 10 ≤ s .rank i + f → climb (suc f) P i ≡ climb f P i
   enough zero i h l = let e = high i h (omega arith) in climb-top 1 P i e ∙ sym (climb-top 0 P i e)

@@ -1,5 +1,4 @@
 -- `forest::forest::link` meets its contract. Assumes nothing.
-use Prim.Native.Nat.{_+_}
 use native.Mathlib.Omega.{arith}
 use Rattle.forest.proofs.Parents.{linked}
 use borrow.Author.Needs.{needs}
@@ -42,9 +41,9 @@ returns c =
     let put = c .before .before .before .before .before .before .put in
     let root = c .before .before .put-root in
     let a = s .args in
-    linked (a .n) (a .k) (a .w .now) (a .a) (a .b) (s .pre .0 .0) (s .pre .0 .1) (s .pre .1) (one .result + other .result)
-    (omega (arith, one .ensures, other .ensures)) (put .result) (root .result) (put .last .0) (root .last .0) (put .ensures)
-    (rw (r .root-word .ensures) at (root .ensures))
+    linked (a .n) (a .k) (a .w .now) (a .a) (a .b) (s .pre .0 .0) (s .pre .0 .1) (s .pre .1) (r .root-word .result)
+    (omega (arith, r .root-word .ensures, one .ensures, other .ensures)) (put .result) (root .result) (put .last .0) (root .last .0)
+    (put .ensures) (root .ensures)
 
 pub link-spec : {M : Type 1} → statement M
 link-spec =

@@ -16,24 +16,20 @@ returns : tie.Need-returns
 returns c =
     let x = c .before .before .class-size .ensures in
     let y = c .before .class-size2 .ensures in
-    let s = c .before .before .before .before in
-    let a = s .args in
-    let ne = s .pre .1 in
+    let ne = c .before .before .before .before .pre .1 in
     record {
-      under = λ z. inr (omega arith, omega (arith, ltb-true (a .a) (a .b) z));
-      over = λ z. inr (omega arith, omega (arith, ltb-false (a .a) (a .b) z));
+      under = λ z. inr (omega arith, omega (arith, ltb-true));
+      over = λ z. inr (omega arith, omega (arith, ltb-false));
     }
 
 returns-2 : tie.Need-returns-2
 returns-2 c =
-    let one = c .before .before .class-size in
-    let other = c .before .class-size2 in
-    let x = one .ensures in
-    let y = other .ensures in
+    let x = c .before .before .class-size .ensures in
+    let y = c .before .class-size2 .ensures in
     let ne = c .if1 .left in
     record {
-      under = λ z. inl (omega (arith, ltb-true (one .result) (other .result) z));
-      over = λ z. inl (omega (arith, ltb-false (one .result) (other .result) z));
+      under = λ z. inl (omega (arith, ltb-true));
+      over = λ z. inl (omega (arith, ltb-false));
     }
 
 pub yields-spec : {M : Type 1} → statement M
