@@ -14,6 +14,7 @@ pub mod Places
 pub mod Fuse
 pub mod Cases
 pub mod Turns
+pub mod Itself
 pub mod Drain
 pub mod Relabel
 pub mod Steps

@@ -7,7 +7,9 @@ use mathlib.Core.List.{List}
 use lib.ListN.{set, getD}
 use Rattle.area.specs.Map.{PARENT, LOG, STACK, ENTRIES, NODES}
 use Rattle.area.specs.Log.{Logged, Later}
+use Rattle.forest.specs.declared.held.Held.the-variants.{Nothing}
 use Rattle.forest.specs.Labels.{Yields}
+use Rattle.forest.specs.Held.{held-by}
 use Rattle.forest.specs.Forest.{size-of, parents}
 
 -- the root b goes under the root a, by what their words tell of their classes
@@ -43,3 +45,8 @@ pub record Fusing (n : ℕ) (w : List ℕ) (a b : ℕ) : Type 0 where
   pub top-a : getD (parents n w) a 0 ≡ a
   pub top-b : getD (parents n w) b 0 ≡ b
   pub lighter : GoesUnder w b a
+
+-- y is a class by itself that holds nothing
+pub record ByItself (w : List ℕ) (y : ℕ) : Type 0 where
+  pub own : getD w (PARENT + y) 0 ≡ y
+  pub empty : held-by w y ≡ Nothing

@@ -11,6 +11,7 @@ use area::log::put;
 use area::map::FRAME_STEP;
 use area::map::HELD;
 use area::map::NEXT;
+use area::map::PARENT;
 use area::map::STACK;
 ghost use mathlib.Core.Path.{_≡_};
 ghost use mathlib.Core.Bool.{true, false};
@@ -19,7 +20,7 @@ ghost use lib.ListN.{length};
 ghost use Rattle.area.specs.Map.{SIZE, NODES};
 ghost use Rattle.forest.specs.declared.held.Held.the-variants.{Arcs};
 ghost use Rattle.forest.specs.Held.{held-by, Covered};
-ghost use Rattle.forest.specs.Roots.{Fusing};
+ghost use Rattle.forest.specs.Roots.{Fusing, ByItself};
 ghost use Rattle.forest.specs.State.{SomeState, Merged};
 
 // The log's entries and the frames on the stack after a step, and whether it met a clash.
@@ -132,8 +133,8 @@ fn fuse(w: &mut [u32], k: usize, s: usize, n: usize, a: usize, b: usize) -> Prog
     knit(w, k, s, n, a, b, p, q)
 }
 
-// The classes of x and y become one: that with fewer nodes goes under the other.
-pub fn join(w: &mut [u32], k: usize, s: usize, n: usize, x: usize, y: usize) -> Progress
+// The classes of x and y become one, whichever they are.
+fn blend(w: &mut [u32], k: usize, s: usize, n: usize, x: usize, y: usize) -> Progress
     requires { ⌜ (x < n) × ((y < n) × ((n ≤ NODES) × (SIZE ≤ length (now w)))) ⌝ }
     requires { ⌜ SomeState n k s (now w) ⌝ }
     ensures { λ r. ⌜ Merged n k s (now (w .entry)) x y (r .k) (r .s) (r .bad) (now (w .exit)) ⌝ }
@@ -151,4 +152,39 @@ pub fn join(w: &mut [u32], k: usize, s: usize, n: usize, x: usize, y: usize) -> 
         return fuse(w, k, s, n, a, b);
     }
     fuse(w, k, s, n, b, a)
+}
+
+// Whether y is a class by itself that holds nothing, as a node is that has just come.
+fn is_by_itself(w: &[u32], y: usize) -> bool
+    requires { ⌜ (y < NODES) × (SIZE ≤ length (now w)) ⌝ }
+    ensures { λ r. ⌜ (r ≡ true → ByItself (now (w .entry)) y) ⌝ }
+{
+    if w[PARENT + y] != y as u32 {
+        return false;
+    }
+    if w[HELD + y] != 0 {
+        return false;
+    }
+    true
+}
+
+// The classes of x and y become one. A node by itself goes under the other class at once where that has the lower number.
+pub fn join(w: &mut [u32], k: usize, s: usize, n: usize, x: usize, y: usize) -> Progress
+    requires { ⌜ (x < n) × ((y < n) × ((n ≤ NODES) × (SIZE ≤ length (now w)))) ⌝ }
+    requires { ⌜ SomeState n k s (now w) ⌝ }
+    ensures { λ r. ⌜ Merged n k s (now (w .entry)) x y (r .k) (r .s) (r .bad) (now (w .exit)) ⌝ }
+{
+    if is_by_itself(w, y) {
+        let a = find(w, n, x);
+        if a < y {
+            return tuck(w, k, s, n, a, y);
+        }
+    }
+    if is_by_itself(w, x) {
+        let b = find(w, n, y);
+        if b < x {
+            return tuck(w, k, s, n, b, x);
+        }
+    }
+    blend(w, k, s, n, x, y)
 }
