@@ -1,10 +1,10 @@
 -- The laws of a region of the working area. Assumes nothing.
 use mathlib.Core.Path.{_≡_, refl, sym, ap, _∙_}
-use mathlib.Core.List.{List, [], _∷_}
-use Prim.Native.Nat.{ℕ, zero, suc, _+_, _≤_, _<_}
+use mathlib.Core.List.{List}
+use Prim.Native.Nat.{ℕ, _+_, _≤_, _<_}
 use native.Mathlib.Omega.{arith}
 use lib.ListN.{length, take, drop, set, getD, length-take, length-drop}
-use lib.Seq.{ext-getD, drop-set-add, take-set-lt, take-take, getD-take, getD-drop}
+use lib.Seq.{ext-getD, drop-set-add, take-set-lt, getD-take, getD-drop}
 use Rattle.area.specs.Map.{HELD, WORDS, MARKS}
 use Rattle.area.specs.Region.{region, loaded-words}
 
@@ -16,17 +16,10 @@ pub getD-region : (a n : ℕ) (w : List ℕ) (j : ℕ) → j < n → getD (regio
 unfolding region
 getD-region a n w j h = rw (getD-take, getD-drop) refl
 
--- a store, and a region that it falls into or not
+-- a store that falls into a region
 pub region-set-same : (a n j : ℕ) (w : List ℕ) (v : ℕ) → j < n → region a n (set w (a + j) v) ≡ set (region a n w) j v
 unfolding region
 region-set-same a n j w v h = ap (take n) (drop-set-add a w j v) ∙ take-set-lt n (drop a w) j v h
-
-pub region-take : (a n base : ℕ) (w : List ℕ) → a + n ≤ base → region a n (take base w) ≡ region a n w
-unfolding region
-region-take zero n base w h = take-take n base w (omega arith)
-region-take (suc a) n zero w h = absurd (omega arith)
-region-take (suc a) n (suc base) [] h = refl
-region-take (suc a) n (suc base) (x ∷ w) h = region-take a n base w (omega arith)
 
 -- two areas that agree on a region, word by word
 pub region-ext : (a n : ℕ) (u w : List ℕ) → a + n ≤ length u → length u ≡ length w →

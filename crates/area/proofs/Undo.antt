@@ -10,8 +10,6 @@ use lib.ListN.{length, take, drop, set, getD, length-set, length-take, length-dr
 use lib.Seq.{ext-getD, take-set-le, drop-set-lt, take-set-lt, drop-set-add, set-set, set-getD, getD-take, getD-drop, getD-set-same}
 use lib.Seq.{getD-set-other, length-take-le}
 use Rattle.area.specs.Map.{LOG, STACK, WORDS, SIZE}
-use Rattle.area.specs.Region.{region}
-use Rattle.area.proofs.Region.{region-take, region-set-same}
 use Rattle.area.specs.Log.{body, entries, back, past, Logged, Later, Stores, Undone}
 
 -- the last entry first
@@ -240,11 +238,3 @@ put-at k w i v r w' p h l =
 pub put-off : (k : ℕ) (w : List ℕ) (i v r : ℕ) (w' : List ℕ) → Stores k w i v r w' → k < 4096 → (j : ℕ) → (j ≡ i → ⊥) →
     (j < LOG) ⊎ (STACK ≤ j) → getD w' j 0 ≡ getD w j 0
 put-off k w i v r w' p h j n c = p .rest j n (λ e. ⊎-elim (λ l. omega arith) (λ l. omega arith) c)
-
--- into a region of the body
-pub put-region : (k : ℕ) (w : List ℕ) (v r : ℕ) (w' : List ℕ) (a n i : ℕ) → Stores k w (a + i) v r w' → i < n → a + n ≤ LOG →
-    region a n w' ≡ set (region a n w) i v
-unfolding body
-put-region k w v r w' a n i p h l =
-    sym (region-take a n LOG w' l) ∙ ap (region a n) (p .now) ∙ region-set-same a n i (take LOG w) v h
-    ∙ ap (λ (t : List ℕ). set t i v) (region-take a n LOG w l)

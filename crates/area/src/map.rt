@@ -1,7 +1,7 @@
 // The map of the working area, 16,384 words:
 //   from    words  holds
 //        0  1,024  HELD: what each class holds, as `forest::held` reads it
-//    1,024  1,024  PARENT: the parents of the union forest
+//    1,024  1,024  PARENT: the parents of the union forest, and how many nodes each class has, as `forest::forest` reads it
 //    2,048  2,048  NEXT: what follows an arc on its chain
 //    4,096  4,096  LOG: the undo log, a word an entry: address + 4,096 * old value
 //    8,192  1,024  STACK: pending comparisons, a word each: from + 4,096 * to

@@ -6,8 +6,7 @@ use native.Mathlib.Omega.{arith}
 use lib.ListN.{getD}
 use Rattle.theory.specs.Limits.{code-limit}
 use Rattle.theory.specs.Net.{beside}
-use Rattle.area.specs.Map.{PARENT}
-use Rattle.area.specs.Region.{region, loaded-words}
+use Rattle.area.specs.Region.{loaded-words}
 use Rattle.loading.specs.Entry.{Entry, graphs}
 use Rattle.forest.specs.Forest.{Root}
 use Rattle.forest.specs.Held.{ChainCode, AtomCode}
@@ -21,7 +20,7 @@ use Rattle.forest.proofs.Links.{chain-zero, first-mem, first-feature, first-det
 use Rattle.classes.proofs.Writer.{spot-low, class-low, class-top, content}
 
 -- a root is the class
-pub root-classed : (n : ℕ) (w : List ℕ) (x c : ℕ) → Root (region PARENT n w) x c → Classed n w x c
+pub root-classed : (n : ℕ) (w : List ℕ) (x c : ℕ) → Root n w x c → Classed n w x c
 root-classed n w x c root = record { is = λ es k h. sym (root .is (h .state .M) (h .state .forest)) }
 
 module _ (n : ℕ) (w : List ℕ) (x : ℕ) (hx : x < n) (c : ℕ) (cl : Classed n w x c) where

@@ -44,6 +44,8 @@ module _ (G G' : Pile) (F T : List ℕ) (x : Extends G G') where
     atoms = atoms';
     M = u .M;
     forest = u .forest;
+    size = u .size;
+    heavy = u .heavy;
     C = u .C;
     wide = u .wide;
     all = u .all;
@@ -61,6 +63,7 @@ module _ (G G' : Pile) (F T : List ℕ) (x : Extends G G') where
     );
     home = λ c q h m. let o = u .home c q h m in (o .0, ap (λ (z : ℕ). getD (u .M) z 0) (x .sources q (u .known q (o .0))) ∙ o .1);
     known = λ j m. x .arcs j (u .known j m);
+    blank = u .blank;
     cover = λ j m. let o = u .cover j m in (
       o .0,
       (

@@ -1,5 +1,5 @@
 -- What the layers above may use of `Holds` and `Since`. Assumes nothing.
-use mathlib.Core.Path.{_≡_, refl, sym, _∙_, subst}
+use mathlib.Core.Path.{_≡_, refl, sym, ap, _∙_, subst}
 use mathlib.Core.List.{List, [], List·Memᴰ·not-nil}
 use Prim.Native.Nat.{ℕ, suc, _+_, _≤_, _<_}
 use native.Mathlib.Nat.{le-trans}
@@ -7,14 +7,17 @@ use native.Mathlib.Omega.{arith}
 use lib.ListN.{length, getD}
 use Rattle.area.specs.Map.{PARENT, NEXT, LOG, WORDS, MARKS, SIZE}
 use Rattle.theory.specs.Net.{Graph, Agree}
-use Rattle.area.specs.Region.{region, loaded-words}
+use Rattle.area.specs.Region.{loaded-words}
 use Rattle.area.specs.Log.{Logged, Later, Undone}
-use Rattle.area.proofs.Region.{region-ext, words-same}
+use Rattle.area.proofs.Region.{words-same}
 use Rattle.area.proofs.Undo.{word, logged-same, past-agree, undone-is, undone-logged, undone-keeps, undone-rest}
 use Rattle.forest.specs.State.{targets, Pile, Done, Chain, Near, Bears, State}
 use Rattle.loading.specs.Entry.{Entry, graphs}
 use Rattle.classes.specs.Entry.{Lies, Comes}
 use Rattle.classes.specs.Holds.{Sits, Holds, Since, Remembers, Backs, Undoable}
+use Rattle.forest.specs.Forest.{size-of, parents}
+use Rattle.forest.proofs.Wood.{shape-on}
+use Rattle.forest.proofs.Parents.{parents-ext}
 use Rattle.forest.proofs.Words.{targets-same}
 use Rattle.forest.proofs.Links.{chain-same}
 use Rattle.forest.proofs.Fuse.{low}
@@ -27,7 +30,7 @@ pub state-again : (G : Pile) (H : Done) (F T : List ℕ) (n k : ℕ) (w w' : Lis
     Logged k w' → ((j : ℕ) → j < LOG → getD w' j 0 ≡ getD w j 0) → length w' ≡ length w → State G H F T n k 0 [] w'
 state-again G H F T n k w w' hn hw u g word l = record {
   logged = g;
-  shape = rw par (u .shape);
+  shape = shape-on par (u .shape);
   room = rw par (u .room);
   few = u .few;
   stack = rw par (u .stack);
@@ -35,6 +38,8 @@ state-again G H F T n k w w' hn hw u g word l = record {
   atoms = u .atoms;
   M = u .M;
   forest = rw par (u .forest);
+  size = λ c h e. ap size-of (word (PARENT + c) (omega arith)) ∙ u .size c h e;
+  heavy = u .heavy;
   C = u .C;
   wide = u .wide;
   all = u .all;
@@ -49,6 +54,7 @@ state-again G H F T n k w w' hn hw u g word l = record {
       (r .0, subst (λ (z : ℕ). Bears G n (u .M) c z) (sym o) (r .1));
   home = u .home;
   known = u .known;
+  blank = λ j h m. word (NEXT + j) (omega arith) ∙ u .blank j h m;
   cover = λ j m. let o = u .cover j m in (o .0, (o .1 .0, Near.old (near-none F T (u .M) w (o .1 .1))));
   nodes = u .nodes;
   met = λ i m a. let b = low G H F T n k 0 [] w (omega arith) hw u i (u .nodes i m .0) in word (getD (u .M) i 0) (omega arith)
@@ -58,8 +64,8 @@ state-again G H F T n k w w' hn hw u g word l = record {
   frame = λ a b m. absurd (List·Memᴰ·not-nil m);
 }
   where
-    par : region PARENT n w' ≡ region PARENT n w
-    par = region-ext PARENT n w' w (omega arith) l (λ j h. word (PARENT + j) (omega arith))
+    par : parents n w' ≡ parents n w
+    par = parents-ext n w' w (omega arith) l (λ j h. word (PARENT + j) (omega arith))
 
 -- what lies in the loaded words
 pub lies-frame : (w w' : List ℕ) (g n : ℕ) (K : Graph) → ((j : ℕ) → WORDS ≤ j → j < MARKS → getD w' j 0 ≡ getD w j 0) → Lies w g n K →

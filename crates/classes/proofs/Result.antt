@@ -15,7 +15,7 @@ use Rattle.classes.proofs.Visits.{near-none}
 module _ (G : Pile) (H : Done) (F T : List ℕ) (n k s : ℕ) (w : List ℕ) (hn : n ≤ 1024) (hw : SIZE ≤ length w) (u : State G H F T n k s [] w)
     (f : Full G H) where
   pub complete : {x y : ℕ} → Equal G F T x y → Eq (u .M) x y
-  complete {x} {y} (Equal.root a b) = sym (u .held (f .root) x (f .roots x a)) ∙ u .held (f .root) y (f .roots y b)
+  complete {x} {y} (Equal.root a b) = sym (u .held (f .root) x (f .roots x a) .1) ∙ u .held (f .root) y (f .roots y b) .1
   complete (Equal.self x) = refl
   complete (Equal.back r) = sym (complete r)
   complete (Equal.on r t) = complete r ∙ complete t
@@ -26,7 +26,7 @@ module _ (G : Pile) (H : Done) (F T : List ℕ) (n k s : ℕ) (w : List ℕ) (hn
       let d : o .0 ≡ o' .0 = first-det F (getD F q 0) (getD (u .C) (getD (u .M) (G .S q) 0) []) (o .0) (o' .0)
       (subst (λ (z : ℕ). First F z (getD (u .C) (getD (u .M) (G .S q) 0) []) (o .0)) e
       (subst (λ (z : ℕ). First F (getD F p 0) (getD (u .C) z []) (o .0)) c (o .1 .0))) (o' .1 .0) in
-      sym (near-none F T (u .M) w (o .1 .1)) ∙ ap (λ (z : ℕ). getD (u .M) (getD T z 0) 0) d ∙ near-none F T (u .M) w (o' .1 .1)
+      sym (near-none F T (u .M) w (o .1 .1) .1) ∙ ap (λ (z : ℕ). getD (u .M) (getD T z 0) 0) d ∙ near-none F T (u .M) w (o' .1 .1) .1
 
   pub agree : ClashIn G F T → ⊥
   agree (ClashIn.atoms {x} {y} a b r nx ny ne) =

@@ -4,17 +4,20 @@ use mathlib.Core.Bool.{Bool, true, false}
 use mathlib.Core.List.{List, [], _∷_, List·Memᴰ, List·Memᴰ·head, List·Memᴰ·not-nil, List·Memᴰ·eq-of-singleton}
 use mathlib.Core.Logic.{inl}
 use Prim.Native.Nat.{ℕ, zero, suc, _+_, _-_, _≤_, _<_}
+use native.Mathlib.Nat.{zero-add}
 use native.Mathlib.Omega.{arith}
 use native.Mathlib.Decide.{ℕ-discrete, decLt}
 use lib.ListN.{length, set, getD, replicate, length-replicate, length-set}
 use lib.Seq.{getD-set-same, getD-set-other}
 use lib.Dec.{eqb}
 use Rattle.area.specs.Map.{HELD, PARENT, NEXT, LOG, SIZE}
-use Rattle.area.specs.Region.{region, loaded-words}
-use Rattle.area.proofs.Region.{length-region, getD-region, held-at}
-use Rattle.forest.specs.Labels.{by-test}
-use Rattle.forest.specs.Forest.{tops}
-use Rattle.forest.specs.State.{targets, Pile, Done, Equal, Chain, State, total-length}
+use Rattle.area.specs.Region.{loaded-words}
+use Rattle.area.proofs.Region.{held-at}
+use Rattle.forest.specs.Labels.{by-test, Together, how-many}
+use Rattle.forest.specs.Forest.{parents, tops}
+use Rattle.forest.proofs.Parents.{length-parents, getD-parents}
+use Rattle.forest.proofs.Sizes.{many-own}
+use Rattle.forest.specs.State.{targets, Pile, Done, Equal, Chain, State, total-length, chained}
 use Rattle.classes.specs.Holds.{Holds, Starts}
 
 tops-le : (i : ℕ) (P : List ℕ) → tops i P ≤ length P
@@ -38,6 +41,11 @@ none-total : (n : ℕ) → total-length (none n) ≡ 0
 unfolding none total-length
 none-total zero = refl
 none-total (suc n) = let r : total-length (replicate n []) ≡ 0 = none-total n in omega arith
+
+none-chained : (n : ℕ) → chained (none n) ≡ 0
+unfolding none chained
+none-chained zero = refl
+none-chained (suc n) = let r : chained (replicate n []) ≡ 0 = none-chained n in omega arith
 
 none-at : (n c : ℕ) → getD (none n) c [] ≡ []
 unfolding none
@@ -76,13 +84,21 @@ module _ (w₀ w : List ℕ) (hw : SIZE ≤ length w₀) (s : Started w₀ 1024 
 
   module _ (n : ℕ) (hn : n ≤ 1024) where
     abbrev P : List ℕ
-    P = region PARENT n w
+    P = parents n w
 
     length-P : length P ≡ n
-    length-P = let l = s .len in length-region PARENT n w (omega arith)
+    length-P = let l = s .len in length-parents n w (omega arith)
 
     own : (i : ℕ) → i < n → getD P i 0 ≡ i
-    own i h = getD-region PARENT n w i h ∙ s .parent i (omega arith)
+    own i h = let a = getD-parents n w i h in let b = s .parent i (omega arith) in omega arith
+
+    -- each number is a class by itself
+    alone : (c : ℕ) → c < n → how-many c P ≡ 1
+    alone c h = let l = length-P in rw (zero-add c) at (many-own 0 c P (λ i b. own i (omega arith) ∙ sym (zero-add i)) (omega arith))
+
+    next : (j : ℕ) → j < 2048 → Dec (j < 1024) → getD w (NEXT + j) 0 ≡ 0
+    next j h (yes l) = s .next j l .0
+    next j h (no l) = let e : NEXT + 1024 + (j - 1024) ≡ NEXT + j = omega arith in rw e at (s .next (j - 1024) (omega arith) .1)
 
     empty : (F T : List ℕ) → State unpushed undone F T n 0 0 [] w
     empty F T =
@@ -90,26 +106,33 @@ module _ (w₀ w : List ℕ) (hw : SIZE ≤ length w₀) (s : Started w₀ 1024 
         let t : tops 0 P ≤ n = let a = tops-le 0 P in omega arith in
         record {
           logged = record { room = omega arith; small = small };
-          shape = record { down = λ i h. let o = own i (omega arith) in omega arith };
-          room = omega arith;
+          shape = record {
+            inside = λ i h. let o = own i (omega arith) in omega arith;
+            rank = λ i. 0;
+            up = λ i h d. absurd (d (own i (omega arith)));
+            ten = λ i h. omega arith;
+          };
           few = omega arith;
           stack = omega arith;
           arcs = λ q m. absurd (List·Memᴰ·not-nil m);
           atoms = λ i m. absurd (List·Memᴰ·not-nil m);
           M = P;
           forest = record { len = refl; follow = λ i h. ap (λ (z : ℕ). getD P z 0) (sym (own i (omega arith))); tops = λ i h e. e };
+          size = λ c h e. let a = alone c h in let b = s .parent c (omega arith) in omega arith;
+          heavy = λ c h e. let a = alone c h in omega arith;
           C = none n;
           wide = none-length n;
           all = let z = none-total n in omega arith;
+          room = let z = none-chained n in omega arith;
           chain = λ c h m b. subst (λ (z : List ℕ). Chain w (getD w c 0) z) (sym (none-at n c)) (s .first c (omega arith));
           bare = λ c h m b. let z = s .first c (omega arith) in absurd (omega arith);
           home = λ c q h m. absurd (List·Memᴰ·not-nil (subst (List·Memᴰ q) (none-at n c) m));
           known = λ j m. absurd (List·Memᴰ·not-nil m);
+          blank = λ j h m. next j h (decLt j 1024);
           cover = λ j m. absurd (List·Memᴰ·not-nil m);
           nodes = λ i m. absurd (List·Memᴰ·not-nil m);
           met = λ i m. absurd (List·Memᴰ·not-nil m);
-          held = λ x y m. let e = List·Memᴰ·eq-of-singleton m in ap (λ (v : ℕ × ℕ). getD P (v .0) 0) e
-              ∙ ap (λ (v : ℕ × ℕ). getD P (v .1) 0) (sym e);
+          held = λ x y m. subst (λ (v : ℕ × ℕ). Together P (v .0) (v .1)) (sym (List·Memᴰ·eq-of-singleton m)) (inl refl, refl);
           sound = λ i j hi hj e. subst (λ (z : ℕ). Equal unpushed F T i z) (sym (own i hi) ∙ e ∙ own j hj) (Equal.self i);
           frame = λ a b m. absurd (List·Memᴰ·not-nil m);
         }

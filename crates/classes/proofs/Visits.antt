@@ -3,7 +3,7 @@ use mathlib.Core.Path.{_≡_, refl, sym, ap, _∙_, subst}
 use mathlib.Core.Bool.{Bool, true, false, not}
 use mathlib.Core.List.{List, [], _∷_, List·Memᴰ, List·Memᴰ·head, List·Memᴰ·tail, List·Memᴰ·not-nil, List·Memᴰ·cases-cons}
 use mathlib.Core.Logic.{_⊎_, inl, inr, ⊎-elim}
-use Prim.Native.Nat.{ℕ, suc, _+_, _-_, _≤_, _<_}
+use Prim.Native.Nat.{ℕ, suc, _+_, _*_, _-_, _≤_, _<_}
 use native.Mathlib.Numerals.{add-one}
 use native.Mathlib.Omega.{arith}
 use native.Mathlib.Decide.{ℕ-discrete, decLt}
@@ -12,34 +12,37 @@ use lib.ListN.{length, set, getD, length-set}
 use lib.Seq.{getD-set-same, getD-set-other}
 use borrow.Author.Tests.{eqb-true, eqb-false}
 use Rattle.area.specs.Map.{PARENT, NEXT, LOG, SIZE}
-use Rattle.area.specs.Region.{region}
-use Rattle.forest.specs.Labels.{Eq}
+use Rattle.forest.specs.Labels.{Eq, Together}
 use Rattle.area.specs.Log.{Logged, Stores}
-use Rattle.forest.specs.Forest.{Root, tops}
+use Rattle.forest.specs.Forest.{size-of, parents, Root, tops}
 use Rattle.forest.specs.Held.{last-arc, ChainCode, AtomCode}
 use Rattle.forest.specs.State.{Pile, Done, Equal, ClashIn, Chain, First, None, Near, Bears, State, Runs, Calm, Looked, withPair, withArc}
-use Rattle.forest.specs.State.{withNode, Fresh, Visited, United, Bearing, Headed}
+use Rattle.classes.specs.Nodes.{Follows}
+use Rattle.forest.specs.State.{one-of, chained, withNode, Fresh, Visited, United, Bearing, Headed}
 use Rattle.forest.specs.Order.{FeaturesRise, Risen, FallsBetween, Hint, Ordered, Located, Steady}
-use Rattle.area.proofs.Region.{length-region, region-ext}
+use Rattle.forest.proofs.Parents.{length-parents, parents-ext}
+use Rattle.forest.proofs.Wood.{shape-on}
+use Rattle.forest.proofs.Kernel.{together-back, together-on}
 use Rattle.area.proofs.Undo.{later-refl, later-trans, put-at, put-off}
-use Rattle.forest.proofs.Links.{chain-same, chain-zero, first-mem, first-feature, none-first, total-set}
+use Rattle.forest.proofs.Links.{chain-same, chain-zero, first-mem, first-feature, none-first, total-set, chained-set}
+use Rattle.forest.proofs.Links.{one-most, one-some}
 use Rattle.forest.proofs.Places.{chain-det, chain-low, between-where}
 use Rattle.classes.proofs.Splice.{Grows, lodge, lodge-grows, lodge-rising, lodge-chain}
-use Rattle.forest.proofs.Fuse.{low, top, short}
+use Rattle.forest.proofs.Fuse.{low, top, length-M, short}
 use Rattle.forest.proofs.Turns.{hold-pair}
 
 -- where no frame is left, near is in one class
-pub near-none : (F T M w : List ℕ) → {i j : ℕ} → Near F T M w [] i j → Eq M i j
+pub near-none : (F T M w : List ℕ) → {i j : ℕ} → Near F T M w [] i j → Together M i j
 near-none F T M w (Near.old e) = e
 near-none F T M w (Near.owe {x} {y} {q} q' zs js m sg mq wy) = absurd (List·Memᴰ·not-nil m)
-near-none F T M w (Near.sym r) = sym (near-none F T M w r)
-near-none F T M w (Near.trans r t) = near-none F T M w r ∙ near-none F T M w t
+near-none F T M w (Near.sym r) = together-back M _ _ (near-none F T M w r)
+near-none F T M w (Near.trans r t) = together-on M _ _ _ (near-none F T M w r) (near-none F T M w t)
 
 -- ---- what is known of the chain of x's class
 pub ordered-none : (F : List ℕ) (n : ℕ) (w : List ℕ) (x : ℕ) → Ordered F n w x 0
 ordered-none F n w x = record { hint = λ z. absurd (omega arith) }
 
-pub ordered-hint : (F : List ℕ) (n k : ℕ) (w : List ℕ) (x c at : ℕ) → Steady n k w → Root (region PARENT n w) x c → Hint F w c at →
+pub ordered-hint : (F : List ℕ) (n k : ℕ) (w : List ℕ) (x c at : ℕ) → Steady n k w → Root n w x c → Hint F w c at →
     Ordered F n w x at
 ordered-hint F n k w x c at g r t = record {
   hint = λ z d q. subst (λ (v : ℕ). Hint F w v at) (sym (r .is (g .state .M) (g .state .forest))
@@ -75,12 +78,12 @@ hint-calm F w w' f c at r hc hr lr k t m =
 
 -- ---- the class c of the node x
 module _ (F T : List ℕ) (n k : ℕ) (w : List ℕ) (hn : n ≤ 1024) (hw : SIZE ≤ length w) (x : ℕ) (hx : x < n) (c : ℕ)
-    (root : Root (region PARENT n w) x c) where
-  length-P : length (region PARENT n w) ≡ n
-  length-P = length-region PARENT n w (omega arith)
+    (root : Root n w x c) where
+  length-P : length (parents n w) ≡ n
+  length-P = length-parents n w (omega arith)
 
   c-in : c < n
-  c-in = omega (arith, root .low)
+  c-in = root .low
 
   module _ (G : Pile) (H : Done) (u : State G H F T n k 0 [] w) where
     Mx : getD (u .M) x 0 ≡ c
@@ -144,7 +147,11 @@ module _ (F T : List ℕ) (n k : ℕ) (w : List ℕ) (hn : n ≤ 1024) (hw : SIZ
       fine = λ z G H u f.
           let p = found G H u in
           let mi = first-mem F (getD F t 0) (getD (u .C) c []) i p in
-          let e : Eq (u .M) (G .S i) (G .S t) = u .home c i c-in mi .1 ∙ sym (Mx G H u) ∙ ap (λ (v : ℕ). getD (u .M) v 0) (sym (f .is)) in
+          let l = length-M G H F T n k 0 [] w hn hw u in
+          let si = u .arcs i (u .known i (u .home c i c-in mi .0)) .1 .0 in
+          let st = u .arcs t (f .arc) .1 .0 in
+          let e : Together (u .M) (G .S i) (G .S t) =
+          (inr (omega arith, omega arith), u .home c i c-in mi .1 ∙ sym (Mx G H u) ∙ ap (λ (v : ℕ). getD (u .M) v 0) (sym (f .is))) in
           let H1 = withPair H (G .S i) (G .S t) in
           covered G H f (first-feature F (getD F t 0) (getD (u .C) c []) i p) (u .home c i c-in mi .0)
           (m .fine z G H1 (hold-pair G H F T n k 0 [] w u (G .S i) (G .S t) e) (found-same G H u f));
@@ -166,12 +173,15 @@ module _ (F T : List ℕ) (n k : ℕ) (w : List ℕ) (hn : n ≤ 1024) (hw : SIZ
               atoms = v .atoms;
               M = v .M;
               forest = v .forest;
+              size = v .size;
+              heavy = v .heavy;
               C = v .C;
               wide = v .wide;
               all = omega arith;
               chain = v .chain;
               bare = v .bare;
               home = λ d q h m. let o = v .home d q h m in (List·Memᴰ·tail (o .0), o .1);
+              blank = λ j h m. v .blank j h (λ i. m (List·Memᴰ·tail i));
               known = λ j m. ⊎-elim (λ e. subst (λ (a : ℕ). List·Memᴰ a (G .B)) (sym e) (f .arc)) (λ a. v .known j a)
                   (List·Memᴰ·cases-cons m);
               cover = λ j m. ⊎-elim (λ e. subst
@@ -188,23 +198,22 @@ module _ (F T : List ℕ) (n k : ℕ) (w : List ℕ) (hn : n ≤ 1024) (hw : SIZ
                 × Near F T (v .M) w' [] (getD T b 0) (getD T t 0))
             here =
                 let o = v .cover i mk in
-                let e : Eq (v .M) (G .S i) (G .S t) = v .held (G .S i) (G .S t) (List·Memᴰ·tail (List·Memᴰ·head refl)) in
-                let d : Eq (v .M) (getD T t 0) (getD T i 0) = v .held (getD T t 0) (getD T i 0) (List·Memᴰ·head refl) in (
+                let e : Eq (v .M) (G .S i) (G .S t) = v .held (G .S i) (G .S t) (List·Memᴰ·tail (List·Memᴰ·head refl)) .1 in
+                let d = v .held (getD T t 0) (getD T i 0) (List·Memᴰ·head refl) in (
                   o .0,
                   (
                     subst (λ (a : ℕ). First F (getD F t 0) (getD (v .C) a []) (o .0)) e
                         (subst (λ (a : ℕ). First F a (getD (v .C) (getD (v .M) (G .S i) 0) []) (o .0)) ef (o .1 .0)),
-                    Near.trans (o .1 .1) (Near.old (sym d)),
+                    Near.trans (o .1 .1) (Near.old (together-back (v .M) (getD T t 0) (getD T i 0) d)),
                   ),
                 )
 
   -- ---- the feature is not there: the arc goes onto the chain, after the link l
   module _ (t : ℕ) (ht : t < 2048) (lc : ChainCode (getD w c 0)) (at l : ℕ) (hint : 0 < at →
       Hint F w c at) (loc : Located F w (getD F t 0) c l 0) (h : ℕ) (eh : h ≡ getD w l 0) (hk : k + 2 ≤ 4096)
-      (k1 k2 : ℕ) (w1 w2 : List ℕ) (p1 : Stores k w (NEXT + t) h k1 w1) (p2 : Stores k1 w1 l (t + 1) k2 w2) where
+      (k1 k2 : ℕ) (w1 w2 : List ℕ) (p1 : Follows k w t h k1 w1) (p2 : Stores k1 w1 l (t + 1) k2 w2) where
     off : (j : ℕ) → (j ≡ NEXT + t → ⊥) → (j ≡ l → ⊥) → j < LOG → getD w2 j 0 ≡ getD w j 0
-    off j a b i = let e = p1 .next in put-off k1 w1 l (t + 1) k2 w2 p2 (omega arith) j b (inl i)
-        ∙ put-off k w (NEXT + t) h k1 w1 p1 (omega arith) j a (inl i)
+    off j a b i = let e = p1 .few in put-off k1 w1 l (t + 1) k2 w2 p2 (omega arith) j b (inl i) ∙ p1 .rest j i a
 
     len : length w2 ≡ length w
     len = p2 .later .len ∙ p1 .later .len
@@ -239,11 +248,10 @@ module _ (F T : List ℕ) (n k : ℕ) (w : List ℕ) (hn : n ≤ 1024) (hw : SIZ
       aside j i d e = ⊎-elim (λ o. d (e ∙ o)) (λ o. let g : l ≡ NEXT + o .0 = o .1 .1 in omega arith) on
 
       at-t : getD w2 (NEXT + t) 0 ≡ getD w l 0
-      at-t = let e = p1 .next in put-off k1 w1 l (t + 1) k2 w2 p2 (omega arith) (NEXT + t) apart (inl (omega arith))
-          ∙ put-at k w (NEXT + t) h k1 w1 p1 (omega arith) (omega arith) ∙ eh
+      at-t = let e = p1 .few in put-off k1 w1 l (t + 1) k2 w2 p2 (omega arith) (NEXT + t) apart (inl (omega arith)) ∙ p1 .at ∙ eh
 
-      par : region PARENT n w2 ≡ region PARENT n w
-      par = let i = c-in in region-ext PARENT n w2 w (omega (arith, len)) len
+      par : parents n w2 ≡ parents n w
+      par = let i = c-in in parents-ext n w2 w (omega (arith, len)) len
           (λ j b. off (PARENT + j) (λ e. omega arith) (aside (PARENT + j) (omega arith) (λ e. omega arith)) (omega arith))
 
       keep : (q : ℕ) → List·Memᴰ q xs → (NEXT + q ≡ l → ⊥) → getD w2 (NEXT + q) 0 ≡ getD w (NEXT + q) 0
@@ -319,7 +327,7 @@ module _ (F T : List ℕ) (n k : ℕ) (w : List ℕ) (hn : n ≤ 1024) (hw : SIZ
             subst (λ (v : ℕ). First F (getD F t 0) (getD (set (u .C) c L) v []) t)
                 (sym (ap (λ (v : ℕ). getD (u .M) v 0) (f .is) ∙ Mx G H u))
                 (subst (λ (y : List ℕ). First F (getD F t 0) y t) (sym C') (g .mine)),
-            Near.old refl,
+            Near.old (inl refl, refl),
           ),
         )
 
@@ -347,30 +355,62 @@ module _ (F T : List ℕ) (n k : ℕ) (w : List ℕ) (hn : n ≤ 1024) (hw : SIZ
               ),
             )
 
+        -- the words of the nodes
+        parent-same : (d : ℕ) → d < n → getD w2 (PARENT + d) 0 ≡ getD w (PARENT + d) 0
+        parent-same d a = let i = c-in in
+            off (PARENT + d) (λ e. omega arith) (aside (PARENT + d) (omega arith) (λ e. omega arith)) (omega arith)
+
+        -- the link had nothing after it, or the chain had an arc
+        first-or-more : (getD w l 0 ≡ 0) ⊎ (one-of xs ≡ 1)
+        first-or-more = ⊎-elim (λ o. go o xs cx) (λ o. inr (one-some xs (o .0) (o .1 .0))) on
+          where
+            go : l ≡ c → (ys : List ℕ) → Chain w (getD w c 0) ys → (getD w l 0 ≡ 0) ⊎ (one-of ys ≡ 1)
+            go e [] d = inl (ap (λ (v : ℕ). getD w v 0) e ∙ d)
+            go e (j ∷ ys) d = inr refl
+
+        -- an arc that is not done
+        blanks : (j : ℕ) → j < 2048 → (List·Memᴰ j (t ∷ H .K) → ⊥) → getD w2 (NEXT + j) 0 ≡ 0
+        blanks j h m = off (NEXT + j) (λ e. m (List·Memᴰ·head (omega arith)))
+            (λ e. ⊎-elim (λ o. let i = c-in in omega arith) (λ o. let y : l ≡ NEXT + o .0 = o .1 .1 in let z : o .0 ≡ j = omega arith in
+            m (List·Memᴰ·tail (subst (λ (v : ℕ). List·Memᴰ v (H .K)) z (u .home c (o .0) c-in (o .1 .0) .0)))) on) (omega arith)
+            ∙ u .blank j h (λ i. m (List·Memᴰ·tail i))
+
+        -- the first arc of a chain takes one entry
+        fits : k2 + (3 * tops 0 (parents n w) + chained (set (u .C) c L)) ≤ 3 * n + (2 * length (t ∷ H .K) + length (H .U))
+        fits =
+            let i = u .wide in let ci = c-in in
+            let cs = chained-set (u .C) c L (omega arith) in
+            let om = one-most L in
+            let ur = u .room in let n1 = p1 .few in let n2 = p2 .next in
+            ⊎-elim (λ e. let z = p1 .none (eh ∙ e) in omega arith) (λ e. omega arith) first-or-more
+
         hung : State G (withArc H t) F T n k2 0 [] w2
         hung =
             let i = u .wide in let ci = c-in in
             let ts = total-set (u .C) c L (omega arith) in
             let gs = g .size in
-            let ua = u .all in let ur = u .room in let n1 = p1 .next in let n2 = p2 .next in
+            let ua = u .all in
             record {
               logged = p2 .later .logged;
-              shape = rw par (u .shape);
-              room = rw par (omega arith);
+              shape = shape-on par (u .shape);
               few = f .room;
               stack = rw par (u .stack);
               arcs = u .arcs;
               atoms = u .atoms;
               M = u .M;
               forest = rw par (u .forest);
+              size = λ d a e. ap size-of (parent-same d a) ∙ u .size d a e;
+              heavy = u .heavy;
               C = set (u .C) c L;
               wide = simp length-set (u .wide);
               all = omega arith;
+              room = rw par fits;
               chain = λ d a b e. chains d a b e (ℕ-discrete d c);
               bare = λ d a b e. bares d a b e (ℕ-discrete d c);
               home = λ d q a m. homes d q a m (ℕ-discrete d c);
               known = λ j m. ⊎-elim (λ e. subst (λ (a : ℕ). List·Memᴰ a (G .B)) (sym e) (f .arc)) (λ a. u .known j a)
                   (List·Memᴰ·cases-cons m);
+              blank = λ j h m. blanks j h m;
               cover = λ j m. ⊎-elim (λ e. subst
                   (λ (a : ℕ). (b : ℕ) × (First F (getD F a 0) (getD (set (u .C) c L) (getD (u .M) (G .S a) 0) []) b
                   × Near F T (u .M) w2 [] (getD T b 0) (getD T a 0))) (sym e) here)
@@ -402,7 +442,7 @@ module _ (F T : List ℕ) (n k : ℕ) (w : List ℕ) (hn : n ≤ 1024) (hw : SIZ
 
       pub hung-ordered : 0 < at → Ordered F n w2 x (NEXT + t)
       hung-ordered z = record {
-        hint = λ y d r. let e : c ≡ d = sym (Mx G H u) ∙ (rw par at r) .is (u .M) (u .forest) in
+        hint = λ y d r. let e : c ≡ d = sym (Mx G H u) ∙ r .is (u .M) (rw par (u .forest)) in
             subst (λ (v : ℕ). Hint F w2 v (NEXT + t)) e (hung-hint z);
       }
 
@@ -449,6 +489,8 @@ module _ (F T : List ℕ) (n k : ℕ) (w : List ℕ) (hn : n ≤ 1024) (hw : SIZ
             atoms = u .atoms;
             M = u .M;
             forest = u .forest;
+            size = u .size;
+            heavy = u .heavy;
             C = u .C;
             wide = u .wide;
             all = u .all;
@@ -456,6 +498,7 @@ module _ (F T : List ℕ) (n k : ℕ) (w : List ℕ) (hn : n ≤ 1024) (hw : SIZ
             bare = u .bare;
             home = u .home;
             known = u .known;
+            blank = u .blank;
             cover = u .cover;
             nodes = λ i m. ⊎-elim (λ o. subst (λ (a : ℕ). (a < n) × List·Memᴰ a (G .N)) (sym o) (b .small, b .node)) (λ o. u .nodes i o)
                 (List·Memᴰ·cases-cons m);
@@ -483,9 +526,11 @@ module _ (F T : List ℕ) (n k : ℕ) (w : List ℕ) (hn : n ≤ 1024) (hw : SIZ
       at1 : getD w1 c 0 ≡ v
       at1 = let l = c-in in put-at k w c v k1 w1 p1 (omega arith) (omega arith)
 
-      par1 : region PARENT n w1 ≡ region PARENT n w
-      par1 = let l = c-in in region-ext PARENT n w1 w (omega (arith, p1 .later .len)) (p1 .later .len)
-          (λ j b. off1 (PARENT + j) (λ e. omega arith) (omega arith))
+      word1 : (j : ℕ) → j < n → getD w1 (PARENT + j) 0 ≡ getD w (PARENT + j) 0
+      word1 j b = let l = c-in in off1 (PARENT + j) (λ e. omega arith) (omega arith)
+
+      par1 : parents n w1 ≡ parents n w
+      par1 = parents-ext n w1 w (omega (arith, p1 .later .len)) (p1 .later .len) word1
 
       next1 : (q : ℕ) → q < 2048 → getD w1 (NEXT + q) 0 ≡ getD w (NEXT + q) 0
       next1 q h = let l = c-in in off1 (NEXT + q) (λ e. omega arith) (omega arith)
@@ -495,21 +540,24 @@ module _ (F T : List ℕ) (n k : ℕ) (w : List ℕ) (hn : n ≤ 1024) (hw : SIZ
           let ur = u .room in let n1 = p1 .next in
           record {
             logged = p1 .later .logged;
-            shape = rw par1 (u .shape);
-            room = rw par1 (omega arith);
+            shape = shape-on par1 (u .shape);
             few = b .room;
             stack = rw par1 (u .stack);
             arcs = u .arcs;
             atoms = u .atoms;
             M = u .M;
             forest = rw par1 (u .forest);
+            size = λ d a e. ap size-of (word1 d a) ∙ u .size d a e;
+            heavy = u .heavy;
             C = u .C;
             wide = u .wide;
             all = u .all;
+            room = rw par1 (omega arith);
             chain = λ d a m l. chains d a m l (ℕ-discrete d c);
             bare = λ d a m l. bares d a m l (ℕ-discrete d c);
             home = u .home;
             known = u .known;
+            blank = λ j h m. next1 j h ∙ u .blank j h m;
             cover = λ j m. let o = u .cover j m in (o .0, (o .1 .0, Near.old (near-none F T (u .M) w (o .1 .1))));
             nodes = λ i m. ⊎-elim (λ o. subst (λ (a : ℕ). (a < n) × List·Memᴰ a (G .N)) (sym o) (b .small, b .node)) (λ o. u .nodes i o)
                 (List·Memᴰ·cases-cons m);

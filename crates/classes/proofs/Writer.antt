@@ -6,20 +6,18 @@ use Prim.Native.Nat.{ℕ, _+_, _*_, _≤_, _<_}
 use native.Mathlib.Omega.{arith}
 use native.Mathlib.Decide.{decLt}
 use lib.ListN.{getD}
-use Rattle.area.specs.Map.{PARENT}
 use Rattle.theory.specs.Limits.{code-limit}
 use Rattle.theory.specs.Net.{beside, Same, roots}
 use Rattle.theory.proofs.Meaning.{some-root}
-use Rattle.area.specs.Region.{region, loaded-words}
-use Rattle.forest.specs.Forest.{tops}
+use Rattle.area.specs.Region.{loaded-words}
+use Rattle.forest.specs.Forest.{parents, tops}
 use Rattle.forest.specs.Held.{last-arc, ChainCode, AtomCode}
 use Rattle.forest.specs.State.{targets, First}
 use Rattle.loading.specs.Entry.{Entry, graphs}
 use Rattle.classes.specs.Entry.{Spots, spot-number}
 use Rattle.classes.specs.Holds.{Holds, class}
 use Rattle.classes.proofs.Content.{Content}
-use Rattle.area.proofs.Region.{length-region}
-use Rattle.forest.proofs.Fuse.{label-low, top, short}
+use Rattle.forest.proofs.Fuse.{low, top, short}
 use Rattle.forest.proofs.Links.{first-mem}
 use Rattle.classes.proofs.Visits.{near-none}
 use Rattle.classes.proofs.Result.{complete}
@@ -27,16 +25,15 @@ use Rattle.classes.proofs.Bridge.{spot-node, root-down, atom-down, arc-
 
 module _ (n : ℕ) (es : List Entry) (k : ℕ) (w : List ℕ) (h : Holds n es k w) where
   -- the log and the classes together have room
-  pub holds-room : k + 3 * tops 0 (region PARENT n w) ≤ 4096
+  pub holds-room : k + 3 * tops 0 (parents n w) ≤ 4096
   holds-room = let a = h .state .room in let b = h .state .few in omega arith
 
   pub spot-low : (s : Spots es) → spot-number es s < n
   spot-low s = let r = spot-node es s in let i = h .each (r .e) (r .one) .inside in let b = r .below in let d = r .is in omega arith
 
   -- ---- classes
-  pub class-low : (x : ℕ) → x < n → class h x ≤ x
-  class-low x l = let a = h .long in let b = h .below in let p = length-region PARENT n w (omega arith) in
-      label-low (region PARENT n w) (h .state .M) (h .state .shape) (h .state .forest) x (omega arith)
+  pub class-low : (x : ℕ) → x < n → class h x < n
+  class-low x l = low (h .G) (h .H) (loaded-words w) (targets w) n k 0 [] w (h .below) (h .long) (h .state) x l
 
   pub class-top : (x : ℕ) → x < n → class h (class h x) ≡ class h x
   class-top x l = top (h .G) (h .H) (loaded-words w) (targets w) n k 0 [] w (h .below) (h .long) (h .state) x l
@@ -44,7 +41,7 @@ module _ (n : ℕ) (es : List Entry) (k : ℕ) (w : List ℕ) (h : Holds n es k 
   pub class-root : (s : Spots es) → beside (graphs es) .Root s → class h (spot-number es s) ≡ class h 0
   class-root s r =
       let m = h .full .roots (spot-number es s) (root-down (loaded-words w) (targets w) es (h .G) (h .tied) es (λ e i. i) s r) in
-      sym (h .state .held (h .full .root) (spot-number es s) m) ∙ ap (class h) (h .top)
+      sym (h .state .held (h .full .root) (spot-number es s) m .1) ∙ ap (class h) (h .top)
 
   pub same-class : (s t : Spots es) → Same (beside (graphs es)) (roots (beside (graphs es))) s t →
       class h (spot-number es s) ≡ class h (spot-number es t)
@@ -72,7 +69,7 @@ module _ (n : ℕ) (es : List Entry) (k : ℕ) (w : List ℕ) (h : Holds n es k 
         (subst (λ (i : ℕ). First (loaded-words w) i (getD (h .state .C) (class h (h .G .S (r .0))) []) (o .0)) (r .1 .1 .1 .0)
         (o .1 .0)) in (
           small (o .0) x (decLt last-arc (getD w c 0)),
-          (o .0, (x, near-none (loaded-words w) (targets w) (h .state .M) w (o .1 .1) ∙ ap (class h) (r .1 .1 .1 .1))),
+          (o .0, (x, near-none (loaded-words w) (targets w) (h .state .M) w (o .1 .1) .1 ∙ ap (class h) (r .1 .1 .1 .1))),
         )
       where
         small : (q : ℕ) → First (loaded-words w) f (getD (h .state .C) c []) q → Dec (AtomCode (getD w c 0)) → ChainCode (getD w c 0)

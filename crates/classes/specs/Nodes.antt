@@ -5,18 +5,26 @@ use mathlib.Core.Logic.{_⊎_}
 use mathlib.Core.Bool.{Bool, true, false}
 use mathlib.Core.List.{List, [], _∷_, List·Memᴰ}
 use lib.ListN.{length, getD}
-use Rattle.area.specs.Map.{ENTRIES, LOADED, NEXT}
+use Rattle.area.specs.Map.{ENTRIES, LOADED, NEXT, LOG}
 use Rattle.theory.specs.Limits.{code-limit}
 use Rattle.theory.specs.Net.{Node, atom, arcs, Graph}
 use Rattle.area.specs.Log.{Later, Stores}
 use Rattle.forest.specs.State.{Pile, Done, ClashIn, State, withNode}
 
 -- ---- an arc on a chain
+-- y follows the arc t, which nothing followed, and 0 took no entry
+pub record Follows (k : ℕ) (w : List ℕ) (t y k' : ℕ) (w' : List ℕ) : Type 0 where
+  pub later : Later k w k' w'
+  pub few : k' ≤ k + 1
+  pub none : y ≡ 0 → k' ≡ k
+  pub at : getD w' (NEXT + t) 0 ≡ y
+  pub rest : (j : ℕ) → j < LOG → (j ≡ NEXT + t → ⊥) → getD w' j 0 ≡ getD w j 0
+
 -- the arc t stands where the link l leads, before what stood there; the link to go on from is 0, or that after t where `at` is not 0
 pub record Hung (k : ℕ) (w : List ℕ) (t l at k' at' : ℕ) (bad : Bool) (w' : List ℕ) : Type 0 where
   pub entry : ℕ
   pub between : List ℕ
-  pub before : Stores k w (NEXT + t) (getD w l 0) entry between
+  pub before : Follows k w t (getD w l 0) entry between
   pub after : Stores entry between l (t + 1) k' w'
   pub next : (at' ≡ 0) ⊎ ((0 < at) × (at' ≡ NEXT + t))
   pub fine : bad ≡ false

@@ -17,15 +17,15 @@ use limits::wide;
 ghost use mathlib.Core.Path.{_≡_};
 ghost use mathlib.Core.Bool.{true, false};
 ghost use Prim.Native.Nat.{_+_, _*_, _-_, _≤_, _<_};
-ghost use lib.ListN.{length};
+ghost use lib.ListN.{length, getD};
 ghost use Rattle.theory.specs.Limits.{code-limit};
-ghost use Rattle.area.specs.Map.{SIZE, NODES, LOADED, LOG, ENTRIES, TARGETS, ENTRY_MOST};
+ghost use Rattle.area.specs.Map.{SIZE, NODES, LOADED, NEXT, LOG, ENTRIES, TARGETS, ENTRY_MOST};
 ghost use Rattle.area.specs.Log.{Logged};
 ghost use Rattle.area.specs.Region.{loaded-words};
 ghost use Rattle.forest.specs.Held.{AtomCode};
 ghost use Rattle.forest.specs.State.{targets, Coming, Heading, Headed};
 ghost use Rattle.forest.specs.Order.{Ordered, Steady, Turning, VisitedInOrder};
-ghost use Rattle.classes.specs.Nodes.{Hung, Batched, Run, Noding, Noded, Listing, Listed};
+ghost use Rattle.classes.specs.Nodes.{Follows, Hung, Batched, Run, Noding, Noded, Listing, Listed};
 
 // The log's entries after an arc, the link to go on from with the next one, and whether there is a clash.
 // The link is 0 where the chain of the class is not known to rise, and 1 where the next arc is looked for from the first on.
@@ -65,7 +65,7 @@ fn outset(w: &[u32], k: usize, n: usize, x: usize, d: usize) -> usize
     afresh(w, k, n, x)
 }
 
-// The link to go on from after a union that took the log from k entries to e: where it took two at most, no chain has changed, and the
+// The link to go on from after a union that took the log from k entries to e: where it took three at most, no chain has changed, and the
 // arc r is still on that of the class c.
 fn onward(w: &[u32], k: usize, e: usize, n: usize, x: usize, c: usize, r: usize, at: usize) -> usize
     requires { ⌜ (x < n) × ((n ≤ NODES) × (SIZE ≤ length (now w))) ⌝ }
@@ -78,21 +78,35 @@ fn onward(w: &[u32], k: usize, e: usize, n: usize, x: usize, c: usize, r: usize,
     }
     let d = find(w, n, x);
     if d == c {
-        if e <= k + 2 {
+        if e <= k + 3 {
             return NEXT + (r - 1);
         }
     }
     afresh(w, e, n, x)
 }
 
+// y follows the arc t, which nothing follows yet: 0 takes no entry.
+fn follow(w: &mut [u32], k: usize, t: usize, y: u32) -> usize
+    requires { ⌜ (t < TARGETS) × ((y < ENTRY_MOST) × (SIZE ≤ length (now w))) ⌝ }
+    requires { ⌜ Logged k (now w) × (k < ENTRIES) ⌝ }
+    requires { ⌜ getD (now w) (NEXT + t) 0 ≡ 0 ⌝ }
+    ensures { λ r. ⌜ Follows k (now (w .entry)) t y r (now (w .exit)) ⌝ }
+{
+    if y == 0 {
+        return k;
+    }
+    put(w, k, NEXT + t, y)
+}
+
 // The arc t goes onto a chain at the link l. The link to go on from is that after t, or 0 where `at` is.
 fn hang(w: &mut [u32], k: usize, t: usize, l: usize, at: usize) -> Came
     requires { ⌜ (l < LOG) × ((t < TARGETS) × (SIZE ≤ length (now w))) ⌝ }
     requires { ⌜ Logged k (now w) × (k + 2 ≤ ENTRIES) ⌝ }
+    requires { ⌜ getD (now w) (NEXT + t) 0 ≡ 0 ⌝ }
     ensures { λ r. ⌜ Hung k (now (w .entry)) t l at (r .k) (r .at) (r .bad) (now (w .exit)) ⌝ }
 {
     let y = w[l];
-    let e = put(w, k, NEXT + t, y);
+    let e = follow(w, k, t, y);
     let d = put(w, e, l, (t + 1) as u32);
     let a = if at == 0 { 0 } else { NEXT + t };
     Came {

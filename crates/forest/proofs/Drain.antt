@@ -7,10 +7,10 @@ use Prim.Native.Nat.{ℕ, zero, suc, _+_, _-_, _/_, _%_, _≤_, _<_}
 use native.Mathlib.Nat.{le-trans}
 use native.Mathlib.Omega.{arith}
 use lib.ListN.{getD, length}
-use Rattle.area.specs.Map.{PARENT, NEXT, STACK, SIZE}
-use Rattle.area.specs.Region.{region, loaded-words}
+use Rattle.area.specs.Map.{NEXT, STACK, SIZE}
+use Rattle.area.specs.Region.{loaded-words}
 use Rattle.area.specs.Log.{Logged, Later}
-use Rattle.forest.specs.Forest.{tops}
+use Rattle.forest.specs.Forest.{parents, tops}
 use Rattle.forest.specs.State.{Pile, Done, Equal, Seg, Near, State, Calm, Merged, frames, withPair, FrameWalk, Working, ClashTold}
 use Rattle.forest.specs.State.{Turned}
 use Rattle.forest.specs.State.{Drained, Stacked, Settled, United, targets}
@@ -76,6 +76,8 @@ finish G H F T n k s to fs w u = record {
   atoms = u .atoms;
   M = u .M;
   forest = u .forest;
+  size = u .size;
+  heavy = u .heavy;
   C = u .C;
   wide = u .wide;
   all = u .all;
@@ -83,6 +85,7 @@ finish G H F T n k s to fs w u = record {
   bare = u .bare;
   home = u .home;
   known = u .known;
+  blank = u .blank;
   cover = λ j m. let o = u .cover j m in (o .0, (o .1 .0, near (o .1 .1)));
   nodes = u .nodes;
   met = u .met;
@@ -115,6 +118,8 @@ lower G H F T n k s s' fs w h u = record {
   atoms = u .atoms;
   M = u .M;
   forest = u .forest;
+  size = u .size;
+  heavy = u .heavy;
   C = u .C;
   wide = u .wide;
   all = u .all;
@@ -122,6 +127,7 @@ lower G H F T n k s s' fs w h u = record {
   bare = u .bare;
   home = u .home;
   known = u .known;
+  blank = u .blank;
   cover = u .cover;
   nodes = u .nodes;
   met = u .met;
@@ -133,7 +139,7 @@ lower G H F T n k s s' fs w h u = record {
 -- ---- the stack
 pub record Settling (F T : List ℕ) (n k s : ℕ) (w : List ℕ) (e h : ℕ) (w' : List ℕ) : Type 0 where
   pub later : Later k w e w'
-  pub count : h + tops 0 (region PARENT n w') ≤ s + tops 0 (region PARENT n w)
+  pub count : h + tops 0 (parents n w') ≤ s + tops 0 (parents n w)
   pub still : s ≡ 0 → (h ≡ 0) × (w' ≡ w)
   pub go : (G : Pile) (H : Done) → State G H F T n k s (frames w s) w → State G H F T n e h (frames w' h) w'
 
@@ -165,7 +171,7 @@ settle-working F T n k s w e h w' from to g p l a b =
     }
 
 pub settle-stack : (F T : List ℕ) (n k s : ℕ) (w : List ℕ) (e h : ℕ) (w' : List ℕ) → Stacked F T n k s w → Settling F T n k s w e h w' →
-    h + tops 0 (region PARENT n w') ≤ n
+    h + tops 0 (parents n w') ≤ n
 settle-stack F T n k s w e h w' g p = p .go (g .G) (g .H) (g .state) .stack
 
 pub settle-turn : (F T : List ℕ) (n k s : ℕ) (w : List ℕ) (e h : ℕ) (w' : List ℕ) (from to e2 h2 : ℕ) (bad : Bool) (w2 : List ℕ) →
@@ -173,8 +179,8 @@ pub settle-turn : (F T : List ℕ) (n k s : ℕ) (w : List ℕ) (e h : ℕ) (w' 
     → Drained F T n e (h - 1) w' from to e2 h2 bad w2 → bad ≡ false → Settling F T n k s w e2 h2 w2
 settle-turn F T n k s w e h w' from to e2 h2 bad w2 p l a b q z =
     let y = q .fine z in
-    let c : h2 + tops 0 (region PARENT n w2) ≤ (h - 1) + tops 0 (region PARENT n w') = y .count in
-    let d : h + tops 0 (region PARENT n w') ≤ s + tops 0 (region PARENT n w) = p .count in
+    let c : h2 + tops 0 (parents n w2) ≤ (h - 1) + tops 0 (parents n w') = y .count in
+    let d : h + tops 0 (parents n w') ≤ s + tops 0 (parents n w) = p .count in
     record {
       later = later-trans k w e w' e2 w2 (p .later) (y .later);
       count = omega arith;
@@ -192,8 +198,8 @@ drained-here {k = k} {e = e} {w = w} {w' = w'} hw p d =
     rw (words-later k w e w' hw (p .later), targets-later k w e w' hw (p .later)) at d
 
 pub settle-less : (F T : List ℕ) (n : ℕ) (e h : ℕ) (w' : List ℕ) (from to e2 h2 : ℕ) (bad : Bool) (w2 : List ℕ) → 0 < h →
-    Drained F T n e (h - 1) w' from to e2 h2 bad w2 → bad ≡ false → h2 + tops 0 (region PARENT n w2) < h + tops 0 (region PARENT n w')
-settle-less F T n e h w' from to e2 h2 bad w2 l q z = let c : h2 + tops 0 (region PARENT n w2) ≤ (h - 1) + tops 0 (region PARENT n w') =
+    Drained F T n e (h - 1) w' from to e2 h2 bad w2 → bad ≡ false → h2 + tops 0 (parents n w2) < h + tops 0 (parents n w')
+settle-less F T n e h w' from to e2 h2 bad w2 l q z = let c : h2 + tops 0 (parents n w2) ≤ (h - 1) + tops 0 (parents n w') =
     q .fine z .count in omega arith
 
 pub settled-bad : (F T : List ℕ) (n k s : ℕ) (w : List ℕ) (e h : ℕ) (w' : List ℕ) (from to e2 h2 : ℕ) (bad : Bool) (w2 : List ℕ) →

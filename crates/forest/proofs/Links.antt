@@ -8,7 +8,7 @@ use native.Mathlib.Decide.{ℕ-discrete}
 use lib.ListN.{length, set, getD}
 use borrow.Author.Tests.{eq-eqb, ne-eqb}
 use Rattle.area.specs.Map.{NEXT, STACK}
-use Rattle.forest.specs.State.{Chain, Seg, First, None, Way, hops, Grow, Calm, total-length, frames}
+use Rattle.forest.specs.State.{Chain, Seg, First, None, Way, hops, Grow, Calm, total-length, one-of, chained, frames}
 use Rattle.forest.proofs.Steps.{steps}
 
 -- ---- a chain
@@ -221,6 +221,28 @@ unfolding total-length
 total-one [] i = omega arith
 total-one (x ∷ C) zero = omega arith
 total-one (x ∷ C) (suc i) = let r : length (getD C i []) ≤ total-length C = total-one C i in omega arith
+
+-- ---- those that have an arc
+pub chained-set : (C : List (List ℕ)) (i : ℕ) (v : List ℕ) → i < length C →
+    chained (set C i v) + one-of (getD C i []) ≡ chained C + one-of v
+unfolding chained
+chained-set [] i v h = absurd (omega arith)
+chained-set (x ∷ C) zero v h = omega arith
+chained-set (x ∷ C) (suc i) v h =
+    let r : chained (set C i v) + one-of (getD C i []) ≡ chained C + one-of v = chained-set C i v (omega arith) in
+    omega arith
+
+pub one-append : (x y : List ℕ) → one-of (x ++ y) ≤ one-of x + one-of y
+one-append [] y = omega arith
+one-append (j ∷ x) y = omega arith
+
+pub one-most : (x : List ℕ) → one-of x ≤ 1
+one-most [] = omega arith
+one-most (j ∷ x) = omega arith
+
+pub one-some : (x : List ℕ) (j : ℕ) → List·Memᴰ j x → one-of x ≡ 1
+one-some [] j m = absurd (List·Memᴰ·not-nil m)
+one-some (i ∷ x) j m = refl
 
 -- ---- frames
 pub frames-same : (w w' : List ℕ) (s : ℕ) → ((j : ℕ) → STACK ≤ j → j < STACK + s → getD w' j 0 ≡ getD w j 0) → frames w' s ≡ frames w s

@@ -7,23 +7,24 @@ use mathlib.Core.Logic.{_⊎_, inl, inr, ⊎-elim}
 use Prim.Native.Nat.{ℕ, suc, _+_, _-_, _≤_, _<_}
 use native.Mathlib.Omega.{arith}
 use lib.ListN.{length, getD}
-use Rattle.area.specs.Map.{PARENT, NEXT, SIZE}
-use Rattle.area.specs.Region.{region}
-use Rattle.forest.specs.Labels.{Eq}
-use Rattle.area.specs.Log.{Logged}
-use Rattle.forest.specs.Forest.{Root, tops}
+use Rattle.area.specs.Map.{NEXT, SIZE}
+use Rattle.forest.specs.Labels.{Together}
+use Rattle.forest.specs.Forest.{parents, Root, tops}
 use Rattle.forest.specs.State.{Pile, Done, Equal, Chain, Seg, First, Way, Near, Framed, State, Merged, Grow, Looked, Runs, hops}
+use Rattle.forest.specs.State.{SomeState}
 use Rattle.forest.specs.State.{withPair}
 use Rattle.forest.specs.State.{Working, Turned}
-use Rattle.area.proofs.Region.{length-region}
+use Rattle.forest.proofs.Parents.{length-parents}
+use Rattle.forest.proofs.Kernel.{together-back, together-on}
 use Rattle.area.proofs.Undo.{later-refl}
 use Rattle.forest.proofs.Links.{calm-refl, chain-from, first-mem, first-feature, none-first, way-first, way-grow, seg-grow, hops-is}
 use Rattle.forest.proofs.Links.{first-way}
-use Rattle.forest.proofs.Fuse.{low, top, chain-of, short}
+use Rattle.forest.proofs.Fuse.{under-same, low, top, length-M, chain-of, short}
 
 -- ---- the same state with other pairs
 pub hold : (G : Pile) (H : Done) (F T : List ℕ) (n k s : ℕ) (fs : List (ℕ × ℕ)) (w : List ℕ) (u : State G H F T n k s fs w)
-    (E : List (ℕ × ℕ)) → ((x y : ℕ) → List·Memᴰ (x, y) E → Eq (u .M) x y) → State G (record { K = H .K; U = H .U; E = E }) F T n k s fs w
+    (E : List (ℕ × ℕ)) → ((x y : ℕ) → List·Memᴰ (x, y) E → Together (u .M) x y) →
+    State G (record { K = H .K; U = H .U; E = E }) F T n k s fs w
 hold G H F T n k s fs w u E f = record {
   logged = u .logged;
   shape = u .shape;
@@ -34,6 +35,8 @@ hold G H F T n k s fs w u E f = record {
   atoms = u .atoms;
   M = u .M;
   forest = u .forest;
+  size = u .size;
+  heavy = u .heavy;
   C = u .C;
   wide = u .wide;
   all = u .all;
@@ -41,6 +44,7 @@ hold G H F T n k s fs w u E f = record {
   bare = u .bare;
   home = u .home;
   known = u .known;
+  blank = u .blank;
   cover = u .cover;
   nodes = u .nodes;
   met = u .met;
@@ -51,11 +55,10 @@ hold G H F T n k s fs w u E f = record {
 
 -- one pair more
 pub hold-pair : (G : Pile) (H : Done) (F T : List ℕ) (n k s : ℕ) (fs : List (ℕ × ℕ)) (w : List ℕ) (u : State G H F T n k s fs w) (x y : ℕ) →
-    Eq (u .M) x y → State G (withPair H x y) F T n k s fs w
+    Together (u .M) x y → State G (withPair H x y) F T n k s fs w
 hold-pair G H F T n k s fs w u x y e =
     hold G H F T n k s fs w u ((x, y) ∷ H .E)
-    (λ i j m. ⊎-elim (λ p. ap (λ (v : ℕ × ℕ). getD (u .M) (v .0) 0) p ∙ e
-    ∙ ap (λ (v : ℕ × ℕ). getD (u .M) (v .1) 0) (sym p)) (λ q. u .held i j q) (List·Memᴰ·cases-cons m))
+    (λ i j m. ⊎-elim (λ p. subst (λ (v : ℕ × ℕ). Together (u .M) (v .0) (v .1)) (sym p) e) (λ q. u .held i j q) (List·Memᴰ·cases-cons m))
 
 -- without the last
 pub forget : (G : Pile) (H : Done) (F T : List ℕ) (n k s : ℕ) (fs : List (ℕ × ℕ)) (w : List ℕ) (x y : ℕ) →
@@ -83,6 +86,8 @@ reframe G H F T n k s fs gs w f g u = record {
   atoms = u .atoms;
   M = u .M;
   forest = u .forest;
+  size = u .size;
+  heavy = u .heavy;
   C = u .C;
   wide = u .wide;
   all = u .all;
@@ -90,6 +95,7 @@ reframe G H F T n k s fs gs w f g u = record {
   bare = u .bare;
   home = u .home;
   known = u .known;
+  blank = u .blank;
   cover = λ j m. let o = u .cover j m in (o .0, (o .1 .0, near-frames F T (u .M) w fs gs f (o .1 .1)));
   nodes = u .nodes;
   met = u .met;
@@ -111,38 +117,46 @@ front G H F T n k s new fs p w = reframe G H F T n k s (new ++ (p ∷ fs)) (p �
 
 -- ---- the classes of x and y, whose roots are a and b
 module _ (n k s : ℕ) (w : List ℕ) (x y : ℕ) (hx : x < n) (hy : y < n) (hn : n ≤ 1024) (hw : SIZE ≤ length w) (a b : ℕ)
-    (p : Root (region PARENT n w) x a) (q : Root (region PARENT n w) y b) where
-  length-P : length (region PARENT n w) ≡ n
-  length-P = length-region PARENT n w (omega arith)
+    (p : Root n w x a) (q : Root n w y b) where
+  length-P : length (parents n w) ≡ n
+  length-P = length-parents n w (omega arith)
 
   module _ (G : Pile) (H : Done) (F T : List ℕ) (fs : List (ℕ × ℕ)) (u : State G H F T n k s fs w) where
-    x-a : Eq (u .M) x a
-    x-a = let l = length-P in p .is (u .M) (u .forest) ∙ sym (u .forest .tops a (omega (arith, p .low)) (p .top))
+    length-L : length (u .M) ≡ n
+    length-L = length-M G H F T n k s fs w hn hw u
 
-    y-b : Eq (u .M) y b
-    y-b = let l = length-P in q .is (u .M) (u .forest) ∙ sym (u .forest .tops b (omega (arith, q .low)) (q .top))
+    x-a : Together (u .M) x a
+    x-a = let l = length-P in let m = length-L in let i = p .low in
+        (inr (omega arith, omega arith), p .is (u .M) (u .forest) ∙ sym (u .forest .tops a (omega arith) (p .top)))
+
+    y-b : Together (u .M) y b
+    y-b = let l = length-P in let m = length-L in let i = q .low in
+        (inr (omega arith, omega arith), q .is (u .M) (u .forest) ∙ sym (u .forest .tops b (omega arith) (q .top)))
 
     pub same-roots : Equal G F T x y → Equal G F T a b
-    same-roots r = Equal.on (Equal.back (u .sound x a hx (omega (arith, p .low)) x-a))
-        (Equal.on r (u .sound y b hy (omega (arith, q .low)) y-b))
+    same-roots r = Equal.on (Equal.back (u .sound x a hx (p .low) (x-a .1)))
+        (Equal.on r (u .sound y b hy (q .low) (y-b .1)))
 
     pub noted : State G (withPair (withPair H x a) y b) F T n k s fs w
     noted = hold G H F T n k s fs w u ((y, b) ∷ ((x, a) ∷ H .E))
         (λ i j m. ⊎-elim (λ e. pair i j y b e y-b) (λ t. ⊎-elim (λ e. pair i j x a e x-a) (λ z. u .held i j z) (List·Memᴰ·cases-cons t))
         (List·Memᴰ·cases-cons m))
       where
-        pair : (i j c d : ℕ) → _≡_ {A = ℕ × ℕ} (i, j) (c, d) → Eq (u .M) c d → Eq (u .M) i j
-        pair i j c d e f = ap (λ (v : ℕ × ℕ). getD (u .M) (v .0) 0) e ∙ f ∙ ap (λ (v : ℕ × ℕ). getD (u .M) (v .1) 0) (sym e)
+        pair : (i j c d : ℕ) → _≡_ {A = ℕ × ℕ} (i, j) (c, d) → Together (u .M) c d → Together (u .M) i j
+        pair i j c d e f = subst (λ (v : ℕ × ℕ). Together (u .M) (v .0) (v .1)) (sym e) f
 
-  pub joined-same : a ≡ b → Logged k w → Merged n k s w x y k s false w
+  pub joined-same : a ≡ b → SomeState n k s w → Merged n k s w x y k s false w
   joined-same e g = record {
-    later = later-refl k w g;
+    later = later-refl k w (g .state .logged);
     new = [];
     stack = refl;
     count = omega arith;
     grow = λ j h z. refl;
     calm = λ h. (refl, calm-refl w);
-    fine = λ z G H F T fs u r. hold-pair G H F T n k s fs w u x y (p .is (u .M) (u .forest) ∙ e ∙ sym (q .is (u .M) (u .forest)));
+    under = under-same n k s w g;
+    fine = λ z G H F T fs u r.
+        let l = length-L G H F T fs u in
+        hold-pair G H F T n k s fs w u x y (inr (omega arith, omega arith), p .is (u .M) (u .forest) ∙ e ∙ sym (q .is (u .M) (u .forest)));
     clash = λ z. let y : _≡_ {A = ℕ} 0 1 = cc in absurd (omega arith);
   }
 
@@ -152,15 +166,14 @@ module _ (n k s : ℕ) (w : List ℕ) (x y : ℕ) (hx : x < n) (hy : y < n) (hn 
         State G (withPair (withPair (withPair H x a) y b) c d) F T n k' s' fs w' → State G (withPair H x y) F T n k' s' fs w'
     drawn G H F T fs c d o v =
         let J = withPair (withPair (withPair H x a) y b) c d in
-        let e1 : Eq (v .M) y b = v .held y b (List·Memᴰ·tail (List·Memᴰ·head refl)) in
-        let e2 : Eq (v .M) x a = v .held x a (List·Memᴰ·tail (List·Memᴰ·tail (List·Memᴰ·head refl))) in
-        let e3 : Eq (v .M) c d = v .held c d (List·Memᴰ·head refl) in
-        let e4 : Eq (v .M) a b = ⊎-elim (λ z. ap (λ (i : ℕ). getD (v .M) i 0) (sym (z .0)) ∙ e3
-        ∙ ap (λ (i : ℕ). getD (v .M) i 0) (z .1)) (λ z. ap (λ (i : ℕ). getD (v .M) i 0) (sym (z .1)) ∙ sym e3
-        ∙ ap (λ (i : ℕ). getD (v .M) i 0) (z .0)) o in
+        let h1 = v .held y b (List·Memᴰ·tail (List·Memᴰ·head refl)) in
+        let h2 = v .held x a (List·Memᴰ·tail (List·Memᴰ·tail (List·Memᴰ·head refl))) in
+        let h3 = v .held c d (List·Memᴰ·head refl) in
+        let h4 : Together (v .M) a b = ⊎-elim (λ z. rw (z .0, z .1) at h3) (λ z. together-back (v .M) b a (rw (z .0, z .1) at h3)) o in
+        let h5 = together-on (v .M) x a y h2 (together-on (v .M) a b y h4 (together-back (v .M) y b h1)) in
         hold G J F T n k' s' fs w' v ((x, y) ∷ H .E)
         (λ i j m. ⊎-elim
-        (λ r. ap (λ (t : ℕ × ℕ). getD (v .M) (t .0) 0) r ∙ e2 ∙ e4 ∙ sym e1 ∙ ap (λ (t : ℕ × ℕ). getD (v .M) (t .1) 0) (sym r))
+        (λ r. subst (λ (t : ℕ × ℕ). Together (v .M) (t .0) (t .1)) (sym r) h5)
         (λ r. v .held i j (List·Memᴰ·tail (List·Memᴰ·tail (List·Memᴰ·tail r)))) (List·Memᴰ·cases-cons m))
 
     pub joined-up : Merged n k s w a b k' s' bad w' → Merged n k s w x y k' s' bad w'
@@ -171,6 +184,7 @@ module _ (n k s : ℕ) (w : List ℕ) (x y : ℕ) (hx : x < n) (hy : y < n) (hn 
       count = m .count;
       grow = m .grow;
       calm = m .calm;
+      under = m .under;
       fine = λ z G H F T fs u r. drawn G H F T (m .new ++ fs) a b (inl (refl, refl))
           (m .fine z G (withPair (withPair H x a) y b) F T fs (noted G H F T fs u) (same-roots G H F T fs u r));
       clash = λ z G H F T fs u r. m .clash z G H F T fs u (same-roots G H F T fs u r);
@@ -184,6 +198,7 @@ module _ (n k s : ℕ) (w : List ℕ) (x y : ℕ) (hx : x < n) (hy : y < n) (hn 
       count = m .count;
       grow = m .grow;
       calm = m .calm;
+      under = m .under;
       fine = λ z G H F T fs u r. drawn G H F T (m .new ++ fs) b a (inr (refl, refl))
           (m .fine z G (withPair (withPair H x a) y b) F T fs (noted G H F T fs u) (Equal.back (same-roots G H F T fs u r)));
       clash = λ z G H F T fs u r. m .clash z G H F T fs u (Equal.back (same-roots G H F T fs u r));
@@ -277,7 +292,7 @@ module _ (G : Pile) (H : Done) (F T : List ℕ) (n k s x to : ℕ) (fs : List (�
         (u .sound (G .S (x - 1)) (G .S i) (a .1 .1 .0) (b .1 .1 .0) (a .1 .0 ∙ sym (b .1 .0)))
 
     -- the first arc is paid for
-    module _ (paid : (i : ℕ) (js : List ℕ) → Way w F (getD F (x - 1) 0) to js i → Eq (u .M) (getD T (x - 1) 0) (getD T i 0)) where
+    module _ (paid : (i : ℕ) (js : List ℕ) → Way w F (getD F (x - 1) 0) to js i → Together (u .M) (getD T (x - 1) 0) (getD T i 0)) where
       near : {i j : ℕ} → Near F T (u .M) w ((x, to) ∷ fs) i j → Near F T (u .M) w ((getD w (NEXT + (x - 1)) 0, to) ∷ fs) i j
       near (Near.old e) = Near.old e
       near (Near.owe {x = a} {y = b} {q = q} q' zs js m sg mq wy) =
@@ -292,8 +307,8 @@ module _ (G : Pile) (H : Done) (F T : List ℕ) (n k s x to : ℕ) (fs : List (�
               let wy' : Way w F (getD F q 0) to js q' = subst (λ (v : ℕ). Way w F (getD F q 0) v js q') eb wy in
               let t = part w to x zs sg' ne in
               ⊎-elim
-              (λ d. Near.old (ap (λ (v : ℕ). getD (u .M) (getD T v 0) 0) d
-              ∙ paid q' js (subst (λ (v : ℕ). Way w F (getD F v 0) to js q') d wy')))
+              (λ d. Near.old (subst (λ (v : ℕ). Together (u .M) (getD T v 0) (getD T q' 0)) (sym d)
+              (paid q' js (subst (λ (v : ℕ). Way w F (getD F v 0) to js q') d wy'))))
               (λ d. Near.owe q' (t .0) js (List·Memᴰ·head refl) (t .1 .1 .1 .1) d wy')
               (List·Memᴰ·cases-cons (subst (List·Memᴰ q) (t .1 .0) mq))
       near (Near.sym r) = Near.sym (near r)
@@ -310,6 +325,8 @@ module _ (G : Pile) (H : Done) (F T : List ℕ) (n k s x to : ℕ) (fs : List (�
         atoms = u .atoms;
         M = u .M;
         forest = u .forest;
+        size = u .size;
+        heavy = u .heavy;
         C = u .C;
         wide = u .wide;
         all = u .all;
@@ -317,6 +334,7 @@ module _ (G : Pile) (H : Done) (F T : List ℕ) (n k s x to : ℕ) (fs : List (�
         bare = u .bare;
         home = u .home;
         known = u .known;
+        blank = u .blank;
         cover = λ j m. let o = u .cover j m in (o .0, (o .1 .0, near (o .1 .1)));
         nodes = u .nodes;
         met = u .met;
@@ -410,8 +428,9 @@ module _ (F T : List ℕ) (n k s x to : ℕ) (w : List ℕ) (hn : n ≤ 1024) (h
           let len : SIZE ≤ length w' = omega (arith, m .later .len) in
           forget G H F T n k' s' ((getD w' (NEXT + (x - 1)) 0, to) ∷ (m .new ++ fs)) w' (getD T (x - 1) 0) (getD T i 0)
           (advance G (withPair H (getD T (x - 1) 0) (getD T i 0)) F T n k' s' x to (m .new ++ fs) w' hn len v' ne
-          (λ j js t. v' .held (getD T (x - 1) 0) (getD T i 0) (List·Memᴰ·head refl)
-          ∙ ap (λ (c : ℕ). getD (v' .M) (getD T c 0) 0) (way-det w' F (getD F (x - 1) 0) to (y .0) js i j y' t)));
+          (λ j js t. subst (λ (c : ℕ). Together (v' .M) (getD T (x - 1) 0) (getD T c 0))
+          (way-det w' F (getD F (x - 1) 0) to (y .0) js i j y' t)
+          (v' .held (getD T (x - 1) 0) (getD T i 0) (List·Memᴰ·head refl))));
     };
     less = λ z. nearer (wk .G) (wk .H) F T n k s x to (wk .fs) w hn hw (wk .state) ne w' (m .grow);
     clash = λ z G H fs u. m .clash z G H F T ((x, to) ∷ fs) u (match-same G H F T n k s x to fs w hn hw u ne r i l e);

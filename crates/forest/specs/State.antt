@@ -1,5 +1,5 @@
 -- The state in which graphs are pushed: what the contracts of chains, merges and frames cite. Assumes nothing.
-use Prim.Native.Nat.{ℕ, zero, suc, _+_, _*_, _-_, _/_, _%_, _≤_, _<_}
+use Prim.Native.Nat.{ℕ, zero, suc, _+_, _*_, _-_, _/_, _%_, _^_, _≤_, _<_}
 use mathlib.Core.Path.{_≡_}
 use mathlib.Core.Bool.{Bool, true, false}
 use mathlib.Core.Logic.{_⊎_}
@@ -7,10 +7,10 @@ use mathlib.Core.List.{List, [], _∷_, _++_, List·Memᴰ}
 use lib.Dec.{eqb}
 use lib.ListN.{length, getD}
 use Rattle.area.specs.Map.{PARENT, NEXT, STACK, WORDS, TARGETS, LOADED, FRAME_STEP, ENTRIES, NODES}
-use Rattle.area.specs.Region.{region, loaded-words}
-use Rattle.forest.specs.Labels.{Eq}
+use Rattle.area.specs.Region.{region}
+use Rattle.forest.specs.Labels.{Eq, Together, how-many}
 use Rattle.area.specs.Log.{Logged, Later}
-use Rattle.forest.specs.Forest.{Shape, Forest, tops}
+use Rattle.forest.specs.Forest.{size-of, parents, Shape, Forest, SmallerUnder, tops}
 use Rattle.forest.specs.Held.{ChainCode, AtomCode}
 
 -- ---- what follows each of the loaded words
@@ -90,6 +90,15 @@ unfoldable pub total-length : List (List ℕ) → ℕ
 total-length [] = 0
 total-length (x ∷ C) = length x + total-length C
 
+-- how many of the chains have an arc
+abbrev pub one-of : List ℕ → ℕ
+one-of [] = 0
+one-of (j ∷ xs) = 1
+
+unfoldable pub chained : List (List ℕ) → ℕ
+chained [] = 0
+chained (x ∷ C) = one-of x + chained C
+
 -- ---- frames
 unfoldable pub frames : List ℕ → ℕ → List (ℕ × ℕ)
 frames w zero = []
@@ -97,7 +106,7 @@ frames w (suc s) = (getD w (STACK + s) 0 % FRAME_STEP, getD w (STACK + s) 0 / FR
 
 -- the pair of targets of an arc of a frame's part and of its first match from b on is still to be merged
 pub data Near (F T M w : List ℕ) (fs : List (ℕ × ℕ)) : ℕ → ℕ → Type 0 where
-  old : {i j : ℕ} → Eq M i j → Near F T M w fs i j
+  old : {i j : ℕ} → Together M i j → Near F T M w fs i j
   owe : {x y q : ℕ} (q' : ℕ) (zs js : List ℕ) → List·Memᴰ (x, y) fs → Seg w y x zs → List·Memᴰ q zs → Way w F (getD F q 0) y js q' →
       Near F T M w fs (getD T q 0) (getD T q' 0)
   sym : {i j : ℕ} → Near F T M w fs i j → Near F T M w fs j i
@@ -126,27 +135,33 @@ pub record Bears (G : Pile) (n : ℕ) (M : List ℕ) (c v : ℕ) : Type 0 where
 pub record State (G : Pile) (H : Done) (F T : List ℕ) (n k s : ℕ) (fs : List (ℕ × ℕ)) (w : List ℕ) : Type 0 where
   -- the log and the forest
   pub logged : Logged k w
-  pub shape : Shape (region PARENT n w)
-  -- each root may still be merged, with three entries of the log; each arc takes two and each atom one
-  pub room : k + 3 * tops 0 (region PARENT n w) ≤ 3 * n + (2 * length (H .K) + length (H .U))
+  pub shape : Shape (parents n w)
   pub few : 3 * n + (2 * length (H .K) + length (H .U)) ≤ ENTRIES
-  pub stack : s + tops 0 (region PARENT n w) ≤ n
+  pub stack : s + tops 0 (parents n w) ≤ n
   -- what is pushed is in bounds
   pub arcs : (q : ℕ) → List·Memᴰ q (G .B) → (q < TARGETS) × ((G .S q < n) × (getD T q 0 < n))
   pub atoms : (i : ℕ) → List·Memᴰ i (G .N) → (G .A i ≡ 0 → ⊥) → AtomCode (G .A i)
   -- M labels each node by its class
   pub M : List ℕ
-  pub forest : Forest (region PARENT n w) M
+  pub forest : Forest (parents n w) M
+  -- the word of a root tells how many nodes its class has; one of rank r has 2 ^ r at least
+  pub size : (c : ℕ) → c < n → getD M c 0 ≡ c → size-of (getD w (PARENT + c) 0) ≡ how-many c M
+  pub heavy : (c : ℕ) → c < n → getD M c 0 ≡ c → 2 ^ shape .rank c ≤ how-many c M
   -- C has the arcs on the chain of each class
   pub C : List (List ℕ)
   pub wide : length C ≡ n
   pub all : total-length C ≤ length (H .K)
+  -- each root may still be merged, with three entries of the log, and one more where two chains meet; each arc takes two, of which the
+  -- first of a chain leaves one over, and each atom one
+  pub room : k + (3 * tops 0 (parents n w) + chained C) ≤ 3 * n + (2 * length (H .K) + length (H .U))
   pub chain : (c : ℕ) → c < n → getD M c 0 ≡ c → ChainCode (getD w c 0) → Chain w (getD w c 0) (getD C c [])
   -- a class with an atom has no arcs
   pub bare : (c : ℕ) → c < n → getD M c 0 ≡ c → AtomCode (getD w c 0) → (getD C c [] ≡ []) × Bears G n M c (getD w c 0)
   -- an arc is on the chain of its source's class
   pub home : (c q : ℕ) → c < n → List·Memᴰ q (getD C c []) → List·Memᴰ q (H .K) × (getD M (G .S q) 0 ≡ c)
   pub known : (j : ℕ) → List·Memᴰ j (H .K) → List·Memᴰ j (G .B)
+  -- nothing follows an arc that is not done
+  pub blank : (j : ℕ) → j < LOADED → (List·Memᴰ j (H .K) → ⊥) → getD w (NEXT + j) 0 ≡ 0
   -- for each arc that is done, the first of its feature on its class's chain has a target that is in one class with its own, or will
   -- be when the frames are worked off
   pub cover : (j : ℕ) → List·Memᴰ j (H .K) →
@@ -155,7 +170,7 @@ pub record State (G : Pile) (H : Done) (F T : List ℕ) (n k s : ℕ) (fs : List
   pub nodes : (i : ℕ) → List·Memᴰ i (H .U) → (i < n) × List·Memᴰ i (G .N)
   pub met : (i : ℕ) → List·Memᴰ i (H .U) → (G .A i ≡ 0 → ⊥) → getD w (getD M i 0) 0 ≡ G .A i
   -- classes are made of equal nodes, and the pairs E are in them
-  pub held : (x y : ℕ) → List·Memᴰ (x, y) (H .E) → Eq M x y
+  pub held : (x y : ℕ) → List·Memᴰ (x, y) (H .E) → Together M x y
   pub sound : (i j : ℕ) → i < n → j < n → Eq M i j → Equal G F T i j
   -- the frames are parts of chains
   pub frame : (a b : ℕ) → List·Memᴰ (a, b) fs → Framed n M C w a b
@@ -181,14 +196,15 @@ pub record Calm (w w' : List ℕ) : Type 0 where
   pub nexts : (j : ℕ) → j < LOADED → getD w' (NEXT + j) 0 ≡ getD w (NEXT + j) 0
   pub firsts : (c : ℕ) → c < NODES → (getD w c 0 ≡ 0 → ⊥) → getD w' c 0 ≡ getD w c 0
 
--- a merge of the classes of x and y; only where two chains meet does it take three entries
+-- a merge of the classes of x and y; only where two chains meet does it take four entries
 pub record Merged (n k s : ℕ) (w : List ℕ) (x y k' s' : ℕ) (bad : Bool) (w' : List ℕ) : Type 0 where
   pub later : Later k w k' w'
   pub new : List (ℕ × ℕ)
   pub stack : frames w' s' ≡ new ++ frames w s
-  pub count : s' + tops 0 (region PARENT n w') ≤ s + tops 0 (region PARENT n w)
+  pub count : s' + tops 0 (parents n w') ≤ s + tops 0 (parents n w)
   pub grow : Grow w w'
-  pub calm : k' ≤ k + 2 → (s' ≡ s) × Calm w w'
+  pub calm : k' ≤ k + 3 → (s' ≡ s) × Calm w w'
+  pub under : SmallerUnder (parents n w) (parents n w')
   pub fine : bad ≡ false → (G : Pile) (H : Done) (F T : List ℕ) (fs : List (ℕ × ℕ)) → State G H F T n k s fs w → Equal G F T x y →
       State G (withPair H x y) F T n k' s' (new ++ fs) w'
   pub clash : bad ≡ true → (G : Pile) (H : Done) (F T : List ℕ) (fs : List (ℕ × ℕ)) → State G H F T n k s fs w → Equal G F T x y →
@@ -199,7 +215,7 @@ pub record FrameWalk (F T : List ℕ) (n k s : ℕ) (w : List ℕ) (x to k' s' :
   pub later : Later k w k' w'
   pub new : List (ℕ × ℕ)
   pub stack : frames w' s' ≡ new ++ frames w s
-  pub count : s' + tops 0 (region PARENT n w') ≤ s + tops 0 (region PARENT n w)
+  pub count : s' + tops 0 (parents n w') ≤ s + tops 0 (parents n w)
   pub go : (G : Pile) (H : Done) (fs : List (ℕ × ℕ)) → State G H F T n k s ((x, to) ∷ fs) w →
       State G H F T n k' s' ((x', to) ∷ (new ++ fs)) w'
 
@@ -238,7 +254,7 @@ pub record Settled (F T : List ℕ) (n k s : ℕ) (w : List ℕ) (k' : ℕ) (bad
 
 pub record United (F T : List ℕ) (n k : ℕ) (w : List ℕ) (x y k' : ℕ) (bad : Bool) (w' : List ℕ) : Type 0 where
   pub later : Later k w k' w'
-  pub calm : k' ≤ k + 2 → Calm w w'
+  pub calm : k' ≤ k + 3 → Calm w w'
   pub fine : bad ≡ false → (G : Pile) (H : Done) → State G H F T n k 0 [] w → Equal G F T x y → State G (withPair H x y) F T n k' 0 [] w'
   pub clash : bad ≡ true → (G : Pile) (H : Done) → State G H F T n k 0 [] w → Equal G F T x y → ClashIn G F T
 

@@ -3,6 +3,8 @@
 // have yet to be compared with those after it.
 use crate::chain::last;
 use crate::forest::find;
+use crate::forest::link;
+use crate::forest::yields;
 use crate::held::Held;
 use crate::held::held_by;
 use area::log::put;
@@ -13,12 +15,12 @@ use area::map::PARENT;
 use area::map::STACK;
 ghost use mathlib.Core.Path.{_≡_};
 ghost use mathlib.Core.Bool.{true, false};
-ghost use Prim.Native.Nat.{_+_, _*_, _≤_, _<_};
-ghost use lib.ListN.{length, getD};
-ghost use Rattle.area.specs.Map.{PARENT, SIZE, NODES};
-ghost use Rattle.area.specs.Region.{region};
+ghost use Prim.Native.Nat.{_≤_, _<_};
+ghost use lib.ListN.{length};
+ghost use Rattle.area.specs.Map.{SIZE, NODES};
 ghost use Rattle.forest.specs.declared.held.Held.the-variants.{Arcs};
 ghost use Rattle.forest.specs.Held.{held-by, Covered};
+ghost use Rattle.forest.specs.Roots.{Fusing, ByItself};
 ghost use Rattle.forest.specs.State.{SomeState, Merged};
 
 // The log's entries and the frames on the stack after a step, and whether it met a clash.
@@ -44,13 +46,13 @@ fn covered(came: Held, there: Held) -> bool
 
 // The class b goes under the class a, which holds what b holds.
 fn tuck(w: &mut [u32], k: usize, s: usize, n: usize, a: usize, b: usize) -> Progress
-    requires { ⌜ (a < b) × ((b < n) × ((n ≤ NODES) × (SIZE ≤ length (now w)))) ⌝ }
-    requires { ⌜ (getD (region PARENT n (now w)) a 0 ≡ a) × (getD (region PARENT n (now w)) b 0 ≡ b) ⌝ }
+    requires { ⌜ (n ≤ NODES) × (SIZE ≤ length (now w)) ⌝ }
+    requires { ⌜ Fusing n (now w) a b ⌝ }
     requires { ⌜ Covered (held-by (now w) b) (held-by (now w) a) ⌝ }
     requires { ⌜ SomeState n k s (now w) ⌝ }
     ensures { λ r. ⌜ Merged n k s (now (w .entry)) a b (r .k) (r .s) (r .bad) (now (w .exit)) ⌝ }
 {
-    let e = put(w, k, PARENT + b, a as u32);
+    let e = link(w, k, n, a, b);
     Progress {
         k: e,
         s: s,
@@ -69,8 +71,8 @@ fn knit(
     p: usize,
     q: usize,
 ) -> Progress
-    requires { ⌜ (a < b) × ((b < n) × ((n ≤ NODES) × (SIZE ≤ length (now w)))) ⌝ }
-    requires { ⌜ (getD (region PARENT n (now w)) a 0 ≡ a) × (getD (region PARENT n (now w)) b 0 ≡ b) ⌝ }
+    requires { ⌜ (n ≤ NODES) × (SIZE ≤ length (now w)) ⌝ }
+    requires { ⌜ Fusing n (now w) a b ⌝ }
     requires { ⌜ (held-by (now w) b ≡ Arcs p) × (held-by (now w) a ≡ Arcs q) ⌝ }
     requires { ⌜ SomeState n k s (now w) ⌝ }
     ensures { λ r. ⌜ Merged n k s (now (w .entry)) a b (r .k) (r .s) (r .bad) (now (w .exit)) ⌝ }
@@ -78,7 +80,7 @@ fn knit(
     let x = p as u32;
     let y = q as u32;
     let z = last(w, p);
-    let e = put(w, k, PARENT + b, a as u32);
+    let e = link(w, k, n, a, b);
     let d = put(w, e, NEXT + z, y);
     let c = put(w, d, HELD + a, x);
     w[STACK + s] = x + FRAME_STEP * y;
@@ -91,8 +93,8 @@ fn knit(
 
 // The class b goes under the class a.
 fn fuse(w: &mut [u32], k: usize, s: usize, n: usize, a: usize, b: usize) -> Progress
-    requires { ⌜ (a < b) × ((b < n) × ((n ≤ NODES) × (SIZE ≤ length (now w)))) ⌝ }
-    requires { ⌜ (getD (region PARENT n (now w)) a 0 ≡ a) × (getD (region PARENT n (now w)) b 0 ≡ b) ⌝ }
+    requires { ⌜ (n ≤ NODES) × (SIZE ≤ length (now w)) ⌝ }
+    requires { ⌜ Fusing n (now w) a b ⌝ }
     requires { ⌜ SomeState n k s (now w) ⌝ }
     ensures { λ r. ⌜ Merged n k s (now (w .entry)) a b (r .k) (r .s) (r .bad) (now (w .exit)) ⌝ }
 {
@@ -103,7 +105,7 @@ fn fuse(w: &mut [u32], k: usize, s: usize, n: usize, a: usize, b: usize) -> Prog
     let there = held_by(w, a);
     if let Held::Nothing = there {
         let h = w[HELD + b];
-        let e = put(w, k, PARENT + b, a as u32);
+        let e = link(w, k, n, a, b);
         let d = put(w, e, HELD + a, h);
         return Progress {
             k: d,
@@ -131,23 +133,58 @@ fn fuse(w: &mut [u32], k: usize, s: usize, n: usize, a: usize, b: usize) -> Prog
     knit(w, k, s, n, a, b, p, q)
 }
 
-// The classes of x and y become one.
-pub fn join(w: &mut [u32], k: usize, s: usize, n: usize, x: usize, y: usize) -> Progress
+// The classes of x and y become one, whichever they are.
+fn blend(w: &mut [u32], k: usize, s: usize, n: usize, x: usize, y: usize) -> Progress
     requires { ⌜ (x < n) × ((y < n) × ((n ≤ NODES) × (SIZE ≤ length (now w)))) ⌝ }
     requires { ⌜ SomeState n k s (now w) ⌝ }
     ensures { λ r. ⌜ Merged n k s (now (w .entry)) x y (r .k) (r .s) (r .bad) (now (w .exit)) ⌝ }
 {
     let a = find(w, n, x);
     let b = find(w, n, y);
-    if a < b {
+    if a == b {
+        return Progress {
+            k: k,
+            s: s,
+            bad: false,
+        };
+    }
+    if yields(w, b, a) {
         return fuse(w, k, s, n, a, b);
     }
-    if b < a {
-        return fuse(w, k, s, n, b, a);
+    fuse(w, k, s, n, b, a)
+}
+
+// Whether y is a class by itself that holds nothing, as a node is that has just come.
+fn is_by_itself(w: &[u32], y: usize) -> bool
+    requires { ⌜ (y < NODES) × (SIZE ≤ length (now w)) ⌝ }
+    ensures { λ r. ⌜ (r ≡ true → ByItself (now (w .entry)) y) ⌝ }
+{
+    if w[PARENT + y] != y as u32 {
+        return false;
     }
-    Progress {
-        k: k,
-        s: s,
-        bad: false,
+    if w[HELD + y] != 0 {
+        return false;
     }
+    true
+}
+
+// The classes of x and y become one. A node by itself goes under the other class at once where that has the lower number.
+pub fn join(w: &mut [u32], k: usize, s: usize, n: usize, x: usize, y: usize) -> Progress
+    requires { ⌜ (x < n) × ((y < n) × ((n ≤ NODES) × (SIZE ≤ length (now w)))) ⌝ }
+    requires { ⌜ SomeState n k s (now w) ⌝ }
+    ensures { λ r. ⌜ Merged n k s (now (w .entry)) x y (r .k) (r .s) (r .bad) (now (w .exit)) ⌝ }
+{
+    if is_by_itself(w, y) {
+        let a = find(w, n, x);
+        if a < y {
+            return tuck(w, k, s, n, a, y);
+        }
+    }
+    if is_by_itself(w, x) {
+        let b = find(w, n, y);
+        if b < x {
+            return tuck(w, k, s, n, b, x);
+        }
+    }
+    blend(w, k, s, n, x, y)
 }

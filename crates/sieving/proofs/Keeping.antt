@@ -7,11 +7,12 @@ use Prim.Native.Nat.{ℕ, zero, suc, _+_, _-_, _%_, _≤_, _<_}
 use native.Mathlib.Omega.{arith}
 use lib.ListN.{length, getD, replicate}
 use Rattle.area.specs.Map.{PARENT, NEXT, LOG, SIZE}
-use Rattle.area.specs.Region.{region, loaded-words}
+use Rattle.area.specs.Region.{loaded-words}
 use Rattle.area.specs.Log.{body, back, past}
-use Rattle.area.proofs.Region.{region-ext, words-same}
+use Rattle.area.proofs.Region.{words-same}
 use Rattle.area.proofs.Undo.{word}
-use Rattle.forest.specs.Forest.{Root}
+use Rattle.forest.specs.Forest.{parents}
+use Rattle.forest.proofs.Parents.{parents-ext, root-on}
 use Rattle.forest.specs.Held.{ChainCode}
 use Rattle.forest.specs.State.{Chain, Runs, Looked}
 use Rattle.classes.specs.Holds.{Labelled, Since}
@@ -76,18 +77,18 @@ same-body k w w' p = let e : k - k ≡ 0 = omega arith in rw e at p
 
 -- all that was pushed since is taken back, and marks are free
 pub sieved-since : (n k : ℕ) (w w' t : List ℕ) → n ≤ 1024 → SIZE ≤ length w → Since k w k w' → Sieved n w t → Sieved n w' t
-sieved-since n k w w' t b h p s = record { tells = λ c root. tells c (root .low) (s .tells c (subst (λ (P : List ℕ). Root P 0 c) parents root)) }
+sieved-since n k w w' t b h p s = record { tells = λ c root. tells c (root .low) (s .tells c (root-on n w' w 0 c same-parents root)) }
   where
     body-same : (j : ℕ) → j < LOG → getD w' j 0 ≡ getD w j 0
     body-same = word w w' (same-body k w w' (p .keeps k (omega arith)))
 
-    parents : region PARENT n w' ≡ region PARENT n w
-    parents = region-ext PARENT n w' w (omega (arith, p .len)) (p .len) (λ j l. body-same (PARENT + j) (omega arith))
+    same-parents : parents n w' ≡ parents n w
+    same-parents = parents-ext n w' w (omega (arith, p .len)) (p .len) (λ j l. body-same (PARENT + j) (omega arith))
 
     loaded-same : loaded-words w' ≡ loaded-words w
     loaded-same = words-same w w' h (p .len) (p .same)
 
-    tells : (c : ℕ) → c ≤ 0 → Sieves w t (getD w c 0) → Sieves w' t (getD w' c 0)
+    tells : (c : ℕ) → c < n → Sieves w t (getD w c 0) → Sieves w' t (getD w' c 0)
     tells c low u = record {
       runs = λ i l. let r = u .runs i l in
           record { xs = r .xs; chain = chain-same w w' body-same (getD t (i % 256) 0) (r .xs) (r .chain); short = r .short };

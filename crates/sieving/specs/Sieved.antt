@@ -3,8 +3,7 @@ use mathlib.Core.Path.{_≡_}
 use mathlib.Core.List.{List}
 use Prim.Native.Nat.{ℕ, _%_, _<_}
 use lib.ListN.{length, getD}
-use Rattle.area.specs.Map.{PARENT}
-use Rattle.area.specs.Region.{region, loaded-words}
+use Rattle.area.specs.Region.{loaded-words}
 use Rattle.forest.specs.Forest.{Root}
 use Rattle.forest.specs.State.{Runs, Looked}
 
@@ -24,7 +23,7 @@ pub record Sieves (w t : List ℕ) (x : ℕ) : Type 0 where
 
 -- c is the class of all roots, with which the number 0 is united
 abbrev pub OfRoots : ℕ → List ℕ → ℕ → Type 0
-OfRoots n w c = Root (region PARENT n w) 0 c
+OfRoots n w c = Root n w 0 c
 
 -- t tells of the chain of the class of all roots
 pub record Sieved (n : ℕ) (w t : List ℕ) : Type 0 where

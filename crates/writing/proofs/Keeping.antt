@@ -9,8 +9,10 @@ use lib.Seq.{getD-set-same, getD-set-other}
 use Rattle.theory.specs.Net.{Graph}
 use Rattle.layout.specs.Standing.{Stands}
 use Rattle.area.specs.Map.{PARENT, NEXT, LOG, STACK, WORDS, RESULT}
-use Rattle.area.specs.Region.{region, loaded-words}
-use Rattle.area.proofs.Region.{region-ext, words-same}
+use Rattle.area.specs.Region.{loaded-words}
+use Rattle.area.proofs.Region.{words-same}
+use Rattle.forest.specs.Forest.{parents}
+use Rattle.forest.proofs.Parents.{parents-ext, root-on}
 use Rattle.forest.specs.Held.{ChainCode}
 use Rattle.forest.specs.State.{targets, Chain}
 use Rattle.forest.proofs.Words.{targets-same}
@@ -90,13 +92,13 @@ module _ (n k at at' : ℕ) (w w' : List ℕ) (r : Kept k at at' w w') (lab : �
     pub kept-classes : Classes n k w' G lab ord
     kept-classes =
         let b = c .below in let h = c .long in let l = r .len in
-        let par : region PARENT n w' ≡ region PARENT n w =
-        region-ext PARENT n w' w (omega arith) l (λ j h. r .low (PARENT + j) (omega arith)) in
+        let par : parents n w' ≡ parents n w =
+        parents-ext n w' w (omega arith) l (λ j h. r .low (PARENT + j) (omega arith)) in
         record {
           long = omega arith;
           below = b;
           shape = rw par (c .shape);
-          label = rw par (c .label);
+          label = λ x t l y. c .label x t l (root-on n w' w x t par y);
           many = c .many;
           room = c .room;
           own = c .own;

@@ -14,18 +14,17 @@ use Rattle.descriptions.proofs.Tests.{Test, differ, test}
 use Rattle.theory.proofs.Meaning.{joined-root}
 use Rattle.theory.proofs.Weight.{distinct-length, range, range-length}
 use Rattle.descriptions.proofs.Tests.{Distinct}
-use Rattle.area.specs.Map.{PARENT}
-use Rattle.area.specs.Region.{region, loaded-words}
-use Rattle.area.proofs.Region.{length-region}
+use Rattle.area.specs.Region.{loaded-words}
 use Rattle.loading.specs.Entry.{Entry, graphs}
 use Rattle.forest.specs.Labels.{by-test}
-use Rattle.forest.specs.Forest.{tops}
+use Rattle.forest.specs.Forest.{parents, tops}
 use Rattle.forest.specs.Held.{last-arc, ChainCode, AtomCode}
 use Rattle.classes.specs.Entry.{Spots, spot-number}
 use Rattle.classes.specs.Holds.{Holds, class}
 use Rattle.classes.proofs.Content.{Content}
 use Rattle.forest.proofs.Links.{first-mem, first-feature}
-use Rattle.forest.proofs.Fuse.{label-low}
+use Rattle.forest.proofs.Wood.{label-root}
+use Rattle.forest.proofs.Parents.{length-parents}
 use Rattle.classes.proofs.Writer.{holds-room, spot-low, class-low, class-top, class-root, same-class, class-same, content}
 use Rattle.writing.specs.Classes.{Fan, Classes}
 
@@ -143,21 +142,18 @@ module _ (n : ℕ) (es : List Entry) (k : ℕ) (w : List ℕ) (h : Holds n es k 
       rw (p .1 .1) (class-top n es k w h (spot-number es (p .0)) (spot-low n es k w h (p .0)))
 
   abbrev P : List ℕ
-  P = region PARENT n w
+  P = parents n w
 
   root : (c : ℕ) → c < n → class h c ≡ c → getD P c 0 ≡ c
   root c l e =
       let long = h .long in let few = h .below in
-      let m : length P ≡ n = length-region PARENT n w (omega arith) in
-      let a = h .state .shape .down c (omega arith) in
-      let b = h .state .forest .follow c (omega arith) in
-      let d = label-low P (h .state .M) (h .state .shape) (h .state .forest) (getD P c 0) (omega arith) in
-      omega arith
+      let m : length P ≡ n = length-parents n w (omega arith) in
+      rw e at (label-root P (h .state .shape) (h .state .M) (h .state .forest) c (omega arith) .1)
 
   room : k + length ord ≤ 4096
   room =
       let long = h .long in let few = h .below in
-      let m : length P ≡ n = length-region PARENT n w (omega arith) in
+      let m : length P ≡ n = length-parents n w (omega arith) in
       let r = holds-room n es k w h in
       let d : length ord ≤ length (roots-from 0 P) = distinct-length ord (roots-from 0 P) (distinct ord own)
       (λ x i. let p = position x ord i in let a = low (p .0) (p .1 .0) in

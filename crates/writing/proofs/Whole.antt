@@ -10,9 +10,8 @@ use Rattle.theory.specs.Layout.{nodes-words}
 use Rattle.theory.specs.Weight.{weight}
 use Rattle.layout.specs.Standing.{Stands}
 use Rattle.layout.proofs.Standing.{stands-length, stands-frame}
-use Rattle.area.specs.Map.{PARENT, RESULT, SIZE}
-use Rattle.area.specs.Region.{region}
-use Rattle.forest.specs.Forest.{Shape, Root}
+use Rattle.area.specs.Map.{RESULT, SIZE}
+use Rattle.forest.specs.Forest.{parents, Shape, Root}
 use Rattle.classes.specs.Holds.{class}
 use Rattle.classes.proofs.Laws.{holds-few, holds-again, since-again}
 use Rattle.writing.specs.Classes.{Classes, Met}
@@ -57,18 +56,18 @@ module _ (n k : ℕ) (w : List ℕ) (o : ℕ) (p : Writing n k w o) where
       some : 0 < n
       some = let a = s .low 0 (s .some) in omega arith
 
-      first : (c : ℕ) → Root (region PARENT n w1) 0 c → c ≡ getD ord 0 0
+      first : (c : ℕ) → Root n w1 0 c → c ≡ getD ord 0 0
       first c r = cleared .label 0 c some r ∙ s .first
 
     abbrev G : Graph
     G = p .G
 
-    pub writing-find : ((0 < n) × ((n ≤ 1024) × (SIZE ≤ length w1))) × Shape (region PARENT n w1)
+    pub writing-find : ((0 < n) × ((n ≤ 1024) × (SIZE ≤ length w1))) × Shape (parents n w1)
     writing-find =
         let c = cleared G (class (p .holds)) (ord n (p .es) k w (p .holds) G (p .joined)) s in
         ((some G (class (p .holds)) (ord n (p .es) k w (p .holds) G (p .joined)) s, (c .below, c .long)), c .shape)
 
-    module _ (c : ℕ) (r : Root (region PARENT n w1) 0 c) where
+    module _ (c : ℕ) (r : Root n w1 0 c) where
       pub writing-number : Numbering n k 0 c w1
       writing-number =
           let lab = class (p .holds) in

@@ -5,9 +5,9 @@ use Prim.Native.Nat.{ℕ, suc, _+_, _≤_, _<_}
 use lib.ListN.{length, getD}
 use Rattle.theory.specs.Limits.{code-limit}
 use Rattle.theory.specs.Net.{Graph, atom, arcs, nodeAt}
-use Rattle.area.specs.Map.{PARENT, LOG, STACK, SIZE, LOADED, TARGETS, NODES, ENTRIES}
-use Rattle.area.specs.Region.{region, loaded-words}
-use Rattle.forest.specs.Forest.{Shape, Root}
+use Rattle.area.specs.Map.{LOG, STACK, SIZE, LOADED, TARGETS, NODES, ENTRIES}
+use Rattle.area.specs.Region.{loaded-words}
+use Rattle.forest.specs.Forest.{parents, Shape, Root}
 use Rattle.forest.specs.Held.{ChainCode}
 use Rattle.forest.specs.State.{targets, Chain}
 
@@ -27,8 +27,8 @@ pub record Fan (n : ℕ) (w : List ℕ) (lab : ℕ → ℕ) (ord : List ℕ) (x 
 pub record Classes (n k : ℕ) (w : List ℕ) (G : Graph) (lab : ℕ → ℕ) (ord : List ℕ) : Type 0 where
   pub long : SIZE ≤ length w
   pub below : n ≤ NODES
-  pub shape : Shape (region PARENT n w)
-  pub label : (x r : ℕ) → x < n → Root (region PARENT n w) x r → r ≡ lab x
+  pub shape : Shape (parents n w)
+  pub label : (x r : ℕ) → x < n → Root n w x r → r ≡ lab x
   pub many : length ord ≡ length G
   pub room : k + length ord ≤ ENTRIES
   pub own : (i j : ℕ) → i < length ord → j < length ord → getD ord i 0 ≡ getD ord j 0 → i ≡ j

@@ -13,26 +13,20 @@ mul-y c = search needs
 slice-read-y : tie.Need-slice-read-y
 slice-read-y c = search needs
 
+follow-requires : tie.Need-follow-requires
+follow-requires c κs =
+    let p = c .before .before .before .pre in
+    let sm = p .1 .0 .0 .small _ (p .0 .0) in
+    ((p .0 .1 .0, (sm, p .0 .1 .1)), ((p .1 .0 .0, omega arith), p .1 .1))
+
 add-put : tie.Need-add-put
 add-put c = search needs
-
-put-requires : tie.Need-put-requires
-put-requires c κs =
-    let p = c .before .before .before .pre in
-    let sm = p .1 .0 .small _ (p .0 .0) in
-    (p .1 .0, (omega arith, (omega arith, (sm, p .0 .1 .1))))
-
-add-put-2 : tie.Need-add-put-2
-add-put-2 c = search needs
 
 cast-put : tie.Need-cast-put
 cast-put c = search needs
 
-put-requires-2 : tie.Need-put-requires-2
-put-requires-2 c κs =
-    let p = c .before .before .before .before .before .before .before .pre in
-    let put = c .before .before .before .put .ensures in
-    (put .later .logged, (p .0 .0, (omega (arith, put .next), (omega arith, omega (arith, put .later .len)))))
+put-requires : tie.Need-put-requires
+put-requires c κs = search needs
 
 add-a : tie.Need-add-a
 add-a c = search needs
@@ -42,12 +36,12 @@ same-length c = search needs
 
 returns : tie.Need-returns
 returns c =
-    let put = c .before .before .before .before .before .before .before .put in
+    let follow = c .before .before .before .before .before .before .before .follow in
     record {
-      entry = put .result;
-      between = put .last .0;
-      before = put .ensures;
-      after = c .before .before .before .put2 .ensures;
+      entry = follow .result;
+      between = follow .last .0;
+      before = follow .ensures;
+      after = c .before .before .before .put .ensures;
       next = inl refl;
       fine = refl;
     }
@@ -57,17 +51,16 @@ same-length-2 c = search needs
 
 returns-2 : tie.Need-returns-2
 returns-2 c =
-    let put = c .before .before .before .before .before .before .before .put in
+    let follow = c .before .before .before .before .before .before .before .follow in
     record {
-      entry = put .result;
-      between = put .last .0;
-      before = put .ensures;
-      after = c .before .before .before .put2 .ensures;
+      entry = follow .result;
+      between = follow .last .0;
+      before = follow .ensures;
+      after = c .before .before .before .put .ensures;
       next = inr (some _ (c .if1 .left), refl);
       fine = refl;
     }
 
 pub hang-spec : {M : Type 1} → statement M
 hang-spec =
-    tie.close (tie.spec mul-y slice-read-y add-put put-requires add-put-2 cast-put put-requires-2 add-a same-length returns same-length-2
-    returns-2)
+    tie.close (tie.spec mul-y slice-read-y follow-requires add-put cast-put put-requires add-a same-length returns same-length-2 returns-2)

@@ -2,8 +2,8 @@
 use Prim.Native.Nat.{ℕ, _+_, _-_}
 use mathlib.Core.Path.{subst}
 use native.Mathlib.Omega.{arith}
-use Rattle.area.specs.Map.{PARENT, NEXT}
-use Rattle.area.specs.Region.{region, loaded-words}
+use Rattle.area.specs.Map.{NEXT}
+use Rattle.area.specs.Region.{loaded-words}
 use Rattle.forest.specs.Forest.{Root}
 use Rattle.forest.proofs.Walks.{some}
 use Rattle.classes.proofs.Visits.{ordered-none, ordered-hint}
@@ -32,7 +32,7 @@ returns-2 c =
     let wn = a .w .now in
     let g = c .before .before .before .before .before .pre .1 .1 in
     ordered-hint (loaded-words wn) (a .n) (a .e) wn (a .x) (a .c) (NEXT + (a .r - 1)) (g .steady)
-    (subst (λ (z : ℕ). Root (region PARENT (a .n) wn) (a .x) z) (c .before .if2 .taken) (c .before .before .find .ensures))
+    (subst (λ (z : ℕ). Root (a .n) wn (a .x) z) (c .before .if2 .taken) (c .before .before .find .ensures))
     (g .kept (c .if3 .taken) (some (a .at) (c .before .before .before .if1 .left)))
 
 afresh-requires : tie.Need-afresh-requires

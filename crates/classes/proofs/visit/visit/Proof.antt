@@ -170,7 +170,8 @@ hang-requires c κs =
     let g = s .pre .1 .1 .0 in
     let rr = g .fresh .room in
     let rq = g .state .room in
-    ((p .locate .ensures .low, (omega arith, omega arith)), (g .state .logged, omega arith))
+    let blank = g .state .blank (s .args .t) (omega arith) (g .fresh .new) in
+    ((p .locate .ensures .low, (omega arith, omega arith)), ((g .state .logged, omega arith), blank))
 
 same-length-2 : tie.Need-same-length-2
 same-length-2 c = search needs

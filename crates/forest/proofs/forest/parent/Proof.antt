@@ -2,9 +2,8 @@
 use mathlib.Core.Path.{_≡_, sym, _∙_}
 use native.Mathlib.Omega.{arith}
 use lib.ListN.{length}
-use Rattle.area.specs.Map.{PARENT}
-use Rattle.area.specs.Region.{region}
-use Rattle.area.proofs.Region.{getD-region, length-region}
+use Rattle.forest.specs.Forest.{parents}
+use Rattle.forest.proofs.Parents.{length-parents, getD-parents}
 use borrow.Author.Needs.{needs}
 use Rattle.forest.proofs.forest.parent.Statement.{statement}
 use Rattle.forest.proofs.forest.parent.Tie as tie
@@ -25,9 +24,9 @@ returns : tie.Need-returns
 returns c =
     let s = c .before .before .before in
     let a = s .args in
-    let e = c .wide .ensures ∙ sym (getD-region PARENT (a .n) (a .w .now) (a .x) (s .pre .0 .0)) in
-    let l : length (region PARENT (a .n) (a .w .now)) ≡ a .n = length-region PARENT (a .n) (a .w .now) (omega arith) in
-    (e, rw e (s .pre .1 .down (a .x) (omega arith)))
+    let e = c .wide .ensures ∙ sym (getD-parents (a .n) (a .w .now) (a .x) (s .pre .0 .0)) in
+    let l : length (parents (a .n) (a .w .now)) ≡ a .n = length-parents (a .n) (a .w .now) (omega arith) in
+    (e, omega (arith, s .pre .1 .inside (a .x) (omega arith)))
 
 pub parent-spec : {M : Type 1} → statement M
 parent-spec = tie.close (tie.spec add-wide mul-wide shared-slice-read-wide wide-requires returns)

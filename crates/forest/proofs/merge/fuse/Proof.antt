@@ -12,7 +12,7 @@ use Rattle.forest.specs.declared.held.Held.{Held}
 use Rattle.forest.specs.declared.held.Held.the-variants.{Nothing, Arcs}
 use Rattle.forest.proofs.held.Held.{the-type}
 use Rattle.forest.proofs.Contents.{told-nothing}
-use Rattle.forest.proofs.Cases.{room, moved, clash-met}
+use Rattle.forest.proofs.Cases.{room, linking, moved, clash-met}
 use borrow.Author.Needs.{needs}
 use Rattle.forest.proofs.merge.fuse.Statement.{statement}
 use Rattle.forest.proofs.merge.fuse.Tie as tie
@@ -59,37 +59,28 @@ mul-h c = search needs
 slice-read-h : tie.Need-slice-read-h
 slice-read-h c = search needs
 
-add-put : tie.Need-add-put
-add-put c = search needs
-
-cast-put : tie.Need-cast-put
-cast-put c = search needs
-
-put-requires : tie.Need-put-requires
-put-requires c κs =
+link-requires : tie.Need-link-requires
+link-requires c κs =
     let s = c .before .before .before .before .before .before .before .before .before .before in
     let a = s .args in
     let h = s .pre .0 in
     let p = s .pre .1 in
-    let rm = room (a .n) (a .k) (a .s) (a .w .now) (a .a) (a .b) (h .0) (h .1 .0) (h .1 .1 .0) (h .1 .1 .1) (p .0 .0)
-    (p .0 .1) (p .1) in
-    (p .1 .state .logged, (omega arith, (omega arith, omega arith)))
+    (h, linking (a .n) (a .k) (a .s) (a .w .now) (a .a) (a .b) (p .0) (h .0) (h .1) (p .1))
 
-add-put-2 : tie.Need-add-put-2
-add-put-2 c = search needs
+add-put : tie.Need-add-put
+add-put c = search needs
 
-put-requires-2 : tie.Need-put-requires-2
-put-requires-2 c κs =
+put-requires : tie.Need-put-requires
+put-requires c κs =
     let s = c .before .before .before .before .before .before .before .before .before .before .before .before .before .before in
     let a = s .args in
     let h = s .pre .0 in
     let p = s .pre .1 in
-    let put = c .before .before .before .put in
-    let rm = room (a .n) (a .k) (a .s) (a .w .now) (a .a) (a .b) (h .0) (h .1 .0) (h .1 .1 .0) (h .1 .1 .1) (p .0 .0)
-    (p .0 .1) (p .1) in
+    let link = c .before .before .before .link in
+    let rm = room (a .n) (a .k) (a .s) (a .w .now) (a .a) (a .b) (p .0) (h .0) (h .1) (p .1) in
     let sm = p .1 .state .logged .small (HELD + a .b) (omega arith) in (
-      put .ensures .later .logged,
-      (omega arith, (omega (arith, put .ensures .next), (omega arith, omega (arith, put .ensures .later .len)))),
+      link .ensures .later .logged,
+      (omega arith, (omega (arith, link .ensures .next), (omega arith, omega (arith, link .ensures .later .len)))),
     )
 
 same-length-2 : tie.Need-same-length-2
@@ -102,15 +93,15 @@ returns-2 c =
     let a = s .args in
     let h = s .pre .0 in
     let p = s .pre .1 in
-    let put = c .before .before .before .before .before .before .put in
-    let put2 = c .before .before .put2 in
+    let link = c .before .before .before .before .before .before .link in
+    let put = c .before .before .put in
     let v = getD (a .w .now) (HELD + a .b) 0 in
     let none = sym (c .before .before .before .before .before .before .before .before .before .before .before .held-by2 .ensures)
     ∙ c .before .before .before .before .before .before .before .before .before .enum-told2 .given .1 in
-    moved (a .n) (a .k) (a .s) (a .w .now) (a .a) (a .b) (h .0) (h .1 .0) (h .1 .1 .0) (h .1 .1 .1) (p .0 .0)
-    (p .0 .1) (p .1) (put .result) (put .last .0) (put .ensures) v (put2 .result) (put2 .last .0)
+    moved (a .n) (a .k) (a .s) (a .w .now) (a .a) (a .b) (p .0) (h .0) (h .1) (p .1) (link .result) (link .last .0)
+    (link .ensures) v (put .result) (put .last .0)
     (ap (λ (i : ℕ). getD (a .w .now) i 0) (held-at (a .b)))
-    (subst (λ (i : ℕ). Stores (put .result) (put .last .0) i v (put2 .result) (put2 .last .0)) (held-at (a .a)) (put2 .ensures))
+    (subst (λ (i : ℕ). Stores (link .result) (link .last .0) i v (put .result) (put .last .0)) (held-at (a .a)) (put .ensures))
     (told-nothing (a .w .now) (a .a) none)
 
 covered-requires : tie.Need-covered-requires
@@ -142,8 +133,8 @@ returns-4 c =
     let a = s .args in
     let h = s .pre .0 in
     let p = s .pre .1 in
-    clash-met (a .n) (a .k) (a .s) (a .w .now) (a .a) (a .b) (h .0) (h .1 .0) (h .1 .1 .0) (h .1 .1 .1) (p .0 .0)
-    (p .0 .1) (p .1) _ _ (c .before .before .before .before .before .before .before .held-by .ensures)
+    clash-met (a .n) (a .k) (a .s) (a .w .now) (a .a) (a .b) (p .0) (h .0) (h .1) (p .1) _ _
+    (c .before .before .before .before .before .before .before .held-by .ensures)
     (c .before .before .before .before .held-by2 .ensures) (c .before .before .covered .ensures .1 (c .before .if1 .left))
     (some-held _ (c .before .before .before .match2 .keys2)) (λ x y e i. no-arcs _ x (c .match3 .keys2) e)
 
@@ -159,8 +150,8 @@ returns-5 c =
     let a = s .args in
     let h = s .pre .0 in
     let p = s .pre .1 in
-    clash-met (a .n) (a .k) (a .s) (a .w .now) (a .a) (a .b) (h .0) (h .1 .0) (h .1 .1 .0) (h .1 .1 .1) (p .0 .0)
-    (p .0 .1) (p .1) _ _ (c .before .before .before .before .before .before .before .before .before .before .held-by .ensures)
+    clash-met (a .n) (a .k) (a .s) (a .w .now) (a .a) (a .b) (p .0) (h .0) (h .1) (p .1) _ _
+    (c .before .before .before .before .before .before .before .before .before .before .held-by .ensures)
     (c .before .before .before .before .before .before .before .held-by2 .ensures)
     (c .before .before .before .before .before .covered .ensures .1 (c .before .before .before .before .if1 .left))
     (some-held _ (c .before .before .before .before .before .before .match2 .keys2)) (λ x y e i. no-arcs _ y (c .match4 .keys2) i)
@@ -184,5 +175,5 @@ returns-6 c = search needs
 pub fuse-spec : {M : Type 1} → statement M
 fuse-spec =
     tie.close (tie.spec held-by-requires enum-told tuck-requires same-length returns held-by-requires-2 enum-told-2 add-h mul-h slice-read-h
-    add-put cast-put put-requires add-put-2 put-requires-2 same-length-2 returns-2 covered-requires tuck-requires-2 same-length-3 returns-3
+    link-requires add-put put-requires same-length-2 returns-2 covered-requires tuck-requires-2 same-length-3 returns-3
     enum-known-came same-length-4 returns-4 enum-known-there same-length-5 returns-5 knit-requires same-length-6 returns-6)

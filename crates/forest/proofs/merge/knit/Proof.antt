@@ -8,7 +8,7 @@ use Rattle.area.specs.Log.{Stores}
 use Rattle.area.proofs.Region.{held-at}
 use Rattle.forest.specs.State.{Runs}
 use Rattle.forest.proofs.Contents.{told-arcs}
-use Rattle.forest.proofs.Cases.{room, high, knitted, ready-runs}
+use Rattle.forest.proofs.Cases.{room, high, linking, knitted, ready-runs}
 use borrow.Author.Needs.{needs}
 use Rattle.forest.proofs.merge.knit.Statement.{statement}
 use Rattle.forest.proofs.merge.knit.Tie as tie
@@ -29,25 +29,37 @@ last-requires c κs =
     let came = told-arcs wn (a .b) (a .p) (p .1 .0 .0) in (
       (omega arith, omega arith),
       subst (Runs wn) (sym (came .0))
-          (ready-runs (a .n) (a .k) (a .s) wn (a .a) (a .b) (h .0) (h .1 .0) (h .1 .1 .0) (h .1 .1 .1) (p .0 .0) (p .0 .1)
-          (p .1 .1) (a .b) (omega arith) (p .0 .1) (omega arith)),
+          (ready-runs (a .n) (a .k) (a .s) wn (a .a) (a .b) (p .0) (h .0) (h .1) (p .1 .1) (a .b)
+          (p .0 .low-b) (p .0 .top-b) (omega arith)),
     )
 
-add-put : tie.Need-add-put
-add-put c = search needs
-
-cast-put : tie.Need-cast-put
-cast-put c = search needs
-
-put-requires : tie.Need-put-requires
-put-requires c κs =
+link-requires : tie.Need-link-requires
+link-requires c κs =
     let s = c .before .before .before .before in
     let a = s .args in
     let h = s .pre .0 in
     let p = s .pre .1 in
-    let rm = room (a .n) (a .k) (a .s) (a .w .now) (a .a) (a .b) (h .0) (h .1 .0) (h .1 .1 .0) (h .1 .1 .1) (p .0 .0)
-    (p .0 .1) (p .1 .1) in
-    (p .1 .1 .state .logged, (omega arith, (omega arith, (omega arith, omega arith))))
+    (h, linking (a .n) (a .k) (a .s) (a .w .now) (a .a) (a .b) (p .0) (h .0) (h .1) (p .1 .1))
+
+add-put : tie.Need-add-put
+add-put c = search needs
+
+put-requires : tie.Need-put-requires
+put-requires c κs =
+    let link = c .before .before .before .link in
+    let s = c .before .before .before .before .before .before .before .before in
+    let a = s .args in
+    let h = s .pre .0 in
+    let p = s .pre .1 in
+    let rm = room (a .n) (a .k) (a .s) (a .w .now) (a .a) (a .b) (p .0) (h .0) (h .1) (p .1 .1) in
+    let there = told-arcs (a .w .now) (a .a) (a .q) (p .1 .0 .1) in
+    let l = c .before .before .before .before .before .last .ensures .below in (
+      link .ensures .later .logged,
+      (
+        omega arith,
+        (omega (arith, link .ensures .next), (omega arith, omega (arith, link .ensures .later .len))),
+      ),
+    )
 
 add-put-2 : tie.Need-add-put-2
 add-put-2 c = search needs
@@ -55,41 +67,19 @@ add-put-2 c = search needs
 put-requires-2 : tie.Need-put-requires-2
 put-requires-2 c κs =
     let put = c .before .before .before .put in
-    let s = c .before .before .before .before .before .before .before .before in
-    let a = s .args in
-    let h = s .pre .0 in
-    let p = s .pre .1 in
-    let rm = room (a .n) (a .k) (a .s) (a .w .now) (a .a) (a .b) (h .0) (h .1 .0) (h .1 .1 .0) (h .1 .1 .1) (p .0 .0)
-    (p .0 .1) (p .1 .1) in
-    let there = told-arcs (a .w .now) (a .a) (a .q) (p .1 .0 .1) in
-    let l = c .before .before .before .before .before .last .ensures .below in (
-      put .ensures .later .logged,
-      (
-        omega arith,
-        (omega (arith, put .ensures .next), (omega arith, omega (arith, put .ensures .later .len))),
-      ),
-    )
-
-add-put-3 : tie.Need-add-put-3
-add-put-3 c = search needs
-
-put-requires-3 : tie.Need-put-requires-3
-put-requires-3 c κs =
-    let put2 = c .before .before .before .put2 in
-    let put = c .before .before .before .before .before .before .before .put in
+    let link = c .before .before .before .before .before .before .before .link in
     let s = c .before .before .before .before .before .before .before .before .before .before .before .before in
     let a = s .args in
     let h = s .pre .0 in
     let p = s .pre .1 in
-    let rm = room (a .n) (a .k) (a .s) (a .w .now) (a .a) (a .b) (h .0) (h .1 .0) (h .1 .1 .0) (h .1 .1 .1) (p .0 .0)
-    (p .0 .1) (p .1 .1) in
+    let rm = room (a .n) (a .k) (a .s) (a .w .now) (a .a) (a .b) (p .0) (h .0) (h .1) (p .1 .1) in
     let came = told-arcs (a .w .now) (a .b) (a .p) (p .1 .0 .0) in (
-      put2 .ensures .later .logged,
+      put .ensures .later .logged,
       (
         omega arith,
         (
-          omega (arith, put .ensures .next, put2 .ensures .next),
-          (omega arith, omega (arith, put .ensures .later .len, put2 .ensures .later .len)),
+          omega (arith, link .ensures .next, put .ensures .next),
+          (omega arith, omega (arith, link .ensures .later .len, put .ensures .later .len)),
         ),
       ),
     )
@@ -121,43 +111,42 @@ slice-write-w c =
     let a = s .args in
     let h = s .pre .0 in
     let p = s .pre .1 in
-    let hi = high (a .n) (a .k) (a .s) (a .w .now) (a .a) (a .b) (h .0) (h .1 .0) (h .1 .1 .0) (h .1 .1 .1) (p .0 .0)
-    (p .0 .1) (p .1 .1) in
+    let hi = high (a .n) (a .k) (a .s) (a .w .now) (a .a) (a .b) (p .0) (h .0) (h .1) (p .1 .1) in
     omega (
       arith,
-      c .before .before .before .before .before .before .before .before .before .before .put .ensures .later .len,
-      c .before .before .before .before .before .before .put2 .ensures .later .len,
-      c .before .before .put3 .ensures .later .len,
+      c .before .before .before .before .before .before .before .before .before .before .link .ensures .later .len,
+      c .before .before .before .before .before .before .put .ensures .later .len,
+      c .before .before .put2 .ensures .later .len,
       hi,
     )
 
-add-t19 : tie.Need-add-t19
-add-t19 c = search needs
+add-t21 : tie.Need-add-t21
+add-t21 c = search needs
 
 same-length : tie.Need-same-length
-same-length c = simp length-set (c .before .before .put3 .ensures .later .len
-    ∙ c .before .before .before .before .before .before .put2 .ensures .later .len
-    ∙ c .before .before .before .before .before .before .before .before .before .before .put .ensures .later .len)
+same-length c = simp length-set (c .before .before .put2 .ensures .later .len
+    ∙ c .before .before .before .before .before .before .put .ensures .later .len
+    ∙ c .before .before .before .before .before .before .before .before .before .before .link .ensures .later .len)
 
 returns : tie.Need-returns
 returns c =
     let last = c .before .before .before .before .before .before .before .before .before .before .before .before .last in
-    let put = c .before .before .before .before .before .before .before .before .before .before .put in
-    let put2 = c .before .before .before .before .before .before .put2 in
-    let put3 = c .before .before .put3 in
+    let link = c .before .before .before .before .before .before .before .before .before .before .link in
+    let put = c .before .before .before .before .before .before .put in
+    let put2 = c .before .before .put2 in
     let s = c .before .before .before .before .before .before .before .before .before .before .before .before .before .before .before in
     let a = s .args in
     let h = s .pre .0 in
     let p = s .pre .1 in
     let came = told-arcs (a .w .now) (a .b) (a .p) (p .1 .0 .0) in
     let there = told-arcs (a .w .now) (a .a) (a .q) (p .1 .0 .1) in
-    knitted (a .n) (a .k) (a .s) (a .w .now) (a .a) (a .b) (h .0) (h .1 .0) (h .1 .1 .0) (h .1 .1 .1) (p .0 .0) (p .0 .1)
-    (p .1 .1) (put .result) (put .last .0) (put .ensures) (a .p) (a .q) (last .result) (put2 .result) (put3 .result) (put2 .last .0)
-    (put3 .last .0) (set (put3 .last .0) (STACK + a .s) (a .p + 4096 * a .q)) (came .0) (there .0) (came .1) (there .1) (last .ensures)
-    (put2 .ensures)
-    (subst (λ (i : ℕ). Stores (put2 .result) (put2 .last .0) i (a .p) (put3 .result) (put3 .last .0)) (held-at (a .a)) (put3 .ensures)) refl
+    knitted (a .n) (a .k) (a .s) (a .w .now) (a .a) (a .b) (p .0) (h .0) (h .1)
+    (p .1 .1) (link .result) (link .last .0) (link .ensures) (a .p) (a .q) (last .result) (put .result) (put2 .result) (put .last .0)
+    (put2 .last .0) (set (put2 .last .0) (STACK + a .s) (a .p + 4096 * a .q)) (came .0) (there .0) (came .1) (there .1) (last .ensures)
+    (put .ensures)
+    (subst (λ (i : ℕ). Stores (put .result) (put .last .0) i (a .p) (put2 .result) (put2 .last .0)) (held-at (a .a)) (put2 .ensures)) refl
 
 pub knit-spec : {M : Type 1} → statement M
 knit-spec =
-    tie.close (tie.spec cast-x cast-y last-requires add-put cast-put put-requires add-put-2 put-requires-2 add-put-3 put-requires-3 mul-w
-    add-w add-w-2 mul-w-2 slice-write-w add-t19 same-length returns)
+    tie.close (tie.spec cast-x cast-y last-requires link-requires add-put put-requires add-put-2 put-requires-2 mul-w
+    add-w add-w-2 mul-w-2 slice-write-w add-t21 same-length returns)

@@ -3,9 +3,8 @@ use Prim.Native.Nat.{_+_}
 use mathlib.Core.Path.{_≡_, _∙_}
 use native.Mathlib.Omega.{arith}
 use lib.ListN.{length}
-use Rattle.area.specs.Map.{PARENT}
-use Rattle.area.specs.Region.{region, loaded-words}
-use Rattle.forest.specs.Forest.{tops}
+use Rattle.area.specs.Region.{loaded-words}
+use Rattle.forest.specs.Forest.{parents, tops}
 use Rattle.forest.specs.State.{targets}
 use Rattle.forest.proofs.Words.{words-later, targets-later}
 use Rattle.forest.proofs.Walks.{some}
@@ -19,7 +18,7 @@ abbrev Inv-loop : tie.InvT-loop
 Inv-loop w₀ k s n e₀ h₀ w e h = Settling (loaded-words w₀) (targets w₀) n k s w₀ e h w
 
 abbrev μ-loop : tie.MeasureT-loop
-μ-loop w₀ k s n e₀ h₀ w e h = h + tops 0 (region PARENT n w)
+μ-loop w₀ k s n e₀ h₀ w e h = h + tops 0 (parents n w)
 
 loop-holds : tie.Need-loop-holds Inv-loop μ-loop
 loop-holds c = settle-start _ _ _ _ _ _ (c .before .pre .1 .state .logged)
