@@ -28,4 +28,5 @@ Handed w s made.QuickFails r s′ = (r ≡ Clash) × (s′ ≡ s)
 Handed w s made.TooMany r s′ = (r ≡ TooMany) × (s′ ≡ s)
 Handed w s made.NoChoice r s′ = (r ≡ Clash) × (s′ ≡ s)
 Handed w s (made.Ready n k) r s′ =
-    ((length s < n) × (r ≡ NoRoom n) × (s′ ≡ s)) ⊎ ((n ≤ length s) × (r ≡ Done n k) × (s′ ≡ region RESULT n w ++ drop n s))
+    ((length s < n) × (r ≡ NoRoom n) × (s′ ≡ s))
+    ⊎ ((n ≤ length s) × (r ≡ Done n k) × (s′ ≡ region RESULT n w ++ drop n s))

@@ -30,7 +30,11 @@ count-limit = 2048
 
 -- a word count, and so many words
 unfoldable pub counted : List ℕ → Option Taken
-counted cs = elim (token cs) [ is n rest ↦ elim (ltb count-limit n) [ true ↦ none | false ↦ words-in n rest ] | over ↦ none | bad ↦ none ]
+counted cs = elim (token cs) [
+  | is n rest ↦ elim (ltb count-limit n) [ true ↦ none | false ↦ words-in n rest ]
+  | over ↦ none
+  | bad ↦ none
+]
 
 -- "a missing or surplus number": whether no number is left
 unfoldable pub done : List ℕ → Bool

@@ -39,9 +39,9 @@ use Rattle.counting.specs.Counted.{CountedBoth, inner-both}
 use Rattle.entering.specs.Inputs.{Inputs}
 use Rattle.entering.specs.Stage.{Pair, Stage}
 use Rattle.entering.proofs.Pairs.{whole-comes}
-use Rattle.choosing.specs.Ways.{Take, entries-of, marks-of, new-of, number-both, way-both}
+use Rattle.choosing.specs.Ways.{Take, marks-of, number-both, way-both}
 use Rattle.choosing.proofs.Numbers.{Each, way-inside}
-use Rattle.choosing.proofs.Nth.{picks-both, picks-count, way-picks}
+use Rattle.choosing.proofs.Nth.{entries-of, new-of, picks-both, picks-count, way-picks}
 use Rattle.choosing.proofs.Newly.{way-sure}
 
 -- one more of a list

@@ -18,13 +18,23 @@ use Rattle.modes_by_marks.proofs.Finding.{Pick, pick-as, pick-pairs, picks, pic
 use Rattle.modes_by_marks.proofs.Joined.{keep-next}
 use Rattle.modes_by_marks.proofs.Picks.{Nth, nth-left, nth-right, nth-each, nth-as, nth-pairs, as-long, picks-long, picks-all-long}
 use Rattle.modes_by_marks.proofs.Picks.{pairs-long, picks-next}
-use Rattle.loading.specs.Entry.{entry, graphs}
+use Rattle.loading.specs.Entry.{Entry, entry, graphs}
 use Rattle.loading.specs.Loaded.{extent}
 use Rattle.loading.specs.At.{At, AtAll, AtAny}
 use Rattle.counting.specs.Counted.{inner-both}
 use Rattle.entering.specs.Inputs.{Inputs}
-use Rattle.choosing.specs.Ways.{Take, take-as, beside-other, way-in, way-all, way-any, way-of, entries-of, marks-of}
+use Rattle.choosing.specs.Ways.{Take, take-as, beside-other, way-in, way-all, way-any, way-of, marks-of}
 use Rattle.choosing.specs.Ways.{number-both, way-both}
+
+-- what is taken: the entries
+abbrev pub entries-of : List Take → List Entry
+entries-of [] = []
+entries-of (k ∷ ks) = k .entry ∷ entries-of ks
+
+-- those that are not among what is certain
+abbrev pub new-of : List Take → List Take
+new-of [] = []
+new-of (k ∷ ks) = elim (k .new) [ true ↦ k ∷ new-of ks | false ↦ new-of ks ]
 
 -- what is taken, as the choices have it
 abbrev pick-of : List Take → Pick Graph

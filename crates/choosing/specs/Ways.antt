@@ -80,19 +80,10 @@ module _ {n : ℕ} {t : List ℕ} (i : Inputs n t) (m : Marking) where
   unfoldable pub way-both : ℕ → List Take
   way-both c = way-of m false (i .first) (c / choices-of m (i .second)) ++ way-of m false (i .second) (c % choices-of m (i .second))
 
--- what is taken: the entries, and the marks
-abbrev pub entries-of : List Take → List Entry
-entries-of [] = []
-entries-of (k ∷ ks) = k .entry ∷ entries-of ks
-
+-- the marks of what is taken
 abbrev pub marks-of : List Take → List ℕ
 marks-of [] = []
 marks-of (k ∷ ks) = k .mark ∷ marks-of ks
-
--- those that are not among what is certain
-abbrev pub new-of : List Take → List Take
-new-of [] = []
-new-of (k ∷ ks) = elim (k .new) [ true ↦ k ∷ new-of ks | false ↦ new-of ks ]
 
 -- the word of one in the working area: its position, and so much more where it is new
 abbrev pub new-part : Bool → ℕ

@@ -54,7 +54,8 @@ pub record Tied (F T : List ℕ) (es : List Entry) (G : Pile) : Type 0 where
   pub node : (e : Entry) → List·Memᴰ e es → (j : ℕ) → j < length (e .graph) →
       List·Memᴰ (e .number + j) (G .N) × (G .A (e .number + j) ≡ code (nodeAt (e .graph) j))
   pub nodes : (i : ℕ) → List·Memᴰ i (G .N) → NodeIn es i
-  pub arc : (e : Entry) → List·Memᴰ e es → (j f t : ℕ) → j < length (e .graph) → List·Memᴰ (f, t) (arcsOf (nodeAt (e .graph) j))
+  pub arc : (e : Entry) → List·Memᴰ e es → (j f t : ℕ) → j < length (e .graph) →
+      List·Memᴰ (f, t) (arcsOf (nodeAt (e .graph) j))
       → (q : ℕ) × (List·Memᴰ q (G .B) × ((G .S q ≡ e .number + j) × ((getD F q 0 ≡ f) × (getD T q 0 ≡ e .number + t))))
   pub arcs : (q : ℕ) → List·Memᴰ q (G .B) → ArcOf es q (G .S q) (getD F q 0) (getD T q 0)
 
@@ -114,18 +115,20 @@ pub record Adding (n k : ℕ) (w : List ℕ) (g base c : ℕ) : Type 0 where
 
 pub record Adds (n k : ℕ) (w : List ℕ) (g base c k' : ℕ) (bad : Bool) (w' : List ℕ) : Type 0 where
   pub later : Later k w k' w'
-  pub fine : bad ≡ false → (es : List Entry) (e : Entry) → e .at ≡ g → e .number ≡ base → length (e .graph) ≡ c → Holds n es k w →
-      Comes n es e w → Holds n (es ++ e ∷ []) k' w'
-  pub clash : bad ≡ true → (es : List Entry) (e : Entry) → e .at ≡ g → e .number ≡ base → length (e .graph) ≡ c → Holds n es k w →
-      Comes n es e w → Clash (graphs es ++ e .graph ∷ [])
+  pub fine : bad ≡ false → (es : List Entry) (e : Entry) → e .at ≡ g → e .number ≡ base → length (e .graph) ≡ c →
+      Holds n es k w → Comes n es e w → Holds n (es ++ e ∷ []) k' w'
+  pub clash : bad ≡ true → (es : List Entry) (e : Entry) → e .at ≡ g → e .number ≡ base → length (e .graph) ≡ c →
+      Holds n es k w → Comes n es e w → Clash (graphs es ++ e .graph ∷ [])
 
 -- the graph is in, or it clashes with those that are there and all is as it was: told exactly
 pub record Pushes (n k : ℕ) (w : List ℕ) (g : ℕ) (r : Pushed) (w' : List ℕ) : Type 0 where
   pub len : length w' ≡ length w
   pub rest : (j : ℕ) → WORDS ≤ j → getD w' j 0 ≡ getD w j 0
   pub inside : (k' : ℕ) → r ≡ In k' →
-      Since k w k' w' × ((es : List Entry) (e : Entry) → e .at ≡ g → Holds n es k w → Comes n es e w → Holds n (es ++ e ∷ []) k' w')
-  pub clashed : r ≡ Clashed → (Since k w k w' × (body w' ≡ body w)) × ((es : List Entry) (e : Entry) → e .at ≡ g → Holds n es k w →
+      Since k w k' w'
+      × ((es : List Entry) (e : Entry) → e .at ≡ g → Holds n es k w → Comes n es e w → Holds n (es ++ e ∷ []) k' w')
+  pub clashed : r ≡ Clashed → (Since k w k w' × (body w' ≡ body w))
+      × ((es : List Entry) (e : Entry) → e .at ≡ g → Holds n es k w →
       Comes n es e w → Clash (graphs es ++ e .graph ∷ []) × Holds n es k w')
 
 -- what `back` asks: something is remembered

@@ -100,10 +100,10 @@ pub record Noding (F T : List ℕ) (n k : ℕ) (w : List ℕ) (x p : ℕ) : Type
 
 pub record Noded (F T : List ℕ) (n k : ℕ) (w : List ℕ) (x p k' : ℕ) (bad : Bool) (w' : List ℕ) : Type 0 where
   pub later : Later k w k' w'
-  pub fine : bad ≡ false → (G : Pile) (H : Done) (v : Node) → State G H F T n k 0 [] w → NodeAt F G n x p v → Ahead H n p (span v) →
-      State G (noded H x p v) F T n k' 0 [] w'
-  pub clash : bad ≡ true → (G : Pile) (H : Done) (v : Node) → State G H F T n k 0 [] w → NodeAt F G n x p v → Ahead H n p (span v) →
-      ClashIn G F T
+  pub fine : bad ≡ false → (G : Pile) (H : Done) (v : Node) → State G H F T n k 0 [] w → NodeAt F G n x p v →
+      Ahead H n p (span v) → State G (noded H x p v) F T n k' 0 [] w'
+  pub clash : bad ≡ true → (G : Pile) (H : Done) (v : Node) → State G H F T n k 0 [] w → NodeAt F G n x p v →
+      Ahead H n p (span v) → ClashIn G F T
 
 -- ---- the nodes of a graph
 abbrev pub spans : Graph → ℕ
@@ -130,7 +130,7 @@ pub record Listing (F T : List ℕ) (n k : ℕ) (w : List ℕ) (x p c : ℕ) : T
 
 pub record Listed (F T : List ℕ) (n k : ℕ) (w : List ℕ) (x p c k' : ℕ) (bad : Bool) (w' : List ℕ) : Type 0 where
   pub later : Later k w k' w'
-  pub fine : bad ≡ false → (G : Pile) (H : Done) (vs : Graph) → length vs ≡ c → State G H F T n k 0 [] w → NodesAt F G n x p vs →
-      Ahead H n p (spans vs) → State G (listed H x p vs) F T n k' 0 [] w'
-  pub clash : bad ≡ true → (G : Pile) (H : Done) (vs : Graph) → length vs ≡ c → State G H F T n k 0 [] w → NodesAt F G n x p vs →
-      Ahead H n p (spans vs) → ClashIn G F T
+  pub fine : bad ≡ false → (G : Pile) (H : Done) (vs : Graph) → length vs ≡ c → State G H F T n k 0 [] w →
+      NodesAt F G n x p vs → Ahead H n p (spans vs) → State G (listed H x p vs) F T n k' 0 [] w'
+  pub clash : bad ≡ true → (G : Pile) (H : Done) (vs : Graph) → length vs ≡ c → State G H F T n k 0 [] w →
+      NodesAt F G n x p vs → Ahead H n p (spans vs) → ClashIn G F T

@@ -41,8 +41,8 @@ change-bit true = 1
 -- labels reached by mending broken rules
 pub data LabelsMerged (rs : List Rule) (lab : ℕ → ℕ) : (ℕ → ℕ) → Type 0 where
   same : {now : ℕ → ℕ} → ((i : ℕ) → now i ≡ lab i) → LabelsMerged rs lab now
-  more : {now : ℕ → ℕ} (mid : ℕ → ℕ) → LabelsMerged rs lab mid → (q : Rule) → List·Memᴰ q rs → mid (q .0) ≡ mid (q .1) →
-      mid (q .2) ≢ mid (q .3) →
+  more : {now : ℕ → ℕ} (mid : ℕ → ℕ) → LabelsMerged rs lab mid → (q : Rule) → List·Memᴰ q rs →
+      mid (q .0) ≡ mid (q .1) → mid (q .2) ≢ mid (q .3) →
       ((i : ℕ) → now i ≡ merge mid (mid (q .2)) (mid (q .3)) i) → LabelsMerged rs lab now
 
 -- relabelling
@@ -77,7 +77,8 @@ pub record LabelsUniting (ends L : List ℕ) (x y : ℕ) : Type 0 where
 pub record Unites (ends L : List ℕ) (x y : ℕ) (changed : Bool) (L' : List ℕ) : Type 0 where
   pub labels : Labels ends L'
   pub kept : changed ≡ false → (lab-of L x ≡ lab-of L y) × ((i : ℕ) → lab-of L' i ≡ lab-of L i)
-  pub merged : changed ≡ true → (lab-of L x ≢ lab-of L y) × ((i : ℕ) → lab-of L' i ≡ merge (lab-of L) (lab-of L x) (lab-of L y) i)
+  pub merged : changed ≡ true → (lab-of L x ≢ lab-of L y)
+      × ((i : ℕ) → lab-of L' i ≡ merge (lab-of L) (lab-of L x) (lab-of L y) i)
   pub fewer : reps ends L' + change-bit changed ≤ reps ends L
 
 -- tying

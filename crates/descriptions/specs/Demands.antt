@@ -94,14 +94,14 @@ module _ {Graph : Type 0} (J : Joining Graph) (𝓕 : Layout Graph) where
     pub number : (l : List (ListCall 𝓕)) (ws : List ℕ) → reached 𝓕 U start l ≡ some ws →
         (d : Desc Graph) × WellFormed d depth-limit × (ws ≡ words d) × (readings J d ≡ ways J (items 𝓕 l))
     -- "A clash is reported only when that number is zero"
-    pub clash : (l : List (ListCall 𝓕)) (ws : List ℕ) (s : ListCall 𝓕) → reached 𝓕 U start l ≡ some ws → call 𝓕 U ws s .number ≡ 6 →
-        ways J (items 𝓕 l ++ s .item ∷ []) ≡ 0
+    pub clash : (l : List (ListCall 𝓕)) (ws : List ℕ) (s : ListCall 𝓕) → reached 𝓕 U start l ≡ some ws →
+        call 𝓕 U ws s .number ≡ 6 → ways J (items 𝓕 l ++ s .item ∷ []) ≡ 0
     -- "the complete mode, unless it refuses on another ground, reports a clash whenever it is zero"
     pub told : (l : List (ListCall 𝓕)) (ws : List ℕ) (s : ListCall 𝓕) → reached 𝓕 U start l ≡ some ws → s .mode ≡ 2 →
         ways J (items 𝓕 l ++ s .item ∷ []) ≡ 0 → (call 𝓕 U ws s .number ≡ 6) ⊎ Refused (call 𝓕 U ws s .number)
     -- "and on success it reports that number"
-    pub counted : (l : List (ListCall 𝓕)) (ws : List ℕ) (s : ListCall 𝓕) → reached 𝓕 U start l ≡ some ws → s .mode ≡ 2 →
-        call 𝓕 U ws s .number ≡ 0 →
+    pub counted : (l : List (ListCall 𝓕)) (ws : List ℕ) (s : ListCall 𝓕) → reached 𝓕 U start l ≡ some ws →
+        s .mode ≡ 2 → call 𝓕 U ws s .number ≡ 0 →
         call 𝓕 U ws s .readings ≡ ways J (items 𝓕 l ++ s .item ∷ [])
 
 module _ {Graph : Type 0} (J : Joining Graph) (𝓜 : Structures Graph) (𝓕 : Layout Graph) where
@@ -119,6 +119,7 @@ module _ {Graph : Type 0} (J : Joining Graph) (𝓜 : Structures Graph) (𝓕 : 
 
   pub record Demand2 (U : Unifier) : Type 1 where
     pub success : (mode : ℕ) (a b : Desc Graph) → WellFormed a depth-limit → WellFormed b depth-limit → (room work : ℕ) →
-        U (with-words 𝓕 mode a b) room work .number ≡ 0 → (d : Desc Graph) × Succeeds mode a b (U (with-words 𝓕 mode a b) room work) d
+        U (with-words 𝓕 mode a b) room work .number ≡ 0 → (d : Desc Graph)
+        × Succeeds mode a b (U (with-words 𝓕 mode a b) room work) d
     pub clash : (mode : ℕ) (a b : Desc Graph) → WellFormed a depth-limit → WellFormed b depth-limit → (room work : ℕ) →
         U (with-words 𝓕 mode a b) room work .number ≡ 6 → (S : Structure) → Sat 𝓜 S a → Sat 𝓜 S b → ⊥

@@ -58,4 +58,5 @@ module _ {Graph : Type 0} (J : Joining Graph) (𝓕 : Layout Graph) where
 
   -- the program as a function of the sizes of its areas; of what cannot come in, the table's answer is taken for its own
   abbrev pub sized : Program → Unifier
-  sized P c room work = elim (in-words c (blank room work)) [ true ↦ answer-of (P c (blank room work)) | false ↦ unified J 𝓕 c room work ]
+  sized P c room work =
+      elim (in-words c (blank room work)) [ true ↦ answer-of (P c (blank room work)) | false ↦ unified J 𝓕 c room work ]

@@ -17,7 +17,8 @@ module _ {Graph : Type 0} (J : Joining Graph) where
       -- "join condition and definite graph; a clash means it fails"
       clash : (c g : Graph) (ds : Disjs Graph) → join (c ∷ g ∷ []) ≡ none → Tidies c (desc g ds) none
       -- "A disjunction with none left fails the description."
-      emptied : (c g : Graph) (ds : Disjs Graph) (k : Graph) → join (c ∷ g ∷ []) ≡ some k → Rounds k ds none → Tidies c (desc g ds) none
+      emptied : (c g : Graph) (ds : Disjs Graph) (k : Graph) → join (c ∷ g ∷ []) ≡ some k → Rounds k ds none →
+          Tidies c (desc g ds) none
       -- "a round that folded nothing is the last"
       last : (c g : Graph) (ds : Disjs Graph) (k : Graph) → join (c ∷ g ∷ []) ≡ some k → (left : Disjs Graph) →
           Rounds k ds (some (record { folded = []; left = left })) → Tidies c (desc g ds) (some (desc g left))
@@ -28,7 +29,8 @@ module _ {Graph : Type 0} (J : Joining Graph) where
       -- "After a round that folded anything, the condition and the new definite graph are joined again and a new round begins"
       again : (c g : Graph) (ds : Disjs Graph) (k : Graph) → join (c ∷ g ∷ []) ≡ some k →
           (h : Graph) (hs : List Graph) (left : Disjs Graph) → Rounds k ds (some (record { folded = h ∷ hs; left = left })) →
-          (g′ : Graph) → join (g ∷ h ∷ hs) ≡ some g′ → (o : Option (Desc Graph)) → Tidies c (desc g′ left) o → Tidies c (desc g ds) o
+          (g′ : Graph) → join (g ∷ h ∷ hs) ≡ some g′ → (o : Option (Desc Graph)) → Tidies c (desc g′ left) o →
+          Tidies c (desc g ds) o
 
     -- "tidy each alternative under that join …, drop those that fail, and keep the others in their tidied form"
     pub data Keeps : Graph → Alts Graph → Alts Graph → Type 0 where

@@ -59,7 +59,8 @@ module _ {Graph : Type 0} (J : Joining Graph) (𝓕 : Layout Graph) (c : Call) (
     one : 2 < mode → Given (refuse 1)
     two : mode ≤ 2 → work < working-size → Given (refuse 2)
     three : mode ≤ 2 → working-size ≤ work → (input-limit < length first) ⊎ (input-limit < length second) → Given (refuse 3)
-    four : mode ≤ 2 → working-size ≤ work → length first ≤ input-limit → length second ≤ input-limit → ¬ (Image 𝓕 first) → Given (refuse 4)
+    four : mode ≤ 2 → working-size ≤ work → length first ≤ input-limit → length second ≤ input-limit →
+        ¬ (Image 𝓕 first) → Given (refuse 4)
     five : mode ≤ 2 → working-size ≤ work → length first ≤ input-limit → length second ≤ input-limit → Image 𝓕 first →
         ¬ (Image 𝓕 second) → Given (refuse 5)
     six : (d e : Desc Graph) → Accepted 𝓕 c work d e → Clashes J mode d e → Given (refuse 6)

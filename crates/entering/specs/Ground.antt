@@ -15,5 +15,5 @@ use Rattle.entering.specs.Taken.{Inside}
 pub record Ground (n : ℕ) (t : List ℕ) (U : List Entry) : Type 0 where
   pub few : n < number-step
   pub canonical : (x : Entry) → List·Memᴰ x U → Canonical (x .graph)
-  pub comes : (w : List ℕ) (es : List Entry) (k : ℕ) → loaded-words w ≡ t → Holds n es k w → Inside U es → (x : Entry) → List·Memᴰ x U →
-      ((o : Entry) → List·Memᴰ o es → x .number ≡ o .number → ⊥) → Comes n es x w
+  pub comes : (w : List ℕ) (es : List Entry) (k : ℕ) → loaded-words w ≡ t → Holds n es k w → Inside U es → (x : Entry) →
+      List·Memᴰ x U → ((o : Entry) → List·Memᴰ o es → x .number ≡ o .number → ⊥) → Comes n es x w

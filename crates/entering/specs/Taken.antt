@@ -27,7 +27,11 @@ abbrev mutual
   taken-any t k p n no-more q m at = []
   taken-any t k p n (option x d a) q m at =
       elim (k x) [
-        | true ↦ elim (remnant (suc (kept-of k a))) [ nothing ↦ [] | alone ↦ taken t k p n d (at .0) (at .1) (at .3) | several ↦ [] ]
+        | true ↦ elim (remnant (suc (kept-of k a))) [
+          | nothing ↦ []
+          | alone ↦ taken t k p n d (at .0) (at .1) (at .3)
+          | several ↦ []
+        ]
         | false ↦ taken-any t k (at .0) (at .1) a q m (at .4)
       ]
 
@@ -76,7 +80,8 @@ module _ {n : ℕ} {t : List ℕ} {p left : ℕ} where
     abbrev pub taken-any-of : Marking → LyingAny n t p count left → List Entry
     taken-any-of m l = taken-any t m p (l .from) (l .a) (l .end) (l .to) (l .at)
 
-    abbrev pub AmongRestAny : List Entry → (l : LyingAny n t p count left) (at from : ℕ) (a : Options) → RestAny l at from a → Type 0
+    abbrev pub AmongRestAny : List Entry → (l : LyingAny n t p count left) (at from : ℕ) (a : Options) → RestAny l at from a →
+        Type 0
     AmongRestAny U l at from a s = AmongAny U t at from a (l .end) (l .to) s
 
     abbrev pub AmongAnyOf : List Entry → LyingAny n t p count left → Type 0

@@ -40,7 +40,8 @@ abbrev pub Agrees : List ℕ → ℕ → (ℕ → ℕ) → Type 0
 Agrees M k m = (i : ℕ) → i < k → m i ≡ getD M i 0
 
 -- the maps that agree with M on k nodes and do what P asks are those that agree with M′ on k′ nodes and do what Q asks
-pub record SameMaps (M : List ℕ) (k : ℕ) (P : (ℕ → ℕ) → Type 0) (M′ : List ℕ) (k′ : ℕ) (Q : (ℕ → ℕ) → Type 0) : Type 0 where
+pub record SameMaps (M : List ℕ) (k : ℕ) (P : (ℕ → ℕ) → Type 0) (M′ : List ℕ) (k′ : ℕ) (Q : (ℕ → ℕ) →
+    Type 0) : Type 0 where
   pub onward : (m : ℕ → ℕ) → Agrees M k m → P m → Agrees M′ k′ m × Q m
   pub back : (m : ℕ → ℕ) → Agrees M′ k′ m → Q m → Agrees M k m × P m
 

@@ -27,7 +27,13 @@ pub record Subject : Type 1 where
 -- "A structure satisfies a description when it satisfies its graph and, for each disjunction, at least one alternative."
 module _ (H : Graph) where
   abbrev pub graph-subject : Subject
-  graph-subject = record { Thing = Graph; Fine = λ g. Canonical g × GraphFits g; text = graph-words; Holds = λ g. Map (graph g) (graph H) }
+  graph-subject = record {
+    Thing = Graph;
+    Fine = λ g. Canonical g
+        × GraphFits g;
+    text = graph-words;
+    Holds = λ g. Map (graph g) (graph H);
+  }
 
   -- under which alternatives nest at most `left` deep
   module _ (left : ℕ) where
@@ -58,7 +64,8 @@ Answers K ws p r = (x : K .Thing) (q : ℕ) → K .Fine x → Stands ws p (K .te
 
 -- the k alternatives that stand at p end at r
 abbrev pub Skips : List ℕ → ℕ → ℕ → ℕ → Type 0
-Skips ws p k r = (a : Alts) (left q : ℕ) → alts a ≡ k → left ≤ depth-limit → WellAny a left → Stands ws p (alts-words a) q → r ≡ q
+Skips ws p k r = (a : Alts) (left q : ℕ) → alts a ≡ k → left ≤ depth-limit → WellAny a left → Stands ws p (alts-words a) q →
+    r ≡ q
 
 pub record TestAsked (s ws : List ℕ) : Type 0 where
   pub structure : Notable s

@@ -53,7 +53,8 @@ pub record Settling (T : Tables) (hm : List ℕ) (k left : ℕ) : Type 0 where
 -- the words of its graph, and the number of its disjunctions, have come before those of its disjunctions; none: a clash
 abbrev pub Closed-by : (b b′ : List ℕ) (len count : ℕ) → Option Graph → Settled → Type 0
 Closed-by b b′ len count none r = r ≡ Clash
-Closed-by b b′ len count (some g) r = (whole : ℕ) × (r ≡ Fine count len whole) × PutsBefore b len (graph-words g ++ count ∷ []) b′ whole
+Closed-by b b′ len count (some g) r = (whole : ℕ) × (r ≡ Fine count len whole)
+    × PutsBefore b len (graph-words g ++ count ∷ []) b′ whole
 
 pub record AlternativeCloses (T : Tables) (hm b : List ℕ) (len count k : ℕ) (r : Settled) (b′ : List ℕ) : Type 0 where
   pub kept : Grows b len b′ len

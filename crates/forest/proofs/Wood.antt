@@ -11,13 +11,18 @@ use Rattle.forest.proofs.Relabel.{relab, relabelled}
 use lib.Dec.{eqb}
 use borrow.Author.Tests.{eq-eqb, ne-eqb}
 use Rattle.forest.specs.Labels.{by-test}
-use Rattle.forest.specs.Forest.{Shape, Forest, tops, ascend}
+use Rattle.forest.specs.Forest.{Shape, Forest, tops}
 use Rattle.forest.proofs.Kernel.{relab-hit, relab-miss}
 
 -- ---- for measures: the steps from i to its root, where f are enough
 unfoldable pub climb : ℕ → List ℕ → ℕ → ℕ
 climb zero P i = 0
 climb (suc f) P i = by-test (eqb (getD P i 0) i) 0 (suc (climb f P (getD P i 0)))
+
+-- where f steps up lead from i
+unfoldable pub ascend : ℕ → List ℕ → ℕ → ℕ
+ascend zero P i = i
+ascend (suc f) P i = ascend f P (getD P i 0)
 
 climb-on : (f : ℕ) (P : List ℕ) (i : ℕ) → (getD P i 0 ≡ i → ⊥) → climb (suc f) P i ≡ suc (climb f P (getD P i 0))
 unfolding climb

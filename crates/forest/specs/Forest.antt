@@ -1,5 +1,5 @@
 -- A forest of parents P, and the labels L that it stands for. Assumes nothing.
-use Prim.Native.Nat.{ℕ, zero, suc, _+_, _*_, _-_, _/_, _%_, _≤_, _<_}
+use Prim.Native.Nat.{ℕ, suc, _+_, _*_, _-_, _/_, _%_, _≤_, _<_}
 use mathlib.Core.Path.{_≡_}
 use mathlib.Core.List.{List, [], _∷_, map}
 use lib.Dec.{eqb}
@@ -42,8 +42,8 @@ pub record Forest (P L : List ℕ) : Type 0 where
 -- P' has classes of P together: a node has another label only where its class went under one that had more nodes, or as many and the
 -- lower number
 abbrev pub SmallerUnder : List ℕ → List ℕ → Type 0
-SmallerUnder P P' = (L L' : List ℕ) → Forest P L → Forest P' L' → (i : ℕ) → i < length P → (getD L' i 0 ≡ getD L i 0 → ⊥) →
-    Yields (getD L i 0) (how-many (getD L i 0) L) (getD L' i 0) (how-many (getD L' i 0) L)
+SmallerUnder P P' = (L L' : List ℕ) → Forest P L → Forest P' L' → (i : ℕ) → i < length P →
+    (getD L' i 0 ≡ getD L i 0 → ⊥) → Yields (getD L i 0) (how-many (getD L i 0) L) (getD L' i 0) (how-many (getD L' i 0) L)
 
 -- r is the root of i
 pub record Root (n : ℕ) (w : List ℕ) (i r : ℕ) : Type 0 where
@@ -55,8 +55,3 @@ pub record Root (n : ℕ) (w : List ℕ) (i r : ℕ) : Type 0 where
 unfoldable pub tops : ℕ → List ℕ → ℕ
 tops i [] = 0
 tops i (x ∷ P) = by-test (eqb x i) 1 0 + tops (suc i) P
-
--- where f steps up lead from i
-unfoldable pub ascend : ℕ → List ℕ → ℕ → ℕ
-ascend zero P i = i
-ascend (suc f) P i = ascend f P (getD P i 0)

@@ -35,7 +35,8 @@ pub record Linked (n k : ℕ) (w : List ℕ) (a b k' : ℕ) (w' : List ℕ) : Ty
   pub later : Later k w k' w'
   pub par : parents n w' ≡ set (parents n w) b a
   pub sum : size-of (getD w' (PARENT + a) 0) ≡ size-of (getD w (PARENT + a) 0) + size-of (getD w (PARENT + b) 0)
-  pub rest : (j : ℕ) → (j ≡ PARENT + a → ⊥) → (j ≡ PARENT + b → ⊥) → (j < LOG) ⊎ (STACK ≤ j) → getD w' j 0 ≡ getD w j 0
+  pub rest : (j : ℕ) → (j ≡ PARENT + a → ⊥) → (j ≡ PARENT + b → ⊥) → (j < LOG) ⊎ (STACK ≤ j) →
+      getD w' j 0 ≡ getD w j 0
 
 -- two roots whose classes are to become one, b under a
 pub record Fusing (n : ℕ) (w : List ℕ) (a b : ℕ) : Type 0 where

@@ -32,14 +32,15 @@ pub data Equal (G : Pile) (F T : List ℕ) : ℕ → ℕ → Type 0 where
   self : (x : ℕ) → Equal G F T x x
   back : {x y : ℕ} → Equal G F T x y → Equal G F T y x
   on : {x y z : ℕ} → Equal G F T x y → Equal G F T y z → Equal G F T x z
-  along : {p q : ℕ} → List·Memᴰ p (G .B) → List·Memᴰ q (G .B) → getD F p 0 ≡ getD F q 0 → Equal G F T (G .S p) (G .S q) →
-      Equal G F T (getD T p 0) (getD T q 0)
+  along : {p q : ℕ} → List·Memᴰ p (G .B) → List·Memᴰ q (G .B) → getD F p 0 ≡ getD F q 0 →
+      Equal G F T (G .S p) (G .S q) → Equal G F T (getD T p 0) (getD T q 0)
 
 -- "There is a clash when a class holds two different atoms, or an atom and an arc."
 pub data ClashIn (G : Pile) (F T : List ℕ) : Type 0 where
-  atoms : {x y : ℕ} → List·Memᴰ x (G .N) → List·Memᴰ y (G .N) → Equal G F T x y → (G .A x ≡ 0 → ⊥) → (G .A y ≡ 0 → ⊥) →
-      (G .A x ≡ G .A y → ⊥) → ClashIn G F T
-  mixed : {x q : ℕ} → List·Memᴰ x (G .N) → (G .A x ≡ 0 → ⊥) → List·Memᴰ q (G .B) → Equal G F T x (G .S q) → ClashIn G F T
+  atoms : {x y : ℕ} → List·Memᴰ x (G .N) → List·Memᴰ y (G .N) → Equal G F T x y → (G .A x ≡ 0 → ⊥) →
+      (G .A y ≡ 0 → ⊥) → (G .A x ≡ G .A y → ⊥) → ClashIn G F T
+  mixed : {x q : ℕ} → List·Memᴰ x (G .N) → (G .A x ≡ 0 → ⊥) → List·Memᴰ q (G .B) → Equal G F T x (G .S q) →
+      ClashIn G F T
 
 -- what is done: the arcs K are on chains or stand for one that is, the atoms of the nodes U are met, and the pairs E are in one class
 pub record Done : Type 0 where
@@ -107,8 +108,8 @@ frames w (suc s) = (getD w (STACK + s) 0 % FRAME_STEP, getD w (STACK + s) 0 / FR
 -- the pair of targets of an arc of a frame's part and of its first match from b on is still to be merged
 pub data Near (F T M w : List ℕ) (fs : List (ℕ × ℕ)) : ℕ → ℕ → Type 0 where
   old : {i j : ℕ} → Together M i j → Near F T M w fs i j
-  owe : {x y q : ℕ} (q' : ℕ) (zs js : List ℕ) → List·Memᴰ (x, y) fs → Seg w y x zs → List·Memᴰ q zs → Way w F (getD F q 0) y js q' →
-      Near F T M w fs (getD T q 0) (getD T q' 0)
+  owe : {x y q : ℕ} (q' : ℕ) (zs js : List ℕ) → List·Memᴰ (x, y) fs → Seg w y x zs → List·Memᴰ q zs →
+      Way w F (getD F q 0) y js q' → Near F T M w fs (getD T q 0) (getD T q' 0)
   sym : {i j : ℕ} → Near F T M w fs i j → Near F T M w fs j i
   trans : {i j l : ℕ} → Near F T M w fs i j → Near F T M w fs j l → Near F T M w fs i l
 
@@ -205,10 +206,10 @@ pub record Merged (n k s : ℕ) (w : List ℕ) (x y k' s' : ℕ) (bad : Bool) (w
   pub grow : Grow w w'
   pub calm : k' ≤ k + 3 → (s' ≡ s) × Calm w w'
   pub under : SmallerUnder (parents n w) (parents n w')
-  pub fine : bad ≡ false → (G : Pile) (H : Done) (F T : List ℕ) (fs : List (ℕ × ℕ)) → State G H F T n k s fs w → Equal G F T x y →
-      State G (withPair H x y) F T n k' s' (new ++ fs) w'
-  pub clash : bad ≡ true → (G : Pile) (H : Done) (F T : List ℕ) (fs : List (ℕ × ℕ)) → State G H F T n k s fs w → Equal G F T x y →
-      ClashIn G F T
+  pub fine : bad ≡ false → (G : Pile) (H : Done) (F T : List ℕ) (fs : List (ℕ × ℕ)) → State G H F T n k s fs w →
+      Equal G F T x y → State G (withPair H x y) F T n k' s' (new ++ fs) w'
+  pub clash : bad ≡ true → (G : Pile) (H : Done) (F T : List ℕ) (fs : List (ℕ × ℕ)) → State G H F T n k s fs w →
+      Equal G F T x y → ClashIn G F T
 
 -- a walk along a frame's part, from x to x'
 pub record FrameWalk (F T : List ℕ) (n k s : ℕ) (w : List ℕ) (x to k' s' : ℕ) (w' : List ℕ) (x' : ℕ) : Type 0 where
@@ -255,7 +256,8 @@ pub record Settled (F T : List ℕ) (n k s : ℕ) (w : List ℕ) (k' : ℕ) (bad
 pub record United (F T : List ℕ) (n k : ℕ) (w : List ℕ) (x y k' : ℕ) (bad : Bool) (w' : List ℕ) : Type 0 where
   pub later : Later k w k' w'
   pub calm : k' ≤ k + 3 → Calm w w'
-  pub fine : bad ≡ false → (G : Pile) (H : Done) → State G H F T n k 0 [] w → Equal G F T x y → State G (withPair H x y) F T n k' 0 [] w'
+  pub fine : bad ≡ false → (G : Pile) (H : Done) → State G H F T n k 0 [] w → Equal G F T x y →
+      State G (withPair H x y) F T n k' 0 [] w'
   pub clash : bad ≡ true → (G : Pile) (H : Done) → State G H F T n k 0 [] w → Equal G F T x y → ClashIn G F T
 
 -- ---- chains, as the code walks them
@@ -294,7 +296,8 @@ pub record Coming (F T : List ℕ) (n k : ℕ) (w : List ℕ) (x t : ℕ) : Type
 
 pub record Visited (F T : List ℕ) (n k : ℕ) (w : List ℕ) (x t k' : ℕ) (bad : Bool) (w' : List ℕ) : Type 0 where
   pub later : Later k w k' w'
-  pub fine : bad ≡ false → (G : Pile) (H : Done) → State G H F T n k 0 [] w → Fresh G H n x t → State G (withArc H t) F T n k' 0 [] w'
+  pub fine : bad ≡ false → (G : Pile) (H : Done) → State G H F T n k 0 [] w → Fresh G H n x t →
+      State G (withArc H t) F T n k' 0 [] w'
   pub clash : bad ≡ true → (G : Pile) (H : Done) → State G H F T n k 0 [] w → Fresh G H n x t → ClashIn G F T
 
 -- ---- one atom
@@ -315,7 +318,8 @@ pub record Heading (F T : List ℕ) (n k : ℕ) (w : List ℕ) (x v : ℕ) : Typ
 
 pub record Headed (F T : List ℕ) (n k : ℕ) (w : List ℕ) (x v k' : ℕ) (bad : Bool) (w' : List ℕ) : Type 0 where
   pub later : Later k w k' w'
-  pub fine : bad ≡ false → (G : Pile) (H : Done) → State G H F T n k 0 [] w → Bearing G H n x v → State G (withNode H x) F T n k' 0 [] w'
+  pub fine : bad ≡ false → (G : Pile) (H : Done) → State G H F T n k 0 [] w → Bearing G H n x v →
+      State G (withNode H x) F T n k' 0 [] w'
   pub clash : bad ≡ true → (G : Pile) (H : Done) → State G H F T n k 0 [] w → Bearing G H n x v → ClashIn G F T
 
 -- all that is pushed is done

@@ -45,8 +45,8 @@ abbrev mutual
   facts-all π (one φ) = facts π φ
   facts-all π (φ also φs) = facts π φ ++ facts-all π φs
 
--- "disjunctions and alternatives keep the order and nesting of the text"; "`f1:` gives its arc … before a disjunction, in each alternative
--- within it too": π is what stands before, and an alternative begins with its arcs
+-- "disjunctions and alternatives keep the order and nesting of the text"; "`f1:` gives its arc … before a disjunction, in each
+-- alternative within it too": π is what stands before, and an alternative begins with its arcs
 abbrev mutual
   pub splits : Path → Formula → Splits
   splits π nil = done

@@ -89,4 +89,5 @@ abbrev mutual
   pub NamedCells : List Item → ℕ → Sheet → Cells → Type 0
   NamedCells L k O gone = Unit {0}
   NamedCells L k O (d against a) =
-      ((es : List Edge) × ((e : Edge) → List·Memᴰ e es → List·Memᴰ e (O .edges)) × Named L k es d) × NamedCells L (suc k + wide d) O a
+      ((es : List Edge) × ((e : Edge) → List·Memᴰ e es → List·Memᴰ e (O .edges)) × Named L k es d)
+      × NamedCells L (suc k + wide d) O a

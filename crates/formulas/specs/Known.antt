@@ -104,6 +104,8 @@ known-formulas =
     ∷ gives (all (fact 0) ((fact 1 or fact 2) also one (any (fact 3) (fact 4 also one (fact 5 & (fact 6 or fact 7))))))
     (says 0 ++ (2 ∷ 2 ∷ only 1) ++ only 2 ++ (3 ∷ only 3) ++ only 4 ++ says 5 ++ (1 ∷ 2 ∷ only 6) ++ only 7)
     -- a10|a11|a12 is one disjunction, (a10|a11)|a12 are two
-    ∷ gives (any (atom 10) (atom 11 also one (atom 12))) (1 ∷ 0 ∷ 1 ∷ 3 ∷ 1 ∷ 65546 ∷ 0 ∷ 1 ∷ 65547 ∷ 0 ∷ 1 ∷ 65548 ∷ 0 ∷ [])
-    ∷ gives ((atom 10 or atom 11) or atom 12) (1 ∷ 0 ∷ 1 ∷ 2 ∷ 1 ∷ 0 ∷ 1 ∷ 2 ∷ 1 ∷ 65546 ∷ 0 ∷ 1 ∷ 65547 ∷ 0 ∷ 1 ∷ 65548 ∷ 0 ∷ [])
+    ∷ gives (any (atom 10) (atom 11 also one (atom 12)))
+    (1 ∷ 0 ∷ 1 ∷ 3 ∷ 1 ∷ 65546 ∷ 0 ∷ 1 ∷ 65547 ∷ 0 ∷ 1 ∷ 65548 ∷ 0 ∷ [])
+    ∷ gives ((atom 10 or atom 11) or atom 12)
+    (1 ∷ 0 ∷ 1 ∷ 2 ∷ 1 ∷ 0 ∷ 1 ∷ 2 ∷ 1 ∷ 65546 ∷ 0 ∷ 1 ∷ 65547 ∷ 0 ∷ 1 ∷ 65548 ∷ 0 ∷ [])
     ∷ []

@@ -62,12 +62,14 @@ module _ (T : Tables) where
   pub record Tabled (L : List Item) : Type 0 where
     pub low : (i : ℕ) → i < T .arcs → T .arc i .0 ≤ i
     pub arc-in : (i : ℕ) → i < T .arcs → List·Memᴰ (edge i) (given-to (T .arc-home i) L .edges)
-    pub arc-of : (j : ℕ) (e : Edge) → List·Memᴰ e (given-to j L .edges) → (i : ℕ) × (i < T .arcs) × (T .arc-home i ≡ j) × (e ≡ edge i)
+    pub arc-of : (j : ℕ) (e : Edge) → List·Memᴰ e (given-to j L .edges) → (i : ℕ) × (i < T .arcs) × (T .arc-home i ≡ j)
+        × (e ≡ edge i)
     pub atom-in : (i : ℕ) → i < T .atoms → List·Memᴰ (T .atom i) (given-to (T .atom-home i) L .atoms)
     pub atom-of : (j : ℕ) (p : ℕ × ℕ) → List·Memᴰ p (given-to j L .atoms) →
         (i : ℕ) × (i < T .atoms) × (T .atom-home i ≡ j) × (p ≡ T .atom i)
     pub tie-in : (i : ℕ) → i < T .ties → List·Memᴰ (T .tie i) (given-to (T .tie-home i) L .ties)
-    pub tie-of : (j : ℕ) (p : ℕ × ℕ) → List·Memᴰ p (given-to j L .ties) → (i : ℕ) × (i < T .ties) × (T .tie-home i ≡ j) × (p ≡ T .tie i)
+    pub tie-of : (j : ℕ) (p : ℕ × ℕ) → List·Memᴰ p (given-to j L .ties) → (i : ℕ) × (i < T .ties) × (T .tie-home i ≡ j)
+        × (p ≡ T .tie i)
 
   -- alternative k, which stands in a description with the sheet O, has the arcs to its spot and what is given to it, and its
   -- alternatives lie from k + 1 on; disjunctions lie from k on, where the one before them ends in z and the last of them in c; so do

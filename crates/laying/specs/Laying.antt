@@ -92,7 +92,8 @@ pub record SignComing (T : Tabs) (at : At) (t : Token) : Type 0 where
 abbrev pub SignPassed : (T : Tabs) (at : At) (t : Token) → Stepped → Tabs → Type 0
 SignPassed T at t (On next) T′ = (c : SignComing T at t) →
     LaidSoFar T′ next (sign-moves t (c .core) (c .pen)) (sign-turns t (c .core) (c .pen)) (c .done then sign-gives t (c .core) (c .pen))
-SignPassed T at t TooDeep T′ = (c : SignComing T at t) → ShallowAlts depth-limit ((c .done then sign-gives t (c .core) (c .pen)) .alts) → ⊥
+SignPassed T at t TooDeep T′ = (c : SignComing T at t) →
+    ShallowAlts depth-limit ((c .done then sign-gives t (c .core) (c .pen)) .alts) → ⊥
 
 -- before the first sign
 abbrev pub begun-at : Bool → At

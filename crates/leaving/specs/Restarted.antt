@@ -32,5 +32,6 @@ certain-both {n} {t} i m = taken-of m (i .first) ++ taken-of m (i .second)
 pub record Restarts (n k : ℕ) (w : List ℕ) (r : Pushed) (w' : List ℕ) : Type 0 where
   pub len : length w' ≡ length w
   pub rest : (j : ℕ) → WORDS ≤ j → getD w' j 0 ≡ getD w j 0
-  pub pushed : (log : ℕ) → r ≡ In log → (c : Restarting n k w) → Holds n (certain-both (c .inputs) (marking w)) log w' × Undoable n log w'
+  pub pushed : (log : ℕ) → r ≡ In log → (c : Restarting n k w) → Holds n (certain-both (c .inputs) (marking w)) log w'
+      × Undoable n log w'
   pub clashed : r ≡ Clashed → (c : Restarting n k w) → Clash (graphs (certain-both (c .inputs) (marking w)))

@@ -100,8 +100,8 @@ fn load_description(
 ) -> Reach
     requires { ⌜ Room (now t) (now ws) shift ⌝ }
     requires { ⌜ Asked (a-description left) (now ws) p (stock number own mark) ⌝ }
-    ensures { λ r. ⌜ Loads (a-description left) (now (ws .entry)) p shift (stock number own mark) (now (t .entry)) (now (t .exit)) (r .at)
-        (stock (r .number) (own + 1) (r .mark)) ⌝ }
+    ensures { λ r. ⌜ Loads (a-description left) (now (ws .entry)) p shift (stock number own mark) (now (t .entry)) (now (t .exit))
+        (r .at) (stock (r .number) (own + 1) (r .mark)) ⌝ }
 {
     let graph = load_graph(t, ws, p, shift, number);
     let q = graph.at;

@@ -15,6 +15,15 @@ use Rattle.area.proofs.Region.{length-region, getD-region, region-set-same, reg
 use Rattle.engine.specs.Marks.{Marking}
 use Rattle.marks.specs.Marked.{marking, lights, Dropped, Lighted}
 
+-- laws of "or"
+pub or-none : (b : Bool) → b ≡ (b || false)
+or-none true = refl
+or-none false = refl
+
+pub or-assoc : (a b c : Bool) → ((a || b) || c) ≡ (a || (b || c))
+or-assoc true b c = refl
+or-assoc false b c = refl
+
 -- markings are equal where their marks are
 pub same-marking : (m n : Marking) → ((y : ℕ) → m y ≡ n y) → m ≡ n
 same-marking m n h = λ i y. h y i
@@ -87,13 +96,9 @@ lighted w x h room = record {
     either true = refl
     either false = refl
 
-    neither : (b : Bool) → b ≡ (b || false)
-    neither true = refl
-    neither false = refl
-
     found : (y : ℕ) (t : Bool) → eqb y x ≡ t → eqb (getD (set marks x 2) y 0) 2 ≡ (eqb (getD marks y 0) 2 || t)
     found y true e = ap (λ (v : ℕ). eqb v 2) (own y e) ∙ either (eqb (getD marks y 0) 2)
-    found y false e = ap (λ (v : ℕ). eqb v 2) (getD-set-other marks x y 2 0 (eqb-false y x e)) ∙ neither (eqb (getD marks y 0) 2)
+    found y false e = ap (λ (v : ℕ). eqb v 2) (getD-set-other marks x y 2 0 (eqb-false y x e)) ∙ or-none (eqb (getD marks y 0) 2)
 
     kept : (y : ℕ) → not (eqb (getD marks x 0) 1) ≡ true → (t : Bool) → eqb y x ≡ t →
         not (eqb (getD (set marks x 2) y 0) 1) ≡ not (eqb (getD marks y 0) 1)

@@ -43,7 +43,8 @@ module _ {Graph : Type 0} (J : Joining Graph) where
   unfoldable mutual
     -- "To tidy a description under a condition: join condition and definite graph; a clash means it fails." The condition is the stack
     pub try-at : List Graph → Marking → Placed Graph → Step Graph
-    try-at S m (place g ds) = elim (agree J (S ++ g ∷ certain m ds)) [ false ↦ fails m | true ↦ narrow-at (S ++ g ∷ certain m ds) m ds ]
+    try-at S m (place g ds) =
+        elim (agree J (S ++ g ∷ certain m ds)) [ false ↦ fails m | true ↦ narrow-at (S ++ g ∷ certain m ds) m ds ]
 
     -- the disjunctions in order
     pub narrow-at : List Graph → Marking → Places Graph → Step Graph

@@ -57,7 +57,8 @@ arc-table arcs = tables arcs [] [] []
 -- of the arcs of T exactly those of es are marked
 abbrev pub TrailMarked : Tables → List ℕ → List Edge → Type 0
 TrailMarked T on es =
-    (i : ℕ) → i < T .arcs → ((getD on i 0 ≢ 0) × List·Memᴰ (edge T i) es) ⊎ ((getD on i 0 ≡ 0) × (List·Memᴰ (edge T i) es → ⊥))
+    (i : ℕ) → i < T .arcs → ((getD on i 0 ≢ 0) × List·Memᴰ (edge T i) es)
+    ⊎ ((getD on i 0 ≡ 0) × (List·Memᴰ (edge T i) es → ⊥))
 
 -- nothing is marked yet
 pub record TrailMarking (T : Tables) (s : ℕ) (on : List ℕ) : Type 0 where

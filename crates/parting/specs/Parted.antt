@@ -46,7 +46,8 @@ Drawn-as (some g) r out =
 
 -- what is promised
 abbrev pub PartDrawn : (T : Tables) (hm : List ℕ) (k : ℕ) (out : List ℕ) (r : Drawn) (out′ : List ℕ) → Type 0
-PartDrawn T hm k out r out′ = (length out′ ≡ length out) × ((A : Sheet) → Sound A → Part T hm k A → Drawn-as (sheet-graph A) r out′)
+PartDrawn T hm k out r out′ = (length out′ ≡ length out)
+    × ((A : Sheet) → Sound A → Part T hm k A → Drawn-as (sheet-graph A) r out′)
 
 -- ---- a part whose arcs are gathered
 -- the sheet A has these arcs, and the atoms and ties that have come to k

@@ -24,22 +24,22 @@ use Rattle.layout.specs.Standing.{Stands}
 use Rattle.layout.proofs.Standing.{stands-frame}
 use Rattle.loading.specs.Entry.{graphs}
 use Rattle.marks.specs.Marked.{marking, lights}
-use Rattle.marks.proofs.Marks.{marking-frame, lights-frame}
+use Rattle.marks.proofs.Marks.{or-none, or-assoc, marking-frame, lights-frame}
 use Rattle.classes.specs.Holds.{Holds, Since}
 use Rattle.classes.proofs.Amid.{undone-back, undone-holds}
 use Rattle.classes.proofs.Laws.{holds-few, holds-frame, since-refl, since-later, since-trans, since-frame}
 use Rattle.counting.specs.Counted.{CountedBoth}
 use Rattle.leaving.specs.Found.{Searching, Searches}
 use Rattle.leaving.specs.Fulled.{Fulling}
-use Rattle.choosing.specs.Ways.{Take, entries-of, marks-of, new-of, number-both, way-both, words-of}
+use Rattle.choosing.specs.Ways.{Take, marks-of, number-both, way-both, words-of}
 use Rattle.choosing.specs.Chosen.{ChoosingBoth, ChoosesBoth}
 use Rattle.plain.specs.Lit.{Lighting, Lights}
 use Rattle.plain.specs.Expanded.{Expanding}
 use Rattle.choosing.proofs.Numbers.{way-inside, way-loaded, way-rises, way-few}
+use Rattle.choosing.proofs.Nth.{entries-of, new-of}
 use Rattle.choosing.proofs.Newly.{way-new}
 use Rattle.choosing.proofs.Finds.{found-up, up-none, up-more, up-all, counted-ways}
 use Rattle.plain.proofs.Turns.{turns-count}
-use Rattle.plain.proofs.Lit.{or-none, or-assoc}
 use Rattle.plain.proofs.Joining.{Choice, whole}
 use Rattle.plain.proofs.Kept.{way-kept}
 

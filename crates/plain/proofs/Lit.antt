@@ -14,6 +14,7 @@ use Rattle.area.proofs.Region.{words-same}
 use Rattle.modes_by_marks.specs.Search.{among}
 use Rattle.marks.specs.Marked.{marking, lights, Lighted}
 use Rattle.marks.specs.Positions.{tail-at, mark-at}
+use Rattle.marks.proofs.Marks.{or-none, or-assoc}
 use Rattle.choosing.specs.Ways.{Take, marks-of, take-word}
 use Rattle.plain.specs.Lit.{KeptAt, Lighting, Lights}
 use Rattle.plain.proofs.Turns.{Turn, turn, turn-next, turns-count}
@@ -24,14 +25,6 @@ pub record LitUp (w : List ℕ) (many i : ℕ) (w' : List ℕ) : Type 0 where
   pub rest : (j : ℕ) → (j < MARKS) ⊎ (RESULT ≤ j) → getD w' j 0 ≡ getD w j 0
   pub seen : (c : Lighting w many) (y : ℕ) → lights w' y ≡ (lights w y || among y (marks-of (take i (c .ts))))
   pub marks : Lighting w many → marking w' ≡ marking w
-
-pub or-none : (b : Bool) → b ≡ (b || false)
-or-none true = refl
-or-none false = refl
-
-pub or-assoc : (a b c : Bool) → ((a || b) || c) ≡ (a || (b || c))
-or-assoc true b c = refl
-or-assoc false b c = refl
 
 among-last : (y : ℕ) (k : Take) (l : List Take) → among y (marks-of (l ++ k ∷ [])) ≡ (among y (marks-of l) || eqb y (k .mark))
 among-last y k [] = sym (or-none (eqb y (k .mark)))

@@ -11,7 +11,8 @@ use lib.ListN.{length, getD, take}
 use Rattle.layout.specs.Standing.{Stands}
 use Rattle.layout.proofs.Standing.{stands-length}
 use Rattle.loading.specs.Entry.{Entry}
-use Rattle.choosing.specs.Ways.{Take, entries-of, new-of, take-word, words-of}
+use Rattle.choosing.specs.Ways.{Take, take-word, words-of}
+use Rattle.choosing.proofs.Nth.{entries-of, new-of}
 
 -- the next one after the first i, of those that stand from p on
 pub record Turn (w : List ℕ) (p : ℕ) (ts : List Take) (i : ℕ) : Type 0 where

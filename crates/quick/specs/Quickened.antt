@@ -25,4 +25,5 @@ pub record Quickens (n k : ℕ) (w : List ℕ) (r : Step) (w' : List ℕ) : Type
   pub standing : (k' i : ℕ) → r ≡ Stands k' i →
       Moved k w k' w' × ((t : List ℕ) (p : Pair n t) → Stage n t p k w → marking w ≡ all-kept →
       Leaves (p .j) (marking w') × Stage n t p k' w')
-  pub failing : r ≡ Fails → Moved k w k w' × ((t : List ℕ) (p : Pair n t) → Stage n t p k w → marking w ≡ all-kept → quick-at (p .j) ≡ none)
+  pub failing : r ≡ Fails → Moved k w k w'
+      × ((t : List ℕ) (p : Pair n t) → Stage n t p k w → marking w ≡ all-kept → quick-at (p .j) ≡ none)

@@ -107,7 +107,8 @@ pub record Tried (n k : ℕ) (w : List ℕ) (g left : ℕ) (w' : List ℕ) (c : 
 pub record Tries (n k : ℕ) (w : List ℕ) (g left : ℕ) (r : Step) (w' : List ℕ) : Type 0 where
   pub moved : Moved k w k w'
   pub standing : (k' i : ℕ) → r ≡ Stands k' i →
-      Fewer i (marking w) (marking w') × ((c : Entering n k w g left) → (T : List Graph) × Tried n k w g left w' c (stands T (marking w')))
+      Fewer i (marking w) (marking w')
+      × ((c : Entering n k w g left) → (T : List Graph) × Tried n k w g left w' c (stands T (marking w')))
   pub failing : r ≡ Fails → (total (marking w') ≤ total (marking w))
       × ((c : Entering n k w g left) → Tried n k w g left w' c (fails (marking w')))
 

@@ -3,7 +3,8 @@
 use mathlib.Core.Option.{Option, none, some}
 use Rattle.roles.specs.Faults as F
 use Rattle.roles.specs.Faults.{words-end, words-left-over, no-nodes, bad-head, bad-feature, bad-target, not-met, few-alternatives}
-use Rattle.roles.specs.Faults.{too-deep, node-count, node-head, arc-feature, arc-target, disjunction-count, alternative-count, the-end}
+use Rattle.roles.specs.Faults.{too-deep, node-count, node-head, arc-feature, arc-target, disjunction-count}
+use Rattle.roles.specs.Faults.{alternative-count, the-end}
 use Rattle.roles.specs.declared.cause.Cause.{Cause}
 use Rattle.roles.specs.declared.cause.Cause.the-variants.{WordsEnd, WordsLeftOver, NoNodes, BadHead, BadFeature, BadTarget, NotMet}
 use Rattle.roles.specs.declared.cause.Cause.the-variants.{FewAlternatives, TooDeep}

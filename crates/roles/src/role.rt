@@ -75,7 +75,8 @@ fn target_breaks(nodes: Nodes, left: u32, low: u32, target: u32) -> Rule
 
 // "too deep a nesting at the number of disjunctions"
 fn disjunctions_break(depth: u32, count: u32) -> Rule
-    ensures { λ r. ⌜ ((s : Nesting) → length s ≡ depth → rule-of r ≡ breaks (expect (role-of Role.DisjunctionCount) s) count) ⌝ }
+    ensures { λ r. ⌜ ((s : Nesting) → length s ≡ depth →
+        rule-of r ≡ breaks (expect (role-of Role.DisjunctionCount) s) count) ⌝ }
 {
     if count == 0 {
         return Rule::Kept;

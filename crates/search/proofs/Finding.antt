@@ -16,6 +16,7 @@ use Rattle.modes_by_marks.proofs.Agenda.{taking-count, lit-append, lit-taking, 
 use Rattle.loading.specs.Entry.{Entry}
 use Rattle.marks.specs.Marked.{marking, lights, Lighted}
 use Rattle.marks.specs.Positions.{mark-at}
+use Rattle.marks.proofs.Marks.{or-none, or-assoc}
 use Rattle.classes.specs.Holds.{Holds}
 use Rattle.classes.proofs.Laws.{holds-frame, since-frame}
 use Rattle.entering.specs.Moved.{Moved}
@@ -23,10 +24,6 @@ use Rattle.leaving.specs.Found.{Finds}
 use Rattle.search.specs.Searched.{Notes}
 
 -- ---- an alternative is noted
-or-none : (b : Bool) → b ≡ (b || false)
-or-none true = refl
-or-none false = refl
-
 pub notes-none : (w : List ℕ) (g found : ℕ) → found ≤ 0 → Notes w g found w
 notes-none w g found h = record {
   len = refl;
@@ -54,10 +51,6 @@ notes-some w g found x w' h e u = record {
     some false e = let less = ltb-false 0 found e in absurd (omega arith)
 
 -- ---- what is found
-or-assoc : (a b c : Bool) → ((a || b) || c) ≡ (a || (b || c))
-or-assoc true b c = refl
-or-assoc false b c = refl
-
 -- what was found with x is found together with it
 with-own : (a f u s : Bool) → ((a || f) || (u && s)) ≡ (a || ((u && s) || f))
 with-own true f u s = refl

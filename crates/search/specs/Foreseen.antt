@@ -18,4 +18,5 @@ pub record Foreseeing (n k : ℕ) (w : List ℕ) (g left : ℕ) : Type 0 where
 -- where it clashes nothing is found with it; where it agrees, and nothing is left, itself alone
 pub record Foresees (n k : ℕ) (w : List ℕ) (g left : ℕ) (r : Guess) : Type 0 where
   pub clashes : r ≡ Clashes → (a : Agenda) (c : Taking n k w g a) → taken-with c ≡ []
-  pub agrees : r ≡ Agrees → (a : Agenda) → a .frames ≡ left → (c : Taking n k w g a) → taken-with c ≡ (mark-of (c .lies) ∷ []) ∷ []
+  pub agrees : r ≡ Agrees → (a : Agenda) → a .frames ≡ left → (c : Taking n k w g a) →
+      taken-with c ≡ (mark-of (c .lies) ∷ []) ∷ []

@@ -18,7 +18,8 @@ abbrev pub Slot : Type 0
 Slot = ℕ × ℕ
 
 unfoldable pub slots : Agenda → List Slot
-slots a = take (a .frames) ((a .at0, a .more0) ∷ (a .at1, a .more1) ∷ (a .at2, a .more2) ∷ (a .at3, a .more3) ∷ (a .at4, a .more4) ∷ [])
+slots a =
+    take (a .frames) ((a .at0, a .more0) ∷ (a .at1, a .more1) ∷ (a .at2, a .more2) ∷ (a .at3, a .more3) ∷ (a .at4, a .more4) ∷ [])
 
 -- the frames of a are l
 pub record Lists (a : Agenda) (l : List Slot) : Type 0 where
@@ -39,12 +40,12 @@ pub record Frame (n : ℕ) (t : List ℕ) (U es : List Entry) (m : Marking) (at 
 -- the frames stand one after the other, from the position `pos` and the number `lo` on; the more of them, the less deep the first nests
 abbrev pub Frames : (n : ℕ) (t : List ℕ) (U es : List Entry) (m : Marking) → List Slot → ℕ → ℕ → Type 0
 Frames n t U es m [] pos lo = (pos ≤ length t) × (lo ≤ n)
-Frames n t U es m (s ∷ l) pos lo = (f : Frame n t U es m (s .0) (s .1) (5 - length l)) × (0 < s .1) × (pos ≤ s .0) × (lo ≤ f .lies .from)
-    × Frames n t U es m l (f .lies .end) (f .lies .to)
+Frames n t U es m (s ∷ l) pos lo = (f : Frame n t U es m (s .0) (s .1) (5 - length l)) × (0 < s .1) × (pos ≤ s .0)
+    × (lo ≤ f .lies .from) × Frames n t U es m l (f .lies .end) (f .lies .to)
 
 -- their disjunctions: engine's agenda
-abbrev pub plan : (n : ℕ) (t : List ℕ) (U es : List Entry) (m : Marking) (l : List Slot) (pos lo : ℕ) → Frames n t U es m l pos lo →
-    List Places
+abbrev pub plan : (n : ℕ) (t : List ℕ) (U es : List Entry) (m : Marking) (l : List Slot) (pos lo : ℕ) →
+    Frames n t U es m l pos lo → List Places
 plan n t U es m [] pos lo F = []
 plan n t U es m (s ∷ l) pos lo F = F .0 .lies .ds ∷ plan n t U es m l (F .0 .lies .end) (F .0 .lies .to) (F .4)
 

@@ -22,7 +22,8 @@ pub record Drawing (arcs ends atoms ties : List ℕ) : Type 0 where
 abbrev pub DrawnAs : Sheet → List ℕ → List ℕ → Drawn → Type 0
 DrawnAs A out out' Clash = sheet-graph A ≡ none
 DrawnAs A out out' Long = (G : Graph) × (sheet-graph A ≡ some G) × (length out < length (graph-words G))
-DrawnAs A out out' (Words n) = (G : Graph) × (sheet-graph A ≡ some G) × (n ≡ length (graph-words G)) × (take n out' ≡ graph-words G)
+DrawnAs A out out' (Words n) = (G : Graph) × (sheet-graph A ≡ some G) × (n ≡ length (graph-words G))
+    × (take n out' ≡ graph-words G)
 
 pub record Draws (arcs ends atoms ties out : List ℕ) (r : Drawn) (out' : List ℕ) : Type 0 where
   pub len : length out' ≡ length out

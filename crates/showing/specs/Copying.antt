@@ -23,7 +23,13 @@ pub record Piece : Type 1 where
 
 -- k arcs
 abbrev pub arcs-piece : ℕ → Piece
-arcs-piece k = record { Thing = List (ℕ × ℕ); Fine = λ l. length l ≡ k; text = arc-words; image = λ n l. arc-words (moved-arcs n l) }
+arcs-piece k = record {
+  Thing = List (ℕ
+      × ℕ);
+  Fine = λ l. length l ≡ k;
+  text = arc-words;
+  image = λ n l. arc-words (moved-arcs n l);
+}
 
 abbrev pub node-piece : Piece
 node-piece = record { Thing = Node; Fine = λ v. Unit {0}; text = node-words; image = λ n v. node-words (moved-node n v) }

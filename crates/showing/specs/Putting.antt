@@ -54,7 +54,8 @@ abbrev pub lead : Desc → Graph
 lead (desc g ds) = or-else g (glue g (sure ds))
 
 abbrev pub LeadPut : (n : ℕ) (w : List ℕ) (g left o r : ℕ) (w' : List ℕ) → Type 0
-LeadPut n w g left o r w' = (c : Describing n w g left o) → Written n w o (graph-words (lead (strip (keep (c .base .m) (c .lies .d))))) r w'
+LeadPut n w g left o r w' = (c : Describing n w g left o) →
+    Written n w o (graph-words (lead (strip (keep (c .base .m) (c .lies .d))))) r w'
 
 -- ---- its disjunctions
 abbrev pub later : Placed → Places

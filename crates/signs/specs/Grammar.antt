@@ -5,8 +5,8 @@ use mathlib.Core.Path.{_≡_}
 use mathlib.Core.List.{List, [], _∷_, _++_}
 use lib.ListN.{length, take}
 use Rattle.formulas.specs.Formula.{Path, Formula, nil, top, atom, at, same, all, any, Formulas, one, _also_}
-use Rattle.signs.specs.Signs.{Sign, nil-sign, top-sign, atom-sign, feature-sign, colon, bracket, unbracket, less, greater, comma, and}
-use Rattle.signs.specs.Signs.{or, left, right, Spelt}
+use Rattle.signs.specs.Signs.{Sign, nil-sign, top-sign, atom-sign, feature-sign, colon, bracket, unbracket, less}
+use Rattle.signs.specs.Signs.{greater, comma, and, or, left, right, Spelt}
 
 -- one formula stands for itself, several for their conjunction or disjunction
 abbrev pub conjunction : Formulas → Formula
@@ -35,23 +35,24 @@ mutual
     is-nil : {σ : List Sign} {φ : Formula} → σ ≡ nil-sign ∷ [] → φ ≡ nil → Unit-is σ φ
     is-top : {σ : List Sign} {φ : Formula} → σ ≡ top-sign ∷ [] → φ ≡ top → Unit-is σ φ
     is-atom : {σ : List Sign} {φ : Formula} (a : ℕ) → σ ≡ atom-sign a ∷ [] → φ ≡ atom a → Unit-is σ φ
-    is-at : {σ : List Sign} {φ : Formula} (f : ℕ) (τ : List Sign) (ψ : Formula) → Unit-is τ ψ → σ ≡ feature-sign f ∷ colon ∷ τ →
-        φ ≡ at f ψ → Unit-is σ φ
-    is-same : {σ : List Sign} {φ : Formula} (p : Path) (ps : List Path) → σ ≡ bracket ∷ path-list p ps → φ ≡ same p ps → Unit-is σ φ
-    is-group : {σ : List Sign} {φ : Formula} (τ : List Sign) (φs : Formulas) → Parts τ φs → σ ≡ left ∷ (τ ++ (right ∷ [])) →
-        φ ≡ disjunction φs → Unit-is σ φ
+    is-at : {σ : List Sign} {φ : Formula} (f : ℕ) (τ : List Sign) (ψ : Formula) → Unit-is τ ψ →
+        σ ≡ feature-sign f ∷ colon ∷ τ → φ ≡ at f ψ → Unit-is σ φ
+    is-same : {σ : List Sign} {φ : Formula} (p : Path) (ps : List Path) → σ ≡ bracket ∷ path-list p ps → φ ≡ same p ps →
+        Unit-is σ φ
+    is-group : {σ : List Sign} {φ : Formula} (τ : List Sign) (φs : Formulas) → Parts τ φs →
+        σ ≡ left ∷ (τ ++ (right ∷ [])) → φ ≡ disjunction φs → Unit-is σ φ
 
   -- units parted by `&`
   pub data Units : List Sign → Formulas → Type 0 where
     one-unit : {σ : List Sign} {φs : Formulas} (φ : Formula) → Unit-is σ φ → φs ≡ one φ → Units σ φs
-    more-units : {σ : List Sign} {φs : Formulas} (τ ρ : List Sign) (φ : Formula) (ψs : Formulas) → Unit-is τ φ → Units ρ ψs →
-        σ ≡ τ ++ (and ∷ ρ) → φs ≡ φ also ψs → Units σ φs
+    more-units : {σ : List Sign} {φs : Formulas} (τ ρ : List Sign) (φ : Formula) (ψs : Formulas) → Unit-is τ φ →
+        Units ρ ψs → σ ≡ τ ++ (and ∷ ρ) → φs ≡ φ also ψs → Units σ φs
 
   -- conjunctions parted by `|`
   pub data Parts : List Sign → Formulas → Type 0 where
     one-part : {σ : List Sign} {φs : Formulas} (us : Formulas) → Units σ us → φs ≡ one (conjunction us) → Parts σ φs
-    more-parts : {σ : List Sign} {φs : Formulas} (τ ρ : List Sign) (us ψs : Formulas) → Units τ us → Parts ρ ψs → σ ≡ τ ++ (or ∷ ρ) →
-        φs ≡ conjunction us also ψs → Parts σ φs
+    more-parts : {σ : List Sign} {φs : Formulas} (τ ρ : List Sign) (us ψs : Formulas) → Units τ us → Parts ρ ψs →
+        σ ≡ τ ++ (or ∷ ρ) → φs ≡ conjunction us also ψs → Parts σ φs
 
 pub data Whole : List Sign → Formula → Type 0 where
   whole : {σ : List Sign} {φ : Formula} (φs : Formulas) → Parts σ φs → φ ≡ disjunction φs → Whole σ φ

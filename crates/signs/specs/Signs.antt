@@ -47,8 +47,8 @@ right = mark 41
 -- "without leading zeros": a digit, or a number that is not 0 and a digit after it
 pub data Decimal : List ℕ → ℕ → Type 0 where
   digit : {t : List ℕ} {n : ℕ} → n < 10 → t ≡ (48 + n) ∷ [] → Decimal t n
-  longer : {t : List ℕ} {n : ℕ} (u : List ℕ) (m d : ℕ) → Decimal u m → 0 < m → d < 10 → t ≡ u ++ ((48 + d) ∷ []) → n ≡ m * 10 + d →
-      Decimal t n
+  longer : {t : List ℕ} {n : ℕ} (u : List ℕ) (m d : ℕ) → Decimal u m → 0 < m → d < 10 → t ≡ u ++ ((48 + d) ∷ []) →
+      n ≡ m * 10 + d → Decimal t n
 
 -- "Numbers go to 65,535"
 pub record Number (t : List ℕ) (n : ℕ) : Type 0 where
@@ -70,8 +70,8 @@ spaces (suc n) = 32 ∷ spaces n
 -- "spaces may part signs": a sign; or signs, any number of spaces, and one sign more
 pub data Spelt : List Sign → List ℕ → Type 0 where
   one-sign : {σ : List Sign} {t : List ℕ} (s : Sign) → Spells s t → σ ≡ s ∷ [] → Spelt σ t
-  next-sign : {σ : List Sign} {t : List ℕ} (τ : List Sign) (u : List ℕ) (n : ℕ) (s : Sign) (v : List ℕ) → Spelt τ u → Spells s v →
-      σ ≡ τ ++ (s ∷ []) → t ≡ u ++ (spaces n ++ v) → Spelt σ t
+  next-sign : {σ : List Sign} {t : List ℕ} (τ : List Sign) (u : List ℕ) (n : ℕ) (s : Sign) (v : List ℕ) → Spelt τ u →
+      Spells s v → σ ≡ τ ++ (s ∷ []) → t ≡ u ++ (spaces n ++ v) → Spelt σ t
 
 -- a sign as one word: the byte that ends it, or the letter before its number, times `kind-unit`, and the number
 unfoldable pub sign-word : Sign → ℕ

@@ -36,8 +36,8 @@ Translated t room TooDeep out = (length t ≤ formula-limit) × ((φ : Formula) 
 Translated t room Clash out = ((φ : Formula) × Shallow t φ × (describe φ ≡ none)) × (out ≡ room)
 Translated t room TooLong out = ((φ : Formula) × (d : Desc) × Described t φ d × (input-limit < length (words d))) × (out ≡ room)
 Translated t room (NoRoom n) out =
-    ((φ : Formula) × (d : Desc) × Described t φ d × (length (words d) ≤ input-limit) × (n ≡ length (words d)) × (length room < n))
-    × (out ≡ room)
+    ((φ : Formula) × (d : Desc) × Described t φ d × (length (words d) ≤ input-limit) × (n ≡ length (words d))
+    × (length room < n)) × (out ≡ room)
 Translated t room (Done n) out =
-    (φ : Formula) × (d : Desc) × Described t φ d × (length (words d) ≤ input-limit) × (n ≡ length (words d)) × (n ≤ length room)
-    × (out ≡ words d ++ drop n room)
+    (φ : Formula) × (d : Desc) × Described t φ d × (length (words d) ≤ input-limit) × (n ≡ length (words d))
+    × (n ≤ length room) × (out ≡ words d ++ drop n room)

@@ -158,7 +158,8 @@ fn lay_tree(signs: &[u32], n: usize, flagged: bool, result: &mut [u32]) -> Answe
 // Marks the groups that have alternatives, and goes on.
 fn mark_tree(signs: &mut [u32], n: usize, result: &mut [u32]) -> Answer
     requires { ⌜ ((φ : Formula) × TreeRead φ (now signs) n) ⌝ }
-    ensures { λ r. ⌜ ((φ : Formula) → TreeRead φ (now (signs .entry)) n → TreeTold φ (now (result .entry)) r (now (result .exit))) ⌝ }
+    ensures { λ r. ⌜ ((φ : Formula) → TreeRead φ (now (signs .entry)) n →
+        TreeTold φ (now (result .entry)) r (now (result .exit))) ⌝ }
 {
     let mut flags = flags_space();
     let flagged = mark_groups(signs, n, &mut flags);

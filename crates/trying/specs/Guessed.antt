@@ -11,6 +11,7 @@ use Rattle.trying.specs.declared.told.Guess.the-variants.{Agrees, Clashe
 
 -- whether the graph at g agrees with the graphs that are pushed, told exactly where it is told
 pub record Guesses (n k : ℕ) (w : List ℕ) (g : ℕ) (r : Guess) : Type 0 where
-  pub agrees : r ≡ Agrees → (es : List Entry) (e : Entry) → e .at ≡ g → Holds n es k w → Comes n es e w → Agree (graphs es ++ e .graph ∷ [])
+  pub agrees : r ≡ Agrees → (es : List Entry) (e : Entry) → e .at ≡ g → Holds n es k w → Comes n es e w →
+      Agree (graphs es ++ e .graph ∷ [])
   pub clashes : r ≡ Clashes → (es : List Entry) (e : Entry) → e .at ≡ g → Holds n es k w → Comes n es e w →
       Clash (graphs es ++ e .graph ∷ [])

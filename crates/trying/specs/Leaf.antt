@@ -38,7 +38,8 @@ Suitable n w f v = (es : List Entry) (k : ℕ) (h : Holds n es k w) (q : ℕ) �
 
 -- the roots have an arc with the feature f, and its target holds something else
 abbrev pub Foul : ℕ → List ℕ → ℕ → ℕ → Type 0
-Foul n w f v = (es : List Entry) (k : ℕ) (h : Holds n es k w) → (q : ℕ) × (Under h f q × ((target-code h q ≢ v) × (target-code h q ≢ 0)))
+Foul n w f v = (es : List Entry) (k : ℕ) (h : Holds n es k w) → (q : ℕ)
+    × (Under h f q × ((target-code h q ≢ v) × (target-code h q ≢ 0)))
 
 pub record Suits (n : ℕ) (w : List ℕ) (f v : ℕ) (r : Guess) : Type 0 where
   pub agrees : r ≡ Agrees → Suitable n w f v

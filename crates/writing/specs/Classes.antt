@@ -19,7 +19,8 @@ pub record Fan (n : ℕ) (w : List ℕ) (lab : ℕ → ℕ) (ord : List ℕ) (x 
   pub short : length chain ≤ LOADED
   pub inside : (q : ℕ) → List·Memᴰ q chain → (q < TARGETS) × (getD (targets w) q 0 < n)
   pub from : (q : ℕ) → List·Memᴰ q chain → low ≤ getD (loaded-words w) q 0
-      → (t : ℕ) × (List·Memᴰ (getD (loaded-words w) q 0, t) l × ((t < length ord) × (lab (getD (targets w) q 0) ≡ getD ord t 0)))
+      → (t : ℕ) × (List·Memᴰ (getD (loaded-words w) q 0, t) l
+      × ((t < length ord) × (lab (getD (targets w) q 0) ≡ getD ord t 0)))
   pub to : (f t : ℕ) → List·Memᴰ (f, t) l → (q : ℕ) × (List·Memᴰ q chain × (getD (loaded-words w) q 0 ≡ f))
 
 -- "Without a clash the classes form the joined graph.": the classes of w are the nodes of G; ord lists them in the order of their

@@ -36,7 +36,8 @@ pub data Better (F : List ℕ) (low best j : ℕ) : ℕ → Type 0 where
 pub record Passed (F : List ℕ) (low : ℕ) (chain rest : List ℕ) (best : ℕ) : Type 0 where
   pub inside : (q : ℕ) → List·Memᴰ q rest → List·Memᴰ q chain
   pub one : (q : ℕ) → best ≡ suc q → List·Memᴰ q chain × (low ≤ getD F q 0)
-  pub all : (q : ℕ) → List·Memᴰ q chain → low ≤ getD F q 0 → List·Memᴰ q rest ⊎ ((b : ℕ) × ((best ≡ suc b) × (getD F b 0 ≤ getD F q 0)))
+  pub all : (q : ℕ) → List·Memᴰ q chain → low ≤ getD F q 0 → List·Memᴰ q rest
+      ⊎ ((b : ℕ) × ((best ≡ suc b) × (getD F b 0 ≤ getD F q 0)))
 
 -- the arc r, counted from 1, has the least feature from low on of the chain from x; 0 where there is none
 pub record LeastArc (w : List ℕ) (x low r : ℕ) : Type 0 where
@@ -57,8 +58,8 @@ pub record Numbering (n k m c : ℕ) (w : List ℕ) : Type 0 where
 -- "a target is either a number already met or the next unused one": the class c has its number, and r classes are met
 pub record Numbers (n k m c : ℕ) (w : List ℕ) (r : ℕ) (w' : List ℕ) : Type 0 where
   pub kept : (at : ℕ) → Kept k at at w w'
-  pub told : (G : Graph) (lab : ℕ → ℕ) (ord : List ℕ) → Classes n k w G lab ord → Met k m ord w → (t : ℕ) → t < length ord → t ≤ m →
-      c ≡ getD ord t 0
+  pub told : (G : Graph) (lab : ℕ → ℕ) (ord : List ℕ) → Classes n k w G lab ord → Met k m ord w → (t : ℕ) →
+      t < length ord → t ≤ m → c ≡ getD ord t 0
       → Met k r ord w' × ((r ≡ max m (suc t)) × (getD w' (STACK + c) 0 ≡ suc t))
 
 -- what an arc asks: q is an arc to the node t, which is met or the next
@@ -79,8 +80,8 @@ pub record Pointing (n k : ℕ) (w : List ℕ) (q at m : ℕ) : Type 0 where
 -- "An arc is two words: feature 0..65,535, target node.": they stand in the result
 pub record Pointed (n k : ℕ) (w : List ℕ) (q at m m' : ℕ) (w' : List ℕ) : Type 0 where
   pub kept : Kept k at (at + 2) w w'
-  pub told : (G : Graph) (lab : ℕ → ℕ) (ord : List ℕ) → Classes n k w G lab ord → Met k m ord w → (t : ℕ) → t < length ord → t ≤ m →
-      lab (getD (targets w) q 0) ≡ getD ord t 0
+  pub told : (G : Graph) (lab : ℕ → ℕ) (ord : List ℕ) → Classes n k w G lab ord → Met k m ord w → (t : ℕ) →
+      t < length ord → t ≤ m → lab (getD (targets w) q 0) ≡ getD ord t 0
       → Met k m' ord w' × ((m' ≡ max m (suc t)) × ((getD w' (RESULT + at) 0 ≡ getD (loaded-words w) q 0)
       × (getD w' (RESULT + at + 1) 0 ≡ t)))
 
@@ -127,8 +128,8 @@ pub record NodeWriting (n k : ℕ) (w : List ℕ) (i at m : ℕ) : Type 0 where
 -- "a head, then its arcs": the words of the node i stand in the result
 pub record NodeWritten (n k : ℕ) (w : List ℕ) (i at m at' m' : ℕ) (w' : List ℕ) : Type 0 where
   pub kept : Kept k at at' w w'
-  pub told : (G : Graph) (lab : ℕ → ℕ) (ord : List ℕ) → Classes n k w G lab ord → Met k m ord w → i < m → Rising 0 (arcsOf (nodeAt G i)) →
-      InOrder m (arcsOf (nodeAt G i))
+  pub told : (G : Graph) (lab : ℕ → ℕ) (ord : List ℕ) → Classes n k w G lab ord → Met k m ord w → i < m →
+      Rising 0 (arcsOf (nodeAt G i)) → InOrder m (arcsOf (nodeAt G i))
       → Met k m' ord w' × ((m' ≡ met m (arcsOf (nodeAt G i))) × Stands w' (RESULT + at) (node-words (nodeAt G i)) (RESULT + at'))
 
 -- what all nodes ask: the class of the root is met, and there is room for them
