@@ -9,7 +9,7 @@ ghost use lib.ListN.{length, getD};
 ghost use Rattle.area.specs.Map.{PARENT, SIZE, NODES, ENTRIES, ENTRY_MOST};
 ghost use Rattle.area.specs.Log.{Logged, Stores};
 ghost use Rattle.forest.specs.Forest.{parents, size-of, root-word, Shape, Root};
-ghost use Rattle.forest.specs.Roots.{YieldTold, Linking, Linked};
+ghost use Rattle.forest.specs.Roots.{YieldTold, Linking, Linked, ByItself};
 
 // A root's word is its number, and this times how many nodes its class has beside it.
 const SIZE_STEP: u32 = 1024;
@@ -86,6 +86,17 @@ pub fn link(w: &mut [u32], k: usize, n: usize, a: usize, b: usize) -> usize
     let there = class_size(w, a);
     let came = class_size(w, b);
     let v = root_word(a, there + came);
+    let e = put(w, k, PARENT + b, a as u32);
+    put_root(w, e, a, v)
+}
+
+// The node b, a class by itself, goes under the root a, whose word then tells one node more.
+pub fn adopt(w: &mut [u32], k: usize, n: usize, a: usize, b: usize) -> usize
+    requires { ⌜ (n ≤ NODES) × (SIZE ≤ length (now w)) ⌝ }
+    requires { ⌜ Linking n k (now w) a b × ByItself (now w) b ⌝ }
+    ensures { λ r. ⌜ Linked n k (now (w .entry)) a b r (now (w .exit)) ⌝ }
+{
+    let v = w[PARENT + a] + SIZE_STEP;
     let e = put(w, k, PARENT + b, a as u32);
     put_root(w, e, a, v)
 }

@@ -2,6 +2,7 @@
 // It puts one chain before the other and leaves a frame on the stack: the part of the chain that came, up to what was there, whose arcs
 // have yet to be compared with those after it.
 use crate::chain::last;
+use crate::forest::adopt;
 use crate::forest::find;
 use crate::forest::link;
 use crate::forest::yields;
@@ -53,6 +54,21 @@ fn tuck(w: &mut [u32], k: usize, s: usize, n: usize, a: usize, b: usize) -> Prog
     ensures { λ r. ⌜ Merged n k s (now (w .entry)) a b (r .k) (r .s) (r .bad) (now (w .exit)) ⌝ }
 {
     let e = link(w, k, n, a, b);
+    Progress {
+        k: e,
+        s: s,
+        bad: false,
+    }
+}
+
+// The node b, a class by itself that holds nothing, goes under the class a.
+fn take_in(w: &mut [u32], k: usize, s: usize, n: usize, a: usize, b: usize) -> Progress
+    requires { ⌜ (n ≤ NODES) × (SIZE ≤ length (now w)) ⌝ }
+    requires { ⌜ Fusing n (now w) a b × ByItself (now w) b ⌝ }
+    requires { ⌜ SomeState n k s (now w) ⌝ }
+    ensures { λ r. ⌜ Merged n k s (now (w .entry)) a b (r .k) (r .s) (r .bad) (now (w .exit)) ⌝ }
+{
+    let e = adopt(w, k, n, a, b);
     Progress {
         k: e,
         s: s,
@@ -177,13 +193,13 @@ pub fn join(w: &mut [u32], k: usize, s: usize, n: usize, x: usize, y: usize) -> 
     if is_by_itself(w, y) {
         let a = find(w, n, x);
         if a < y {
-            return tuck(w, k, s, n, a, y);
+            return take_in(w, k, s, n, a, y);
         }
     }
     if is_by_itself(w, x) {
         let b = find(w, n, y);
         if b < x {
-            return tuck(w, k, s, n, b, x);
+            return take_in(w, k, s, n, b, x);
         }
     }
     blend(w, k, s, n, x, y)

@@ -1,5 +1,4 @@
 -- `forest::merge::join` meets its contract. Assumes nothing.
-use mathlib.Core.Logic.{inl}
 use Rattle.forest.proofs.Turns.{joined-up, joined-down}
 use Rattle.forest.proofs.Itself.{itself-root, itself-fusing}
 use borrow.Author.Needs.{needs}
@@ -12,8 +11,8 @@ is-by-itself-requires c κs = search needs
 find-requires : tie.Need-find-requires
 find-requires c κs = search needs
 
-tuck-requires : tie.Need-tuck-requires
-tuck-requires c κs =
+take-in-requires : tie.Need-take-in-requires
+take-in-requires c κs =
     let t = c .before .before .before .before .before in
     let s = t .before .before .before in
     let a = s .args in
@@ -22,9 +21,12 @@ tuck-requires c κs =
     let itself = t .is-by-itself .ensures (c .before .before .before .before .if1 .taken) in (
       (h .1 .1 .0, h .1 .1 .1),
       (
-        itself-fusing (a .n) (a .w .now) (h .1 .1 .0) (h .1 .1 .1) (a .y) (h .1 .0) itself (a .x) (find .result) (find .ensures)
-            (c .before .if2 .taken),
-        (inl (itself .empty), s .pre .1),
+        (
+          itself-fusing (a .n) (a .w .now) (h .1 .1 .0) (h .1 .1 .1) (a .y) (h .1 .0) itself (a .x) (find .result) (find .ensures)
+              (c .before .if2 .taken),
+          itself,
+        ),
+        s .pre .1,
       ),
     )
 
@@ -38,7 +40,7 @@ returns c =
     let a = s .args in
     let h = s .pre .0 in
     let find = c .before .before .before .before .before .find in
-    let tuck = c .before .before .tuck in
+    let tuck = c .before .before .take-in in
     let itself = t .is-by-itself .ensures (c .before .before .before .before .before .before .before .if1 .taken) in
     joined-up (a .n) (a .k) (a .s) (a .w .now) (a .x) (a .y) (h .0) (h .1 .0) (h .1 .1 .0) (h .1 .1 .1) (find .result) (a .y)
     (find .ensures) (itself-root (a .n) (a .w .now) (h .1 .1 .0) (h .1 .1 .1) (a .y) (h .1 .0) itself) (tuck .result .k)
@@ -50,8 +52,8 @@ is-by-itself-requires-2 c κs = search needs
 find-requires-2 : tie.Need-find-requires-2
 find-requires-2 c κs = search needs
 
-tuck-requires-2 : tie.Need-tuck-requires-2
-tuck-requires-2 c κs =
+take-in-requires-2 : tie.Need-take-in-requires-2
+take-in-requires-2 c κs =
     let t = c .before .before .before .before .before in
     let s = t .before .before .before .before .before .before in
     let a = s .args in
@@ -60,9 +62,12 @@ tuck-requires-2 c κs =
     let itself = t .is-by-itself2 .ensures (c .before .before .before .before .if3 .taken) in (
       (h .1 .1 .0, h .1 .1 .1),
       (
-        itself-fusing (a .n) (a .w .now) (h .1 .1 .0) (h .1 .1 .1) (a .x) (h .0) itself (a .y) (find .result) (find .ensures)
-            (c .before .if4 .taken),
-        (inl (itself .empty), s .pre .1),
+        (
+          itself-fusing (a .n) (a .w .now) (h .1 .1 .0) (h .1 .1 .1) (a .x) (h .0) itself (a .y) (find .result) (find .ensures)
+              (c .before .if4 .taken),
+          itself,
+        ),
+        s .pre .1,
       ),
     )
 
@@ -76,7 +81,7 @@ returns-2 c =
     let a = s .args in
     let h = s .pre .0 in
     let find = c .before .before .before .before .before .find2 in
-    let tuck = c .before .before .tuck2 in
+    let tuck = c .before .before .take-in2 in
     let itself = t .is-by-itself2 .ensures (c .before .before .before .before .before .before .before .if3 .taken) in
     joined-down (a .n) (a .k) (a .s) (a .w .now) (a .x) (a .y) (h .0) (h .1 .0) (h .1 .1 .0) (h .1 .1 .1) (a .x) (find .result)
     (itself-root (a .n) (a .w .now) (h .1 .1 .0) (h .1 .1 .1) (a .x) (h .0) itself) (find .ensures) (tuck .result .k)
@@ -97,12 +102,12 @@ join-spec =
     (tie.spec
     is-by-itself-requires
     find-requires
-    tuck-requires
+    take-in-requires
     same-length
     returns
     is-by-itself-requires-2
     find-requires-2
-    tuck-requires-2
+    take-in-requires-2
     same-length-2
     returns-2
     blend-requires
