@@ -16,9 +16,10 @@ use Rattle.theory.specs.Unified.{unified}
 use Rattle.theory.specs.Outcome.{Areas, Outcome, Row}
 use Rattle.descriptions.specs.Outcome.{worked}
 use Rattle.theory.proofs.Table.{outcome-answer}
-use Rattle.suite.specs.declared.Test.{Test}
-use Rattle.suite.specs.declared.Running.{Running}
-use Rattle.suite.specs.Suite.{record-fault, fault-after, length-fault, passed-over, test-words, test-call, test-answer, result-after, AsAnswered, as-expected, first-after, noted-as, noted-record, row-sum, counts-sum, raised-at}
+use Rattle.suite.specs.declared.test.Test.{Test}
+use Rattle.suite.specs.declared.running.Running.{Running}
+use Rattle.suite.specs.Suite.{record-fault, fault-after, length-fault, passed-over, test-words, test-call, test-answer, result-after}
+use Rattle.suite.specs.Suite.{AsAnswered, as-expected, first-after, noted-as, noted-record, row-sum, counts-sum, raised-at}
 
 -- ---- refusals
 pub fault-stays : (n space : ℕ) (t : Test) → (n ≡ 0 → ⊥) → n ≡ fault-after n space t
@@ -43,15 +44,35 @@ module _ (n space : ℕ) (t : Test) (z : n ≡ 0) where
     module _ (s : t .second + t .seconds ≤ space) where
       pub mode-beyond : 2 < t .mode → 32 ≡ fault-after n space t
       unfolding record-fault
-      mode-beyond h = (rw (le-ltb space (t .first + t .firsts) f, le-ltb space (t .second + t .seconds) s, lt-ltb 2 (t .mode) h, record-fault)) ∙ fault-fresh
+      mode-beyond h =
+          (rw (
+            le-ltb space (t .first + t .firsts) f,
+            le-ltb space (t .second + t .seconds) s,
+            lt-ltb 2 (t .mode) h,
+            record-fault,
+          )) ∙ fault-fresh
 
       pub number-beyond : t .mode ≤ 2 → 8 < t .number → 32 ≡ fault-after n space t
       unfolding record-fault
-      number-beyond m h = (rw (le-ltb space (t .first + t .firsts) f, le-ltb space (t .second + t .seconds) s, le-ltb 2 (t .mode) m, lt-ltb 8 (t .number) h, record-fault)) ∙ fault-fresh
+      number-beyond m h =
+          (rw (
+            le-ltb space (t .first + t .firsts) f,
+            le-ltb space (t .second + t .seconds) s,
+            le-ltb 2 (t .mode) m,
+            lt-ltb 8 (t .number) h,
+            record-fault,
+          )) ∙ fault-fresh
 
       pub none-beyond : t .mode ≤ 2 → t .number ≤ 8 → 0 ≡ fault-after n space t
       unfolding record-fault
-      none-beyond m h = (rw (le-ltb space (t .first + t .firsts) f, le-ltb space (t .second + t .seconds) s, le-ltb 2 (t .mode) m, le-ltb 8 (t .number) h, record-fault)) ∙ fault-fresh
+      none-beyond m h =
+          (rw (
+            le-ltb space (t .first + t .firsts) f,
+            le-ltb space (t .second + t .seconds) s,
+            le-ltb 2 (t .mode) m,
+            le-ltb 8 (t .number) h,
+            record-fault,
+          )) ∙ fault-fresh
 
 pub too-many : (n : ℕ) → 64 < n → 30 ≡ length-fault n
 unfolding length-fault
@@ -95,11 +116,13 @@ module _ (t : Test) (n r : ℕ) (h : Running) where
   unfolding noted-record noted-as
   noted-good e = rw e refl
 
-  pub noted-first : as-expected t n r ≡ false → h .first ≡ 64 → record { run = h .run + 1; good = h .good; first = h .run } ≡ noted-record t n r h
+  pub noted-first : as-expected t n r ≡ false → h .first ≡ 64 → record { run = h .run + 1; good = h .good; first = h .run } ≡ noted-record t
+      n r h
   unfolding noted-record noted-as
   noted-first e f = rw e (ap (λ (k : ℕ). record { run = h .run + 1; good = h .good; first = k }) (first-here (h .run) (h .first) f))
 
-  pub noted-later : as-expected t n r ≡ false → (h .first ≡ 64 → ⊥) → record { run = h .run + 1; good = h .good; first = h .first } ≡ noted-record t n r h
+  pub noted-later : as-expected t n r ≡ false → (h .first ≡ 64 → ⊥)
+      → record { run = h .run + 1; good = h .good; first = h .first } ≡ noted-record t n r h
   unfolding noted-record noted-as
   noted-later e f = rw e (ap (λ (k : ℕ). record { run = h .run + 1; good = h .good; first = k }) (first-there (h .run) (h .first) f))
 
@@ -110,7 +133,8 @@ sum-set [] i h = absurd (omega arith)
 sum-set (x ∷ l) zero h = omega arith
 sum-set (x ∷ l) (suc i) h = let e = sum-set l i (omega arith) in omega (arith, e)
 
-pub total-set : (c : List (List ℕ)) (i : ℕ) (row : List ℕ) → i < length c → row-sum row ≡ row-sum (getD c i []) + 1 → counts-sum (set c i row) ≡ counts-sum c + 1
+pub total-set : (c : List (List ℕ)) (i : ℕ) (row : List ℕ) → i < length c → row-sum row ≡ row-sum (getD c i []) + 1
+    → counts-sum (set c i row) ≡ counts-sum c + 1
 unfolding counts-sum
 total-set [] i row h e = absurd (omega arith)
 total-set (x ∷ c) zero row h e = omega arith
@@ -132,7 +156,8 @@ pub raised-total : (c : List (List ℕ)) (m n : ℕ) → m < length c → n < le
 unfolding raised-at
 raised-total c m n hm hn = total-set c m (set (getD c m []) n (getD (getD c m []) n 0 + 1)) hm (sum-set (getD c m []) n hn)
 
-pub raised-is : (c : List (List ℕ)) (m n m′ n′ : ℕ) → m ≡ m′ → n ≡ n′ → set c m (set (getD c m []) n (getD (getD c m []) n 0 + 1)) ≡ raised-at c m′ n′
+pub raised-is : (c : List (List ℕ)) (m n m′ n′ : ℕ) → m ≡ m′ → n ≡ n′
+    → set c m (set (getD c m []) n (getD (getD c m []) n 0 + 1)) ≡ raised-at c m′ n′
 unfolding raised-at
 raised-is c m n m′ n′ e f = rw (e, f) refl
 
@@ -157,10 +182,9 @@ unfolding test-answer result-after
 answered ws t c before after o n r p en er ec =
     let y : unified c (length (before .result)) (length (before .working)) ≡ p .answer = outcome-answer c before o after p in
     let z : test-answer ws t (length (before .result)) (length (before .working)) ≡ p .answer =
-        ap (λ (v : Call). unified v (length (before .result)) (length (before .working))) (sym ec) ∙ y in
+    ap (λ (v : Call). unified v (length (before .result)) (length (before .working))) (sym ec) ∙ y in
     let m : o .number ≡ test-answer ws t (length (before .result)) (length (before .working)) .number =
-        p .the-number ∙ ap (λ (v : Answer). v .number) (sym z) in
-    (
+    p .the-number ∙ ap (λ (v : Answer). v .number) (sym z) in (
       en ∙ m,
       (
         er ∙ p .the-readings ∙ ap (λ (v : Answer). v .readings) (sym z),

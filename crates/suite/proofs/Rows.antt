@@ -14,7 +14,8 @@ use prog.Routine.{Routine}
 use prog.Wp.{Heap}
 use ghost.Atoms.{Atoms, sem}
 use contract.Monad.{fact, fact-use, Fun}
-use types.Kit.{Given, Item, mean, cut, ‵, raw, _⊛_, some, later, ⋆, _$_, _∵_, !, qed, by, move, keep, use1, use2, use3, drop, split, join, pick, check, given, learn, fsplit, fjoin, feqL, feqI, suffices, frame, await, updating, show, now as at-once, done}
+use types.Kit.{Given, Item, mean, cut, ‵, raw, _⊛_, some, later, ⋆, _$_, _∵_, !, qed, by, move, keep, use1, use2, use3, drop, split, join}
+use types.Kit.{pick, check, given, learn, fsplit, fjoin, feqL, feqI, suffices, frame, await, updating, show, now as at-once, done}
 use types.Tokens.{lft-new, lft-end}
 use denote.RattleType.{RattleType}
 use denote.Laws.{Is, shows}
@@ -29,11 +30,11 @@ use denote.Triple.Clauses.{ensured, lasts}
 use denote.Triple.Spec.{tripleOf}
 use denote.Triple.Statement.{Contract}
 use denote.Triple.Walked.{says}
-use Rattle.suite.specs.declared.Test.{Test}
+use Rattle.suite.specs.declared.test.Test.{Test}
 use Rattle.suite.specs.Suite.{no-test}
-use Rattle.suite.proofs.Test as TT
-use Rattle.suite.proofs.Test.Laws as TT′
-use Rattle.suite.proofs.row as row
+use Rattle.suite.proofs.test.Test as TT
+use Rattle.suite.proofs.test.Test.Laws as TT′
+use Rattle.suite.proofs.test.row as row
 
 module _ {M : Type 1} (𝓤 : URA M) (H : Heap 𝓤) (A : Atoms 𝓤) (mem : Memory → SProp 𝓤) (run : Routine → Fun 𝓤) where
   abbrev pub RowC : Contract 𝓤
@@ -51,17 +52,25 @@ module _ {M : Type 1} (𝓤 : URA M) (H : Heap 𝓤) (A : Atoms 𝓤) (W : Given
     abbrev pub to-row : RowC 𝓤 H A mem run .Ghost
     to-row = (((κ, tt), (q, tt), tt, (tests, (i, tt)), (tests-v ∷ [], (vint w64 i ∷ [], tt))), tt)
 
-    pub goes-row : i < 2 ^ 64 → i < length ts → ent 𝓤 (sep 𝓤 (A .lft κ q) (sem 𝓤 H A (ShrSlice (named 0) κ TT.the-row .own tests (tests-v ∷ [])))) (RowC 𝓤 H A mem run .pre to-row)
+    pub goes-row : i < 2 ^ 64 → i < length ts → ent 𝓤 (sep 𝓤 (A .lft κ q)
+        (sem 𝓤 H A (ShrSlice (named 0) κ TT.the-row .own tests (tests-v ∷ [])))) (RowC 𝓤 H A mem run .pre to-row)
     goes-row i-fits there =
-        qed W (‵ (flft κ q) ∷ ‵ (ShrSlice (named 0) κ TT.the-row .own tests (tests-v ∷ [])) ∷ []) ∵ says ! there $ nothing ! $ move ! (1 ∷ 0 ∷ []) $ join ! $ frame ! $
+        qed W (‵ (flft κ q) ∷ ‵ (ShrSlice (named 0) κ TT.the-row .own tests (tests-v ∷ [])) ∷ []) ∵ says ! there $ nothing ! $
+        move ! (1 ∷ 0 ∷ []) $ join ! $ frame ! $
         nothing ! $ owned ! usize (Is usize) (uint-makes 𝓤 H A W w64) i _ (refl, i-fits) $ fjoin ! $ move ! (1 ∷ 0 ∷ []) $ fjoin ! $ done !
 
-    row-says : (r : Test) → ent 𝓤 (ensured 𝓤 H A row.ended (row.clauses 𝓤 H A mem run) (κ, tt) (tests, (i, tt)) tt r) (fact 𝓤 (r ≡ getD ts i no-test))
+    row-says : (r : Test) → ent 𝓤 (ensured 𝓤 H A row.ended (row.clauses 𝓤 H A mem run) (κ, tt) (tests, (i, tt)) tt r)
+        (fact 𝓤 (r ≡ getD ts i no-test))
     row-says r = exE 𝓤 _ (λ ws. snd∗ 𝓤 (sem 𝓤 H A (lasts row.ended (κ, tt) (tests, (i, tt)) ws)) (fact 𝓤 (r ≡ getD ts i no-test)))
 
-    pub row-post : (v : Val) → ent 𝓤 (RowC 𝓤 H A mem run .post to-row v) (H .⇛ (guard 𝓤 (Is TT.the-row (getD ts i no-test) (v ∷ [])) (A .lft κ q)))
+    pub row-post : (v : Val) → ent 𝓤 (RowC 𝓤 H A mem run .post to-row v)
+        (H .⇛ (guard 𝓤 (Is TT.the-row (getD ts i no-test) (v ∷ [])) (A .lft κ q)))
     row-post v =
         qed W (raw (RowC 𝓤 H A mem run .post to-row v) ∷ []) ∵ updating ! $
-        use1 W (later (some (λ (r : Test). ((‵ (flft κ q) ⊛ ‵ ftrue) ⊛ ‵ (TT.the-row .own r (v ∷ []))) ⊛ raw (ensured 𝓤 H A row.ended (row.clauses 𝓤 H A mem run) (κ, tt) (tests, (i, tt)) tt r)))) (id⊢ 𝓤 _) $ await ! tt $ pick ! (λ r.
-        split ! $ move ! (1 ∷ []) $ use1 W (raw (fact 𝓤 (r ≡ getD ts i no-test))) (row-says r) $ heard ! (r ≡ getD ts i no-test) (λ e. split ! $ move ! (1 ∷ []) $
-        facts ! TT.the-row (Is TT.the-row) (shows 𝓤 H A TT.the-row) r (v ∷ []) (λ is. at-once ! $ check ! (subst (λ (z : Test). Is TT.the-row z (v ∷ [])) e is) $ split ! $ keep ! (0 ∷ []) $ done !)))
+        use1 W (later (some (λ (r : Test). ((‵ (flft κ q) ⊛ ‵ ftrue) ⊛ ‵ (TT.the-row .own r (v ∷ [])))
+        ⊛ raw (ensured 𝓤 H A row.ended (row.clauses 𝓤 H A mem run) (κ, tt) (tests, (i, tt)) tt r)))) (id⊢ 𝓤 _) $ await ! tt $
+        pick ! (λ r.
+        split ! $ move ! (1 ∷ []) $ use1 W (raw (fact 𝓤 (r ≡ getD ts i no-test))) (row-says r) $
+        heard ! (r ≡ getD ts i no-test) (λ e. split ! $ move ! (1 ∷ []) $
+        facts ! TT.the-row (Is TT.the-row) (shows 𝓤 H A TT.the-row) r (v ∷ [])
+        (λ is. at-once ! $ check ! (subst (λ (z : Test). Is TT.the-row z (v ∷ [])) e is) $ split ! $ keep ! (0 ∷ []) $ done !)))

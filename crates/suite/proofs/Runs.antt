@@ -11,9 +11,11 @@ use Rattle.theory.proofs.Reading.{reads}
 use Rattle.theory.specs.Answer.{Call}
 use Rattle.theory.specs.Rules.{Given, one, two, three, four, five, six, seven, six-after, eight, done}
 use Rattle.descriptions.proofs.Table.{unified-given}
-use Rattle.suite.specs.declared.Test.{Test}
-use Rattle.suite.specs.declared.Running.{Running}
-use Rattle.suite.specs.Suite.{Night, no-test, length-fault, passed-over, record-fault, fault-after, table-fault, Within, Suited, night-left, Runnable, test-call, test-answer, AsAnswered, as-expected, noted-as, noted-record, row-sum, counts-sum, no-counts, raised-at, begun-record, begun-night, test-left, night-step, night-after}
+use Rattle.suite.specs.declared.test.Test.{Test}
+use Rattle.suite.specs.declared.running.Running.{Running}
+use Rattle.suite.specs.Suite.{Night, no-test, length-fault, passed-over, record-fault, fault-after, table-fault, Within, Suited}
+use Rattle.suite.specs.Suite.{night-left, Runnable, test-call, test-answer, AsAnswered, as-expected, noted-as, noted-record, row-sum}
+use Rattle.suite.specs.Suite.{counts-sum, no-counts, raised-at, begun-record, begun-night, test-left, night-step, night-after}
 use Rattle.suite.proofs.Laws.{raised-total, too-many}
 
 -- a test of two numbers, with what it says
@@ -33,8 +35,15 @@ unfolding night-after
 starts ws ts s = refl
 
 -- what one test leaves is the next state
-pub next-state : (ws : List ℕ) (ts : List Test) (s : Night) (i number readings : ℕ) (y w : List ℕ) → AsAnswered ws (getD ts i no-test) (record { result = night-after ws ts s i .result; working = night-after ws ts s i .working }) number readings (record { result = y; working = w })
-    → record { counts = raised-at (night-after ws ts s i .counts) (getD ts i no-test .mode) number; running = noted-record (getD ts i no-test) number readings (night-after ws ts s i .running); result = y; working = w } ≡ night-after ws ts s (suc i)
+pub next-state : (ws : List ℕ) (ts : List Test) (s : Night) (i number readings : ℕ) (y w : List ℕ)
+    → AsAnswered ws (getD ts i no-test) (record { result = night-after ws ts s i .result; working = night-after ws ts s i .working }) number
+    readings (record { result = y; working = w })
+    → record {
+      counts = raised-at (night-after ws ts s i .counts) (getD ts i no-test .mode) number;
+      running = noted-record (getD ts i no-test) number readings (night-after ws ts s i .running);
+      result = y;
+      working = w;
+    } ≡ night-after ws ts s (suc i)
 unfolding night-after night-step test-left
 next-state ws ts s i number readings y w a = λ j. record {
   counts = raised-at (night-after ws ts s i .counts) (getD ts i no-test .mode) (a .0 j);
@@ -75,7 +84,8 @@ length-rows [] i r = refl
 length-rows (y ∷ c) zero r = refl
 length-rows (y ∷ c) (suc i) r = ap suc (length-rows c i r)
 
-length-row : (c : List (List ℕ)) (i j : ℕ) (r : List ℕ) → length r ≡ length (getD c i []) → length (getD (set c i r) j []) ≡ length (getD c j [])
+length-row : (c : List (List ℕ)) (i j : ℕ) (r : List ℕ) → length r ≡ length (getD c i [])
+    → length (getD (set c i r) j []) ≡ length (getD c j [])
 length-row [] i j r e = refl
 length-row (y ∷ c) zero zero r e = e
 length-row (y ∷ c) zero (suc j) r e = refl
@@ -142,18 +152,28 @@ kept-step ws t s i m k =
     let kc = k .counted in
     let kr = k .run-so-far in
     let kg = k .good-so-far in
-    record { square = raised-square (s .counts) (t .mode) (y .number) (k .square); counted = omega (arith, e, kc); run-so-far = omega (arith, r, kr); good-so-far = omega (arith, g, kg) }
+    record {
+      square = raised-square (s .counts) (t .mode) (y .number) (k .square);
+      counted = omega (arith, e, kc);
+      run-so-far = omega (arith, r, kr);
+      good-so-far = omega (arith, g, kg);
+    }
 
 -- "its sum is the tests run"
-pub kept : (ws : List ℕ) (ts : List Test) (y w : List ℕ) (n : ℕ) → Runnable n (length ws) ts → (i : ℕ) → i ≤ n → NightKept (night-after ws ts (begun-night y w) i) i
+pub kept : (ws : List ℕ) (ts : List Test) (y w : List ℕ) (n : ℕ) → Runnable n (length ws) ts → (i : ℕ) → i ≤ n
+    → NightKept (night-after ws ts (begun-night y w) i) i
 unfolding night-after
 kept ws ts y w n f zero h = record { square = none-square; counted = none-total; run-so-far = refl; good-so-far = omega arith }
-kept ws ts y w n f (suc i) h = kept-step ws (getD ts i no-test) (night-after ws ts (begun-night y w) i) i (f .modes i (omega arith)) (kept ws ts y w n f i (omega arith))
+kept ws ts y w n f (suc i) h =
+    kept-step ws (getD ts i no-test) (night-after ws ts (begun-night y w) i) i (f .modes i (omega arith))
+    (kept ws ts y w n f i (omega arith))
 
 -- what a turn asks
 pub ready : (ws : List ℕ) (ts : List Test) (y w : List ℕ) (n : ℕ) → Runnable n (length ws) ts → (i : ℕ) → i < n → (number : ℕ)
-    → number ≡ test-answer ws (getD ts i no-test) (length (night-after ws ts (begun-night y w) i .result)) (length (night-after ws ts (begun-night y w) i .working)) .number
-    → ((night-after ws ts (begun-night y w) i .running .run < 64) × (night-after ws ts (begun-night y w) i .running .good < 64)) × ((getD ts i no-test .mode < 3) × ((number < 9) × (counts-sum (night-after ws ts (begun-night y w) i .counts) < 64)))
+    → number ≡ test-answer ws (getD ts i no-test) (length (night-after ws ts (begun-night y w) i .result))
+    (length (night-after ws ts (begun-night y w) i .working)) .number
+    → ((night-after ws ts (begun-night y w) i .running .run < 64) × (night-after ws ts (begun-night y w) i .running .good < 64)) × ((getD ts
+    i no-test .mode < 3) × ((number < 9) × (counts-sum (night-after ws ts (begun-night y w) i .counts) < 64)))
 ready ws ts y w n f i h number e =
     let s : Night = night-after ws ts (begun-night y w) i in
     let k = kept ws ts y w n f i (omega arith) in
@@ -169,7 +189,8 @@ pub found-none : (space : ℕ) (ts : List Test) (n : ℕ) → n ≡ length ts �
 unfolding table-fault
 found-none space ts n e = ap length-fault e
 
-pub found-more : (space : ℕ) (ts : List Test) (i : ℕ) → fault-after (table-fault space ts i) space (getD ts i no-test) ≡ table-fault space ts (suc i)
+pub found-more : (space : ℕ) (ts : List Test) (i : ℕ)
+    → fault-after (table-fault space ts i) space (getD ts i no-test) ≡ table-fault space ts (suc i)
 unfolding table-fault
 found-more space ts i = refl
 
@@ -205,10 +226,24 @@ fault-zero (suc n) space t e = absurd (omega (arith, e))
 -- a record with no fault fits
 fault-free : (space : ℕ) (t : Test) → record-fault space t ≡ 0 → Within space t × (t .mode < 3)
 unfolding record-fault
-fault-free space t = go (ltb space (t .first + t .firsts)) (ltb space (t .second + t .seconds)) (ltb 2 (t .mode)) (ltb 8 (t .number)) (tested space (t .first + t .firsts)) (tested space (t .second + t .seconds)) (tested 2 (t .mode))
+fault-free space t =
+    go (ltb space (t .first + t .firsts)) (ltb space (t .second + t .seconds)) (ltb 2 (t .mode)) (ltb 8 (t .number))
+    (tested space (t .first + t .firsts)) (tested space (t .second + t .seconds)) (tested 2 (t .mode))
   where
     go : (a b c d : Bool) → Tested space (t .first + t .firsts) a → Tested space (t .second + t .seconds) b → Tested 2 (t .mode) c
-        → _≡_ {A = ℕ} (elim a [ true ↦ 31 | false ↦ elim b [ true ↦ 31 | false ↦ elim c [ true ↦ 32 | false ↦ elim d [ true ↦ 32 | false ↦ 0 ] ] ] ]) 0 → Within space t × (t .mode < 3)
+        → _≡_ {A = ℕ} (elim a [
+          | true ↦ 31
+          | false ↦ elim b [
+            | true ↦ 31
+            | false ↦ elim c [
+              | true ↦ 32
+              | false ↦ elim d [
+                | true ↦ 32
+                | false ↦ 0
+              ]
+            ]
+          ]
+        ]) 0 → Within space t × (t .mode < 3)
     go true b c d x y z e = absurd (omega (arith, e))
     go false true c d x y z e = absurd (omega (arith, e))
     go false false true d x y z e = absurd (omega (arith, e))
@@ -222,18 +257,21 @@ refusal-free n = go (ltb 64 n) (tested 64 n)
     go true x e = absurd (omega (arith, e))
     go false (most h) e = h
 
-found-before : (space : ℕ) (ts : List Test) (i : ℕ) → table-fault space ts (suc i) ≡ 0 → (table-fault space ts i ≡ 0) × (record-fault space (getD ts i no-test) ≡ 0)
+found-before : (space : ℕ) (ts : List Test) (i : ℕ) → table-fault space ts (suc i) ≡ 0
+    → (table-fault space ts i ≡ 0) × (record-fault space (getD ts i no-test) ≡ 0)
 unfolding table-fault
 found-before space ts i e = fault-zero (table-fault space ts i) space (getD ts i no-test) e
 
-found-all : (space : ℕ) (ts : List Test) (n : ℕ) → table-fault space ts n ≡ 0 → (table-fault space ts 0 ≡ 0) × ((i : ℕ) → i < n → record-fault space (getD ts i no-test) ≡ 0)
+found-all : (space : ℕ) (ts : List Test) (n : ℕ) → table-fault space ts n ≡ 0
+    → (table-fault space ts 0 ≡ 0) × ((i : ℕ) → i < n → record-fault space (getD ts i no-test) ≡ 0)
 found-all space ts zero e = (e, λ i h. absurd (omega (arith, h)))
 found-all space ts (suc n) e =
     let (a, b) = found-before space ts n e in
     let (z, r) = found-all space ts n a in
     (z, λ i h. go i h (tested i n) r b)
   where
-    go : (i : ℕ) → i < suc n → {t : Bool} → Tested i n t → ((j : ℕ) → j < n → record-fault space (getD ts j no-test) ≡ 0) → record-fault space (getD ts n no-test) ≡ 0 → record-fault space (getD ts i no-test) ≡ 0
+    go : (i : ℕ) → i < suc n → {t : Bool} → Tested i n t → ((j : ℕ) → j < n → record-fault space (getD ts j no-test) ≡ 0)
+        → record-fault space (getD ts n no-test) ≡ 0 → record-fault space (getD ts i no-test) ≡ 0
     go i h (less l) r b = r i l
     go i h (most l) r b = let q : n ≡ i = omega (arith, h, l) in subst (λ (j : ℕ). record-fault space (getD ts j no-test) ≡ 0) q b
 
@@ -242,14 +280,22 @@ pub found-fine : (space : ℕ) (ts : List Test) → table-fault space ts (length
 unfolding table-fault
 found-fine space ts e =
     let (z, r) = found-all space ts (length ts) e in
-    record { there = omega arith; few = refusal-free (length ts) z; fits = λ i h. fault-free space (getD ts i no-test) (r i h) .0; modes = λ i h. fault-free space (getD ts i no-test) (r i h) .1 }
+    record {
+      there = omega arith;
+      few = refusal-free (length ts) z;
+      fits = λ i h. fault-free space (getD ts i no-test) (r i h) .0;
+      modes = λ
+          i h. fault-free space (getD ts i no-test) (r i h) .1;
+    }
 
 -- both ends of a suite
-pub suited-refused : (ws : List ℕ) (ts : List Test) (s : Night) (n : ℕ) → n ≡ table-fault (length ws) ts (length ts) → (n ≡ 0 → ⊥) → Suited ws ts s n s
+pub suited-refused : (ws : List ℕ) (ts : List Test) (s : Night) (n : ℕ) → n ≡ table-fault (length ws) ts (length ts) → (n ≡ 0 → ⊥)
+    → Suited ws ts s n s
 unfolding night-left
 suited-refused ws ts s zero e h = absurd (h refl)
 suited-refused ws ts s (suc n) e h = record { the-number = e; the-rest = ap (λ (k : ℕ). night-left k ws ts s) e }
 
-pub suited-run : (ws : List ℕ) (ts : List Test) (s s′ : Night) (n : ℕ) → n ≡ table-fault (length ws) ts (length ts) → n ≡ 0 → s′ ≡ night-after ws ts (begun-night (s .result) (s .working)) (length ts) → Suited ws ts s n s′
+pub suited-run : (ws : List ℕ) (ts : List Test) (s s′ : Night) (n : ℕ) → n ≡ table-fault (length ws) ts (length ts) → n ≡ 0
+    → s′ ≡ night-after ws ts (begun-night (s .result) (s .working)) (length ts) → Suited ws ts s n s′
 unfolding night-left
 suited-run ws ts s s′ n e z h = record { the-number = e; the-rest = h ∙ ap (λ (k : ℕ). night-left k ws ts s) (sym z ∙ e) }

@@ -11,8 +11,8 @@ use Rattle.theory.specs.Answer.{Answer, Call}
 use Rattle.theory.specs.Unified.{unified}
 use Rattle.theory.specs.Outcome.{Areas}
 use Rattle.descriptions.specs.Outcome.{worked}
-use Rattle.suite.specs.declared.Test.{Test}
-use Rattle.suite.specs.declared.Running.{Running}
+use Rattle.suite.specs.declared.test.Test.{Test}
+use Rattle.suite.specs.declared.running.Running.{Running}
 
 -- what stands past the end of a table
 abbrev pub no-test : Test

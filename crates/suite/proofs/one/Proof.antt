@@ -7,83 +7,64 @@ use Rattle.suite.proofs.one.Statement.{statement}
 use Rattle.suite.proofs.one.Tie as tie
 use Rattle.suite.proofs.one.Reads as reads
 use Rattle.suite.proofs.one.Lts as lts
-use Rattle.suite.proofs.wide.Reads as wide-reads
+use Rattle.suite.proofs.test.wide.Reads as wide-reads
 use Rattle.answering.proofs.answer.told.Reads as told-reads
 use Rattle.unify.proofs.unify.Reads as unify-reads
 
--- src/lib.rt:131:9
 wide-requires : tie.Need-wide-requires
 wide-requires c κs = search needs
 
--- src/lib.rt:132:17
 wide-requires-2 : tie.Need-wide-requires-2
 wide-requires-2 c κs = search needs
 
--- src/lib.rt:132:13
 add-b : tie.Need-add-b
 add-b c = search needs
 
--- src/lib.rt:133:9
 wide-requires-3 : tie.Need-wide-requires-3
 wide-requires-3 c κs = search needs
 
--- src/lib.rt:134:17
 wide-requires-4 : tie.Need-wide-requires-4
 wide-requires-4 c κs = search needs
 
--- src/lib.rt:134:13
 add-d : tie.Need-add-d
 add-d c = search needs
 
--- src/lib.rt:135:35
 mul-unify : tie.Need-mul-unify
 mul-unify c = search needs
 
--- src/lib.rt:135:35
 sub-unify : tie.Need-sub-unify
 sub-unify c = search needs
 
--- src/lib.rt:135:35
 part-unify-start : tie.Need-part-unify-start
 part-unify-start c = search needs
 
--- src/lib.rt:135:35
 part-unify-end : tie.Need-part-unify-end
 part-unify-end c = search needs
 
--- src/lib.rt:135:49
 mul-unify-2 : tie.Need-mul-unify-2
 mul-unify-2 c = search needs
 
--- src/lib.rt:135:49
 sub-unify-2 : tie.Need-sub-unify-2
 sub-unify-2 c = search needs
 
--- src/lib.rt:135:49
 part-unify-start-2 : tie.Need-part-unify-start-2
 part-unify-start-2 c = search needs
 
--- src/lib.rt:135:49
 part-unify-end-2 : tie.Need-part-unify-end-2
 part-unify-end-2 c = search needs
 
--- src/lib.rt:135:9
 unify-requires : tie.Need-unify-requires
 unify-requires c κs = search needs
 
--- src/lib.rt:136:9
 told-requires : tie.Need-told-requires
 told-requires c κs = search needs
 
--- src/lib.rt:127:1
 same-length : tie.Need-same-length
 same-length c = search needs
 
--- src/lib.rt:127:1
 same-length-2 : tie.Need-same-length-2
 same-length-2 c = search needs
 
--- src/lib.rt:127:1
 returns : tie.Need-returns
 returns c =
     let args = c .before .before .before .before .before .before .before .before .before .before .before .before .before .before .before .before .before .args in

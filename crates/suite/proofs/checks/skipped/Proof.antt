@@ -1,8 +1,8 @@
--- `suite::skipped` meets its contract. Assumes nothing.
+-- `suite::checks::skipped` meets its contract. Assumes nothing.
 use native.Mathlib.Omega.{arith}
 use Rattle.suite.proofs.Laws.{pass-all, pass-none}
-use Rattle.suite.proofs.skipped.Statement.{statement}
-use Rattle.suite.proofs.skipped.Tie as tie
+use Rattle.suite.proofs.checks.skipped.Statement.{statement}
+use Rattle.suite.proofs.checks.skipped.Tie as tie
 
 returns : tie.Need-returns
 returns c = pass-all _ (omega arith)
