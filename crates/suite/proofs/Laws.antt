@@ -103,11 +103,11 @@ pub both-agree : (t : Test) (n r : ℕ) → t .number ≡ n → t .readings ≡ 
 unfolding as-expected
 both-agree t n r e h = rw (eq-eqb (t .number) n e, eq-eqb (t .readings) r h) refl
 
-first-here : (at first : ℕ) → first ≡ 64 → at ≡ first-after at first
+pub first-here : (at first : ℕ) → first ≡ 64 → at ≡ first-after at first
 unfolding first-after
 first-here at first f = rw (eq-eqb first 64 f, first-after)
 
-first-there : (at first : ℕ) → (first ≡ 64 → ⊥) → first ≡ first-after at first
+pub first-there : (at first : ℕ) → (first ≡ 64 → ⊥) → first ≡ first-after at first
 unfolding first-after
 first-there at first f = rw (ne-eqb first 64 f, first-after)
 

@@ -23,7 +23,7 @@ pub data Tested (a b : ℕ) : Bool → Type 0 where
   less : a < b → Tested a b true
   most : b ≤ a → Tested a b false
 
-tested : (a b : ℕ) → Tested a b (ltb a b)
+pub tested : (a b : ℕ) → Tested a b (ltb a b)
 tested a b = go (ltb a b) refl
   where
     go : (t : Bool) → ltb a b ≡ t → Tested a b t
