@@ -1,19 +1,20 @@
--- What the statement of a suite gives, with no code: one outcome for each suite, counts that add up to the tests run, what `good` and
--- `first` say, and when a suite is refused. Assumes nothing.
+-- What the statement of a suite gives, with no code: one outcome for each suite, counts that add up to the tests run, what counts,
+-- `good` and `first` say, and when a suite is refused. Assumes nothing.
 use mathlib.Core.Path.{_≡_, refl, sym, ap, _∙_, subst}
 use mathlib.Core.Logic.{_↔_}
 use mathlib.Core.Bool.{true}
-use mathlib.Core.List.{List}
+use mathlib.Core.List.{List, []}
 use Prim.Native.Nat.{ℕ, zero, suc, _<_}
 use native.Mathlib.Omega.{arith}
 use lib.ListN.{length, getD}
 use Rattle.suite.specs.declared.test.Test.{Test}
 use Rattle.suite.specs.Suite.{Night, no-test, table-fault, Suited, night-left, counts-sum, night-after, begun-night}
 use Rattle.suite.specs.Refusals.{Refuses}
-use Rattle.suite.specs.Expected.{TestAgrees, test-agrees?, passing, FirstUnexpected}
+use Rattle.suite.specs.Expected.{TestAgrees, test-agrees?, test-gives?, passing, FirstUnexpected}
 use Rattle.suite.proofs.Runs.{NightKept, kept, found-fine}
 use Rattle.suite.proofs.Refusals.{refuses-number, number-refuses}
 use Rattle.suite.proofs.Expected.{expected-both, good-counts, first-tells}
+use Rattle.suite.proofs.Cells.{cells-count}
 
 -- one outcome
 pub one-suite : (ws : List ℕ) (ts : List Test) (s : Night) (n n′ : ℕ) (l l′ : Night) → Suited ws ts s n l → Suited ws ts s n′ l′ →
@@ -53,6 +54,14 @@ sum-is-run ws ts s l p =
     kept ws ts (s .result) (s .working) (length ts) f (length ts) (omega arith) in
     let e : l ≡ night-after ws ts (begun-night (s .result) (s .working)) (length ts) = run-all ws ts s l p in
     (ap (λ (z : Night). counts-sum (z .counts)) e ∙ k .counted, ap (λ (z : Night). z .running .run) e ∙ k .run-so-far)
+
+-- "counts by mode and number": each cell is how many tests of its mode there are whose call gives its number
+pub counts-are : (ws : List ℕ) (ts : List Test) (s l : Night) → Suited ws ts s 0 l → (m k : ℕ) →
+    getD (getD (l .counts) m []) k 0 ≡ passing (test-gives? ws ts (length (s .result)) (length (s .working)) m k) (length ts)
+counts-are ws ts s l p m k =
+    let f = found-fine (length ws) ts (sym (p .the-number)) in
+    ap (λ (z : Night). getD (getD (z .counts) m []) k 0) (run-all ws ts s l p)
+    ∙ cells-count ws ts (s .result) (s .working) (length ts) f m k (length ts) (omega arith)
 
 -- "tests as expected": how many there are whose number and readings both agree with what the table of numbers answers
 pub expected-iff : (ws : List ℕ) (ts : List Test) (s l : Night) → Suited ws ts s 0 l →

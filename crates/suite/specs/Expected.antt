@@ -2,10 +2,11 @@
 -- was lent.
 -- Assumes nothing: these are definitions.
 use mathlib.Core.Path.{_≡_}
-use mathlib.Core.Bool.{Bool, true, false}
+use mathlib.Core.Bool.{Bool, true, false, _&&_}
 use mathlib.Core.List.{List}
 use Prim.Native.Nat.{ℕ, zero, suc, _<_}
 use lib.ListN.{length, getD}
+use lib.Dec.{eqb}
 use Rattle.suite.specs.declared.test.Test.{Test}
 use Rattle.suite.specs.Suite.{no-test, test-answer, as-expected}
 
@@ -19,7 +20,12 @@ test-agrees? ws tests room work i =
     as-expected (getD tests i no-test) (test-answer ws (getD tests i no-test) room work .number)
     (test-answer ws (getD tests i no-test) room work .readings)
 
--- how many of the first n do
+-- the test at i is of this mode, and its call gives this number
+abbrev pub test-gives? : List ℕ → List Test → ℕ → ℕ → ℕ → ℕ → ℕ → Bool
+test-gives? ws tests room work mode number i =
+    eqb (getD tests i no-test .mode) mode && eqb (test-answer ws (getD tests i no-test) room work .number) number
+
+-- how many of the first n pass a test that computes
 unfoldable pub passing : (ℕ → Bool) → ℕ → ℕ
 passing p zero = 0
 passing p (suc i) = elim (p i) [ true ↦ suc (passing p i) | false ↦ passing p i ]

@@ -14,13 +14,15 @@ const LIMIT: usize = 64;
 fn judged(number: u32, test: Test, space: usize) -> u32
     ensures { λ r. ⌜ r ≡ fault-after number space test ⌝ }
 {
+    let first_end = wide(test.first) + wide(test.firsts);
+    let second_end = wide(test.second) + wide(test.seconds);
     if number != 0 {
         return number;
     }
-    if space < wide(test.first) + wide(test.firsts) {
+    if space < first_end {
         return 31;
     }
-    if space < wide(test.second) + wide(test.seconds) {
+    if space < second_end {
         return 31;
     }
     if 2 < test.mode {
