@@ -8,7 +8,7 @@ use lib.ListN.{length, getD, set, replicate}
 use lib.Dec.{T, eqb, eqb→eq, eqb-refl}
 use Rattle.theory.specs.Answer.{Answer}
 use Rattle.suite.specs.declared.test.Test.{Test}
-use Rattle.suite.specs.Suite.{Night, no-test, no-counts, raised-at, test-answer, answer-then, begun-night, test-left, night-step}
+use Rattle.suite.specs.Suite.{Night, no-test, no-counts, raised-at, test-answer, begun-night, test-left, night-step}
 use Rattle.suite.specs.Suite.{night-after, Runnable}
 use Rattle.suite.specs.Expected.{test-gives?, passing}
 use Rattle.suite.proofs.Runs.{kept, answer-small}

@@ -1,16 +1,11 @@
 -- Each return of a covered function is what the definitions say. Assumes nothing.
 use mathlib.Core.Path.{_≡_, refl, sym, ap, _∙_}
-use mathlib.Core.Bool.{Bool, true, false}
+use mathlib.Core.Bool.{true, false}
 use mathlib.Core.List.{List, [], _∷_, _++_}
 use Prim.Native.Nat.{ℕ, zero, suc, _+_, _≤_, _<_}
 use native.Mathlib.Omega.{arith}
 use lib.ListN.{length, getD, set, take, drop}
-use lib.Dec.{ltb, eqb}
 use borrow.Author.Tests.{le-ltb, lt-ltb, eq-eqb, ne-eqb}
-use mir.Val.{Val}
-use denote.Shadow.{shadow}
-use denote.Array.{Array, each}
-use denote.Builtin.{u32}
 use Rattle.theory.specs.Answer.{Answer, Call}
 use Rattle.theory.specs.Unified.{unified}
 use Rattle.theory.specs.Outcome.{Areas, Outcome, Row}

@@ -8,7 +8,7 @@ use native.Mathlib.Omega.{arith}
 use lib.ListN.{length, getD}
 use lib.Dec.{ltb}
 use Rattle.suite.specs.declared.test.Test.{Test}
-use Rattle.suite.specs.Suite.{no-test, record-fault, fault-after, length-fault, table-fault}
+use Rattle.suite.specs.Suite.{no-test, record-fault, fault-after, table-fault}
 use Rattle.suite.specs.Refusals.{BeyondArea, OutOfTable, FaultFree, Refuses, over, beyond, outside, runs}
 use Rattle.suite.proofs.Laws.{not-many}
 use Rattle.suite.proofs.Runs.{Tested, less, most, tested, found-long}

@@ -15,7 +15,7 @@ use Rattle.suite.specs.declared.test.Test.{Test}
 use Rattle.suite.specs.declared.running.Running.{Running}
 use Rattle.suite.specs.Suite.{Night, no-test, length-fault, passed-over, record-fault, fault-after, table-fault, Within, Suited}
 use Rattle.suite.specs.Suite.{night-left, Runnable, test-call, test-answer, AsAnswered, as-expected, noted-as, noted-record, row-sum}
-use Rattle.suite.specs.Suite.{counts-sum, no-counts, raised-at, begun-record, begun-night, test-left, night-step, night-after}
+use Rattle.suite.specs.Suite.{counts-sum, no-counts, raised-at, begun-night, test-left, night-step, night-after}
 use Rattle.suite.proofs.Laws.{raised-total, too-many}
 
 -- a test of two numbers, with what it says

@@ -1,8 +1,8 @@
 -- `suite::test::row` meets its contract: a walk of its MIR, by hand. The place of `tests[i]` is 28 · i past the slice's pointer, and the record
 -- is copied from there.
 -- Assumes nothing.
-use mathlib.Core.Path.{_≡_, refl, sym}
-use Prim.Native.Nat.{ℕ, _+_, _*_, _<_, _^_}
+use mathlib.Core.Path.{refl, sym}
+use Prim.Native.Nat.{ℕ, _*_, _<_, _^_}
 use native.Mathlib.Omega.{arith}
 use mathlib.Core.List.{List, [], _∷_}
 use lib.ListN.{length, getD}
