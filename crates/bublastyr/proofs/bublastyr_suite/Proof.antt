@@ -439,7 +439,7 @@ module _ {M : Type 1} (𝓤 : URA M) (H : Heap 𝓤) (A : Atoms 𝓤) (W : Given
   walk 𝓣 known-suite =
       qed W (Tokens ∷ Passed ∷ []) ∵ enter ! (𝓣 .C) (𝓣 .Λ) code.function (tests-v ∷ words-v ∷ result-v ∷ working-v ∷ vptr b₄ o₄ ∷ vptr b₅ o₅
       ∷ []) Post $ enters (λ E. runs (𝓣 .C) (𝓣 .Λ) E (code.function .body) (atRet E Post))
-      (λ l₀ l₁ l₂ l₃ l₄ l₅ l₆ l₇ l₈ l₉ l₁₀ l₁₁ l₁₂. opens 𝓣 known-suite l₀ l₁ l₂ l₃ l₄ l₅ l₆ l₇ l₈ l₉ l₁₀ l₁₁ l₁₂)
+      (opens 𝓣 known-suite)
 
 module _ {M : Type 1} (𝓤 : URA M) (H : Heap 𝓤) (A : Atoms 𝓤) (W : Given 𝓤 H A) (mem : Memory → SProp 𝓤) (run : Routine → Fun 𝓤) where
   entry-walks : (𝓣 : Tables 𝓤 H) → Triple 𝓤 (𝓣 .C #suite·suite) (SuiteC 𝓤 H A mem run)

@@ -53,7 +53,8 @@ use Rattle.suite.specs.declared.running.Running.{Running}
 use Rattle.suite.specs.Suite.{Night, no-test, Within, Runnable, AsAnswered, noted-record, raised-at, counts-sum, begun-record}
 use Rattle.suite.specs.Suite.{no-counts, begun-night, night-after}
 use Rattle.suite.proofs.Runs.{starts, next-state, ready}
-use Rattle.suite.proofs.Locals.{holds, fails, one-more, word, counts-ty, tests-ty, words-ty, result-ty, working-ty, record-ty, again, ref, part, Cnt}
+use Rattle.suite.proofs.Locals.{holds, fails, one-more, word, counts-ty, tests-ty, words-ty, result-ty, working-ty, record-ty, again}
+use Rattle.suite.proofs.Locals.{ref, part, Cnt}
 use Rattle.suite.proofs.test.Test as TT
 use Rattle.suite.proofs.test.Test.Laws as TT′
 use Rattle.suite.proofs.running.Running as TR
@@ -619,7 +620,7 @@ module _ {M : Type 1} (𝓤 : URA M) (H : Heap 𝓤) (A : Atoms 𝓤) (W : Given
   walk 𝓣 known-begun known-none known-row known-one known-noted known-note known-raised =
       qed W (Tokens ∷ Passed ∷ []) ∵ enter ! (𝓣 .C) (𝓣 .Λ) code.function (vint w64 n ∷ tests-v ∷ words-v ∷ result-v ∷ working-v ∷ vptr b₄ o₄
       ∷ []) Post $ enters (λ E. runs (𝓣 .C) (𝓣 .Λ) E (code.function .body) (atRet E Post))
-      (λ l₀ l₁ l₂ l₃ l₄ l₅ l₆ l₇ l₈ l₉ l₁₀ l₁₁ l₁₂ l₁₃ l₁₄ l₁₅ l₁₆ l₁₇ l₁₈ l₁₉ l₂₀. opens 𝓣 known-begun known-none known-row known-one known-noted known-note known-raised l₀ l₁ l₂ l₃ l₄ l₅ l₆ l₇ l₈ l₉ l₁₀ l₁₁ l₁₂ l₁₃ l₁₄ l₁₅ l₁₆ l₁₇ l₁₈ l₁₉ l₂₀)
+      (opens 𝓣 known-begun known-none known-row known-one known-noted known-note known-raised)
 
 module _ {M : Type 1} (𝓤 : URA M) (H : Heap 𝓤) (A : Atoms 𝓤) (W : Given 𝓤 H A) (mem : Memory → SProp 𝓤) (run : Routine → Fun 𝓤) where
   each-walks : (𝓣 : Tables 𝓤 H) → Triple 𝓤 (𝓣 .C #suite·begun) (BegunC 𝓤 H A mem run) → Triple 𝓤 (𝓣 .C #suite·none) (NoneC 𝓤 H A mem run)
@@ -690,13 +691,16 @@ each-spec 𝓤 H 𝓜 𝓖 𝓡 =
     entered 𝓤 H (tripleOf 𝓤 H (𝓖 .A) f.signature (f.spec 𝓤 H (𝓖 .A) (𝓜 .mem) (𝓡 .run)))
     (tables 𝓤 H 𝓜 𝓡 code.env .C) (tables 𝓤 H 𝓜 𝓡 code.env .Λ) #suite·each code.function (code.unfolded 𝓤 H 𝓜 𝓡)
     (each-meets 𝓤 H (𝓖 .A) (givenOf 𝓤 H 𝓜 𝓖) (𝓜 .mem) (𝓡 .run) (tablesOf 𝓤 H 𝓜 (tables 𝓤 H 𝓜 𝓡 code.env))
-    (cited 𝓤 H (BegunC 𝓤 H (𝓖 .A) (𝓜 .mem) (𝓡 .run)) 𝓜 𝓡 code.env #suite·begun begun-def.routine code.calls-suite·running·begun (begun-thm.met 𝓤 H 𝓜
+    (cited 𝓤 H (BegunC 𝓤 H (𝓖 .A) (𝓜 .mem) (𝓡 .run)) 𝓜 𝓡 code.env #suite·begun begun-def.routine code.calls-suite·running·begun
+    (begun-thm.met 𝓤 H 𝓜
     𝓖 𝓡))
     (cited 𝓤 H (NoneC 𝓤 H (𝓖 .A) (𝓜 .mem) (𝓡 .run)) 𝓜 𝓡 code.env #suite·none none-def.routine code.calls-suite·counts·none
     (none-thm.met 𝓤 H 𝓜 𝓖 𝓡))
-    (cited 𝓤 H (RowC 𝓤 H (𝓖 .A) (𝓜 .mem) (𝓡 .run)) 𝓜 𝓡 code.env #suite·row row-def.routine code.calls-suite·test·row (row-thm.met 𝓤 H 𝓜 𝓖 𝓡))
+    (cited 𝓤 H (RowC 𝓤 H (𝓖 .A) (𝓜 .mem) (𝓡 .run)) 𝓜 𝓡 code.env #suite·row row-def.routine code.calls-suite·test·row
+    (row-thm.met 𝓤 H 𝓜 𝓖 𝓡))
     (cited 𝓤 H (OneC 𝓤 H (𝓖 .A) (𝓜 .mem) (𝓡 .run)) 𝓜 𝓡 code.env #suite·one one-def.routine code.calls-suite·one (one-thm.met 𝓤 H 𝓜 𝓖 𝓡))
-    (cited 𝓤 H (NotedC 𝓤 H (𝓖 .A) (𝓜 .mem) (𝓡 .run)) 𝓜 𝓡 code.env #suite·noted noted-def.routine code.calls-suite·running·noted (noted-thm.met 𝓤 H 𝓜
+    (cited 𝓤 H (NotedC 𝓤 H (𝓖 .A) (𝓜 .mem) (𝓡 .run)) 𝓜 𝓡 code.env #suite·noted noted-def.routine code.calls-suite·running·noted
+    (noted-thm.met 𝓤 H 𝓜
     𝓖 𝓡))
     (cited 𝓤 H (NoteC 𝓤 H (𝓖 .A) (𝓜 .mem) (𝓡 .run)) 𝓜 𝓡 code.env #suite·note note-def.routine code.calls-suite·running·note
     (note-thm.met 𝓤 H 𝓜 𝓖 𝓡))

@@ -67,13 +67,16 @@ same-length-2 c = search needs
 
 returns : tie.Need-returns
 returns c =
-    let args = c .before .before .before .before .before .before .before .before .before .before .before .before .before .before .before .before .before .args in
-    let a = c .before .before .before .before .before .before .before .before .before .before .before .before .before .wide .result in
-    let n = c .before .before .before .before .before .before .before .before .before .before .before .before .wide2 .result in
-    let b = c .before .before .before .before .before .before .before .before .before .before .before .wide3 .result in
-    let m = c .before .before .before .before .before .before .before .before .before .before .wide4 .result in
+    let call = c .before .before .before .before .before in
+    let last = call .before .before .before .before .before in
+    let begin = last .before .before .before in
+    let args = begin .before .before .before .before .args in
+    let a = begin .wide .result in
+    let n = last .before .before .wide2 .result in
+    let b = last .before .wide3 .result in
+    let m = last .wide4 .result in
     let t = args .test in
-    answered _ _ _ _ _ _ _ _ (c .before .before .before .before .before .unify .ensures .0) (c .told .ensures .0) (c .told .ensures .1 .1)
+    answered _ _ _ _ _ _ _ _ (call .unify .ensures .0) (c .told .ensures .0) (c .told .ensures .1 .1)
     (call-is (args .words .now) t a (a + n - a) b (b + m - b) (omega arith) (omega arith) (omega arith) (omega arith))
 
 pub one-spec : {M : Type 1} → statement M

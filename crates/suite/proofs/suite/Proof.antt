@@ -36,7 +36,8 @@ use denote.Triple.Table.{entered, cited}
 use Rattle.suite.specs.declared.test.Test.{Test}
 use Rattle.suite.specs.declared.running.Running.{Running}
 use Rattle.suite.specs.Suite.{Night, table-fault, Runnable, begun-night, night-after, Suited}
-use Rattle.suite.proofs.Locals.{Cnt, word, half, counts-ty, tests-ty, words-ty, result-ty, working-ty, record-ty, table-ty, again, table-again, ref, part}
+use Rattle.suite.proofs.Locals.{Cnt, word, half, counts-ty, tests-ty, words-ty, result-ty, working-ty, record-ty, table-ty, again}
+use Rattle.suite.proofs.Locals.{table-again, ref, part}
 use Rattle.suite.proofs.test.Test as TT
 use Rattle.suite.proofs.running.Running as TR
 use lib.Dec.{T as Holds, eqb, T-not, eqb→eq}
@@ -641,7 +642,7 @@ module _ {M : Type 1} (𝓤 : URA M) (H : Heap 𝓤) (A : Atoms 𝓤) (W : Given
   walk 𝓣 known-checked known-each known-put =
       qed W (Tokens ∷ Passed ∷ []) ∵ enter ! (𝓣 .C) (𝓣 .Λ) code.function (tests-v ∷ words-v ∷ result-v ∷ working-v ∷ vptr b₄ o₄ ∷ vptr b₅ o₅
       ∷ []) Post $ enters (λ E. runs (𝓣 .C) (𝓣 .Λ) E (code.function .body) (atRet E Post))
-      (λ l₀ l₁ l₂ l₃ l₄ l₅ l₆ l₇ l₈ l₉ l₁₀ l₁₁ l₁₂ l₁₃ l₁₄ l₁₅ l₁₆ l₁₇ l₁₈. opens 𝓣 known-checked known-each known-put l₀ l₁ l₂ l₃ l₄ l₅ l₆ l₇ l₈ l₉ l₁₀ l₁₁ l₁₂ l₁₃ l₁₄ l₁₅ l₁₆ l₁₇ l₁₈)
+      (opens 𝓣 known-checked known-each known-put)
 
 module _ {M : Type 1} (𝓤 : URA M) (H : Heap 𝓤) (A : Atoms 𝓤) (W : Given 𝓤 H A) (mem : Memory → SProp 𝓤) (run : Routine → Fun 𝓤) where
   suite-walks : (𝓣 : Tables 𝓤 H) → Triple 𝓤 (𝓣 .C #suite·checked) (CheckedC 𝓤 H A mem run)
@@ -708,4 +709,5 @@ suite-spec 𝓤 H 𝓜 𝓖 𝓡 =
     (checked-thm.met 𝓤 H 𝓜 𝓖 𝓡))
     (cited 𝓤 H (EachC 𝓤 H (𝓖 .A) (𝓜 .mem) (𝓡 .run)) 𝓜 𝓡 code.env #suite·each each-def.routine code.calls-suite·each
     (each-thm.met 𝓤 H 𝓜 𝓖 𝓡))
-    (cited 𝓤 H (PutC 𝓤 H (𝓖 .A) (𝓜 .mem) (𝓡 .run)) 𝓜 𝓡 code.env #suite·put put-def.routine code.calls-suite·counts·put (put-thm.met 𝓤 H 𝓜 𝓖 𝓡)))
+    (cited 𝓤 H (PutC 𝓤 H (𝓖 .A) (𝓜 .mem) (𝓡 .run)) 𝓜 𝓡 code.env #suite·put put-def.routine code.calls-suite·counts·put
+    (put-thm.met 𝓤 H 𝓜 𝓖 𝓡)))

@@ -393,7 +393,8 @@ checked-spec 𝓤 H 𝓜 𝓖 𝓡 =
     entered 𝓤 H (tripleOf 𝓤 H (𝓖 .A) f.signature (f.spec 𝓤 H (𝓖 .A) (𝓜 .mem) (𝓡 .run)))
     (tables 𝓤 H 𝓜 𝓡 code.env .C) (tables 𝓤 H 𝓜 𝓡 code.env .Λ) #suite·checked code.function (code.unfolded 𝓤 H 𝓜 𝓡)
     (checked-meets 𝓤 H (𝓖 .A) (givenOf 𝓤 H 𝓜 𝓖) (𝓜 .mem) (𝓡 .run) (tablesOf 𝓤 H 𝓜 (tables 𝓤 H 𝓜 𝓡 code.env))
-    (cited 𝓤 H (RowC 𝓤 H (𝓖 .A) (𝓜 .mem) (𝓡 .run)) 𝓜 𝓡 code.env #suite·row row-def.routine code.calls-suite·test·row (row-thm.met 𝓤 H 𝓜 𝓖 𝓡))
+    (cited 𝓤 H (RowC 𝓤 H (𝓖 .A) (𝓜 .mem) (𝓡 .run)) 𝓜 𝓡 code.env #suite·row row-def.routine code.calls-suite·test·row
+    (row-thm.met 𝓤 H 𝓜 𝓖 𝓡))
     (cited 𝓤 H (CountedC 𝓤 H (𝓖 .A) (𝓜 .mem) (𝓡 .run)) 𝓜 𝓡 code.env #suite·counted counted-def.routine code.calls-suite·checks·counted
     (counted-thm.met 𝓤 H 𝓜 𝓖 𝓡))
     (cited 𝓤 H (SkippedC 𝓤 H (𝓖 .A) (𝓜 .mem) (𝓡 .run)) 𝓜 𝓡 code.env #suite·skipped skipped-def.routine code.calls-suite·checks·skipped

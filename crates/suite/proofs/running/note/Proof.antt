@@ -1,4 +1,5 @@
--- `suite::running::note` meets its contract: a walk of its MIR, by hand. The borrow is opened, the record is stored whole, and the borrow is closed
+-- `suite::running::note` meets its contract: a walk of its MIR, by hand. The borrow is opened, the record is stored whole, and the borrow
+-- is closed
 -- at it.
 -- Assumes nothing.
 use mathlib.Core.Path.{refl}

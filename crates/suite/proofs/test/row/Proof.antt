@@ -1,4 +1,5 @@
--- `suite::test::row` meets its contract: a walk of its MIR, by hand. The place of `tests[i]` is 28 · i past the slice's pointer, and the record
+-- `suite::test::row` meets its contract: a walk of its MIR, by hand. The place of `tests[i]` is 28 · i past the slice's pointer, and the
+-- record
 -- is copied from there.
 -- Assumes nothing.
 use mathlib.Core.Path.{refl, sym}
