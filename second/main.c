@@ -54,7 +54,7 @@ static int run_checks(uint64_t seed, uint64_t count) {
 
 static int run_all_known(void) {
     int failures = run_known() + run_known_formulas() + run_short_texts();
-    failures += run_known_causes() + run_short_words();
+    failures += run_known_causes() + run_short_words() + run_known_suites();
     return failures > 0;
 }
 
