@@ -5,6 +5,7 @@
 #include "formula_call.h"
 #include "formula_texts.h"
 #include "generate.h"
+#include "suite_text.h"
 
 #include <inttypes.h>
 #include <string.h>
@@ -17,6 +18,7 @@ static int usage(void) {
           "       second explain\n"
           "       second told\n"
           "       second causes\n"
+          "       second suite [FILE]\n"
           "       second known\n"
           "       second check SEED COUNT\n"
           "       second generate SEED COUNT\n"
@@ -67,7 +69,7 @@ typedef struct {
 static const PlainWay plain_ways[] = {
     {"batch", run_batch},     {"formula", run_formula}, {"formulas", run_formulas},
     {"explain", run_explain}, {"told", run_told},       {"causes", run_causes},
-    {"known", run_all_known},
+    {"suite", run_suite},     {"known", run_all_known},
 };
 
 typedef struct {
@@ -109,6 +111,9 @@ int main(int argument_count, char **arguments) {
     }
     if (argument_count == 2) {
         return run_plain(arguments[1]);
+    }
+    if (argument_count == 3 && strcmp(arguments[1], "suite") == 0) {
+        return run_suite_file(arguments[2]);
     }
     if (argument_count < 4 || !number_of(arguments[2], &seed) || !number_of(arguments[3], &count)) {
         return usage();
