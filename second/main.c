@@ -5,6 +5,7 @@
 #include "formula_call.h"
 #include "formula_texts.h"
 #include "generate.h"
+#include "suite_spell.h"
 #include "suite_text.h"
 
 #include <inttypes.h>
@@ -19,12 +20,14 @@ static int usage(void) {
           "       second told\n"
           "       second causes\n"
           "       second suite [FILE]\n"
+          "       second suites\n"
           "       second known\n"
           "       second check SEED COUNT\n"
           "       second generate SEED COUNT\n"
           "       second texts SEED COUNT\n"
           "       second broken SEED COUNT\n"
-          "       second vectors SEED COUNT calls|fits|reading|faults|joins|formula "
+          "       second suite_texts SEED COUNT\n"
+          "       second vectors SEED COUNT calls|fits|reading|faults|joins|formula|suites "
           "[COUNT KIND ..]\n",
           stderr);
     return 2;
@@ -69,7 +72,7 @@ typedef struct {
 static const PlainWay plain_ways[] = {
     {"batch", run_batch},     {"formula", run_formula}, {"formulas", run_formulas},
     {"explain", run_explain}, {"told", run_told},       {"causes", run_causes},
-    {"suite", run_suite},     {"known", run_all_known},
+    {"suite", run_suite},     {"suites", run_suites},   {"known", run_all_known},
 };
 
 typedef struct {
@@ -79,10 +82,8 @@ typedef struct {
 
 // The ways with a seed and a count alone.
 static const SeededWay seeded_ways[] = {
-    {"check", run_checks},
-    {"generate", run_generate},
-    {"texts", run_texts},
-    {"broken", run_broken},
+    {"check", run_checks},  {"generate", run_generate},       {"texts", run_texts},
+    {"broken", run_broken}, {"suite_texts", run_suite_texts},
 };
 
 static int run_plain(const char *name) {

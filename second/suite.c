@@ -18,8 +18,8 @@ void suite_free(Suite *suite) {
     *suite = (Suite){0};
 }
 
-// Whether a place ends after the area; the sum may need more than 32 bits.
-static bool is_beyond(Place place, const Words *area) {
+// The sum may need more than 32 bits.
+bool is_beyond(Place place, const Words *area) {
     return (uint64_t)place.start + place.words > area->count;
 }
 

@@ -46,6 +46,9 @@ typedef struct {
 void suite_add(Suite *suite, Test test);
 void suite_free(Suite *suite);
 
+// Whether a place ends after the word area.
+bool is_beyond(Place place, const Words *area);
+
 // The number by which the suite is refused, or 0.
 uint32_t suite_refusal(const Suite *suite);
 

@@ -1,6 +1,8 @@
 // What came of a suite, in lines.
 #include "suite_text.h"
 
+#include "hexadecimal.h"
+
 #include <inttypes.h>
 #include <stdio.h>
 
@@ -101,7 +103,8 @@ static void say_suite(const NamedSuite *named) {
     outcomes_free(outcomes, named->suite.count);
 }
 
-void suite_answer(const char *text, size_t length) {
+// Runs the suite of a text, and prints what came of it.
+static void answer(const char *text, size_t length) {
     NamedSuite named;
     if (suite_parse(text, length, &named)) {
         say_suite(&named);
@@ -118,7 +121,7 @@ int run_suite(void) {
     size_t length = fread(text, 1, sizeof text, stdin);
     while (getchar() != EOF) {
     }
-    suite_answer(text, length);
+    answer(text, length);
     return 0;
 }
 
@@ -128,4 +131,20 @@ int run_suite_file(const char *path) {
         return 2;
     }
     return run_suite();
+}
+
+int run_suites(void) {
+    Bytes line = {0};
+    while (line_next(&line)) {
+        Bytes text = {0};
+        if (parse_hexadecimal(line.at, &text)) {
+            answer(text.at, text.count);
+        } else {
+            puts("bad input");
+        }
+        putchar('\n');
+        bytes_free(&text);
+    }
+    bytes_free(&line);
+    return 0;
 }

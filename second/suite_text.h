@@ -16,13 +16,14 @@ typedef struct {
 bool suite_parse(const char *text, size_t length, NamedSuite *named);
 void named_suite_free(NamedSuite *named);
 
-// Runs the suite of a text with areas of 2,048 and 16,384 words, and prints what came of it.
-void suite_answer(const char *text, size_t length);
-
-// The suite of the text on standard input.
+// The suite of the text on standard input, with areas of 2,048 and 16,384 words, and what came of
+// it.
 int run_suite(void);
 
-// The suite of the text in a file.
+// The same for the text in a file.
 int run_suite_file(const char *path);
+
+// One text in hexadecimal digits a line from standard input; an empty line after each answer.
+int run_suites(void);
 
 #endif
