@@ -54,6 +54,7 @@ static int run_checks(uint64_t seed, uint64_t count) {
     int failures = run_check(seed, count);
     failures += run_check_formulas(seed, count);
     failures += run_check_causes(seed, count);
+    failures += run_check_suites(seed, count / 10);
     return failures > 0;
 }
 
