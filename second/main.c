@@ -54,7 +54,7 @@ static int run_checks(uint64_t seed, uint64_t count) {
     int failures = run_check(seed, count);
     failures += run_check_formulas(seed, count);
     failures += run_check_causes(seed, count);
-    failures += run_check_suites(seed, count / 10);
+    failures += run_check_suites(seed, count / 20);
     return failures > 0;
 }
 

@@ -63,11 +63,23 @@ static size_t random_spot(Random *random, const Bytes *text) {
     return place;
 }
 
+// After the number of tests, where no name may stand.
+static size_t spot_before_tests(const Bytes *text) {
+    size_t place = 0;
+    while (place < text->count && (text->at[place] == ' ' || text->at[place] == '\n')) {
+        place++;
+    }
+    while (place < text->count && text->at[place] >= '0' && text->at[place] <= '9') {
+        place++;
+    }
+    return place;
+}
+
 static void damage_once(Random *random, Bytes *text) {
     size_t place = random_below(random, (uint32_t)text->count);
     char byte = (char)(unsigned char)random_below(random, 256);
     const char *piece = pieces[random_below(random, PIECES)];
-    switch (random_below(random, 10)) {
+    switch (random_below(random, 12)) {
     case 0:
         put(text, place, 1, &byte, 1);
         break;
@@ -83,6 +95,9 @@ static void damage_once(Random *random, Bytes *text) {
         break;
     case 4:
         put(text, text->count, 0, piece, strlen(piece));
+        break;
+    case 5:
+        put(text, spot_before_tests(text), 0, "# a\n", 4);
         break;
     default:
         put(text, random_spot(random, text), 0, piece, strlen(piece));
