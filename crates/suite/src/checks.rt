@@ -11,7 +11,7 @@ ghost use Rattle.suite.specs.Suite.{fault-after, length-fault, passed-ov
 const LIMIT: usize = 64;
 
 // The refusal that stands once one record more is looked at: the lowest record's, 31 before 32.
-fn judged(number: u32, test: Test, space: usize) -> u32
+pub fn judged(number: u32, test: Test, space: usize) -> u32
     ensures { λ r. ⌜ r ≡ fault-after number space test ⌝ }
 {
     let first_end = wide(test.first) + wide(test.firsts);
@@ -35,7 +35,7 @@ fn judged(number: u32, test: Test, space: usize) -> u32
 }
 
 // 30 for a table that is too long.
-fn counted(n: usize) -> u32
+pub fn counted(n: usize) -> u32
     ensures { λ r. ⌜ r ≡ length-fault n ⌝ }
 {
     if LIMIT < n {

@@ -32,7 +32,7 @@ pub fn begun() -> Running
 }
 
 // "both numbers agree"
-fn agreed(test: Test, seen: Row) -> bool
+pub fn agreed(test: Test, seen: Row) -> bool
     ensures { λ r. ⌜ r ≡ as-expected test (seen .number) (seen .readings) ⌝ }
 {
     if test.number != seen.number {
