@@ -7,15 +7,16 @@
 
 // What stands between two numbers.
 typedef enum {
-    OUTSIDE, // no name may stand here
+    OUTSIDE, // what stands here is a remark
     INSIDE,  // a name may stand here
-    AT_END   // a name may stand on the line of the number before
+    AT_END   // a name may stand on the line of the number before, and remarks after it
 } Gap;
 
 typedef struct {
     Random *random;
     Bytes text;
     Bytes *name;   // of the test that is spelt
+    bool has_name; // it stands there already
     bool is_plain; // mostly single spaces
 } Spelling;
 
@@ -39,8 +40,9 @@ static void spell_blanks(Spelling *spelling) {
     add(spelling, blanks[single ? 0 : random_below(spelling->random, 6)]);
 }
 
-// A name, perhaps empty or with spaces around it; the first of a test that is not empty is kept.
-static void spell_name(Spelling *spelling) {
+// A name or a remark, perhaps empty or with spaces around it, and the end of its line. The first name
+// of a test is kept without the spaces before it.
+static void spell_name(Spelling *spelling, bool is_remark) {
     static const char *const pieces[] = {"a",  "night", " ", "  ", "#",
                                          "12", ":",     "-", "~",  "\xC3\xA9"};
     static const char *const ends[] = {"", " ", "   "};
@@ -52,37 +54,39 @@ static void spell_name(Spelling *spelling) {
         const char *piece = pieces[outer ? random_below(random, 2) : random_below(random, 10)];
         bytes_add_all(&name, piece, strlen(piece));
     }
-    while (name.count > 0 && name.at[name.count - 1] == ' ') {
-        name.count--;
-    }
+    const char *end = ends[empty ? 0 : random_below(random, 3)];
+    bytes_add_all(&name, end, strlen(end));
     add(spelling, "#");
     add(spelling, ends[random_below(random, 3)]);
     bytes_add_all(&spelling->text, name.at, name.count);
-    add(spelling, ends[random_below(random, 3)]);
-    if (spelling->name->count == 0) {
+    add(spelling, "\n");
+    if (!is_remark && !spelling->has_name) {
         bytes_add_all(spelling->name, name.at, name.count);
+        spelling->has_name = true;
     }
     bytes_free(&name);
 }
 
-static bool has_name(Random *random, Gap gap) {
-    return gap != OUTSIDE && random_one_in(random, gap == AT_END ? 3 : 24);
+static bool is_named(Random *random, Gap gap) {
+    return random_one_in(random, gap == INSIDE ? 24 : 3);
 }
 
-// What stands after a number: a name and a newline, or blanks alone.
+// What stands after a number: a name or a remark with the end of its line, or blanks alone.
 static void spell_gap(Spelling *spelling, Gap gap) {
     Random *random = spelling->random;
-    if (!has_name(random, gap)) {
+    if (!is_named(random, gap)) {
         spell_blanks(spelling);
         return;
     }
-    if (gap == INSIDE && random_one_in(random, 2)) {
+    if (gap != AT_END && random_one_in(random, 2)) {
         spell_blanks(spelling);
     } else {
         add(spelling, random_one_in(random, 4) ? "" : " ");
     }
-    spell_name(spelling);
-    add(spelling, "\n");
+    spell_name(spelling, gap == OUTSIDE);
+    while (gap == AT_END && random_one_in(random, 6)) {
+        spell_name(spelling, true);
+    }
 }
 
 static void spell_words(Spelling *spelling, const Words *area, Place place, Gap last) {
@@ -114,6 +118,7 @@ Bytes suite_spell(Random *random, const Suite *suite, Bytes *names) {
     spell_gap(&spelling, OUTSIDE);
     for (size_t index = 0; index < suite->count; index++) {
         spelling.name = &names[index];
+        spelling.has_name = false;
         spell_test(&spelling, suite, &suite->tests[index]);
     }
     if (random_one_in(random, 3)) {

@@ -128,38 +128,37 @@ static void set_name(const NamedLine *line, Bytes *name) {
     while (from < to && *from == ' ') {
         from++;
     }
-    while (from < to && to[-1] == ' ') {
-        to--;
-    }
     bytes_add_all(name, from, (size_t)(to - from));
 }
 
-// Gives each name to its test; the first that is not empty stays. False for a name in no test.
-static bool give_names(const NamedLines *lines, NamedSuite *named) {
+// Gives the first name that stands in a test to it. What stands in none is a remark.
+static void give_names(const NamedLines *lines, NamedSuite *named) {
     const Suite *suite = &named->suite;
     named->names = zeroed(suite->count, sizeof *named->names);
     size_t test = 0;
-    bool good = true;
-    for (size_t index = 0; good && index < lines->count; index++) {
+    size_t unnamed = 0; // no test from here on has a name yet
+    for (size_t index = 0; index < lines->count; index++) {
         const NamedLine *line = &lines->at[index];
         while (test < suite->count && end_of(&suite->tests[test]) < line->numbers) {
             test++;
         }
-        good = line->numbers > 1 && test < suite->count &&
-               stands_in(line, end_of(&suite->tests[test]));
-        if (good && named->names[test].count == 0) {
+        bool inside = line->numbers > 1 && test < suite->count &&
+                      stands_in(line, end_of(&suite->tests[test]));
+        if (inside && test >= unnamed) {
             set_name(line, &named->names[test]);
+            unnamed = test + 1;
         }
     }
-    return good;
 }
 
 bool suite_parse(const char *text, size_t length, NamedSuite *named) {
     NamedLines lines = {0};
     *named = (NamedSuite){0};
     bool good = length <= LONGEST_SUITE_TEXT &&
-                part_text(text, length, &named->suite.words, &lines) && take_tests(&named->suite) &&
-                give_names(&lines, named);
+                part_text(text, length, &named->suite.words, &lines) && take_tests(&named->suite);
+    if (good) {
+        give_names(&lines, named);
+    }
     free(lines.at);
     return good;
 }

@@ -18,7 +18,6 @@ typedef struct {
     Next after_words;    // what comes after the words that are read
     uint32_t words_left; // of those
     uint32_t tests_left;
-    bool named;      // a name may stand here
     bool in_name;    // within a name
     bool in_number;  // within a number
     uint64_t number; // as far as it is read
@@ -48,7 +47,6 @@ static void take_number(Reader *reader, uint32_t number) {
         break;
     case MODE:
         reader->tests_left--;
-        reader->named = true;
         reader->next = NUMBER;
         break;
     case NUMBER:
@@ -84,9 +82,6 @@ static void end_number(Reader *reader) {
 static void end_line(Reader *reader) {
     end_number(reader);
     reader->in_name = false;
-    if (reader->next == MODE || reader->next == NOTHING) {
-        reader->named = false;
-    }
 }
 
 static void take_byte(Reader *reader, unsigned char byte) {
@@ -101,7 +96,6 @@ static void take_byte(Reader *reader, unsigned char byte) {
     } else if (byte == '#') {
         end_number(reader);
         reader->in_name = true;
-        reader->bad = reader->bad || !reader->named;
     } else {
         end_number(reader);
         reader->bad = reader->bad || byte != ' ';

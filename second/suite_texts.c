@@ -63,7 +63,7 @@ static size_t random_spot(Random *random, const Bytes *text) {
     return place;
 }
 
-// After the number of tests, where no name may stand.
+// After the number of tests, where a name belongs to no test.
 static size_t spot_before_tests(const Bytes *text) {
     size_t place = 0;
     while (place < text->count && (text->at[place] == ' ' || text->at[place] == '\n')) {

@@ -1,1 +1,2 @@
 -- Laws of suites as texts.
+pub mod Answers
