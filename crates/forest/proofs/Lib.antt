@@ -16,5 +16,6 @@ pub mod Cases
 pub mod Turns
 pub mod Itself
 pub mod Drain
+pub mod Adopting
 pub mod Relabel
 pub mod Steps

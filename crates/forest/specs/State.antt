@@ -10,6 +10,8 @@ use Rattle.area.specs.Map.{PARENT, NEXT, STACK, WORDS, TARGETS, LOADED, FRAME_S
 use Rattle.area.specs.Region.{region}
 use Rattle.forest.specs.Labels.{Eq, Together, how-many}
 use Rattle.area.specs.Log.{Logged, Later}
+use Rattle.forest.specs.declared.merge.Adopted.{Adopted}
+use Rattle.forest.specs.declared.merge.Adopted.the-variants.{In, Not}
 use Rattle.forest.specs.Forest.{size-of, parents, Shape, Forest, SmallerUnder, tops}
 use Rattle.forest.specs.Held.{ChainCode, AtomCode}
 
@@ -240,6 +242,11 @@ pub record Drained (F T : List ℕ) (n k s : ℕ) (w : List ℕ) (x to k' s' : �
   pub later : Later k w k' w'
   pub fine : bad ≡ false → FrameWalk F T n k s w x to k' s' w' to
   pub clash : bad ≡ true → ClashTold F T n k s w x to
+
+-- a node by itself went under the other's class; or nothing moved
+abbrev pub AdoptedNew : (n k s : ℕ) (w : List ℕ) (x y : ℕ) → Adopted → List ℕ → Type 0
+AdoptedNew n k s w x y (In e) w' = Merged n k s w x y e s false w'
+AdoptedNew n k s w x y Not w' = w' ≡ w
 
 -- the stack holds all that is owed
 pub record Stacked (F T : List ℕ) (n k s : ℕ) (w : List ℕ) : Type 0 where

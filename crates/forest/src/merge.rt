@@ -22,7 +22,7 @@ ghost use Rattle.area.specs.Map.{SIZE, NODES};
 ghost use Rattle.forest.specs.declared.held.Held.the-variants.{Arcs};
 ghost use Rattle.forest.specs.Held.{held-by, Covered};
 ghost use Rattle.forest.specs.Roots.{Fusing, ByItself};
-ghost use Rattle.forest.specs.State.{SomeState, Merged};
+ghost use Rattle.forest.specs.State.{SomeState, Merged, AdoptedNew};
 
 // The log's entries and the frames on the stack after a step, and whether it met a clash.
 pub struct Progress {
@@ -61,19 +61,14 @@ fn tuck(w: &mut [u32], k: usize, s: usize, n: usize, a: usize, b: usize) -> Prog
     }
 }
 
-// The node b, a class by itself that holds nothing, goes under the class a.
-fn take_in(w: &mut [u32], k: usize, s: usize, n: usize, a: usize, b: usize) -> Progress
+// The node b, a class by itself that holds nothing, goes under the class a. The log's entries after it.
+fn take_in(w: &mut [u32], k: usize, s: usize, n: usize, a: usize, b: usize) -> usize
     requires { ⌜ (n ≤ NODES) × (SIZE ≤ length (now w)) ⌝ }
     requires { ⌜ Fusing n (now w) a b × ByItself (now w) b ⌝ }
     requires { ⌜ SomeState n k s (now w) ⌝ }
-    ensures { λ r. ⌜ Merged n k s (now (w .entry)) a b (r .k) (r .s) (r .bad) (now (w .exit)) ⌝ }
+    ensures { λ r. ⌜ Merged n k s (now (w .entry)) a b r s false (now (w .exit)) ⌝ }
 {
-    let e = adopt(w, k, n, a, b);
-    Progress {
-        k: e,
-        s: s,
-        bad: false,
-    }
+    adopt(w, k, n, a, b)
 }
 
 // The class b goes under the class a, where both have chains, from p and from q.
@@ -150,7 +145,7 @@ fn fuse(w: &mut [u32], k: usize, s: usize, n: usize, a: usize, b: usize) -> Prog
 }
 
 // The classes of x and y become one, whichever they are.
-fn blend(w: &mut [u32], k: usize, s: usize, n: usize, x: usize, y: usize) -> Progress
+pub fn blend(w: &mut [u32], k: usize, s: usize, n: usize, x: usize, y: usize) -> Progress
     requires { ⌜ (x < n) × ((y < n) × ((n ≤ NODES) × (SIZE ≤ length (now w)))) ⌝ }
     requires { ⌜ SomeState n k s (now w) ⌝ }
     ensures { λ r. ⌜ Merged n k s (now (w .entry)) x y (r .k) (r .s) (r .bad) (now (w .exit)) ⌝ }
@@ -184,23 +179,48 @@ fn is_by_itself(w: &[u32], y: usize) -> bool
     true
 }
 
-// The classes of x and y become one. A node by itself goes under the other class at once where that has the lower number.
-pub fn join(w: &mut [u32], k: usize, s: usize, n: usize, x: usize, y: usize) -> Progress
+// The log's entries after a node by itself went under; or none did.
+pub enum Adopted {
+    In(usize),
+    Not,
+}
+
+// Of x and y, one that is a class by itself goes under the other's class at once where that has the lower number.
+pub fn adopt_new(w: &mut [u32], k: usize, s: usize, n: usize, x: usize, y: usize) -> Adopted
     requires { ⌜ (x < n) × ((y < n) × ((n ≤ NODES) × (SIZE ≤ length (now w)))) ⌝ }
     requires { ⌜ SomeState n k s (now w) ⌝ }
-    ensures { λ r. ⌜ Merged n k s (now (w .entry)) x y (r .k) (r .s) (r .bad) (now (w .exit)) ⌝ }
+    ensures { λ r. ⌜ AdoptedNew n k s (now (w .entry)) x y r (now (w .exit)) ⌝ }
 {
     if is_by_itself(w, y) {
         let a = find(w, n, x);
         if a < y {
-            return take_in(w, k, s, n, a, y);
+            let e = take_in(w, k, s, n, a, y);
+            return Adopted::In(e);
         }
     }
     if is_by_itself(w, x) {
         let b = find(w, n, y);
         if b < x {
-            return take_in(w, k, s, n, b, x);
+            let e = take_in(w, k, s, n, b, x);
+            return Adopted::In(e);
         }
     }
-    blend(w, k, s, n, x, y)
+    Adopted::Not
+}
+
+// The classes of x and y become one.
+pub fn join(w: &mut [u32], k: usize, s: usize, n: usize, x: usize, y: usize) -> Progress
+    requires { ⌜ (x < n) × ((y < n) × ((n ≤ NODES) × (SIZE ≤ length (now w)))) ⌝ }
+    requires { ⌜ SomeState n k s (now w) ⌝ }
+    ensures { λ r. ⌜ Merged n k s (now (w .entry)) x y (r .k) (r .s) (r .bad) (now (w .exit)) ⌝ }
+{
+    let new = adopt_new(w, k, s, n, x, y);
+    match new {
+        Adopted::In(e) => Progress {
+            k: e,
+            s: s,
+            bad: false,
+        },
+        Adopted::Not => blend(w, k, s, n, x, y),
+    }
 }

@@ -3,7 +3,10 @@ use crate::chain::loaded;
 use crate::chain::look;
 use crate::chain::next;
 use crate::chain::target;
+use crate::merge::Adopted;
 use crate::merge::Progress;
+use crate::merge::adopt_new;
+use crate::merge::blend;
 use crate::merge::join;
 use area::map::FRAME_STEP;
 use area::map::STACK;
@@ -110,7 +113,15 @@ pub fn unite(w: &mut [u32], k: usize, n: usize, x: usize, y: usize) -> Progress
     ensures { λ r. ⌜ United (loaded-words (now (w .entry))) (targets (now (w .entry))) n k (now (w .entry)) x y (r .k) (r .bad)
         (now (w .exit)) ⌝ }
 {
-    let m = join(w, k, 0, n, x, y);
+    let new = adopt_new(w, k, 0, n, x, y);
+    if let Adopted::In(e) = new {
+        return Progress {
+            k: e,
+            s: 0,
+            bad: false,
+        };
+    }
+    let m = blend(w, k, 0, n, x, y);
     let e = m.k;
     let h = m.s;
     if m.bad {

@@ -1,115 +1,51 @@
 -- `forest::merge::join` meets its contract. Assumes nothing.
-use Rattle.forest.proofs.Turns.{joined-up, joined-down}
-use Rattle.forest.proofs.Itself.{itself-root, itself-fusing}
+use mathlib.Core.Path.{_≡_}
 use borrow.Author.Needs.{needs}
+use Rattle.forest.specs.declared.merge.Adopted.the-variants.{In, Not}
+use Rattle.forest.proofs.Adopting.{adopted-in, adopted-not}
 use Rattle.forest.proofs.merge.join.Statement.{statement}
 use Rattle.forest.proofs.merge.join.Tie as tie
 
-is-by-itself-requires : tie.Need-is-by-itself-requires
-is-by-itself-requires c κs = search needs
+adopt-new-requires : tie.Need-adopt-new-requires
+adopt-new-requires c κs = search needs
 
-find-requires : tie.Need-find-requires
-find-requires c κs = search needs
+enum-known-new : tie.Need-enum-known-new
+enum-known-new c = search needs
 
-take-in-requires : tie.Need-take-in-requires
-take-in-requires c κs =
-    let t = c .before .before .before .before .before in
-    let s = t .before .before .before in
+enum-told : tie.Need-enum-told
+enum-told c = search needs
+
+blend-requires : tie.Need-blend-requires
+blend-requires c κs =
+    let s = c .before .before .before .before .before .before .before .before in
     let a = s .args in
-    let h = s .pre .0 in
-    let find = c .before .before .find in
-    let itself = t .is-by-itself .ensures (c .before .before .before .before .if1 .taken) in (
-      (h .1 .1 .0, h .1 .1 .1),
-      (
-        (
-          itself-fusing (a .n) (a .w .now) (h .1 .1 .0) (h .1 .1 .1) (a .y) (h .1 .0) itself (a .x) (find .result) (find .ensures)
-              (c .before .if2 .taken),
-          itself,
-        ),
-        s .pre .1,
-      ),
-    )
+    let new = c .before .before .before .before .before .adopt-new in
+    let none : new .result ≡ Not = cc in
+    let same = adopted-not (a .n) (a .k) (a .s) (a .w .now) (a .x) (a .y) (new .result) (new .last .0) (new .ensures) none in
+    rw same (s .pre)
 
 same-length : tie.Need-same-length
 same-length c = search needs
 
 returns : tie.Need-returns
 returns c =
-    let t = c .before .before .before .before .before .before .before .before in
-    let s = t .before .before .before in
-    let a = s .args in
-    let h = s .pre .0 in
-    let find = c .before .before .before .before .before .find in
-    let tuck = c .before .before .take-in in
-    let itself = t .is-by-itself .ensures (c .before .before .before .before .before .before .before .if1 .taken) in
-    joined-up (a .n) (a .k) (a .s) (a .w .now) (a .x) (a .y) (h .0) (h .1 .0) (h .1 .1 .0) (h .1 .1 .1) (find .result) (a .y)
-    (find .ensures) (itself-root (a .n) (a .w .now) (h .1 .1 .0) (h .1 .1 .1) (a .y) (h .1 .0) itself) (tuck .result .k)
-    (tuck .result .s) (tuck .result .bad) (tuck .last .0) (tuck .ensures)
-
-is-by-itself-requires-2 : tie.Need-is-by-itself-requires-2
-is-by-itself-requires-2 c κs = search needs
-
-find-requires-2 : tie.Need-find-requires-2
-find-requires-2 c κs = search needs
-
-take-in-requires-2 : tie.Need-take-in-requires-2
-take-in-requires-2 c κs =
-    let t = c .before .before .before .before .before in
-    let s = t .before .before .before .before .before .before in
-    let a = s .args in
-    let h = s .pre .0 in
-    let find = c .before .before .find2 in
-    let itself = t .is-by-itself2 .ensures (c .before .before .before .before .if3 .taken) in (
-      (h .1 .1 .0, h .1 .1 .1),
-      (
-        (
-          itself-fusing (a .n) (a .w .now) (h .1 .1 .0) (h .1 .1 .1) (a .x) (h .0) itself (a .y) (find .result) (find .ensures)
-              (c .before .if4 .taken),
-          itself,
-        ),
-        s .pre .1,
-      ),
-    )
+    let a = c .before .before .before .before .before .before .before .before .args in
+    let new = c .before .before .before .before .before .adopt-new in
+    let given = c .before .new .given in
+    let one : new .result ≡ In (given .0 .0) = cc in
+    adopted-in (a .n) (a .k) (a .s) (a .w .now) (a .x) (a .y) (new .result) (new .last .0) (new .ensures) (given .0 .0) one
 
 same-length-2 : tie.Need-same-length-2
 same-length-2 c = search needs
 
 returns-2 : tie.Need-returns-2
 returns-2 c =
-    let t = c .before .before .before .before .before .before .before .before in
-    let s = t .before .before .before .before .before .before in
-    let a = s .args in
-    let h = s .pre .0 in
-    let find = c .before .before .before .before .before .find2 in
-    let tuck = c .before .before .take-in2 in
-    let itself = t .is-by-itself2 .ensures (c .before .before .before .before .before .before .before .if3 .taken) in
-    joined-down (a .n) (a .k) (a .s) (a .w .now) (a .x) (a .y) (h .0) (h .1 .0) (h .1 .1 .0) (h .1 .1 .1) (a .x) (find .result)
-    (itself-root (a .n) (a .w .now) (h .1 .1 .0) (h .1 .1 .1) (a .x) (h .0) itself) (find .ensures) (tuck .result .k)
-    (tuck .result .s) (tuck .result .bad) (tuck .last .0) (tuck .ensures)
-
-blend-requires : tie.Need-blend-requires
-blend-requires c κs = search needs
-
-same-length-3 : tie.Need-same-length-3
-same-length-3 c = search needs
-
-returns-3 : tie.Need-returns-3
-returns-3 c = search needs
+    let a = c .before .before .before .before .before .before .before .before .before .before .before .args in
+    let new = c .before .before .before .before .before .before .before .before .adopt-new in
+    let none : new .result ≡ Not = cc in
+    let same = adopted-not (a .n) (a .k) (a .s) (a .w .now) (a .x) (a .y) (new .result) (new .last .0) (new .ensures) none in
+    rw same at (c .before .before .blend .ensures)
 
 pub join-spec : {M : Type 1} → statement M
 join-spec =
-    tie.close
-    (tie.spec
-    is-by-itself-requires
-    find-requires
-    take-in-requires
-    same-length
-    returns
-    is-by-itself-requires-2
-    find-requires-2
-    take-in-requires-2
-    same-length-2
-    returns-2
-    blend-requires
-    same-length-3
-    returns-3)
+    tie.close (tie.spec adopt-new-requires enum-known-new enum-told blend-requires same-length returns same-length-2 returns-2)
