@@ -9,6 +9,7 @@ use lib.ListN.{length, getD, set, replicate}
 use Rattle.theory.specs.Answer.{Answer}
 use Rattle.theory.proofs.Reading.{reads}
 use Rattle.theory.specs.Answer.{Call}
+use Rattle.theory.specs.Unified.{unified}
 use Rattle.theory.specs.Rules.{Given, one, two, three, four, five, six, seven, six-after, eight, done}
 use Rattle.descriptions.proofs.Table.{unified-given}
 use Rattle.suite.specs.declared.test.Test.{Test}
@@ -65,9 +66,12 @@ given-small c room work y (six-after d e a k t m n) = omega arith
 given-small c room work y (eight d e s a k t h l) = omega arith
 given-small c room work y (done d e s a k t h l) = omega arith
 
+pub unified-small : (c : Call) (room work : ℕ) → unified c room work .number < 9
+unified-small c room work = given-small c room work _ (unified-given reads c room work)
+
 pub answer-small : (ws : List ℕ) (t : Test) (room work : ℕ) → test-answer ws t room work .number < 9
 unfolding test-answer
-answer-small ws t room work = given-small (test-call ws t) room work _ (unified-given reads (test-call ws t) room work)
+answer-small ws t room work = unified-small (test-call ws t) room work
 
 -- ---- the table of counts is 3 by 9
 pub record Square (c : List (List ℕ)) : Type 0 where

@@ -55,7 +55,7 @@ fn skipped(n: usize) -> usize
 }
 
 // The refusal of a table of n records over an area of so many words; 0 for none.
-pub fn checked(tests: &[Test], n: usize, space: usize) -> u32
+pub(crate) fn checked(tests: &[Test], n: usize, space: usize) -> u32
     requires { ⌜ n ≡ length (now tests) ⌝ }
     ensures { λ r. ⌜ r ≡ table-fault space (now (tests .entry)) n ⌝ }
 {

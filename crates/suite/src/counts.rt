@@ -7,14 +7,14 @@ ghost use Prim.Native.Nat.{_<_};
 ghost use Rattle.suite.specs.Suite.{no-counts, counts-sum, raised-at};
 
 // No test is counted.
-pub fn none() -> [[u32; 9]; 3]
+pub(crate) fn none() -> [[u32; 9]; 3]
     ensures { λ r. ⌜ r ≡ no-counts ⌝ }
 {
     [[0; 9]; 3]
 }
 
 // One cell is raised.
-pub fn raised(counts: [[u32; 9]; 3], test: Test, seen: Row) -> [[u32; 9]; 3]
+pub(crate) fn raised(counts: [[u32; 9]; 3], test: Test, seen: Row) -> [[u32; 9]; 3]
     requires { ⌜ (test .mode < 3) × ((seen .number < 9) × (counts-sum counts < 64)) ⌝ }
     ensures { λ r. ⌜ r ≡ raised-at counts (test .mode) (seen .number) ⌝ }
 {
@@ -26,7 +26,7 @@ pub fn raised(counts: [[u32; 9]; 3], test: Test, seen: Row) -> [[u32; 9]; 3]
 }
 
 // The counts go to an array that is lent.
-pub fn put(counts: &mut [[u32; 9]; 3], next: [[u32; 9]; 3])
+pub(crate) fn put(counts: &mut [[u32; 9]; 3], next: [[u32; 9]; 3])
     ensures { λ _. ⌜ now (counts .exit) ≡ next ⌝ }
 {
     *counts = next;

@@ -14,14 +14,14 @@ pub struct Running {
 }
 
 // The record holds this now: the one function that changes it.
-pub fn note(running: &mut Running, next: Running)
+pub(crate) fn note(running: &mut Running, next: Running)
     ensures { λ _. ⌜ now (running .exit) ≡ next ⌝ }
 {
     *running = next;
 }
 
 // A record before any test.
-pub fn begun() -> Running
+pub(crate) fn begun() -> Running
     ensures { λ r. ⌜ r ≡ begun-record ⌝ }
 {
     Running {
@@ -45,7 +45,7 @@ pub fn agreed(test: Test, seen: Row) -> bool
 }
 
 // The record after one test more.
-pub fn noted(held: Running, test: Test, seen: Row) -> Running
+pub(crate) fn noted(held: Running, test: Test, seen: Row) -> Running
     requires { ⌜ (held .run < 64) × (held .good < 64) ⌝ }
     ensures { λ r. ⌜ r ≡ noted-record test (seen .number) (seen .readings) held ⌝ }
 {

@@ -17,14 +17,14 @@ pub struct Test {
 }
 
 // A word as a number to count with.
-pub fn wide(x: u32) -> usize
+pub(crate) fn wide(x: u32) -> usize
     ensures { λ r. ⌜ r ≡ x ⌝ }
 {
     x as usize
 }
 
 // The test at i.
-pub fn row(tests: &[Test], i: usize) -> Test
+pub(crate) fn row(tests: &[Test], i: usize) -> Test
     requires { ⌜ i < length (now tests) ⌝ }
     ensures { λ r. ⌜ r ≡ getD (now (tests .entry)) i no-test ⌝ }
 {

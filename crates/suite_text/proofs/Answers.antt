@@ -14,11 +14,11 @@ use Rattle.reply.specs.Printed.{result-size}
 use Rattle.call_text.specs.Call.{words-in}
 use Rattle.call_text.specs.Finding.{Puts}
 use Rattle.call_text.proofs.Runs.{words-length}
-use Rattle.suite_text.specs.Finding.{Standing}
-use Rattle.suite_text.specs.Report.{call-answer, Answers}
+use Rattle.suite_text.specs.Finding.{WordsStand}
+use Rattle.suite_text.specs.Report.{call-answer, TestAnswers}
 
 -- the words stand at the start of the area that they were read into
-pub words-read : (text : List ℕ) (at count : ℕ) (words dst dst′ : List ℕ) → Standing text at count words →
+pub words-read : (text : List ℕ) (at count : ℕ) (words dst dst′ : List ℕ) → WordsStand text at count words →
     Puts (words-in count (drop at text)) dst dst′ → take count dst′ ≡ words
 words-read text at count words dst dst′ s puts =
     let put : dst′ ≡ words ++ drop (length words) dst = puts (words, s .left) (s .stand) in
@@ -39,7 +39,7 @@ module _ (text : List ℕ) (mode at count begin other : ℕ) (first second first
     (one : Puts (words-in count (drop at text)) first first′) (two : Puts (words-in other (drop begin text)) second second′)
     (before after : Areas) (o : Row) (rooms : length (before .result) ≡ result-size) (works : length (before .working) ≡ working-size)
     (p : Outcome (record { mode = mode; first = take count first′; second = take other second′ }) before o after) where
-  pub test-answered : Answers text mode at count begin other (o .number) (o .readings)
+  pub test-answered : TestAnswers text mode at count begin other (o .number) (o .readings)
   unfolding call-answer
   test-answered ws vs s t =
       let a : take count first′ ≡ ws = words-read text at count ws first first′ s one in

@@ -20,21 +20,21 @@ pub record FindsName (run name : List ℕ) (from to : ℕ) : Type 0 where
   pub is : take (to - from) (drop from run) ≡ name
 
 -- these words, so many, stand in a text from a place on
-pub record Standing (text : List ℕ) (at count : ℕ) (words : List ℕ) : Type 0 where
+pub record WordsStand (text : List ℕ) (at count : ℕ) (words : List ℕ) : Type 0 where
   pub few : count ≤ count-limit
   pub left : List ℕ
   pub stand : words-in count (drop at text) ≡ some (words, left)
 
 -- where the parts of a test stand
-pub record Places (text : List ℕ) (t : TypedTest) (named first firsts second seconds next : ℕ) : Type 0 where
+pub record TestPlaces (text : List ℕ) (t : TypedTest) (named first firsts second seconds next : ℕ) : Type 0 where
   pub after-mode : t .after-mode ≡ drop named text
-  pub the-first : Standing text first firsts (t .first)
-  pub the-second : Standing text second seconds (t .second)
+  pub the-first : WordsStand text first firsts (t .first)
+  pub the-second : WordsStand text second seconds (t .second)
   pub after : t .after ≡ drop next text
 
 -- a test was found; or there is none
 pub data FindsTest (text : List ℕ) : Option TypedTest → Found → Type 0 where
-  there : (t : TypedTest) (named first firsts second seconds next : ℕ) → Places text t named first firsts second seconds next →
+  there : (t : TypedTest) (named first firsts second seconds next : ℕ) → TestPlaces text t named first firsts second seconds next →
       FindsTest text (some t) (Test (t .mode) (t .number) (t .readings) named first firsts second seconds next)
   nowhere : FindsTest text none Wrong
 

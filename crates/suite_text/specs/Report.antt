@@ -17,8 +17,8 @@ use Rattle.answer_text.specs.declared.line.Written.{Written}
 use Rattle.suite.specs.declared.test.Test.{Test}
 use Rattle.suite.specs.Suite.{as-expected, table-fault}
 use Rattle.suite_text.specs.Text.{blanked, spaces-off, name-in}
-use Rattle.suite_text.specs.Tests.{TypedTest, expected-of, all-expected, typed-suite}
-use Rattle.suite_text.specs.Finding.{Standing}
+use Rattle.suite_text.specs.Tests.{TypedTest, expected-in, all-expected, typed-suite}
+use Rattle.suite_text.specs.Finding.{WordsStand}
 use Rattle.suite_text.specs.declared.verdict.Verdict.{Verdict}
 use Rattle.suite_text.specs.declared.verdict.Verdict.the-variants.{Good, Refused, Other, NotRun}
 use Rattle.suite_text.specs.declared.verdict.Totals.{Totals}
@@ -113,11 +113,11 @@ line-of i name Other t n r = shown-name i name ++ verdict-text Other t n r
 line-of i name NotRun t n r = shown-name i name ++ verdict-text NotRun t n r
 
 unfoldable pub test-verdict : TypedTest → Verdict
-test-verdict t = verdict-of (expected-of t) (came-of t .number) (came-of t .readings)
+test-verdict t = verdict-of (expected-in t) (came-of t .number) (came-of t .readings)
 
 unfoldable pub test-line : List ℕ → ℕ → TypedTest → List ℕ
 test-line text i t =
-    line-of i (name-in (test-run text t)) (test-verdict t) (expected-of t) (came-of t .number) (came-of t .readings)
+    line-of i (name-in (test-run text t)) (test-verdict t) (expected-in t) (came-of t .number) (came-of t .readings)
 
 -- ---- the whole
 -- the lines of tests whose first has the place i
@@ -166,11 +166,11 @@ unfoldable pub row-text : ℕ → List ℕ → List ℕ
 row-text mode row = labelled mode-label mode ++ (58 ∷ (after-spaces row ++ newline))
 
 -- the counts of a mode
-unfoldable pub row-of : ℕ → List ℕ → List ℕ
-row-of mode table = take numbers (drop (numbers * mode) table)
+unfoldable pub mode-row : ℕ → List ℕ → List ℕ
+mode-row mode table = take numbers (drop (numbers * mode) table)
 
 unfoldable pub table-text : List ℕ → List ℕ
-table-text table = row-text 0 (row-of 0 table) ++ (row-text 1 (row-of 1 table) ++ row-text 2 (row-of 2 table))
+table-text table = row-text 0 (mode-row 0 table) ++ (row-text 1 (mode-row 1 table) ++ row-text 2 (mode-row 2 table))
 
 unfoldable pub totals-text : Totals → List ℕ
 totals-text s = labelled [] (s .good) ++ (labelled good-label (s .other) ++ (labelled other-label (s .missed) ++ not-run-end))
@@ -180,12 +180,12 @@ unfoldable pub summary : List ℕ → Totals → List ℕ
 summary table s = table-text table ++ totals-text s
 
 -- a suite that is refused has its number alone. No word area is lent, so 31 does not come
-abbrev pub report-of : ℕ → List ℕ → List TypedTest → List ℕ
-report-of zero text ts = test-lines text 0 ts ++ summary (table-of no-table ts) (totals-of no-totals ts)
-report-of (suc n) text ts = labelled answer-label (suc n) ++ newline
+abbrev pub tests-report : ℕ → List ℕ → List TypedTest → List ℕ
+tests-report zero text ts = test-lines text 0 ts ++ summary (table-of no-table ts) (totals-of no-totals ts)
+tests-report (suc n) text ts = labelled answer-label (suc n) ++ newline
 
 unfoldable pub reported : List ℕ → List TypedTest → List ℕ
-reported text ts = report-of (table-fault 0 (all-expected ts) (length ts)) text ts
+reported text ts = tests-report (table-fault 0 (all-expected ts) (length ts)) text ts
 
 -- a text of over 1,048,576 bytes is bad input
 abbrev pub suite-text-limit : ℕ
@@ -200,17 +200,17 @@ suite-printed text = elim (ltb suite-text-limit (length text)) [ true ↦ bad-te
 
 -- ---- on the way
 -- number and readings are those of the call in this mode on the words that stand from these places on
-abbrev pub Answers : (text : List ℕ) (mode at count begin other number readings : ℕ) → Type 0
-Answers text mode at count begin other number readings =
-    (first second : List ℕ) → Standing text at count first → Standing text begin other second →
+abbrev pub TestAnswers : (text : List ℕ) (mode at count begin other number readings : ℕ) → Type 0
+TestAnswers text mode at count begin other number readings =
+    (first second : List ℕ) → WordsStand text at count first → WordsStand text begin other second →
     (number ≡ call-answer mode first second .number) × (readings ≡ call-answer mode first second .readings)
 
 -- these are so many tests that may be run
-abbrev pub Runs : ℕ → Option (List TypedTest) → Type 0
-Runs n none = ⊥
-Runs n (some ts) = (length ts ≡ n) × (table-fault 0 (all-expected ts) (length ts) ≡ 0)
+abbrev pub MayRun : ℕ → Option (List TypedTest) → Type 0
+MayRun n none = ⊥
+MayRun n (some ts) = (length ts ≡ n) × (table-fault 0 (all-expected ts) (length ts) ≡ 0)
 
 -- the report on tests stands at the start of out, or has no room there
 abbrev pub ReportWrote : List ℕ → Option (List TypedTest) → List ℕ → List ℕ → Written → Type 0
 ReportWrote text none out out′ r = ⊥
-ReportWrote text (some ts) out out′ r = Wrote (report-of 0 text ts) out out′ r
+ReportWrote text (some ts) out out′ r = Wrote (tests-report 0 text ts) out out′ r

@@ -65,9 +65,9 @@ typed-suite cs = number-then (λ n rest. tests-in n rest) (token cs)
 abbrev pub expected-test : ℕ → ℕ → ℕ → Test
 expected-test m n k = record { mode = m; number = n; readings = k; first = 0; firsts = 0; second = 0; seconds = 0 }
 
-abbrev pub expected-of : TypedTest → Test
-expected-of t = expected-test (t .mode) (t .number) (t .readings)
+abbrev pub expected-in : TypedTest → Test
+expected-in t = expected-test (t .mode) (t .number) (t .readings)
 
 unfoldable pub all-expected : List TypedTest → List Test
 all-expected [] = []
-all-expected (t ∷ ts) = expected-of t ∷ all-expected ts
+all-expected (t ∷ ts) = expected-in t ∷ all-expected ts

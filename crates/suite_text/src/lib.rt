@@ -31,7 +31,7 @@ use call_text::number::read_token;
 use unify::unify;
 ghost use mathlib.Core.Path.{_≡_};
 ghost use mathlib.Core.Bool.{false};
-ghost use Prim.Native.Nat.{_≤_};
+ghost use Prim.Native.Nat.{_≤_, _<_};
 ghost use lib.ListN.{length, drop};
 ghost use Rattle.theory.specs.Limits.{working-size};
 ghost use Rattle.reply.specs.Printed.{result-size};
@@ -39,7 +39,7 @@ ghost use Rattle.call_text.specs.Call.{count-limit};
 ghost use Rattle.answer_text.specs.Answer.{Wrote};
 ghost use Rattle.suite_text.specs.Text.{blanked};
 ghost use Rattle.suite_text.specs.Tests.{tests-in};
-ghost use Rattle.suite_text.specs.Report.{no-table, Answers, Runs, ReportWrote, typed-printed, suite-text-limit, suite-printed};
+ghost use Rattle.suite_text.specs.Report.{no-table, TestAnswers, MayRun, ReportWrote, typed-printed, suite-text-limit, suite-printed};
 
 // The most bytes that a text may have.
 pub const TEXT_LIMIT: usize = 1048576;
@@ -83,12 +83,22 @@ fn run_test(
     requires { ⌜ (length (now first) ≡ result-size) × (length (now second) ≡ result-size) ⌝ }
     requires { ⌜ (length (now result) ≡ result-size) × (length (now working) ≡ working-size) ⌝ }
     requires { ⌜ (count ≤ count-limit) × (other ≤ count-limit) ⌝ }
-    ensures { λ r. ⌜ Answers (now (numbers .entry)) mode at count begin other (r .number) (r .readings) ⌝ }
+    ensures { λ r. ⌜ TestAnswers (now (numbers .entry)) mode at count begin other (r .number) (r .readings) ⌝ }
 {
     read_words(numbers, at, count, first);
     read_words(numbers, begin, other, second);
     let answer = unify(mode, &first[..count], &second[..other], result, working);
     told(answer)
+}
+
+// A place, or the end where that comes first.
+fn at_most(p: usize, n: usize) -> usize
+    ensures { λ r. ⌜ (r ≤ n) × ((p ≤ n → r ≡ p) × (n < p → r ≡ n)) ⌝ }
+{
+    if p < n {
+        return p;
+    }
+    n
 }
 
 // Runs n tests, which are all that stands from p on, and writes the report on them to the start of out.
@@ -107,7 +117,7 @@ fn run_tests(
     requires { ⌜ (length (now first) ≡ result-size) × (length (now second) ≡ result-size) ⌝ }
     requires { ⌜ (length (now result) ≡ result-size) × (length (now working) ≡ working-size) ⌝ }
     requires { ⌜ now table ≡ no-table ⌝ }
-    requires { ⌜ (length (now numbers) ≡ length (now text)) × Runs n (tests-in n (drop p (now numbers))) ⌝ }
+    requires { ⌜ (length (now numbers) ≡ length (now text)) × MayRun n (tests-in n (drop p (now numbers))) ⌝ }
     ensures { λ r. ⌜ ReportWrote (now (text .entry)) (tests-in n (drop p (now (numbers .entry)))) (now (out .entry)) (now (out .exit)) r ⌝ }
 {
     let mut totals = none();
@@ -144,8 +154,9 @@ fn run_tests(
         );
         let test = expected(mode, number, readings);
         let what = verdict_of(test, seen);
-        let to = after_spaces(numbers, next);
-        let line = put_line(out, end, i, &text[named..to], what, test, seen);
+        let from = at_most(named, numbers.len());
+        let to = after_spaces(numbers, at_most(next, numbers.len()));
+        let line = put_line(out, end, i, &text[from..to], what, test, seen);
         let Written::Bytes(after) = line else {
             return Written::NoRoom;
         };

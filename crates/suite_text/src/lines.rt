@@ -10,7 +10,6 @@ use answer_text::line::put_after_spaces;
 use answer_text::line::put_labelled;
 use answer_text::line::put_last;
 use answer_text::line::put_run;
-use answer_text::line::wide;
 use answering::answer::Row;
 use suite::test::Test;
 ghost use mathlib.Core.Path.{_≡_};
@@ -41,7 +40,7 @@ fn put_name(out: &mut [u8], at: usize, i: usize, run: &[u8]) -> Written
 fn put_refused(out: &mut [u8], at: usize, test: Test, seen: Row) -> Written
     ensures { λ r. ⌜ Appends (verdict-text Refused test (seen .number) (seen .readings)) (now (out .entry)) at (now (out .exit)) r ⌝ }
 {
-    let front = put_labelled(out, at, b": refused with number ", wide(seen.number));
+    let front = put_labelled(out, at, b": refused with number ", seen.number as u64);
     let Written::Bytes(end) = front else {
         return Written::NoRoom;
     };
@@ -52,38 +51,50 @@ fn put_refused(out: &mut [u8], at: usize, test: Test, seen: Row) -> Written
 fn put_other(out: &mut [u8], at: usize, test: Test, seen: Row) -> Written
     ensures { λ r. ⌜ Appends (verdict-text Other test (seen .number) (seen .readings)) (now (out .entry)) at (now (out .exit)) r ⌝ }
 {
-    let one = put_labelled(out, at, b": expected number ", wide(test.number));
+    let one = put_labelled(out, at, b": expected number ", test.number as u64);
     let Written::Bytes(two) = one else {
         return Written::NoRoom;
     };
-    let expected = put_labelled(out, two, b" readings ", wide(test.readings));
+    let expected = put_labelled(out, two, b" readings ", test.readings as u64);
     let Written::Bytes(three) = expected else {
         return Written::NoRoom;
     };
-    let came = put_labelled(out, three, b", came number ", wide(seen.number));
+    let came = put_labelled(out, three, b", came number ", seen.number as u64);
     let Written::Bytes(four) = came else {
         return Written::NoRoom;
     };
-    put_last(out, four, b" readings ", wide(seen.readings))
+    put_last(out, four, b" readings ", seen.readings as u64)
 }
 
 // Writes that a test was not run, and what was expected.
 fn put_not_run(out: &mut [u8], at: usize, test: Test, seen: Row) -> Written
     ensures { λ r. ⌜ Appends (verdict-text NotRun test (seen .number) (seen .readings)) (now (out .entry)) at (now (out .exit)) r ⌝ }
 {
-    let one = put_labelled(out, at, b": not run, number ", wide(seen.number));
+    let one = put_labelled(out, at, b": not run, number ", seen.number as u64);
     let Written::Bytes(two) = one else {
         return Written::NoRoom;
     };
-    let expected = put_labelled(out, two, b"; expected number ", wide(test.number));
+    let expected = put_labelled(out, two, b"; expected number ", test.number as u64);
     let Written::Bytes(three) = expected else {
         return Written::NoRoom;
     };
-    put_last(out, three, b" readings ", wide(test.readings))
+    put_last(out, three, b" readings ", test.readings as u64)
+}
+
+// Writes what is said of a test.
+fn put_verdict(out: &mut [u8], at: usize, what: Verdict, test: Test, seen: Row) -> Written
+    ensures { λ r. ⌜ Appends (verdict-text what test (seen .number) (seen .readings)) (now (out .entry)) at (now (out .exit)) r ⌝ }
+{
+    match what {
+        Verdict::Good => Written::Bytes(at),
+        Verdict::Refused => put_refused(out, at, test, seen),
+        Verdict::Other => put_other(out, at, test, seen),
+        Verdict::NotRun => put_not_run(out, at, test, seen),
+    }
 }
 
 // Writes the line of the test at i, whose name stands in this run of bytes.
-pub fn put_line(
+pub(crate) fn put_line(
     out: &mut [u8],
     at: usize,
     i: usize,
@@ -103,19 +114,14 @@ pub fn put_line(
     let Written::Bytes(end) = front else {
         return Written::NoRoom;
     };
-    match what {
-        Verdict::Refused => put_refused(out, end, test, seen),
-        Verdict::Other => put_other(out, end, test, seen),
-        Verdict::NotRun => put_not_run(out, end, test, seen),
-        Verdict::Good => Written::Bytes(end),
-    }
+    put_verdict(out, end, what, test, seen)
 }
 
 // Writes the counts of a mode.
 fn put_row(out: &mut [u8], at: usize, mode: u32, row: &[u32]) -> Written
     ensures { λ r. ⌜ Appends (row-text mode (now (row .entry))) (now (out .entry)) at (now (out .exit)) r ⌝ }
 {
-    let one = put_labelled(out, at, b"mode ", wide(mode));
+    let one = put_labelled(out, at, b"mode ", mode as u64);
     let Written::Bytes(two) = one else {
         return Written::NoRoom;
     };
@@ -150,15 +156,15 @@ fn put_table(out: &mut [u8], at: usize, table: &[u32]) -> Written
 fn put_totals(out: &mut [u8], at: usize, totals: Totals) -> Written
     ensures { λ r. ⌜ Appends (totals-text totals) (now (out .entry)) at (now (out .exit)) r ⌝ }
 {
-    let one = put_labelled(out, at, b"", wide(totals.good));
+    let one = put_labelled(out, at, b"", totals.good as u64);
     let Written::Bytes(two) = one else {
         return Written::NoRoom;
     };
-    let other = put_labelled(out, two, b" as expected, ", wide(totals.other));
+    let other = put_labelled(out, two, b" as expected, ", totals.other as u64);
     let Written::Bytes(three) = other else {
         return Written::NoRoom;
     };
-    let left = put_labelled(out, three, b" not, ", wide(totals.missed));
+    let left = put_labelled(out, three, b" not, ", totals.missed as u64);
     let Written::Bytes(four) = left else {
         return Written::NoRoom;
     };
@@ -166,7 +172,7 @@ fn put_totals(out: &mut [u8], at: usize, totals: Totals) -> Written
 }
 
 // Writes what stands after the lines of the tests.
-pub fn put_summary(out: &mut [u8], at: usize, table: &[u32], totals: Totals) -> Written
+pub(crate) fn put_summary(out: &mut [u8], at: usize, table: &[u32], totals: Totals) -> Written
     requires { ⌜ length (now table) ≡ cells ⌝ }
     ensures { λ r. ⌜ Appends (summary (now (table .entry)) totals) (now (out .entry)) at (now (out .exit)) r ⌝ }
 {

@@ -10,7 +10,7 @@ pub const NUMBERS: usize = 9;
 pub const CELLS: usize = 27;
 
 // No test is counted.
-pub fn no_table() -> [u32; CELLS]
+pub(crate) fn no_table() -> [u32; CELLS]
     ensures { λ r. ⌜ r ≡ no-table ⌝ }
 {
     [0; CELLS]
@@ -23,7 +23,7 @@ fn wide(x: u32) -> usize
 }
 
 // One test more of this mode was answered so.
-pub fn raise(table: &mut [u32], mode: u32, number: u32)
+pub(crate) fn raise(table: &mut [u32], mode: u32, number: u32)
     requires { ⌜ length (now table) ≡ cells ⌝ }
     requires { ⌜ (mode < 3) × ((number < numbers) × (getD (now table) (cell-of mode number) 0 < 64)) ⌝ }
     ensures { λ _. ⌜ now (table .exit) ≡ raised-cell (now (table .entry)) (cell-of mode number) ⌝ }

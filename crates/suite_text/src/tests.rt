@@ -67,7 +67,7 @@ fn find_descriptions(
 }
 
 // The test that begins at p.
-pub fn find_test(text: &[u8], p: usize) -> Found
+pub(crate) fn find_test(text: &[u8], p: usize) -> Found
     ensures { λ r. ⌜ FindsTest (now (text .entry)) (leading-test (drop p (now (text .entry)))) r ⌝ }
 {
     let one = read_token(text, p);
@@ -98,7 +98,7 @@ pub fn find_test(text: &[u8], p: usize) -> Found
 }
 
 // What is expected of a test; no word area is lent, and no place in it is named.
-pub fn expected(mode: u32, number: u32, readings: u32) -> Test
+pub(crate) fn expected(mode: u32, number: u32, readings: u32) -> Test
     ensures { λ r. ⌜ r ≡ expected-test mode number readings ⌝ }
 {
     Test {
@@ -125,7 +125,7 @@ fn wide(x: u32) -> usize
 }
 
 // Looks at n tests, which are all that stands from p on.
-pub fn judge_tests(text: &[u8], p: usize, n: u32) -> Judgement
+pub(crate) fn judge_tests(text: &[u8], p: usize, n: u32) -> Judgement
     ensures { λ r. ⌜ Judges n (tests-in n (drop p (now (text .entry)))) r ⌝ }
 {
     let mut refusal = counted(wide(n));

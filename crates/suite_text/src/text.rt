@@ -44,7 +44,7 @@ fn blank_byte(named: bool, byte: u8) -> u8
 }
 
 // Writes the text without its names to out, which is as long.
-pub fn blank(text: &[u8], out: &mut [u8])
+pub(crate) fn blank(text: &[u8], out: &mut [u8])
     requires { ⌜ length (now out) ≡ length (now text) ⌝ }
     ensures { λ _. ⌜ now (out .exit) ≡ blanked false (now (text .entry)) ⌝ }
 {
@@ -74,7 +74,7 @@ fn after_hash(run: &[u8]) -> usize
 }
 
 // Where spaces end that stand from p on.
-pub fn after_spaces(run: &[u8], p: usize) -> usize
+pub(crate) fn after_spaces(run: &[u8], p: usize) -> usize
     requires { ⌜ p ≤ length (now run) ⌝ }
     ensures { λ r. ⌜ ((p ≤ r) × (r ≤ length (now (run .entry)))) × (drop r (now (run .entry)) ≡ spaces-off (drop p (now (run .entry)))) ⌝ }
 {
@@ -96,7 +96,7 @@ pub struct Name {
 }
 
 // The name in a run of bytes.
-pub fn find_name(run: &[u8]) -> Name
+pub(crate) fn find_name(run: &[u8]) -> Name
     ensures { λ r. ⌜ FindsName (now (run .entry)) (name-in (now (run .entry))) (r .from) (r .to) ⌝ }
 {
     let hash = after_hash(run);

@@ -25,7 +25,7 @@ fn decides(number: u32) -> bool
 }
 
 // What is said of a test to which this came.
-pub fn verdict_of(test: Test, seen: Row) -> Verdict
+pub(crate) fn verdict_of(test: Test, seen: Row) -> Verdict
     ensures { λ r. ⌜ r ≡ verdict-of test (seen .number) (seen .readings) ⌝ }
 {
     let good = agreed(test, seen);
@@ -50,7 +50,7 @@ pub struct Totals {
 }
 
 // No test yet.
-pub fn none() -> Totals
+pub(crate) fn none() -> Totals
     ensures { λ r. ⌜ r ≡ no-totals ⌝ }
 {
     Totals {
@@ -61,7 +61,7 @@ pub fn none() -> Totals
 }
 
 // One test more.
-pub fn added(totals: Totals, what: Verdict) -> Totals
+pub(crate) fn added(totals: Totals, what: Verdict) -> Totals
     requires { ⌜ (totals .good < 64) × ((totals .other < 64) × (totals .missed < 64)) ⌝ }
     ensures { λ r. ⌜ r ≡ totals-after what totals ⌝ }
 {
