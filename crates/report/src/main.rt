@@ -5,6 +5,7 @@ ghost use Prim.Native.Nat.{_≤_};
 ghost use lib.ListN.{length};
 ghost use Rattle.answer_text.specs.Answer.{Wrote};
 ghost use Rattle.answer_text.specs.declared.line.Written.the-variants.{Bytes};
+ghost use Rattle.suite_text.specs.Report.{suite-printed};
 
 // A text of over 1,048,576 bytes is bad input: room for one byte more is enough to tell.
 const TEXT_ROOM: usize = 1048577;
@@ -22,7 +23,9 @@ fn out_space() -> [u8; OUT_ROOM] {
 
 // Writes what is printed for the text to the start of out, and answers how many bytes that is; 0 where it has no room.
 fn answer(text: &[u8], out: &mut [u8]) -> usize
-    ensures { λ r. ⌜ r ≤ length (now (out .entry)) ⌝ }
+    ensures { λ r. ⌜ (r ≤ length (now (out .entry)))
+        × (length (suite-printed (now (text .entry))) ≤ length (now (out .entry)) →
+        Wrote (suite-printed (now (text .entry))) (now (out .entry)) (now (out .exit)) (Bytes r)) ⌝ }
 {
     let written = report(text, out);
     match written {

@@ -22,8 +22,8 @@ FaultFree space tests n = (j : ℕ) → j < n → ¬ (BeyondArea space (getD tes
 -- each number under its rule: "30 over 64 records … of 31 and 32 the lower record comes first, then 31"; 0 where the tests run
 pub data Refuses (space : ℕ) (tests : List Test) : ℕ → Type 0 where
   over : 64 < length tests → Refuses space tests 30
-  beyond : length tests ≤ 64 → (i : ℕ) → i < length tests → FaultFree space tests i → BeyondArea space (getD tests i no-test) →
-      Refuses space tests 31
-  outside : length tests ≤ 64 → (i : ℕ) → i < length tests → FaultFree space tests i → ¬ (BeyondArea space (getD tests i no-test)) →
-      OutOfTable (getD tests i no-test) → Refuses space tests 32
+  beyond : length tests ≤ 64 → (i : ℕ) → i < length tests → FaultFree space tests i →
+      BeyondArea space (getD tests i no-test) → Refuses space tests 31
+  outside : length tests ≤ 64 → (i : ℕ) → i < length tests → FaultFree space tests i →
+      ¬ (BeyondArea space (getD tests i no-test)) → OutOfTable (getD tests i no-test) → Refuses space tests 32
   runs : length tests ≤ 64 → FaultFree space tests (length tests) → Refuses space tests 0

@@ -14,7 +14,7 @@ use Rattle.reply.specs.Printed.{result-size}
 use Rattle.call_text.specs.Call.{words-in}
 use Rattle.call_text.specs.Finding.{Puts}
 use Rattle.call_text.proofs.Runs.{words-length}
-use Rattle.suite_text.specs.Finding.{WordsStand}
+use Rattle.suite_reading.specs.Finding.{WordsStand}
 use Rattle.suite_text.specs.Report.{call-answer, TestAnswers}
 
 -- the words stand at the start of the area that they were read into

@@ -15,12 +15,14 @@ use Rattle.answer_text.proofs.Goings.{Turned, turns-begin, turns-go, turns-stop
 use Rattle.suite.specs.Suite.{no-test, table-fault, Runnable}
 use Rattle.suite.specs.declared.test.Test.{Test}
 use Rattle.suite.proofs.Runs.{found-fine}
-use Rattle.suite_text.specs.Tests.{TypedTest, leading-test, followed, tests-in, expected-in, all-expected}
-use Rattle.suite_text.specs.declared.verdict.Verdict.{Verdict}
-use Rattle.suite_text.specs.declared.verdict.Verdict.the-variants.{Good, Refused, Other, NotRun}
-use Rattle.suite_text.specs.declared.verdict.Totals.{Totals}
-use Rattle.suite_text.specs.Report.{came-of, test-verdict, test-line, test-lines, totals-after, no-totals, totals-of, numbers}
-use Rattle.suite_text.specs.Report.{cells, cell-of, no-table, raised-cell, table-of, summary, tests-report, MayRun, ReportWrote}
+use Rattle.suite_reading.specs.Tests.{TypedTest, leading-test, followed, tests-in, expected-in, all-expected}
+use Rattle.suite_lines.specs.declared.verdict.Verdict.{Verdict}
+use Rattle.suite_lines.specs.declared.verdict.Verdict.the-variants.{Good, Refused, Other, NotRun}
+use Rattle.suite_lines.specs.declared.verdict.Totals.{Totals}
+use Rattle.suite_lines.specs.Lines.{totals-after, no-totals, numbers}
+use Rattle.suite_text.specs.Report.{came-of, test-verdict, test-line, test-lines, totals-of}
+use Rattle.suite_lines.specs.Lines.{cells, cell-of, no-table, raised-cell, summary}
+use Rattle.suite_text.specs.Report.{table-of, tests-report, MayRun, ReportWrote}
 
 -- ---- the tests that are left
 -- one more test stands there, and the others after it
@@ -39,6 +41,7 @@ next-test m cs ts e = go (leading-test cs) refl e
         followed t o ≡ some ts → Next cs m ts
     on t l none f g = let z : _≡_ {A = ℕ} 0 1 = cc in absurd (omega arith)
     on t l (some us) f g = record { test = t; others = us; leads = l; follow = f; are = sym (Option·some-injective (t ∷ us) ts g) }
+
     go : (o : Option TypedTest) → leading-test cs ≡ o →
         elim o [ none ↦ none | some t ↦ followed t (tests-in m (t .after)) ] ≡ some ts → Next cs m ts
     go none l g = let z : _≡_ {A = ℕ} 0 1 = cc in absurd (omega arith)

@@ -11,8 +11,8 @@ use lib.ListN.{length, take, drop, length-append, length-drop, drop-of-length-le
 use Rattle.call_text.specs.Token.{Start, is, over, bad, token}
 use Rattle.call_text.specs.Call.{Taken, before, words-in, count-limit, counted}
 use Rattle.call_text.proofs.Tokens.{Ends, token-ends}
-use Rattle.suite_text.specs.Text.{spaces-off}
-use Rattle.suite_text.specs.Tests.{TypedTest, number-then, words-then, descriptions-then, leading-test}
+use Rattle.suite_reading.specs.Text.{spaces-off}
+use Rattle.suite_reading.specs.Tests.{TypedTest, number-then, words-then, descriptions-then, leading-test}
 use Rattle.suite_text.specs.Report.{test-run}
 
 after-front : (cs front rest : List ℕ) → cs ≡ front ++ rest → length rest ≤ length cs
@@ -54,6 +54,7 @@ counted-shrunk cs = go (token cs) (token-ends cs)
         Shrunk cs (elim b [ true ↦ none | false ↦ words-in n rest ])
     few n rest h true = tt
     few n rest h false = shrunk-more cs rest h (words-in n rest) (words-shrunk n rest)
+
     go : (s : Start) → Ends cs s → Shrunk cs (elim s [
       | is n rest ↦ elim (ltb count-limit n) [ true ↦ none | false ↦ words-in n rest ]
       | over ↦ none
@@ -84,9 +85,11 @@ descriptions-within m named n k cs h = one (counted cs) (counted-shrunk cs)
       after-mode = named;
       after = q .1;
     }
+
     two : (p : Taken) → length (p .1) ≤ length cs → (o : Option Taken) → Shrunk (p .1) o → Within (words-then (λ q. some (test p q)) o)
     two p g none s = tt
     two p g (some q) s = omega arith
+
     one : (o : Option Taken) → Shrunk cs o →
         Within (words-then (λ p. words-then (λ q. some (test p q)) (counted (p .1))) o)
     one none s = tt
@@ -102,11 +105,13 @@ leading-within cs = one (token cs)
         let g = after-front rest front left e in descriptions-within m named n k left (omega arith)
     three m named n rest h over e = tt
     three m named n rest h bad e = tt
+
     two : (m : ℕ) (named : List ℕ) (s : Start) → Ends named s →
         Within (number-then (λ n rest. number-then (λ k left. descriptions-then m named n k left) (token rest)) s)
     two m named (is n rest) (front, e) = three m named n rest (after-front named front rest e) (token rest) (token-ends rest)
     two m named over e = tt
     two m named bad e = tt
+
     one : (s : Start) → Within (number-then (λ m named. number-then (λ n rest. number-then (λ k left.
         descriptions-then m named n k left) (token rest)) (token named)) s)
     one (is m named) = two m named (token named) (token-ends named)
@@ -122,7 +127,7 @@ unfolding spaces-off
 spaces-shorter [] = omega arith
 spaces-shorter (c ∷ cs) = go (eqb c 32) (spaces-shorter cs)
   where
-    go : (b : Bool) → length (spaces-off cs) ≤ length cs → 
+    go : (b : Bool) → length (spaces-off cs) ≤ length cs →
         length {A = ℕ} (elim b [ true ↦ spaces-off cs | false ↦ c ∷ cs ]) ≤ length {A = ℕ} (c ∷ cs)
     go true h = omega arith
     go false h = omega arith

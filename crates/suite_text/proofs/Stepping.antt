@@ -9,16 +9,18 @@ use Rattle.theory.specs.Limits.{working-size}
 use Rattle.reply.specs.Printed.{result-size}
 use Rattle.suite.specs.declared.test.Test.{Test}
 use Rattle.suite.proofs.Runs.{unified-small}
-use Rattle.suite_text.specs.Text.{spaces-off, name-in}
-use Rattle.suite_text.specs.Tests.{TypedTest, leading-test, expected-test, expected-in}
-use Rattle.suite_text.specs.Finding.{TestPlaces, FindsTest}
-use Rattle.suite_text.specs.declared.tests.Found.{Found}
-use Rattle.suite_text.specs.declared.tests.Found.the-variants as found
-use Rattle.suite_text.specs.declared.verdict.Verdict.{Verdict}
-use Rattle.suite_text.specs.declared.verdict.Totals.{Totals}
-use Rattle.suite_text.specs.Report.{call-answer, came-of, test-run, verdict-of, line-of, test-verdict, test-line}
-use Rattle.suite_text.specs.Report.{TestAnswers, cell-of, raised-cell, totals-after}
-use Rattle.suite_text.proofs.Found.{found-places, found-none-there}
+use Rattle.suite_reading.specs.Text.{spaces-off, name-in}
+use Rattle.suite_reading.specs.Tests.{TypedTest, leading-test, expected-test, expected-in}
+use Rattle.suite_reading.specs.Finding.{TestPlaces, FindsTest}
+use Rattle.suite_reading.specs.declared.tests.Found.{Found}
+use Rattle.suite_reading.specs.declared.tests.Found.the-variants as found
+use Rattle.suite_lines.specs.declared.verdict.Verdict.{Verdict}
+use Rattle.suite_lines.specs.declared.verdict.Totals.{Totals}
+use Rattle.suite_lines.specs.Lines.{verdict-of, line-of}
+use Rattle.suite_text.specs.Report.{call-answer, came-of, test-run, test-verdict, test-line}
+use Rattle.suite_lines.specs.Lines.{cell-of, raised-cell, totals-after}
+use Rattle.suite_text.specs.Report.{TestAnswers}
+use Rattle.suite_reading.proofs.Found.{found-places, found-none-there}
 use Rattle.suite_text.proofs.Rests.{after-shorter, held-place, run-order, run-is}
 use Rattle.suite_text.proofs.Reporting.{Reporting, Going, reporting-next}
 

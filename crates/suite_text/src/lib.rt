@@ -1,24 +1,5 @@
 // From the text of a suite to what is printed for it.
-pub mod lines;
-pub mod table;
-pub mod tests;
-pub mod text;
-pub mod verdict;
 
-use crate::lines::put_line;
-use crate::lines::put_summary;
-use crate::table::no_table;
-use crate::table::raise;
-use crate::tests::Found;
-use crate::tests::Judgement;
-use crate::tests::expected;
-use crate::tests::find_test;
-use crate::tests::judge_tests;
-use crate::text::after_spaces;
-use crate::text::blank;
-use crate::verdict::added;
-use crate::verdict::none;
-use crate::verdict::verdict_of;
 use answer_text::answer::write_bad;
 use answer_text::line::Written;
 use answer_text::line::put_last;
@@ -28,6 +9,20 @@ use answering::answer::told;
 use call_text::call::read_words;
 use call_text::number::Token;
 use call_text::number::read_token;
+use suite_lines::lines::put_line;
+use suite_lines::lines::put_summary;
+use suite_lines::table::no_table;
+use suite_lines::table::raise;
+use suite_lines::verdict::added;
+use suite_lines::verdict::none;
+use suite_lines::verdict::verdict_of;
+use suite_reading::tests::Found;
+use suite_reading::tests::Judgement;
+use suite_reading::tests::expected;
+use suite_reading::tests::find_test;
+use suite_reading::tests::judge_tests;
+use suite_reading::text::after_spaces;
+use suite_reading::text::blank;
 use unify::unify;
 ghost use mathlib.Core.Path.{_≡_};
 ghost use mathlib.Core.Bool.{false};
@@ -37,9 +32,10 @@ ghost use Rattle.theory.specs.Limits.{working-size};
 ghost use Rattle.reply.specs.Printed.{result-size};
 ghost use Rattle.call_text.specs.Call.{count-limit};
 ghost use Rattle.answer_text.specs.Answer.{Wrote};
-ghost use Rattle.suite_text.specs.Text.{blanked};
-ghost use Rattle.suite_text.specs.Tests.{tests-in};
-ghost use Rattle.suite_text.specs.Report.{no-table, TestAnswers, MayRun, ReportWrote, typed-printed, suite-text-limit, suite-printed};
+ghost use Rattle.suite_reading.specs.Text.{blanked};
+ghost use Rattle.suite_reading.specs.Tests.{tests-in};
+ghost use Rattle.suite_lines.specs.Lines.{no-table};
+ghost use Rattle.suite_text.specs.Report.{TestAnswers, MayRun, ReportWrote, typed-printed, suite-text-limit, suite-printed};
 
 // The most bytes that a text may have.
 pub const TEXT_LIMIT: usize = 1048576;
@@ -118,7 +114,8 @@ fn run_tests(
     requires { ⌜ (length (now result) ≡ result-size) × (length (now working) ≡ working-size) ⌝ }
     requires { ⌜ now table ≡ no-table ⌝ }
     requires { ⌜ (length (now numbers) ≡ length (now text)) × MayRun n (tests-in n (drop p (now numbers))) ⌝ }
-    ensures { λ r. ⌜ ReportWrote (now (text .entry)) (tests-in n (drop p (now (numbers .entry)))) (now (out .entry)) (now (out .exit)) r ⌝ }
+    ensures { λ r. ⌜ ReportWrote (now (text .entry)) (tests-in n (drop p (now (numbers .entry)))) (now (out .entry))
+        (now (out .exit)) r ⌝ }
 {
     let mut totals = none();
     let mut at = p;

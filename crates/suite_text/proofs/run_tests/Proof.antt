@@ -7,9 +7,9 @@ use lib.ListN.{length, drop}
 use borrow.Author.Needs.{needs}
 use Rattle.answer_text.specs.declared.line.Written.the-variants.{NoRoom}
 use Rattle.answer_text.proofs.Goings.{named}
-use Rattle.suite_text.specs.Tests.{tests-in}
-use Rattle.suite_text.specs.Report.{cell-of}
-use Rattle.suite_text.specs.declared.tests.Found.the-variants.{Wrong}
+use Rattle.suite_reading.specs.Tests.{tests-in}
+use Rattle.suite_lines.specs.Lines.{cell-of}
+use Rattle.suite_reading.specs.declared.tests.Found.the-variants.{Wrong}
 use Rattle.suite_text.proofs.Reporting.{Reporting, Kept, whole-of, whole-starts, wrote-whole, mode-low}
 use Rattle.suite_text.proofs.Reporting.{reporting-stops, reporting-goes, reporting-ends, reporting-same}
 use Rattle.suite_text.proofs.Stepping.{none-wrong, stepping, came-small, name-order, verdict-is, line-is, raised, summed}
@@ -34,8 +34,7 @@ loop-holds : tie.Need-loop-holds Inv-loop μ-loop
 loop-holds c =
     let s = c .before .before .before .before .before .before .before .before .before in
     let a = s .args in
-    let start = whole-starts (a .text .now) (a .numbers .now) (a .p) (a .n) (s .pre .1 .1 .1 .1) (a .out .now) in
-    (
+    let start = whole-starts (a .text .now) (a .numbers .now) (a .p) (a .n) (s .pre .1 .1 .1 .1) (a .out .now) in (
       reporting-same (sym (s .pre .1 .1 .0)) (sym (c .none .ensures)) start,
       record { firsts = refl; seconds = refl; results = refl; workings = refl; tables = refl; outs = refl },
     )
@@ -234,8 +233,7 @@ loop-again c =
     (c .before .before .before .before .before .before .before .before .before .before .before .before .before .before .before .at-most .ensures .1) (c .before .before .before .before .before .before .before .before .before .before .before .before .before .before .at-most2 .ensures .0) (c .before .before .before .before .before .before .before .before .before .before .before .before .before .before .at-most2 .ensures .1) (c .before .before .before .before .before .before .before .before .before .before .before .before .before .after-spaces .ensures) (c .before .before .before .before .before .before .before .before .before .before .before .before .before .before .before .before .before .expected .ensures) (run .ensures)
     (c .before .before .before .before .before .before .before .before .before .before .before .before .before .before .before .before .verdict-of .ensures) in
     let on = reporting-goes _ _ _ _ _ _ _ _ _ _ _ (l .inv .0) (step .going) (line .last .0) (line .result) shown
-    _ (c .before .before .before .before .before .before .line .given .1) _ (step .places .after) in
-    (
+    _ (c .before .before .before .before .before .before .line .given .1) _ (step .places .after) in (
       reporting-same (raised step (run .ensures) (raise .ensures)) (summed step says (c .added .ensures)) on,
       record {
         firsts = run .kept .1 .1 .1 .1 .1 .1 .0 ∙ k .firsts;
