@@ -1,6 +1,6 @@
-// Bublastyr: unification of disjunctive feature descriptions, the fit test, what is malformed in an input, and formulas
-// as they are printed. All are proved to answer exactly what the documents say, for every input and every size of the
-// areas.
+// Bublastyr: unification of disjunctive feature descriptions, the fit test, what is malformed in an input, formulas as
+// they are printed, and suites of tests. All are proved to answer exactly what the documents say, for every input and
+// every size of the areas.
 #ifndef BUBLASTYR_H
 #define BUBLASTYR_H
 
@@ -35,6 +35,13 @@ enum {
     BUBLASTYR_LONG_FORMULA = 23,  // the description has more than 1,024 words
     BUBLASTYR_SHORT_RESULT = 24,  // the description is longer than the result area
     BUBLASTYR_LONG_TEXT = 25,     // the text has more than 4,096 bytes
+};
+
+// The numbers of bublastyr_suite beside BUBLASTYR_DONE: the table is refused, and no test of it is run.
+enum {
+    BUBLASTYR_MANY_TESTS = 30,   // the table has more than 64 records
+    BUBLASTYR_BEYOND_WORDS = 31, // a record names words beyond the area
+    BUBLASTYR_BAD_RECORD = 32,   // a record has a mode above 2, or expects a number above 8
 };
 
 // The causes that bublastyr_malformed tells. The first word, in reading order, that breaks a rule by itself or with the
@@ -111,6 +118,38 @@ uint32_t bublastyr_malformed(const uint32_t *first, size_t first_len, const uint
 // It needs no working area, and some 340 KB of stack for its tables.
 uint32_t bublastyr_formula(const uint8_t *text, size_t text_len, uint32_t *result,
                            size_t result_len, uint32_t told[2]);
+
+// A test of a suite: a mode, the number and the readings that are expected, and where in the area of words the two
+// descriptions stand: the position of the first word, from 0, and how many words there are.
+struct bublastyr_test {
+    uint32_t mode, number, readings, first, first_words, second, second_words;
+};
+
+// How far a suite has come: the tests that are run, those that came out as expected, and the first that did not, counted
+// from 0; 64 if there is none.
+struct bublastyr_running {
+    uint32_t run, good, first;
+};
+
+// The tests that a suite has at most; as `first` of the record, that no test came out other than expected.
+#define BUBLASTYR_TESTS 64
+
+// Runs the tests of a table in order, each as bublastyr_unify would, in the same two areas. A test is as expected where
+// both its number and its readings are those that the call gives. Answers 0 once all tests are run, or 30, 31 or 32, and
+// then all that is lent is as it was. All records are looked at before the first test is run: more than 64 are 30, and
+// of 31 and 32 the lowest record with a fault decides, and within it 31 comes first.
+//
+// counts[mode][number] is how many tests in that mode gave that number; together they are running->run. The record
+// begins at 0, 0 and 64 and is brought up to date after each test; the counts are written at the end.
+//
+// A test whose call gives 1 to 5, 7 or 8 decided nothing: it counts as expected only where that very number was.
+//
+// The table, the words, the areas, the record and the counts must not overlap. A pointer to a table, words or an area
+// may be null where its length is 0.
+uint32_t bublastyr_suite(const struct bublastyr_test *tests, size_t tests_len,
+                         const uint32_t *words, size_t words_len, uint32_t *result,
+                         size_t result_len, uint32_t *working, size_t working_len,
+                         struct bublastyr_running *running, uint32_t counts[3][9]);
 
 #ifdef __cplusplus
 }

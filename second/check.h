@@ -28,4 +28,10 @@ int run_known_causes(void);
 // Checks causes and places of all short runs of words over small stocks; 0 when all hold.
 int run_short_words(void);
 
+// Checks known suites; 0 when all hold.
+int run_known_suites(void);
+
+// Checks so many random suites, and as many texts of suites; 0 when all hold.
+int run_check_suites(uint64_t seed, uint64_t count);
+
 #endif

@@ -2,12 +2,11 @@
 #include "formula_call.h"
 
 #include "call.h"
+#include "hexadecimal.h"
 
 #include <inttypes.h>
 #include <stdlib.h>
 #include <string.h>
-
-static const char DIGITS[] = "0123456789abcdef";
 
 void formula_call_free(FormulaCall *call) {
     bytes_free(&call->text);
@@ -19,9 +18,7 @@ FormulaOutcome formula_call_run(const FormulaCall *call) {
 
 void formula_call_print(const FormulaCall *call, FILE *to) {
     fprintf(to, "formula %" PRIu32 " ", call->room);
-    for (size_t index = 0; index < call->text.count; index++) {
-        fprintf(to, "%02x", (unsigned)(unsigned char)call->text.at[index]);
-    }
+    print_hexadecimal(&call->text, to);
     fputc('\n', to);
 }
 
@@ -55,24 +52,6 @@ int run_formula(void) {
     }
     answer(formula(text, length, LONGEST_DESCRIBED), "\n");
     return 0;
-}
-
-// The value of a hexadecimal digit; 16 for another byte.
-static size_t digit_value(char byte) {
-    const char *place = byte == '\0' ? NULL : strchr(DIGITS, byte);
-    return place == NULL ? 16 : (size_t)(place - DIGITS);
-}
-
-static bool parse_hexadecimal(const char *digits, Bytes *text) {
-    for (; digits[0] != '\0'; digits += 2) {
-        size_t high = digit_value(digits[0]);
-        size_t low = digit_value(digits[1]);
-        if (high == 16 || low == 16) {
-            return false;
-        }
-        bytes_add(text, (char)(16 * high + low));
-    }
-    return true;
 }
 
 // Reads the digits of a room; the text after them, or null when they are not as they should be.

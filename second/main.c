@@ -5,6 +5,8 @@
 #include "formula_call.h"
 #include "formula_texts.h"
 #include "generate.h"
+#include "suite_spell.h"
+#include "suite_text.h"
 
 #include <inttypes.h>
 #include <string.h>
@@ -17,12 +19,15 @@ static int usage(void) {
           "       second explain\n"
           "       second told\n"
           "       second causes\n"
+          "       second suite [FILE]\n"
+          "       second suites\n"
           "       second known\n"
           "       second check SEED COUNT\n"
           "       second generate SEED COUNT\n"
           "       second texts SEED COUNT\n"
           "       second broken SEED COUNT\n"
-          "       second vectors SEED COUNT calls|fits|reading|faults|joins|formula "
+          "       second suite_texts SEED COUNT\n"
+          "       second vectors SEED COUNT calls|fits|reading|faults|joins|formula|suites "
           "[COUNT KIND ..]\n",
           stderr);
     return 2;
@@ -49,12 +54,13 @@ static int run_checks(uint64_t seed, uint64_t count) {
     int failures = run_check(seed, count);
     failures += run_check_formulas(seed, count);
     failures += run_check_causes(seed, count);
+    failures += run_check_suites(seed, count / 20);
     return failures > 0;
 }
 
 static int run_all_known(void) {
     int failures = run_known() + run_known_formulas() + run_short_texts();
-    failures += run_known_causes() + run_short_words();
+    failures += run_known_causes() + run_short_words() + run_known_suites();
     return failures > 0;
 }
 
@@ -67,7 +73,7 @@ typedef struct {
 static const PlainWay plain_ways[] = {
     {"batch", run_batch},     {"formula", run_formula}, {"formulas", run_formulas},
     {"explain", run_explain}, {"told", run_told},       {"causes", run_causes},
-    {"known", run_all_known},
+    {"suite", run_suite},     {"suites", run_suites},   {"known", run_all_known},
 };
 
 typedef struct {
@@ -77,10 +83,8 @@ typedef struct {
 
 // The ways with a seed and a count alone.
 static const SeededWay seeded_ways[] = {
-    {"check", run_checks},
-    {"generate", run_generate},
-    {"texts", run_texts},
-    {"broken", run_broken},
+    {"check", run_checks},  {"generate", run_generate},       {"texts", run_texts},
+    {"broken", run_broken}, {"suite_texts", run_suite_texts},
 };
 
 static int run_plain(const char *name) {
@@ -109,6 +113,9 @@ int main(int argument_count, char **arguments) {
     }
     if (argument_count == 2) {
         return run_plain(arguments[1]);
+    }
+    if (argument_count == 3 && strcmp(arguments[1], "suite") == 0) {
+        return run_suite_file(arguments[2]);
     }
     if (argument_count < 4 || !number_of(arguments[2], &seed) || !number_of(arguments[3], &count)) {
         return usage();

@@ -6,6 +6,8 @@
 #include "faults.h"
 #include "formula_texts.h"
 #include "shapes.h"
+#include "stored.h"
+#include "suite_vectors.h"
 
 #include <string.h>
 
@@ -16,23 +18,6 @@ enum { LONGEST_USUAL = 2000 };
 
 // What a vector is of.
 enum { STORED_UNIFY, STORED_FIT, STORED_JOIN };
-
-static void put_word(uint32_t word) {
-    for (int shift = 0; shift < 32; shift += 8) {
-        putchar((int)(word >> shift & 0xFF));
-    }
-}
-
-static void put_words(const Words *words) {
-    for (size_t index = 0; index < words->count; index++) {
-        put_word(words->at[index]);
-    }
-}
-
-static void put_counted(const Words *words) {
-    put_word((uint32_t)words->count);
-    put_words(words);
-}
 
 // What it is of, mode, room, work, number, length, readings, both inputs, and the words of a result.
 static void put_call(uint32_t stored, const Call *call) {
@@ -195,6 +180,7 @@ bool put_vectors(uint64_t seed, uint64_t count, const char *kind) {
                             : strcmp(kind, "faults") == 0  ? put_random_fault
                             : strcmp(kind, "joins") == 0   ? put_random_join
                             : strcmp(kind, "formula") == 0 ? put_random_formula
+                            : strcmp(kind, "suites") == 0  ? put_random_suite
                                                            : NULL;
     if (put == NULL) {
         return false;

@@ -24,7 +24,7 @@ pub fn put(dst: &mut [u8], at: usize, byte: u8) -> Written
 }
 
 // Writes a run of bytes.
-pub(crate) fn put_run(dst: &mut [u8], at: usize, run: &[u8]) -> Written
+pub fn put_run(dst: &mut [u8], at: usize, run: &[u8]) -> Written
     ensures { λ r. ⌜ Appends (now (run .entry)) (now (dst .entry)) at (now (dst .exit)) r ⌝ }
 {
     let mut end = at;
@@ -106,12 +106,12 @@ fn put_after_space(dst: &mut [u8], at: usize, word: u32) -> Written
     put_decimal(dst, next, wide(word))
 }
 
-// Writes the words but the first, each after a space.
-fn put_others(dst: &mut [u8], at: usize, words: &[u32]) -> Written
-    ensures { λ r. ⌜ Appends (after-spaces (drop 1 (now (words .entry)))) (now (dst .entry)) at (now (dst .exit)) r ⌝ }
+// Writes the words from the one at `from` on, each after a space.
+pub fn put_after_spaces(dst: &mut [u8], at: usize, words: &[u32], from: usize) -> Written
+    ensures { λ r. ⌜ Appends (after-spaces (drop from (now (words .entry)))) (now (dst .entry)) at (now (dst .exit)) r ⌝ }
 {
     let mut end = at;
-    let mut i: usize = 1;
+    let mut i = from;
     while i < words.len() {
         let word = words[i];
         let step = put_after_space(dst, end, word);
@@ -138,7 +138,7 @@ fn put_words(dst: &mut [u8], at: usize, words: &[u32]) -> Written
         let Written::Bytes(next) = front else {
             return Written::NoRoom;
         };
-        return put_others(dst, next, words);
+        return put_after_spaces(dst, next, words, 1);
     }
     Written::Bytes(at)
 }

@@ -4,6 +4,7 @@ ghost use Rattle.theory.specs.FitTest.{FitGiven};
 ghost use Rattle.theory.specs.Outcome.{Outcome};
 ghost use Rattle.malformed.specs.Malformed.{Reported};
 ghost use Rattle.translate.specs.Answered.{Answered};
+ghost use Rattle.suite.specs.Suite.{Suited};
 
 // Unifies two descriptions. Answers document 01's number; length and readings go to `told`.
 #[no_mangle]
@@ -77,4 +78,31 @@ pub extern "C" fn bublastyr_formula(text: &[u8], result: &mut [u32], told: &mut 
     let row = translate::answer::told(answer);
     *told = [row.length as u32, row.byte as u32];
     row.number
+}
+
+// Runs a suite: a table of tests over one area of words. Answers 0, 30, 31 or 32; counts, record and areas tell how the night went.
+#[no_mangle]
+pub extern "C" fn bublastyr_suite(
+    tests: &[suite::test::Test],
+    words: &[u32],
+    result: &mut [u32],
+    working: &mut [u32],
+    running: &mut suite::running::Running,
+    counts: &mut [[u32; 9]; 3],
+) -> u32
+    ensures { λ r. ⌜ Suited (now (words .entry)) (now (tests .entry))
+        (record {
+          counts = now (counts .entry);
+          running = now (running .entry);
+          result = now (result .entry);
+          working = now (working .entry);
+        }) r
+        (record {
+          counts = now (counts .exit);
+          running = now (running .exit);
+          result = now (result .exit);
+          working = now (working .exit);
+        }) ⌝ }
+{
+    suite::suite(tests, words, result, working, running, counts)
 }

@@ -72,7 +72,7 @@ module _ (text : List ℕ) (at : ℕ) where
 
 -- ---- positions
 -- a number and what is left after it: the end of the text
-abbrev Ends : List ℕ → Start → Type 0
+abbrev pub Ends : List ℕ → Start → Type 0
 Ends cs (is v rest) = (front : List ℕ) × (cs ≡ front ++ rest)
 Ends cs over = Unit {0}
 Ends cs bad = Unit {0}
@@ -96,7 +96,7 @@ more-ends v (c ∷ cs) = let w : ℕ = v * 10 + (c - 48) in go (digit c) (ltb la
     go false l true e = ([], refl)
     go false l false e = tt
 
-token-ends : (cs : List ℕ) → Ends cs (token cs)
+pub token-ends : (cs : List ℕ) → Ends cs (token cs)
 unfolding token
 token-ends [] = tt
 token-ends (c ∷ cs) = go (space-or-newline c) (digit c) (token-ends cs)

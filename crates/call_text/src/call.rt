@@ -49,7 +49,7 @@ fn wide(x: u32) -> usize
 }
 
 // Finds a word count at p, and so many words after it.
-fn find_counted(text: &[u8], p: usize) -> Words
+pub fn find_counted(text: &[u8], p: usize) -> Words
     ensures { λ r. ⌜ FindsRun (now (text .entry)) (counted (drop p (now (text .entry)))) r ⌝ }
 {
     let number = read_token(text, p);
@@ -64,7 +64,7 @@ fn find_counted(text: &[u8], p: usize) -> Words
 }
 
 // Reads `count` words from p on, which stand there, to the start of dst.
-fn read_words(text: &[u8], p: usize, count: usize, dst: &mut [u32])
+pub fn read_words(text: &[u8], p: usize, count: usize, dst: &mut [u32])
     requires { ⌜ count ≤ length (now dst) ⌝ }
     ensures { λ _. ⌜ Puts (words-in count (drop p (now (text .entry)))) (now (dst .entry)) (now (dst .exit)) ⌝ }
 {
@@ -95,7 +95,7 @@ pub enum Counts {
 }
 
 // Whether no number stands from p on.
-fn is_over(text: &[u8], p: usize) -> bool
+pub fn is_over(text: &[u8], p: usize) -> bool
     ensures { λ r. ⌜ r ≡ done (drop p (now (text .entry))) ⌝ }
 {
     let last = read_token(text, p);

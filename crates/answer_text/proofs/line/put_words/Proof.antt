@@ -43,8 +43,8 @@ returns c =
     ∙ spaced-some ws (c .before .before .before .before .before .before .before .before .if1 .taken))
     (first-stops front others (a .dst .now) (p .last .0) (a .at) (p .result) (p .ensures) gone)
 
-put-others-requires : tie.Need-put-others-requires
-put-others-requires c κs = search needs
+put-after-spaces-requires : tie.Need-put-after-spaces-requires
+put-after-spaces-requires c κs = search needs
 
 same-length-2 : tie.Need-same-length-2
 same-length-2 c = search needs
@@ -55,7 +55,7 @@ returns-2 c =
     .before .args in
     let p = c .before .before .before .before .before .before .before .before .before .put-decimal in
     let w = c .before .before .before .before .before .before .before .before .before .before .wide in
-    let q = c .before .before .put-others in
+    let q = c .before .before .put-after-spaces in
     let m = c .before .before .before .before .before .front .given in
     let ws = a .words .now in
     let front : List ℕ = decimal (w .result) in
@@ -74,5 +74,5 @@ returns-3 c =
 pub put-words-spec : {M : Type 1} → statement M
 put-words-spec =
     tie.close
-    (tie.spec shared-slice-read-word wide-requires put-decimal-requires enum-known-front enum-told same-length returns put-others-requires
+    (tie.spec shared-slice-read-word wide-requires put-decimal-requires enum-known-front enum-told same-length returns put-after-spaces-requires
     same-length-2 returns-2 returns-3)

@@ -1,4 +1,4 @@
--- `answer_text::line::put_others` meets its contract: what is left of the words goes on as the whole does.
+-- `answer_text::line::put_after_spaces` meets its contract: what is left of the words goes on as the whole does.
 -- Assumes nothing.
 use borrow.Author.Needs.{needs}
 use Prim.Native.Nat.{_+_, _-_}
@@ -10,19 +10,19 @@ use Rattle.answer_text.specs.Answer.{decimal, after-spaces}
 use Rattle.answer_text.specs.declared.line.Written.the-variants.{NoRoom}
 use Rattle.answer_text.proofs.Goings.{Turned, turns-begin, turns-end, turns-go, turns-stop}
 use Rattle.answer_text.proofs.Answers.{spaces-next, spaces-end}
-use Rattle.answer_text.proofs.line.put_others.Statement.{statement}
-use Rattle.answer_text.proofs.line.put_others.Tie as tie
+use Rattle.answer_text.proofs.line.put_after_spaces.Statement.{statement}
+use Rattle.answer_text.proofs.line.put_after_spaces.Tie as tie
 
 abbrev Inv-loop : tie.InvT-loop
-Inv-loop dst₀ at words end₀ i₀ dst end i = Turned dst₀ at (after-spaces (drop 1 words)) dst end (after-spaces (drop i words))
+Inv-loop dst₀ at words from end₀ i₀ dst end i = Turned dst₀ at (after-spaces (drop from words)) dst end (after-spaces (drop i words))
     × (length dst ≡ length dst₀)
 
 abbrev μ-loop : tie.MeasureT-loop
-μ-loop dst₀ at words end₀ i₀ dst end i = length words - i
+μ-loop dst₀ at words from end₀ i₀ dst end i = length words - i
 
 loop-holds : tie.Need-loop-holds Inv-loop μ-loop
 loop-holds c = let a = c .before .before .args in
-    (turns-begin (a .dst .now) (a .at) (after-spaces (drop 1 (a .words .now))) (after-spaces (drop 1 (a .words .now))) refl, refl)
+    (turns-begin (a .dst .now) (a .at) (after-spaces (drop (a .from) (a .words .now))) (after-spaces (drop (a .from) (a .words .now))) refl, refl)
 
 mul-word : tie.Need-mul-word Inv-loop μ-loop
 mul-word c = omega arith
@@ -50,7 +50,7 @@ returns c =
     let p = c .before .before .before .before .put-after-space in
     let ws = a .words .now in
     let gone : NoRoom ≡ p .result = cc in
-    turns-stop (a .dst .now) (a .at) (after-spaces (drop 1 ws)) (l .dst) (l .end) (after-spaces (drop (l .i) ws)) (l .inv .0)
+    turns-stop (a .dst .now) (a .at) (after-spaces (drop (a .from) ws)) (l .dst) (l .end) (after-spaces (drop (l .i) ws)) (l .inv .0)
     (32 ∷ decimal (getD ws (l .i) 0)) (after-spaces (drop (l .i + 1) ws)) (p .last .0) (p .result)
     (spaces-next ws (l .i) (c .before .before .before .before .before .before .before .loop-test .taken)) (p .ensures) gone
 
@@ -66,7 +66,7 @@ loop-again c =
     let l = c .before .before .before .before .before .before .before .before .before .loop in
     let p = c .before .before .before .before .before .put-after-space in
     let ws = a .words .now in (
-      turns-go (a .dst .now) (a .at) (after-spaces (drop 1 ws)) (l .dst) (l .end) (after-spaces (drop (l .i) ws)) (l .inv .0)
+      turns-go (a .dst .now) (a .at) (after-spaces (drop (a .from) ws)) (l .dst) (l .end) (after-spaces (drop (l .i) ws)) (l .inv .0)
           (32 ∷ decimal (getD ws (l .i) 0)) (after-spaces (drop (l .i + 1) ws)) (p .last .0) (p .result)
           (spaces-next ws (l .i) (c .before .before .before .before .before .before .before .before .loop-test .taken)) (p .ensures)
           (c .before .step .given .0 .0) (c .before .step .given .1),
@@ -81,11 +81,11 @@ returns-2 c =
     let a = c .before .before .before .before .args in
     let l = c .before .loop in
     let ws = a .words .now in
-    turns-end (a .dst .now) (a .at) (after-spaces (drop 1 ws)) (l .dst) (l .end) (after-spaces (drop (l .i) ws)) (l .inv .0)
+    turns-end (a .dst .now) (a .at) (after-spaces (drop (a .from) ws)) (l .dst) (l .end) (after-spaces (drop (l .i) ws)) (l .inv .0)
     (spaces-end ws (l .i) (omega arith))
 
-pub put-others-spec : {M : Type 1} → statement M
-put-others-spec =
+pub put-after-spaces-spec : {M : Type 1} → statement M
+put-after-spaces-spec =
     tie.close
     (tie.spec Inv-loop μ-loop loop-holds mul-word shared-slice-read-word put-after-space-requires enum-known-step enum-told same-length
     returns add-i loop-less loop-again same-length-2 returns-2)

@@ -1,0 +1,2 @@
+-- `Lines` says what is said and counted of a test.
+pub mod Lines

@@ -1,0 +1,47 @@
+-- What comes of a test: its words are read, and its call is made. Assumes nothing.
+use mathlib.Core.Path.{_≡_, ap, sym, _∙_}
+use mathlib.Core.List.{List, _++_}
+use Prim.Native.Nat.{ℕ}
+use native.Mathlib.Omega.{arith}
+use lib.ListN.{length, take, drop}
+use lib.Seq.{take-append-seam}
+use Rattle.theory.specs.Limits.{working-size}
+use Rattle.theory.specs.Answer.{Answer, Call}
+use Rattle.theory.specs.Unified.{unified}
+use Rattle.theory.specs.Outcome.{Areas, Outcome, Row}
+use Rattle.theory.proofs.Table.{outcome-answer}
+use Rattle.reply.specs.Printed.{result-size}
+use Rattle.call_text.specs.Call.{words-in}
+use Rattle.call_text.specs.Finding.{Puts}
+use Rattle.call_text.proofs.Runs.{words-length}
+use Rattle.suite_reading.specs.Finding.{WordsStand}
+use Rattle.suite_text.specs.Report.{call-answer, TestAnswers}
+
+-- the words stand at the start of the area that they were read into
+pub words-read : (text : List ℕ) (at count : ℕ) (words dst dst′ : List ℕ) → WordsStand text at count words →
+    Puts (words-in count (drop at text)) dst dst′ → take count dst′ ≡ words
+words-read text at count words dst dst′ s puts =
+    let put : dst′ ≡ words ++ drop (length words) dst = puts (words, s .left) (s .stand) in
+    let long : length words ≡ count = words-length count (drop at text) (words, s .left) (s .stand) in
+    rw (put, sym long) (take-append-seam words (drop (length words) dst))
+
+-- the answer of a call in areas of these sizes
+pub call-answered : (c : Call) (before after : Areas) (o : Row) → length (before .result) ≡ result-size →
+    length (before .working) ≡ working-size → Outcome c before o after →
+    (o .number ≡ unified c result-size working-size .number) × (o .readings ≡ unified c result-size working-size .readings)
+call-answered c before after o rooms works p =
+    let y : unified c (length (before .result)) (length (before .working)) ≡ p .answer = outcome-answer c before o after p in
+    let z : p .answer ≡ unified c result-size working-size = rw (rooms, works) at (sym y) in
+    (p .the-number ∙ ap (λ (v : Answer). v .number) z, p .the-readings ∙ ap (λ (v : Answer). v .readings) z)
+
+-- and so it is of the words that stand in the text
+module _ (text : List ℕ) (mode at count begin other : ℕ) (first second first′ second′ : List ℕ)
+    (one : Puts (words-in count (drop at text)) first first′) (two : Puts (words-in other (drop begin text)) second second′)
+    (before after : Areas) (o : Row) (rooms : length (before .result) ≡ result-size) (works : length (before .working) ≡ working-size)
+    (p : Outcome (record { mode = mode; first = take count first′; second = take other second′ }) before o after) where
+  pub test-answered : TestAnswers text mode at count begin other (o .number) (o .readings)
+  unfolding call-answer
+  test-answered ws vs s t =
+      let a : take count first′ ≡ ws = words-read text at count ws first first′ s one in
+      let b : take other second′ ≡ vs = words-read text begin other vs second second′ t two in
+      rw (a, b) at (call-answered _ before after o rooms works p)

@@ -1,0 +1,2 @@
+-- `Report` says what is printed for the text of a suite.
+pub mod Report
