@@ -49,8 +49,10 @@ module _ (m k : ℕ) (mode-low : m < 3) (low : k < 9) where
     where
       n : ℕ
       n = came-of t .number
+
       v : ℕ
       v = getD table (9 * t .mode + n) 0 + 1
+
       go : (a : Bool) → eqb (t .mode) m ≡ a → (b : Bool) → eqb n k ≡ b →
           getD (set table (9 * t .mode + n) v) (9 * m + k) 0 ≡ getD table (9 * m + k) 0 + one-if (a && b)
       go true ea true eb =
