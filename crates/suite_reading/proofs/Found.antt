@@ -23,6 +23,7 @@ use Rattle.suite.proofs.Runs.{found-none, found-more}
 use Rattle.suite_reading.specs.Tests.{TypedTest, number-then, words-then, descriptions-then, leading-test, followed, tests-in}
 use Rattle.suite_reading.specs.Tests.{expected-test, expected-in, all-expected}
 use Rattle.suite_reading.specs.Finding.{TestPlaces, FindsTest, there, nowhere, Judges, fine, bad}
+use Rattle.suite_reading.specs.declared.tests.Place.{Place}
 use Rattle.suite_reading.specs.declared.tests.Found.{Found}
 use Rattle.suite_reading.specs.declared.tests.Found.the-variants as found
 use Rattle.suite_reading.specs.declared.tests.Judgement.{Judgement}
@@ -84,11 +85,27 @@ module _ (text : List ℕ) (named m n k : ℕ) (cs : List ℕ) where
       after : (ys : List ℕ) × (some (ys, drop z text) ≡ rest)
       after = calls.there text rest z (two .2)
 
-      pub finds-both : FindsTest text whole (found.Test m n k named s a u b z)
+      abbrev place : Place
+      place = record {
+        mode = m;
+        number = n;
+        readings = k;
+        named = named;
+        first = s;
+        firsts = a;
+        second = u;
+        seconds = b;
+        next = z;
+      }
+
+      pub finds-both : FindsTest text whole (found.Test place)
       finds-both =
           let t : TypedTest = both (ahead .0, drop q text) (after .0, drop z text) in
-          subst (λ (o : Option TypedTest). FindsTest text o (found.Test m n k named s a u b z)) (ap (words-then last) (after .1) ∙ onward)
-          (there t named s a u b z (record {
+          subst (λ (o : Option TypedTest). FindsTest text o (found.Test place)) (ap (words-then last) (after .1) ∙ onward)
+          (there t place (record {
+            mode = refl;
+            number = refl;
+            readings = refl;
             after-mode = refl;
             the-first = record { few = one .0; left = drop q text; stand = one .1 ∙ sym (ahead .1) };
             the-second = record { few = two .0; left = drop z text; stand = two .1 ∙ sym (after .1) };
@@ -141,46 +158,21 @@ module _ (text cs : List ℕ) where
 -- ---- what a find says
 module _ (text : List ℕ) where
   pub found-none-there : (o : Option TypedTest) (f : Found) → FindsTest text o f → f ≡ found.Wrong → none ≡ o
-  found-none-there o f (there t named a b u v next places) e = let z : _≡_ {A = ℕ} 0 1 = cc in absurd (omega arith)
+  found-none-there o f (there t p places) e = let z : _≡_ {A = ℕ} 0 1 = cc in absurd (omega arith)
   found-none-there o f nowhere e = refl
 
-  pub found-test : (o : Option TypedTest) (f : Found) → FindsTest text o f → (m n k named a b u v next : ℕ)
-      → f ≡ found.Test m n k named a b u v next
-      → (t : TypedTest) × (some t ≡ o) × (expected-test m n k ≡ expected-in t) × (drop next text ≡ t .after)
-  found-test o f (there t named′ a′ b′ u′ v′ next′ places) m n k named a b u v next e =
-      let em : m ≡ t .mode = cc in
-      let en : n ≡ t .number = cc in
-      let ek : k ≡ t .readings = cc in
-      let eq : next ≡ next′ = cc in (
-        t,
-        refl,
-        λ j. expected-test (em j) (en j) (ek j),
-        ap (λ (q : ℕ). drop q text) eq ∙ sym (places .after),
-      )
-  found-test o f nowhere m n k named a b u v next e = let z : _≡_ {A = ℕ} 0 1 = cc in absurd (omega arith)
+  -- a test that was found, and where its parts stand
+  pub found-test : (o : Option TypedTest) (f : Found) → FindsTest text o f → (p : Place) → f ≡ found.Test p →
+      (t : TypedTest) × (some t ≡ o) × TestPlaces text t p
+  found-test o f (there t p′ places) p e = let same : p′ ≡ p = cc in (t, refl, subst (TestPlaces text t) same places)
+  found-test o f nowhere p e = let z : _≡_ {A = ℕ} 0 1 = cc in absurd (omega arith)
 
-  -- and where its parts stand
-  pub found-places : (o : Option TypedTest) (f : Found) → FindsTest text o f → (m n k named a b u v next : ℕ)
-      → f ≡ found.Test m n k named a b u v next → (t : TypedTest) → o ≡ some t
-      → (m ≡ t .mode) × ((n ≡ t .number) × ((k ≡ t .readings) × TestPlaces text t named a b u v next))
-  found-places o f (there t′ named′ a′ b′ u′ v′ next′ places) m n k named a b u v next e t here =
-      let same : t′ ≡ t = Option·some-injective t′ t here in
-      let em : m ≡ t′ .mode = cc in
-      let en : n ≡ t′ .number = cc in
-      let ek : k ≡ t′ .readings = cc in
-      let e1 : named′ ≡ named = cc in
-      let e2 : a′ ≡ a = cc in
-      let e3 : b′ ≡ b = cc in
-      let e4 : u′ ≡ u = cc in
-      let e5 : v′ ≡ v = cc in
-      let e6 : next′ ≡ next = cc in (
-        em ∙ ap (λ (x : TypedTest). x .mode) same,
-        (
-          en ∙ ap (λ (x : TypedTest). x .number) same,
-          (ek ∙ ap (λ (x : TypedTest). x .readings) same, rw (e1, e2, e3, e4, e5, e6, same) at places),
-        ),
-      )
-  found-places o f nowhere m n k named a b u v next e t here = let z : _≡_ {A = ℕ} 0 1 = cc in absurd (omega arith)
+  -- the same of a test that is known to stand there
+  pub found-places : (o : Option TypedTest) (f : Found) → FindsTest text o f → (p : Place) → f ≡ found.Test p →
+      (t : TypedTest) → o ≡ some t → TestPlaces text t p
+  found-places o f finds p e t here =
+      let (t′, same, places) = found-test o f finds p e in
+      subst (λ (x : TypedTest). TestPlaces text x p) (Option·some-injective t′ t (same ∙ here)) places
 
 -- ---- judging tests: those that are left, after the refusal so far, are judged as all are
 -- the refusal after these tests where this one stood before them
@@ -245,14 +237,15 @@ module _ (text : List ℕ) (whole : Judgement) (refusal at left : ℕ) (g : judg
     pub judged-stops : f ≡ found.Wrong → BadInput ≡ whole
     judged-stops e = one-more none (found-none-there text (leading-test (drop at text)) f find e)
 
-    pub judged-goes : (m n k named a b u v next : ℕ) → f ≡ found.Test m n k named a b u v next
-        → (test : Test) → test ≡ expected-test m n k → (r : ℕ) → r ≡ fault-after refusal 0 test
-        → judgement r (tests-in (left - 1) (drop next text)) ≡ whole
-    judged-goes m n k named a b u v next e test te r re =
-        let (t, same, expected, after) = found-test text (leading-test (drop at text)) f find m n k named a b u v next e in
+    pub judged-goes : (p : Place) → f ≡ found.Test p → (test : Test) → test ≡ expected-test (p .mode) (p .number) (p .readings) →
+        (r : ℕ) → r ≡ fault-after refusal 0 test → judgement r (tests-in (left - 1) (drop (p .next) text)) ≡ whole
+    judged-goes p e test te r re =
+        let (t, same, places) = found-test text (leading-test (drop at text)) f find p e in
+        let expected : expected-test (p .mode) (p .number) (p .readings) ≡ expected-in t =
+        (λ j. expected-test (places .mode j) (places .number j) (places .readings j)) in
         let fault : r ≡ fault-after refusal 0 (expected-in t) = re ∙ ap (fault-after refusal 0) (te ∙ expected) in
         let rest : Option (List TypedTest) = tests-in (left - 1) (t .after) in
-        ap (λ (l : List ℕ). judgement r (tests-in (left - 1) l)) after
+        ap (λ (l : List ℕ). judgement r (tests-in (left - 1) l)) (sym (places .after))
         ∙ ap (λ (x : ℕ). judgement x rest) fault
         ∙ judgement-followed refusal t rest
         ∙ one-more (some t) same

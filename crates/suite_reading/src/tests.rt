@@ -12,19 +12,23 @@ ghost use lib.ListN.{drop};
 ghost use Rattle.suite_reading.specs.Tests.{descriptions-then, leading-test, tests-in, expected-test};
 ghost use Rattle.suite_reading.specs.Finding.{FindsTest, Judges};
 
-// A test: what is expected, where the text goes on after its mode, where its words stand, and where the text goes on after it. Or none.
+// A test in a text: what is expected, where the text goes on after its mode, where the words of both descriptions stand and how many
+// there are, and where the text goes on after it.
+pub struct Place {
+    pub mode: u32,
+    pub number: u32,
+    pub readings: u32,
+    pub named: usize,
+    pub first: usize,
+    pub firsts: usize,
+    pub second: usize,
+    pub seconds: usize,
+    pub next: usize,
+}
+
+// A test was found; or there is none.
 pub enum Found {
-    Test {
-        mode: u32,
-        number: u32,
-        readings: u32,
-        named: usize,
-        first: usize,
-        firsts: usize,
-        second: usize,
-        seconds: usize,
-        next: usize,
-    },
+    Test(Place),
     Wrong,
 }
 
@@ -53,17 +57,17 @@ fn find_descriptions(
     else {
         return Found::Wrong;
     };
-    Found::Test {
-        mode,
-        number,
-        readings,
-        named,
+    Found::Test(Place {
+        mode: mode,
+        number: number,
+        readings: readings,
+        named: named,
         first: start,
         firsts: count,
         second: begin,
         seconds: other,
         next: after,
-    }
+    })
 }
 
 // The test that begins at p.
@@ -98,13 +102,13 @@ pub fn find_test(text: &[u8], p: usize) -> Found
 }
 
 // What is expected of a test; no word area is lent, and no place in it is named.
-pub fn expected(mode: u32, number: u32, readings: u32) -> Test
-    ensures { λ r. ⌜ r ≡ expected-test mode number readings ⌝ }
+pub fn expected(place: Place) -> Test
+    ensures { λ r. ⌜ r ≡ expected-test (place .mode) (place .number) (place .readings) ⌝ }
 {
     Test {
-        mode: mode,
-        number: number,
-        readings: readings,
+        mode: place.mode,
+        number: place.number,
+        readings: place.readings,
         first: 0,
         firsts: 0,
         second: 0,
@@ -133,22 +137,11 @@ pub fn judge_tests(text: &[u8], p: usize, n: u32) -> Judgement
     let mut left = n;
     while 0 < left {
         let found = find_test(text, at);
-        let Found::Test {
-            mode,
-            number,
-            readings,
-            named: _,
-            first: _,
-            firsts: _,
-            second: _,
-            seconds: _,
-            next,
-        } = found
-        else {
+        let Found::Test(place) = found else {
             return Judgement::BadInput;
         };
-        refusal = judged(refusal, expected(mode, number, readings), 0);
-        at = next;
+        refusal = judged(refusal, expected(place), 0);
+        at = place.next;
         left -= 1;
     }
     if is_over(text, at) {

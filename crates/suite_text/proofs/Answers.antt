@@ -14,6 +14,7 @@ use Rattle.reply.specs.Printed.{result-size}
 use Rattle.call_text.specs.Call.{words-in}
 use Rattle.call_text.specs.Finding.{Puts}
 use Rattle.call_text.proofs.Runs.{words-length}
+use Rattle.suite_reading.specs.declared.tests.Place.{Place}
 use Rattle.suite_reading.specs.Finding.{WordsStand}
 use Rattle.suite_text.specs.Report.{call-answer, TestAnswers}
 
@@ -35,13 +36,14 @@ call-answered c before after o rooms works p =
     (p .the-number ∙ ap (λ (v : Answer). v .number) z, p .the-readings ∙ ap (λ (v : Answer). v .readings) z)
 
 -- and so it is of the words that stand in the text
-module _ (text : List ℕ) (mode at count begin other : ℕ) (first second first′ second′ : List ℕ)
-    (one : Puts (words-in count (drop at text)) first first′) (two : Puts (words-in other (drop begin text)) second second′)
-    (before after : Areas) (o : Row) (rooms : length (before .result) ≡ result-size) (works : length (before .working) ≡ working-size)
-    (p : Outcome (record { mode = mode; first = take count first′; second = take other second′ }) before o after) where
-  pub test-answered : TestAnswers text mode at count begin other (o .number) (o .readings)
+module _ (text : List ℕ) (p : Place) (first second first′ second′ : List ℕ)
+    (one : Puts (words-in (p .firsts) (drop (p .first) text)) first first′)
+    (two : Puts (words-in (p .seconds) (drop (p .second) text)) second second′) (before after : Areas) (o : Row)
+    (rooms : length (before .result) ≡ result-size) (works : length (before .working) ≡ working-size)
+    (out : Outcome (record { mode = p .mode; first = take (p .firsts) first′; second = take (p .seconds) second′ }) before o after) where
+  pub test-answered : TestAnswers text p (o .number) (o .readings)
   unfolding call-answer
   test-answered ws vs s t =
-      let a : take count first′ ≡ ws = words-read text at count ws first first′ s one in
-      let b : take other second′ ≡ vs = words-read text begin other vs second second′ t two in
-      rw (a, b) at (call-answered _ before after o rooms works p)
+      let a : take (p .firsts) first′ ≡ ws = words-read text (p .first) (p .firsts) ws first first′ s one in
+      let b : take (p .seconds) second′ ≡ vs = words-read text (p .second) (p .seconds) vs second second′ t two in
+      rw (a, b) at (call-answered _ before after o rooms works out)

@@ -12,6 +12,7 @@ use Rattle.suite.proofs.Runs.{unified-small}
 use Rattle.suite_reading.specs.Text.{spaces-off, name-in}
 use Rattle.suite_reading.specs.Tests.{TypedTest, leading-test, expected-test, expected-in}
 use Rattle.suite_reading.specs.Finding.{TestPlaces, FindsTest}
+use Rattle.suite_reading.specs.declared.tests.Place.{Place}
 use Rattle.suite_reading.specs.declared.tests.Found.{Found}
 use Rattle.suite_reading.specs.declared.tests.Found.the-variants as found
 use Rattle.suite_lines.specs.declared.verdict.Verdict.{Verdict}
@@ -26,12 +27,9 @@ use Rattle.suite_text.proofs.Reporting.{Reporting, Going, reporting-nex
 
 -- the test that is left first, and where its parts were found
 pub record Step {text numbers : List ℕ} {n : ℕ} {whole out₀ out table : List ℕ} {totals : Totals} {at end i : ℕ}
-    (g : Reporting text numbers n whole out₀ out table totals at end i) (m k r named a b u v next : ℕ) : Type 0 where
+    (g : Reporting text numbers n whole out₀ out table totals at end i) (p : Place) : Type 0 where
   pub going : Going text numbers n whole out₀ out table totals at end i g
-  pub mode : m ≡ going .next .test .mode
-  pub number : k ≡ going .next .test .number
-  pub readings : r ≡ going .next .test .readings
-  pub places : TestPlaces numbers (going .next .test) named a b u v next
+  pub places : TestPlaces numbers (going .next .test) p
 
 module _ {text numbers : List ℕ} {n : ℕ} {whole out₀ out table : List ℕ} {totals : Totals} {at end i : ℕ}
     (g : Reporting text numbers n whole out₀ out table totals at end i) (more : i < n) (f : Found)
@@ -47,25 +45,25 @@ module _ {text numbers : List ℕ} {n : ℕ} {whole out₀ out table : List ℕ}
       let z : _≡_ {A = ℕ} 0 1 = cc in
       omega arith
 
-  pub stepping : {m k r named a b u v next : ℕ} → f ≡ found.Test m k r named a b u v next → Step g m k r named a b u v next
-  stepping {m} {k} {r} {named} {a} {b} {u} {v} {next} e =
-      let p = found-places numbers (leading-test (drop at numbers)) f finds m k r named a b u v next e (there .next .test)
-      (there .next .leads) in
-      record { going = there; mode = p .0; number = p .1 .0; readings = p .1 .1 .0; places = p .1 .1 .1 }
+  pub stepping : {p : Place} → f ≡ found.Test p → Step g p
+  stepping {p} e = record {
+    going = there;
+    places = found-places numbers (leading-test (drop at numbers)) f finds p e (there .next .test) (there .next .leads);
+  }
 
 module _ {text numbers : List ℕ} {n : ℕ} {whole out₀ out table : List ℕ} {totals : Totals} {at end i : ℕ}
-    {g : Reporting text numbers n whole out₀ out table totals at end i} {m k r named a b u v next : ℕ}
-    (s : Step g m k r named a b u v next) where
+    {g : Reporting text numbers n whole out₀ out table totals at end i} {p : Place}
+    (s : Step g p) where
   abbrev pub tested : TypedTest
   tested = s .going .next .test
 
   -- ---- what comes of it
-  module _ {number readings : ℕ} (h : TestAnswers numbers m a b u v number readings) where
+  module _ {number readings : ℕ} (h : TestAnswers numbers p number readings) where
     pub came : (number ≡ came-of tested .number) × (readings ≡ came-of tested .readings)
     came =
         let y = h (tested .first) (tested .second) (s .places .the-first) (s .places .the-second) in
         subst (λ (x : ℕ). (number ≡ call-answer x (tested .first) (tested .second) .number)
-        × (readings ≡ call-answer x (tested .first) (tested .second) .readings)) (s .mode) y
+        × (readings ≡ call-answer x (tested .first) (tested .second) .readings)) (s .places .mode) y
 
     pub came-small : number < 9
     unfolding call-answer
@@ -76,15 +74,15 @@ module _ {text numbers : List ℕ} {n : ℕ} {whole out₀ out table : List ℕ}
 
   -- ---- where its name stands
   module _ (same : length numbers ≡ length text) {from : ℕ} (low : from ≤ length numbers)
-      (here : (named ≤ length numbers → from ≡ named) × (length numbers < named → from ≡ length numbers)) {held : ℕ}
+      (here : (p .named ≤ length numbers → from ≡ p .named) × (length numbers < p .named → from ≡ length numbers)) {held : ℕ}
       (held-low : held ≤ length numbers)
-      (held-here : (next ≤ length numbers → held ≡ next) × (length numbers < next → held ≡ length numbers)) {to : ℕ}
+      (held-here : (p .next ≤ length numbers → held ≡ p .next) × (length numbers < p .next → held ≡ length numbers)) {to : ℕ}
       (spaces : ((held ≤ to) × (to ≤ length numbers)) × (drop to numbers ≡ spaces-off (drop held numbers))) where
     begins : drop from numbers ≡ tested .after-mode
-    begins = held-place numbers named from low (here .0) (here .1) ∙ sym (s .places .after-mode)
+    begins = held-place numbers (p .named) from low (here .0) (here .1) ∙ sym (s .places .after-mode)
 
     goes-on : drop held numbers ≡ tested .after
-    goes-on = held-place numbers next held held-low (held-here .0) (held-here .1) ∙ sym (s .places .after)
+    goes-on = held-place numbers (p .next) held held-low (held-here .0) (held-here .1) ∙ sym (s .places .after)
 
     shorter : length (tested .after) ≤ length (tested .after-mode)
     shorter = after-shorter (drop at numbers) tested (s .going .next .leads)
@@ -96,10 +94,10 @@ module _ {text numbers : List ℕ} {n : ℕ} {whole out₀ out table : List ℕ}
     name-run = run-is text numbers same tested from held to shorter low begins goes-on (spaces .0 .1) (spaces .1)
 
     -- ---- its line
-    module _ {test : Test} (expects : test ≡ expected-test m k r) {number readings : ℕ} (h : TestAnswers numbers m a b u v number readings)
+    module _ {test : Test} (expects : test ≡ expected-test (p .mode) (p .number) (p .readings)) {number readings : ℕ} (h : TestAnswers numbers p number readings)
         {what : Verdict} (says : what ≡ verdict-of test number readings) where
       test-is : test ≡ expected-in tested
-      test-is = expects ∙ (λ j. expected-test (s .mode j) (s .number j) (s .readings j))
+      test-is = expects ∙ (λ j. expected-test (s .places .mode j) (s .places .number j) (s .places .readings j))
 
       pub verdict-is : what ≡ test-verdict tested
       unfolding test-verdict
@@ -110,11 +108,11 @@ module _ {text numbers : List ℕ} {n : ℕ} {whole out₀ out table : List ℕ}
       line-is = rw (name-run, verdict-is, test-is, came h .0, came h .1) refl
 
   -- ---- what is counted
-  pub raised : {number readings : ℕ} → TestAnswers numbers m a b u v number readings → {table′ : List ℕ} →
-      table′ ≡ raised-cell table (cell-of m number) → raised-cell table (cell-of (tested .mode) (came-of tested .number)) ≡ table′
+  pub raised : {number readings : ℕ} → TestAnswers numbers p number readings → {table′ : List ℕ} →
+      table′ ≡ raised-cell table (cell-of (p .mode) number) → raised-cell table (cell-of (tested .mode) (came-of tested .number)) ≡ table′
   raised {number} h e =
-      ap (λ (x : ℕ). raised-cell table (cell-of x (came-of tested .number))) (sym (s .mode))
-      ∙ ap (λ (x : ℕ). raised-cell table (cell-of m x)) (sym (came h .0)) ∙ sym e
+      ap (λ (x : ℕ). raised-cell table (cell-of x (came-of tested .number))) (sym (s .places .mode))
+      ∙ ap (λ (x : ℕ). raised-cell table (cell-of (p .mode) x)) (sym (came h .0)) ∙ sym e
 
   pub summed : {what : Verdict} → what ≡ test-verdict tested → {totals′ : Totals} → totals′ ≡ totals-after what totals →
       totals-after (test-verdict tested) totals ≡ totals′

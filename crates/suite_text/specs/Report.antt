@@ -20,6 +20,7 @@ use Rattle.suite_lines.specs.declared.verdict.Totals.{Totals}
 use Rattle.suite_reading.specs.Text.{blanked, spaces-off, name-in}
 use Rattle.suite_lines.specs.Lines.{verdict-of, line-of, totals-after, no-totals, cell-of, no-table, raised-cell, summary}
 use Rattle.suite_reading.specs.Tests.{TypedTest, expected-in, all-expected, typed-suite}
+use Rattle.suite_reading.specs.declared.tests.Place.{Place}
 use Rattle.suite_reading.specs.Finding.{WordsStand}
 
 -- ---- a test
@@ -76,11 +77,11 @@ unfoldable pub suite-printed : List ℕ → List ℕ
 suite-printed text = elim (ltb suite-text-limit (length text)) [ true ↦ bad-text | false ↦ typed-printed text ]
 
 -- ---- on the way
--- number and readings are those of the call in this mode on the words that stand from these places on
-abbrev pub TestAnswers : (text : List ℕ) (mode at count begin other number readings : ℕ) → Type 0
-TestAnswers text mode at count begin other number readings =
-    (first second : List ℕ) → WordsStand text at count first → WordsStand text begin other second →
-    (number ≡ call-answer mode first second .number) × (readings ≡ call-answer mode first second .readings)
+-- number and readings are those of the call on the words that stand at these places
+abbrev pub TestAnswers : (text : List ℕ) (p : Place) (number readings : ℕ) → Type 0
+TestAnswers text p number readings =
+    (first second : List ℕ) → WordsStand text (p .first) (p .firsts) first → WordsStand text (p .second) (p .seconds) second →
+    (number ≡ call-answer (p .mode) first second .number) × (readings ≡ call-answer (p .mode) first second .readings)
 
 -- these are so many tests that may be run
 abbrev pub MayRun : ℕ → Option (List TypedTest) → Type 0

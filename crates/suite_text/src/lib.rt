@@ -18,6 +18,7 @@ use suite_lines::verdict::none;
 use suite_lines::verdict::verdict_of;
 use suite_reading::tests::Found;
 use suite_reading::tests::Judgement;
+use suite_reading::tests::Place;
 use suite_reading::tests::expected;
 use suite_reading::tests::find_test;
 use suite_reading::tests::judge_tests;
@@ -66,11 +67,7 @@ fn numbers_space() -> [u8; TEXT_LIMIT]
 // Runs a test whose words stand in the text from these places on.
 fn run_test(
     numbers: &[u8],
-    mode: u32,
-    at: usize,
-    count: usize,
-    begin: usize,
-    other: usize,
+    place: Place,
     first: &mut [u32],
     second: &mut [u32],
     result: &mut [u32],
@@ -78,12 +75,20 @@ fn run_test(
 ) -> Row
     requires { ⌜ (length (now first) ≡ result-size) × (length (now second) ≡ result-size) ⌝ }
     requires { ⌜ (length (now result) ≡ result-size) × (length (now working) ≡ working-size) ⌝ }
-    requires { ⌜ (count ≤ count-limit) × (other ≤ count-limit) ⌝ }
-    ensures { λ r. ⌜ TestAnswers (now (numbers .entry)) mode at count begin other (r .number) (r .readings) ⌝ }
+    requires { ⌜ (place .firsts ≤ count-limit) × (place .seconds ≤ count-limit) ⌝ }
+    ensures { λ r. ⌜ TestAnswers (now (numbers .entry)) place (r .number) (r .readings) ⌝ }
 {
-    read_words(numbers, at, count, first);
-    read_words(numbers, begin, other, second);
-    let answer = unify(mode, &first[..count], &second[..other], result, working);
+    let count = place.firsts;
+    let other = place.seconds;
+    read_words(numbers, place.first, count, first);
+    read_words(numbers, place.second, other, second);
+    let answer = unify(
+        place.mode,
+        &first[..count],
+        &second[..other],
+        result,
+        working,
+    );
     told(answer)
 }
 
@@ -123,44 +128,22 @@ fn run_tests(
     let mut i: usize = 0;
     while i < n {
         let found = find_test(numbers, at);
-        let Found::Test {
-            mode,
-            number,
-            readings,
-            named,
-            first: start,
-            firsts: count,
-            second: begin,
-            seconds: other,
-            next,
-        } = found
-        else {
+        let Found::Test(place) = found else {
             return Written::NoRoom;
         };
-        let seen = run_test(
-            numbers,
-            mode,
-            start,
-            count,
-            begin,
-            other,
-            first,
-            second,
-            result,
-            working,
-        );
-        let test = expected(mode, number, readings);
+        let seen = run_test(numbers, place, first, second, result, working);
+        let test = expected(place);
         let what = verdict_of(test, seen);
-        let from = at_most(named, numbers.len());
-        let to = after_spaces(numbers, at_most(next, numbers.len()));
+        let from = at_most(place.named, numbers.len());
+        let to = after_spaces(numbers, at_most(place.next, numbers.len()));
         let line = put_line(out, end, i, &text[from..to], what, test, seen);
         let Written::Bytes(after) = line else {
             return Written::NoRoom;
         };
-        raise(table, mode, seen.number);
+        raise(table, place.mode, seen.number);
         totals = added(totals, what);
         end = after;
-        at = next;
+        at = place.next;
         i += 1;
     }
     put_summary(out, end, &table[..], totals)

@@ -50,7 +50,7 @@ returns c =
     let start = one .before .before .before .before .before .before .before in
     let a = start .args in
     let told = c .told .ensures in
-    let answers = test-answered (a .numbers .now) (a .mode) (a .at) (a .count) (a .begin) (a .other) _ _ _ _ (one .read-words .ensures)
+    let answers = test-answered (a .numbers .now) (a .place) _ _ _ _ (one .read-words .ensures)
     (two .read-words2 .ensures) _ _ _ (start .pre .1 .0 .0) (start .pre .1 .0 .1) (call .unify .ensures .0) in
     rw (told .0, told .1 .1) answers
 

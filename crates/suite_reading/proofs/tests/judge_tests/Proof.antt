@@ -72,8 +72,7 @@ loop-again c =
     let v = c .before .before .before .found .given in
     let e = c .before .expected in
     judged-goes text _ (l .refusal) (l .at) (l .left) (l .inv) (finding .before .loop-test .taken) (f .result) (f .ensures)
-    (v .0 .0) (v .0 .1 .0) (v .0 .1 .1 .0) (v .0 .1 .1 .1 .0) (v .0 .1 .1 .1 .1 .0) (v .0 .1 .1 .1 .1 .1 .0)
-    (v .0 .1 .1 .1 .1 .1 .1 .0) (v .0 .1 .1 .1 .1 .1 .1 .1 .0) (v .0 .1 .1 .1 .1 .1 .1 .1 .1 .0) (v .1)
+    (v .0 .0) (v .1)
     (e .result) (e .ensures) (c .judged .result) (c .judged .ensures)
 
 is-over-requires : tie.Need-is-over-requires Inv-loop μ-loop
