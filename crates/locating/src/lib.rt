@@ -1,0 +1,1 @@
+// Where two graphs clash: definitions in specs/, theorems in proofs/. It has no code.
