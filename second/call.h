@@ -29,6 +29,9 @@ void words_print(const Words *words, FILE *to);
 // Reads digits parted by spaces and newlines, which may also stand at both ends.
 bool parse_numbers(const char *text, size_t length, Words *numbers);
 
+// Reads both inputs of a call alone, each a count and so many words; the call is freed in both cases.
+bool parse_inputs(const char *text, size_t length, Call *call);
+
 // Reads a call of `meet` from standard input; false for bad input. The call is freed in both cases.
 bool meet_read(Call *call);
 

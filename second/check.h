@@ -34,4 +34,13 @@ int run_known_suites(void);
 // Checks so many random suites, and as many texts of suites; 0 when all hold.
 int run_check_suites(uint64_t seed, uint64_t count);
 
+// Checks known nodes at which graphs clash; 0 when all hold.
+int run_known_nodes(void);
+
+// Checks the node of all pairs of small graphs; 0 when all hold.
+int run_small_pairs(void);
+
+// Checks the nodes of so many random pairs of graphs; 0 when all hold.
+int run_check_nodes(uint64_t seed, uint64_t count);
+
 #endif

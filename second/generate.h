@@ -14,8 +14,8 @@ Call random_fit(Random *random);
 // Prints so many calls in the batch format.
 int run_generate(uint64_t seed, uint64_t count);
 
-// Writes so many stored vectors of the kind `calls`, `fits`, `reading`, `faults`, `joins`, `formula`
-// or `suites`; false for another kind.
+// Writes so many stored vectors of the kind `calls`, `fits`, `reading`, `faults`, `joins`, `nodes`,
+// `formula` or `suites`; false for another kind.
 bool put_vectors(uint64_t seed, uint64_t count, const char *kind);
 
 // Writes what ends stored vectors.

@@ -1,6 +1,7 @@
 // The program `second`: chooses the way to run by its arguments.
 #include "call.h"
 #include "check.h"
+#include "clash_text.h"
 #include "explain.h"
 #include "formula_call.h"
 #include "formula_texts.h"
@@ -19,6 +20,7 @@ static int usage(void) {
           "       second explain\n"
           "       second told\n"
           "       second causes\n"
+          "       second nodes\n"
           "       second suite [FILE]\n"
           "       second suites\n"
           "       second known\n"
@@ -27,7 +29,7 @@ static int usage(void) {
           "       second texts SEED COUNT\n"
           "       second broken SEED COUNT\n"
           "       second suite_texts SEED COUNT\n"
-          "       second vectors SEED COUNT calls|fits|reading|faults|joins|formula|suites "
+          "       second vectors SEED COUNT calls|fits|reading|faults|joins|nodes|formula|suites "
           "[COUNT KIND ..]\n",
           stderr);
     return 2;
@@ -55,12 +57,14 @@ static int run_checks(uint64_t seed, uint64_t count) {
     failures += run_check_formulas(seed, count);
     failures += run_check_causes(seed, count);
     failures += run_check_suites(seed, count / 20);
+    failures += run_check_nodes(seed, count);
     return failures > 0;
 }
 
 static int run_all_known(void) {
     int failures = run_known() + run_known_formulas() + run_short_texts();
     failures += run_known_causes() + run_short_words() + run_known_suites();
+    failures += run_known_nodes() + run_small_pairs();
     return failures > 0;
 }
 
@@ -73,7 +77,8 @@ typedef struct {
 static const PlainWay plain_ways[] = {
     {"batch", run_batch},     {"formula", run_formula}, {"formulas", run_formulas},
     {"explain", run_explain}, {"told", run_told},       {"causes", run_causes},
-    {"suite", run_suite},     {"suites", run_suites},   {"known", run_all_known},
+    {"nodes", run_nodes},     {"suite", run_suite},     {"suites", run_suites},
+    {"known", run_all_known},
 };
 
 typedef struct {

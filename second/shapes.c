@@ -7,6 +7,11 @@
 
 enum { GOOD = 10, BAD = 11 };
 
+void pair_free(Pair *pair) {
+    description_free(&pair->first);
+    description_free(&pair->second);
+}
+
 Vocabulary random_vocabulary(Random *random) {
     Vocabulary vocabulary;
     vocabulary.first_feature = random_below(random, 3);
@@ -20,7 +25,7 @@ Vocabulary random_vocabulary(Random *random) {
     return vocabulary;
 }
 
-static void node_add(Node *node, uint32_t feature, uint32_t target) {
+void node_add(Node *node, uint32_t feature, uint32_t target) {
     node->arcs = resized(node->arcs, (size_t)node->arc_count + 1, sizeof(Arc));
     node->arcs[node->arc_count++] = (Arc){feature, target};
 }

@@ -26,6 +26,11 @@ typedef struct {
     Description second;
 } Pair;
 
+void pair_free(Pair *pair);
+
+// Adds an arc to a node; features are added by rising number.
+void node_add(Node *node, uint32_t feature, uint32_t target);
+
 Vocabulary random_vocabulary(Random *random);
 
 // A random canonical graph, with cycles and shared values.

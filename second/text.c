@@ -62,6 +62,14 @@ static bool take_inputs(const Words *numbers, size_t position, size_t largest, C
            take_counted(numbers, &position, largest, &call->second) && position == numbers->count;
 }
 
+bool parse_inputs(const char *text, size_t length, Call *call) {
+    Words numbers = {0};
+    *call = (Call){0};
+    bool good = parse_numbers(text, length, &numbers) && take_inputs(&numbers, 0, SIZE_MAX, call);
+    words_free(&numbers);
+    return good;
+}
+
 // A call of `meet`: mode and both inputs; the areas have fixed sizes.
 static bool parse_meet(const char *text, size_t length, Call *call) {
     Words numbers = {0};

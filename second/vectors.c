@@ -3,6 +3,8 @@
 
 #include "causes.h"
 #include "causes_words.h"
+#include "clash_node.h"
+#include "clash_shapes.h"
 #include "faults.h"
 #include "formula_texts.h"
 #include "shapes.h"
@@ -75,6 +77,26 @@ static void put_random_join(Random *random) {
     call.second = random_graph_words(random, vocabulary, most_nodes);
     put_call(STORED_JOIN, &call);
     call_free(&call);
+}
+
+// The words of a description.
+static void put_description(const Description *description) {
+    Words words = {0};
+    description_write(description, &words);
+    put_counted(&words);
+    words_free(&words);
+}
+
+// Two graphs without disjunctions, then 1 and the node at which they clash, or 0 and 0.
+static void put_random_node(Random *random) {
+    Pair pair = random_definite_pair(random);
+    uint32_t node;
+    bool clash = clash_node(&pair.first.graph, &pair.second.graph, &node);
+    put_description(&pair.first);
+    put_description(&pair.second);
+    put_word(clash);
+    put_word(node);
+    pair_free(&pair);
 }
 
 // The longest input, nested as deep as is allowed or one level deeper.
@@ -179,6 +201,7 @@ bool put_vectors(uint64_t seed, uint64_t count, const char *kind) {
                             : strcmp(kind, "reading") == 0 ? put_random_reading
                             : strcmp(kind, "faults") == 0  ? put_random_fault
                             : strcmp(kind, "joins") == 0   ? put_random_join
+                            : strcmp(kind, "nodes") == 0   ? put_random_node
                             : strcmp(kind, "formula") == 0 ? put_random_formula
                             : strcmp(kind, "suites") == 0  ? put_random_suite
                                                            : NULL;
