@@ -193,6 +193,7 @@ module _ (w a b t : List ℕ) (o : Opening w a b) (n : ℕ) (p : Paired (take 20
       len = u .len ∙ len₂;
       rest = λ j h. u .rest j (omega arith)
           ∙ rest₂ j h;
+      stands = λ d e r. (n, stand d e r w₃ (u .len) (u .rest));
       told = λ d e r. first-clashes d e r w₃ x u z;
     }
 
@@ -207,8 +208,22 @@ module _ (w a b t : List ℕ) (o : Opening w a b) (n : ℕ) (p : Paired (take 20
         rest₄ : (j : ℕ) → MARKS ≤ j → getD w₄ j 0 ≡ getD w j 0
         rest₄ j h = v .rest j (omega arith) ∙ u .rest j (omega arith) ∙ rest₂ j h
 
+        -- the inputs stand loaded still
+        stands₄ : (d e : Desc) → Read a b d e → (m : ℕ) × Stand (region WORDS 2048 w₄) d e m
+        stands₄ d e r = (n, stand d e r w₄ (v .len ∙ u .len) (λ j h. v .rest j h ∙ u .rest j h))
+
         pub opens-clash-2 : y ≡ Clashed → Opens w a b opened.Clashed w₄
-        opens-clash-2 q = record { len = len₄; rest = rest₄; told = λ d e r. second-clashes d e r w₃ k x u z w₄ y v q }
+        opens-clash-2 q = record {
+          len = len₄;
+          rest = rest₄;
+          stands = stands₄;
+          told = λ d e r. second-clashes d e r w₃ k x u z w₄ y v q;
+        }
 
         pub opens-joined : (j : ℕ) → y ≡ In j → Opens w a b (opened.Joined n j) w₄
-        opens-joined j q = record { len = len₄; rest = rest₄; told = λ d e r. joined d e r w₃ k x u z w₄ y v j q }
+        opens-joined j q = record {
+          len = len₄;
+          rest = rest₄;
+          stands = stands₄;
+          told = λ d e r. joined d e r w₃ k x u z w₄ y v j q;
+        }

@@ -66,4 +66,5 @@ OpenedAs w (desc g ds) (desc h es) Clashed = Clash (g ∷ h ∷ [])
 pub record Opens (w a b : List ℕ) (r : Opened) (w′ : List ℕ) : Type 0 where
   pub len : length w′ ≡ length w
   pub rest : (j : ℕ) → MARKS ≤ j → getD w′ j 0 ≡ getD w j 0
+  pub stands : (d e : Desc) → Read a b d e → (n : ℕ) × Stand (region WORDS LOADED w′) d e n
   pub told : (d e : Desc) → Read a b d e → OpenedAs w′ d e r
