@@ -15,12 +15,13 @@ typedef struct {
     uint32_t number;
     uint32_t length;
     uint32_t readings;
+    uint32_t node;
     uint32_t result[BUBLASTYR_LONGEST_RESULT];
 } Answer;
 
 void engine_run(Engine engine, const Call *call, Answer *answer);
 
-// Whether both gave the same number, length, readings and words.
+// Whether both gave the same number, length, readings, node and words.
 bool answers_alike(const Answer *one, const Answer *other);
 
 #endif

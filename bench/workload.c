@@ -79,8 +79,8 @@ bool workload_write(const Workload *workload, const char *folder, const char *pr
 }
 
 static void print_answer(const char *whose, const Answer *answer) {
-    printf("    %s: answer %" PRIu32 " words %" PRIu32 " readings %" PRIu32 "\n", whose,
-           answer->number, answer->length, answer->readings);
+    printf("    %s: answer %" PRIu32 " words %" PRIu32 " readings %" PRIu32 " node %" PRIu32 "\n",
+           whose, answer->number, answer->length, answer->readings, answer->node);
 }
 
 // Tells two answers that differ, and how many of their words are equal.

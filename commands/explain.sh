@@ -1,5 +1,5 @@
-# The sentences of `./bublastyr explain`, made from the numbers that the program prints; docs/EXPLAIN.md has both. Read by
-# `bublastyr` after commands/build.sh.
+# The sentences of `./bublastyr explain`, made from the numbers that the program prints and, where the definite graphs clash, from
+# the call itself; docs/EXPLAIN.md has both. Read by `bublastyr` after commands/build.sh.
 
 # Says what came of a call: number, length and readings.
 say_number() {
@@ -16,9 +16,14 @@ say_number() {
         3) echo "number 3: refused; an input has more than 1024 words" ;;
         4) echo "number 4: refused; the first input is malformed" ;;
         5) echo "number 5: refused; the second input is malformed" ;;
-        6) echo "number 6: a clash; no structure satisfies both inputs" ;;
+        6) echo "number 6: a clash; the definite graphs clash" ;;
         7) echo "number 7: refused; the quick step leaves more than 4096 choices" ;;
         8) echo "number 8: refused; the result has $2 words, more than the result area" ;;
+        10)
+            echo "number 10: a clash; the definite graphs agree, but in the quick step a disjunction has no alternative left," \
+                "or folding clashes"
+            ;;
+        11) echo "number 11: a clash; the quick step does not fail, but no choice is consistent" ;;
     esac
 }
 
@@ -57,17 +62,27 @@ say_cause() {
     esac
 }
 
+# Where the definite graphs of the call in $work/text clash, by the node $1; fails where they do not clash there.
+where_it_clashes() {
+    awk -v node="$1" -f "$top/commands/clash.awk" <"$work/text"
+}
+
 # The sentences for what the program printed, $1; fails where that is nothing it should print.
 sentences() {
-    local number='(0|[1-9][0-9]{0,9})' end=$'\n' unified longer other malformed told input=first
+    local number='(0|[1-9][0-9]{0,9})' end=$'\n' unified longer other clash malformed told input=first
     unified="^answer (0) words $number readings $number$end[0-9 ]+$end\$"
     longer="^answer (8) words $number readings (0)$end\$"
-    other="^answer ([1-367]) words (0) readings (0)$end\$"
+    other="^answer ([1-37]|1[01]) words (0) readings (0)$end\$"
+    clash="^answer (6) words (0) readings (0)${end}node $number$end\$"
     malformed="^answer ([45]) words (0) readings (0)${end}cause ([1-9]) word $number stands $number hint $number$end\$"
     if [ "$1" = "bad input$end" ]; then
         echo "bad input: a call is a mode and two inputs, each a word count and so many words"
     elif [[ $1 =~ $unified || $1 =~ $longer || $1 =~ $other ]]; then
         say_number "${BASH_REMATCH[@]:1:3}"
+    elif [[ $1 =~ $clash ]]; then
+        told=("${BASH_REMATCH[@]:1}")
+        say_number "${told[@]:0:3}"
+        where_it_clashes "${told[3]}"
     elif [[ $1 =~ $malformed ]]; then
         told=("${BASH_REMATCH[@]:1}")
         [ "${told[0]}" = 4 ] || input=second
@@ -86,8 +101,10 @@ explain() {
     take_input "$@"
     build explain
     runner explain
+    work=$(mktemp -d)
     # 65,537 bytes are enough to tell that an input is too long; `end` keeps the last newline
-    said=$(head -c 65537 2>/dev/null | "${run[@]}" && echo end) || fail "the input could not be read, or the program failed"
+    head -c 65537 >"$work/text" 2>/dev/null || fail "the input could not be read"
+    said=$("${run[@]}" <"$work/text" && echo end) || fail "the program failed"
     said=${said%end}
     [ -n "$said" ] || fail "the program printed nothing"
     LC_ALL=C
@@ -96,6 +113,6 @@ explain() {
     printf '%s\n' "$text" 2>/dev/null || fail "the answer could not be printed"
     case "$text" in
         'number 0: '*) status=0 ;;
-        'number 6: '*) status=1 ;;
+        'number '*': a clash; '*) status=1 ;;
     esac
 }

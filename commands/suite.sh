@@ -5,7 +5,7 @@ suite_fault() {
     case "$1" in
         'bad input') echo "bad input: a suite is its number of tests and for each a mode, a number, readings and two inputs" ;;
         'answer 30') echo "the suite has more than 64 tests; none was run" ;;
-        'answer 32') echo "a test has a mode above 2, or expects a number above 8; none was run" ;;
+        'answer 32') echo "a test has a mode above 2, or expects a number above 11; none was run" ;;
         *) return 1 ;;
     esac
 }
@@ -20,7 +20,7 @@ adds_up() {
 
 # Runs the tests in FILE or on standard input, and prints what came of them.
 suite() {
-    local row='( [0-9]+){9}'$'\n' why='' end=2
+    local row='( [0-9]+){12}'$'\n' why='' end=2
     local report="mode 0:${row}mode 1:${row}mode 2:${row}([0-9]+) as expected, ([0-9]+) not, ([0-9]+) not run"$'\n''$'
     [ $# -le 1 ] || fail "suite takes one file at most: ./bublastyr suite [FILE]"
     take_input "$@"

@@ -27,7 +27,7 @@ TOP = pathlib.Path(__file__).resolve().parent.parent
 # where wrong edits stand: those that the gate tries, and those that mutation/edits tries
 EDITS = ("must-fail", "edits")
 READ = ["descriptions", "theory", "answering", "unify", "fit", "call_text", "answer_text", "reply", "formula_text", "malformed", "explaining", "suite",
-    "suite_reading", "suite_lines", "suite_text"]
+    "suite_reading", "verdicts", "suite_lines", "suite_text"]
 # of other crates, the files that are read
 READ_FILES = {"formulas": ["Formula", "Part", "Draft", "Describe", "Known"], "signs": ["Limits", "Signs", "Grammar"],
               "translate": ["Translated", "Row", "Answered"], "roles": ["Faults", "Causes"], "faults": ["Hints"]}

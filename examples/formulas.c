@@ -43,16 +43,17 @@ int main(void) {
     print_words(first, first_count);
     uint32_t second_count = describe("[<f1>,<f2>]", second, COUNT(second), BUBLASTYR_DONE);
     print_words(second, second_count);
-    uint32_t told[2];
+    uint32_t unified[3];
     uint32_t number = bublastyr_unify(2, first, first_count, second, second_count, result,
-                                      COUNT(result), working, COUNT(working), told);
-    expect("both, unified in mode 2", number, BUBLASTYR_DONE, told);
-    print_words(result, told[0]);
+                                      COUNT(result), working, COUNT(working), unified);
+    expect("both, unified in mode 2", number, BUBLASTYR_DONE, unified);
+    print_words(result, unified[0]);
 
     describe("f1:(a10 | )", first, COUNT(first), BUBLASTYR_BAD_TEXT);
     describe("f1:a10 & f1:a11", first, COUNT(first), BUBLASTYR_FORMULA_CLASH);
     describe("f1:(a10 | a11)", first, 18, BUBLASTYR_SHORT_RESULT);
     // a pointer may be null where its length is 0
+    uint32_t told[2];
     number = bublastyr_formula(NULL, 0, NULL, 0, told);
     expect("no text", number, BUBLASTYR_BAD_TEXT, told);
     number = bublastyr_formula((const uint8_t *)"NIL", 3, NULL, 0, told);

@@ -10,7 +10,7 @@
 #define MOST_TESTS 100
 #define MOST_WORDS 4096
 #define MOST_WORKING 20000
-#define CELLS 27
+#define CELLS 36
 
 static struct bublastyr_test tests[MOST_TESTS];
 static uint32_t words[MOST_WORDS], result[MOST_WORDS], expected[MOST_WORDS];
@@ -81,7 +81,7 @@ static int area_right(const uint32_t *area, uint32_t count, const uint32_t *fron
 // Runs the suite whose number of tests has been read: whether it comes out as stored. The stored number goes to `stored`.
 static int replayed(uint32_t count, uint32_t *stored) {
     static const uint32_t zeros[BUBLASTYR_WORKING];
-    uint32_t counts[3][9], cells[CELLS], row[3];
+    uint32_t counts[3][12], cells[CELLS], row[3];
     struct bublastyr_running running = {before(0), before(1), before(2)};
     read_tests(count);
     uint32_t space = bounded(MOST_WORDS);

@@ -26,7 +26,7 @@ static const struct bublastyr_test beyond[] = {
 static uint32_t result[BUBLASTYR_LONGEST_RESULT];
 static uint32_t working[BUBLASTYR_WORKING];
 static struct bublastyr_running running;
-static uint32_t counts[3][9];
+static uint32_t counts[3][12];
 
 static uint32_t run(const struct bublastyr_test *tests, size_t tests_len) {
     return bublastyr_suite(tests, tests_len, words, COUNT(words), result, COUNT(result), working,

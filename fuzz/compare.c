@@ -1,5 +1,5 @@
 // The comparison: random calls of the library for C beside the second program, in one process.
-// Number, length, readings and every word of both areas must be what document 01 says; the inputs
+// Number, length, readings, node and every word of both areas must be what the documents say; the inputs
 // and the words around the areas must stay as they were.
 #define _POSIX_C_SOURCE 200809L
 #include "bublastyr.h"
@@ -13,7 +13,7 @@
 enum {
     MARGIN = 32,           // words before and after each area, which nothing may touch
     POOL = 1 << 17,        // random words with which the areas are filled
-    NUMBERS = 10,          // the numbers that come back, 0 to 9
+    NUMBERS = 12,          // the numbers that come back, 0 to 11
     COLUMNS = 5,           // modes 0, 1 and 2, modes above, the fit test
     PROGRESS_EVERY = 50000 // calls between two lines of progress
 };
@@ -101,7 +101,7 @@ static bool compare_unify(Comparison *comparison, const Call *call, const Outcom
     Area *result = &comparison->result;
     Area *working = &comparison->working;
     uint64_t bits = random_next(&comparison->random);
-    uint32_t told[2] = {(uint32_t)bits, (uint32_t)(bits >> 32)};
+    uint32_t told[3] = {(uint32_t)bits, (uint32_t)(bits >> 32), (uint32_t)(bits >> 16)};
     area_fill(comparison, result, call->room);
     area_fill(comparison, working, call->work);
     expect_areas(comparison, outcome);
@@ -112,7 +112,8 @@ static bool compare_unify(Comparison *comparison, const Call *call, const Outcom
     return told_holds("number", number, outcome->number) &&
            told_holds("length", told[0], outcome->length) &&
            told_holds("number of readings", told[1], outcome->readings) &&
-           area_holds(result, "result") && area_holds(working, "working");
+           told_holds("node", told[2], outcome->node) && area_holds(result, "result") &&
+           area_holds(working, "working");
 }
 
 static bool compare_call(Comparison *comparison, const Call *call, const Outcome *outcome) {

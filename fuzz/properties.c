@@ -1,4 +1,4 @@
-// The properties of a call. Each follows from document 01 alone; where the inputs are small, plain
+// The properties of a call. Each follows from document 01 and request Six alone; where the inputs are small, plain
 // enumeration tells the exact outcome.
 #include "properties.h"
 
@@ -45,7 +45,8 @@ static bool words_equal(const Words *left, const Words *right) {
 
 static bool outcomes_equal(const Outcome *left, const Outcome *right) {
     return left->number == right->number && left->length == right->length &&
-           left->readings == right->readings && words_equal(&left->result, &right->result);
+           left->readings == right->readings && left->node == right->node &&
+           words_equal(&left->result, &right->result);
 }
 
 static Outcome run(uint32_t mode, const Words *first, const Words *second) {
@@ -81,9 +82,14 @@ static void check_outcome(const Call *call, uint32_t mode, const Outcome *outcom
     const Words *result = &outcome->result;
     size_t both = call->first.count + call->second.count;
     uint32_t number = outcome->number;
-    demand(call, number == SUCCESS || number == CLASH || number == CHOICES_MANY,
+    demand(call, number == SUCCESS || is_clash(number) || number == CHOICES_MANY,
            "inputs that are read are unified or clash or have too many choices");
     demand(call, number != CHOICES_MANY || mode == MODE_FULL, "7 is given in mode 2 alone");
+    demand(call, number != NO_CHOICE || mode == MODE_FULL, "11 is given in mode 2 alone");
+    demand(call, number != QUICK_FAILS || mode != MODE_JOIN, "10 is not given in mode 0");
+    demand(call, number == CLASH || outcome->node == 0, "6 alone has a node");
+    demand(call, number != CLASH || outcome->node < call->first.at[0] + call->second.at[0],
+           "the node is one of the definite graphs");
     demand(call, (number == SUCCESS) == (outcome->length > 0), "0 alone has a length");
     demand(call, outcome->length == 0 || outcome->length + 3u <= both,
            "a result is three words shorter than both inputs");
@@ -101,10 +107,15 @@ static void check_modes(const Case *this) {
     const Outcome *join = &this->outcomes[MODE_JOIN];
     const Outcome *quick = &this->outcomes[MODE_QUICK];
     const Outcome *full = &this->outcomes[MODE_FULL];
-    demand(call, join->number == SUCCESS || quick->number == CLASH,
-           "a clash in joining is a clash in mode 1");
-    demand(call, quick->number == SUCCESS || full->number == CLASH,
-           "a clash in mode 1 is a clash in mode 2");
+    demand(call, join->number == SUCCESS || outcomes_equal(join, quick),
+           "a clash in joining is that clash in mode 1");
+    demand(call, join->number == SUCCESS || join->number == CLASH, "mode 0 clashes by 6 alone");
+    demand(call, join->number != SUCCESS || (quick->number != CLASH && full->number != CLASH),
+           "6 is given exactly when joining clashes");
+    demand(call, quick->number == SUCCESS || outcomes_equal(quick, full),
+           "a clash in mode 1 is that clash in mode 2");
+    demand(call, quick->number != SUCCESS || full->number != QUICK_FAILS,
+           "10 is given in both modes or in none");
     if (quick->number != SUCCESS) {
         return;
     }
@@ -128,7 +139,7 @@ static void check_room(const Case *this, uint32_t mode, size_t room) {
     if (ample->length > room) {
         demand(call,
                outcome.number == RESULT_LONG && outcome.length == ample->length &&
-                   outcome.readings == 0 && outcome.result.count == 0,
+                   outcome.readings == 0 && outcome.node == 0 && outcome.result.count == 0,
                "a result longer than the room gives 8 and its length");
     } else {
         demand(call, outcomes_equal(&outcome, ample), "room that suffices changes nothing");
@@ -213,7 +224,7 @@ static void check_structure(const Case *this, const Words *structure) {
     demand(call, run_fit(structure, &says_nothing) == SUCCESS, "every structure satisfies nothing");
     for (uint32_t mode = MODE_JOIN; mode < MODES; mode++) {
         const Outcome *outcome = &this->outcomes[mode];
-        demand(call, outcome->number != CLASH || !both, "on a clash no structure satisfies both");
+        demand(call, !is_clash(outcome->number) || !both, "on a clash no structure satisfies both");
         if (outcome->number == SUCCESS && outcome->length <= LONGEST_INPUT) {
             demand(call, (run_fit(structure, &outcome->result) == SUCCESS) == both,
                    "a structure satisfies the result exactly when it satisfies both inputs");
@@ -307,7 +318,7 @@ static void check_quick_words(const Case *this, const Words *joined) {
 static void check_full_words(const Case *this, const Words *joined, const Picks *consistent) {
     const Outcome *full = &this->outcomes[MODE_FULL];
     demand(this->call, full->readings == consistent->count, "mode 2 counts the consistent choices");
-    demand(this->call, (full->number == CLASH) == (consistent->count == 0),
+    demand(this->call, is_clash(full->number) == (consistent->count == 0),
            "mode 2 clashes exactly without a consistent choice");
     if (full->number == SUCCESS) {
         Words expected = expect_full(sheet(), joined, consistent);
@@ -381,7 +392,7 @@ static void check_fit(const Call *call, uint32_t number) {
 }
 
 static bool has_few_choices(const Outcome *quick) {
-    return quick->number == CLASH || choices_of(quick->result.at) <= FEW_CHOICES;
+    return is_clash(quick->number) || choices_of(quick->result.at) <= FEW_CHOICES;
 }
 
 // All modes on two inputs that are read.
@@ -414,8 +425,8 @@ static void check_refused(const Call *call, uint32_t number) {
     Outcome outcome = call_run(call);
     demand(call,
            outcome.number == number && outcome.length == 0 && outcome.readings == 0 &&
-               outcome.result.count == 0,
-           "the first check that fails gives the number, without length and readings");
+               outcome.node == 0 && outcome.result.count == 0,
+           "the first check that fails gives the number, without length, readings and node");
     words_free(&outcome.result);
 }
 

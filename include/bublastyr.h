@@ -11,8 +11,8 @@
 extern "C" {
 #endif
 
-// The numbers that come back. Only 0 is a pass; 6 says that the two do not agree, and every other number that
-// the call was refused and nothing was decided.
+// The numbers that come back. Only 0 is a pass; 6, 10 and 11 are clashes, which say that the two do not agree, and
+// every other number says that the call was refused and nothing was decided.
 enum {
     BUBLASTYR_DONE = 0,       // unified, or the structure satisfies the description
     BUBLASTYR_BAD_MODE = 1,   // the mode is above 2
@@ -20,10 +20,12 @@ enum {
     BUBLASTYR_TOO_LONG = 3,   // an input has more than 1,024 words
     BUBLASTYR_BAD_FIRST = 4,  // the first input is malformed; in the fit test, the structure
     BUBLASTYR_BAD_SECOND = 5, // the second input is malformed; in the fit test, the description
-    BUBLASTYR_CLASH = 6,      // no structure satisfies both, or it does not satisfy the description
+    BUBLASTYR_CLASH = 6,      // the definite graphs clash; in the fit test, it does not satisfy
     BUBLASTYR_TOO_MANY = 7,   // mode 2: over 4,096 choices are left to search
     BUBLASTYR_NO_ROOM = 8,    // the result is longer than the result area
     BUBLASTYR_HAS_DISJUNCTIONS = 9, // the fit test's structure has disjunctions
+    BUBLASTYR_QUICK_FAILS = 10,     // modes 1 and 2: the quick step failed
+    BUBLASTYR_NO_CHOICE = 11,       // mode 2: no choice is consistent
 };
 
 // The numbers of bublastyr_formula beside BUBLASTYR_DONE. 22 says that no structure satisfies the formula, and
@@ -41,7 +43,7 @@ enum {
 enum {
     BUBLASTYR_MANY_TESTS = 30,   // the table has more than 64 records
     BUBLASTYR_BEYOND_WORDS = 31, // a record names words beyond the area
-    BUBLASTYR_BAD_RECORD = 32,   // a record has a mode above 2, or expects a number above 8
+    BUBLASTYR_BAD_RECORD = 32,   // a record has a mode above 2, or expects a number above 11
 };
 
 // The causes that bublastyr_malformed tells. The first word, in reading order, that breaks a rule by itself or with the
@@ -64,28 +66,33 @@ enum {
 // The words that a result has at most. A result of over 1,024 words is refused with 3 when it comes in again.
 #define BUBLASTYR_LONGEST_RESULT 2045
 
-// Unifies two descriptions in mode 0 (join), 1 (quick) or 2 (full), and answers one of the numbers 0 to 8.
-// The checks run in the order of the numbers 1 to 8; in mode 2 a 6 because no choice is consistent comes after 7.
+// Unifies two descriptions in mode 0 (join), 1 (quick) or 2 (full), and answers one of the numbers 0 to 8, 10 and 11.
+// The checks run in the order 1, 2, 3, 4, 5, 6, 10, 7, 11, 8.
 //
 // told[0] is the length: the words written after 0, the words needed after 8, else 0.
 // told[1] is the number of readings: after 0 in mode 2 the consistent choices, else 0.
+// told[2] is the node: after 6 the smallest node whose class holds a clash, which is two different atoms or an atom and
+// an arc, once all nodes that must be equal are in one class; else 0. The nodes of the first input's definite graph are
+// counted first, from 0, and then those of the second's; nodes of alternatives are not counted. An input's first word is
+// how many nodes its definite graph has: where told[2] is under first[0] it is that node of the first input, else node
+// told[2] - first[0] of the second.
 //
 // The result area: only 0 writes to it, the first told[0] words; the rest stays, and so does all of it after
 // any other number. The working area need not be cleared before a call: after 1 to 5 it is as it was, after
-// 6, 7, 8 and 0 its first 16,384 words are zero and later ones are as they were.
+// 6, 7, 8, 10, 11 and 0 its first 16,384 words are zero and later ones are as they were.
 //
 // The areas, the inputs and told must not overlap. A pointer may be null where its length is 0.
 uint32_t bublastyr_unify(uint32_t mode, const uint32_t *first, size_t first_len,
                          const uint32_t *second, size_t second_len, uint32_t *result,
                          size_t result_len, uint32_t *working, size_t working_len,
-                         uint32_t told[2]);
+                         uint32_t told[3]);
 
 // Unifies two descriptions in mode 2 by the plain engine, which expands what the quick step leaves to every choice and joins
 // each. It answers and leaves, on every input, what bublastyr_unify does in mode 2, and takes longer: it is there to be
 // compared with it.
 uint32_t bublastyr_plain(const uint32_t *first, size_t first_len, const uint32_t *second,
                          size_t second_len, uint32_t *result, size_t result_len, uint32_t *working,
-                         size_t working_len, uint32_t told[2]);
+                         size_t working_len, uint32_t told[3]);
 
 // Tells whether a structure, a description with no disjunctions, satisfies a description. Answers 3, 4, 5, 9,
 // 0 or 6, checked in that order. Writes nothing. Here too a pointer may be null where its length is 0.
@@ -139,17 +146,19 @@ struct bublastyr_running {
 // then all that is lent is as it was. All records are looked at before the first test is run: more than 64 are 30, and
 // of 31 and 32 the lowest record with a fault decides, and within it 31 comes first.
 //
-// counts[mode][number] is how many tests in that mode gave that number; together they are running->run. The record
-// begins at 0, 0 and 64 and is brought up to date after each test; the counts are written at the end.
+// counts[mode][number] is how many tests in that mode gave that number; together they are running->run. No call gives 9,
+// which is 0 in each mode. The record begins at 0, 0 and 64 and is brought up to date after each test; the counts are
+// written at the end.
 //
-// A test whose call gives 1 to 5, 7 or 8 decided nothing: it counts as expected only where that very number was.
+// A test whose call gives 1 to 5, 7 or 8 decided nothing: it counts as expected only where that very number was. The
+// clashes are told apart: where 6 was expected, 10 and 11 are not as expected.
 //
 // The table, the words, the areas, the record and the counts must not overlap. A pointer to a table, words or an area
 // may be null where its length is 0.
 uint32_t bublastyr_suite(const struct bublastyr_test *tests, size_t tests_len,
                          const uint32_t *words, size_t words_len, uint32_t *result,
                          size_t result_len, uint32_t *working, size_t working_len,
-                         struct bublastyr_running *running, uint32_t counts[3][9]);
+                         struct bublastyr_running *running, uint32_t counts[3][12]);
 
 #ifdef __cplusplus
 }

@@ -4,8 +4,6 @@
 #include "call.h"
 #include "causes_words.h"
 
-#include <inttypes.h>
-
 // More than 1,024 words.
 static Words long_words(Random *random) {
     Words words = random_sound_words(random);
@@ -24,23 +22,11 @@ static Words random_input(Random *random) {
     return kind < 6 ? random_sound_words(random) : random_words_with_cause(random);
 }
 
-static void print_input(const Words *words) {
-    printf(words->count == 0 ? " %zu" : " %zu ", words->count);
-    words_print(words, stdout);
-}
-
-int run_broken(uint64_t seed, uint64_t count) {
-    Random random = {seed};
-    for (uint64_t line = 0; line < count; line++) {
-        Words first =
-            random_one_in(&random, 2) ? random_sound_words(&random) : random_input(&random);
-        Words second = random_input(&random);
-        printf("%" PRIu32, random_one_in(&random, 40) ? 3 : random_below(&random, 3));
-        print_input(&first);
-        print_input(&second);
-        putchar('\n');
-        words_free(&first);
-        words_free(&second);
-    }
-    return 0;
+void print_broken(Random *random) {
+    Call call = {0};
+    call.first = random_one_in(random, 2) ? random_sound_words(random) : random_input(random);
+    call.second = random_input(random);
+    call.mode = random_one_in(random, 40) ? 3 : random_below(random, 3);
+    meet_print(&call, stdout);
+    call_free(&call);
 }

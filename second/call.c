@@ -29,6 +29,13 @@ static void print_counted(const Words *words, FILE *to) {
     words_print(words, to);
 }
 
+void meet_print(const Call *call, FILE *to) {
+    fprintf(to, "%" PRIu32, call->mode);
+    print_counted(&call->first, to);
+    print_counted(&call->second, to);
+    fputc('\n', to);
+}
+
 void call_print(const Call *call, FILE *to) {
     if (call->is_fit) {
         fputs("fit", to);

@@ -23,6 +23,9 @@ Outcome call_run(const Call *call);
 // Prints the call as one line of the batch format.
 void call_print(const Call *call, FILE *to);
 
+// Prints a call of unification as one line that `meet` reads; the sizes of the areas are left out.
+void meet_print(const Call *call, FILE *to);
+
 // Prints words parted by single spaces.
 void words_print(const Words *words, FILE *to);
 
@@ -35,8 +38,9 @@ bool parse_inputs(const char *text, size_t length, Call *call);
 // Reads a call of `meet` from standard input; false for bad input. The call is freed in both cases.
 bool meet_read(Call *call);
 
-// Makes a call, prints its answer as `meet` does, and returns the number.
-uint32_t answer_meet(const Call *call);
+// Makes a call and prints its answer as `meet` does; the outcome comes without the words of the
+// result.
+Outcome answer_meet(const Call *call);
 
 // The text interface of `meet`: one call from standard input, answered on standard output.
 int run_meet(void);

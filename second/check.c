@@ -2,6 +2,7 @@
 #include "check.h"
 
 #include "call.h"
+#include "clash_check.h"
 #include "expect.h"
 #include "faults.h"
 #include "full.h"
@@ -28,8 +29,8 @@ typedef struct {
     Sheet sheet;
     const char *failure; // what went wrong first, or null
     uint64_t successes;
-    uint64_t clashes;
-    uint64_t dropped; // quick results that differ in length from the joined description
+    uint64_t clashes[3]; // by 6, 10 and 11
+    uint64_t dropped;    // quick results that differ in length from the joined description
     uint64_t readings;
 } Check;
 
@@ -47,6 +48,12 @@ static bool words_equal(const Words *left, const Words *right) {
 static Outcome run(uint32_t mode, const Words *first, const Words *second) {
     return unify(mode, first->at, first->count, second->at, second->count, AMPLE_ROOM,
                  WORKING_NEEDED);
+}
+
+static void count_clash(Check *check, uint32_t number) {
+    check->clashes[0] += number == CLASH;
+    check->clashes[1] += number == QUICK_FAILS;
+    check->clashes[2] += number == NO_CHOICE;
 }
 
 // Only the choices whose graphs agree, in a list of their own.
@@ -152,20 +159,20 @@ static void check_result(Check *check, uint32_t mode, const Words *first, const 
                           result->count - 1, WORKING_NEEDED);
     demand(check,
            tight.number == RESULT_LONG && tight.length == outcome->length && tight.readings == 0 &&
-               tight.result.count == 0,
+               tight.node == 0 && tight.result.count == 0,
            "one word short is not refused");
     words_free(&tight.result);
 }
 
-// Mode 1 against looking ahead until nothing changes.
-static void check_quick(Check *check, const Words *joined, const Outcome *outcome) {
+// Mode 1 against looking ahead until nothing changes; mode 2 fails with it.
+static void check_quick(Check *check, uint32_t mode, const Words *joined, const Outcome *outcome) {
     Description whole;
     Words expected = {0};
     description_read(joined->at, joined->count, &whole);
     bool alive = look_ahead(&whole);
-    demand(check, alive == (outcome->number == SUCCESS),
-           "quick and looking ahead do not fail together");
-    if (alive) {
+    demand(check, alive == (outcome->number != QUICK_FAILS),
+           "the quick step and looking ahead do not fail together");
+    if (alive && mode == MODE_QUICK) {
         Description kept = keep_what_is_left(&whole);
         description_write(&kept, &expected);
         description_free(&kept);
@@ -178,7 +185,7 @@ static void check_quick(Check *check, const Words *joined, const Outcome *outcom
 
 // Mode 2 against the description that plain enumeration leaves, word for word.
 static void check_full(Check *check, const Words *joined, size_t ways, const Outcome *outcome) {
-    demand(check, (outcome->number == CLASH) == (ways == 0), "full clashes at the wrong time");
+    demand(check, is_clash(outcome->number) == (ways == 0), "full clashes at the wrong time");
     demand(check, outcome->readings == ways, "full counts other readings");
     if (ways > 0) {
         Picks consistent = consistent_picks(check, joined);
@@ -189,12 +196,23 @@ static void check_full(Check *check, const Words *joined, size_t ways, const Out
     }
 }
 
+// The numbers of a mode once the definite graphs are known to join.
+static void check_number(Check *check, uint32_t mode, const Outcome *outcome) {
+    uint32_t number = outcome->number;
+    demand(check,
+           number == SUCCESS || (number == QUICK_FAILS && mode != MODE_JOIN) ||
+               (number == NO_CHOICE && mode == MODE_FULL),
+           "an unexpected number");
+    demand(check, outcome->node == 0, "a node although the definite graphs do not clash");
+    demand(check, number == SUCCESS || outcome->length == 0, "a clash with a length");
+    count_clash(check, number);
+}
+
 // All that concerns one mode, once both inputs are known to join to `joined`.
 static void check_mode(Check *check, uint32_t mode, const Words *first, const Words *second,
                        const Words *joined, size_t ways) {
     Outcome outcome = run(mode, first, second);
-    demand(check, outcome.number == SUCCESS || outcome.number == CLASH, "an unexpected number");
-    check->clashes += outcome.number == CLASH;
+    check_number(check, mode, &outcome);
     if (outcome.number == SUCCESS) {
         Picks consistent = consistent_picks(check, &outcome.result);
         check_result(check, mode, first, second, &outcome);
@@ -208,9 +226,10 @@ static void check_mode(Check *check, uint32_t mode, const Words *first, const Wo
     }
     if (mode == MODE_JOIN) {
         demand(check, words_equal(joined, &outcome.result), "the joined description differs");
-    } else if (mode == MODE_QUICK) {
-        check_quick(check, joined, &outcome);
     } else {
+        check_quick(check, mode, joined, &outcome);
+    }
+    if (mode == MODE_FULL) {
         check_full(check, joined, ways, &outcome);
     }
     check_structures(check, &outcome);
@@ -223,9 +242,11 @@ static void check_clash(Check *check, const Words *first, const Words *second) {
         Outcome outcome = run(mode, first, second);
         demand(check, outcome.number == CLASH, "definite graphs clash, but the inputs do not");
         demand(check, outcome.length == 0 && outcome.readings == 0, "a clash with a length");
+        demand(check, merged_node(&check->sheet, first, second) == outcome.node,
+               "the node is not the smallest whose class holds a clash");
         check_structures(check, &outcome);
         words_free(&outcome.result);
-        check->clashes++;
+        count_clash(check, outcome.number);
     }
 }
 
@@ -289,7 +310,7 @@ static bool check_step(Check *check, const Picks *lists, size_t count, const Wor
     Outcome outcome = run(mode, result, next);
     words_free(result);
     *result = outcome.result;
-    if (outcome.number == CLASH) {
+    if (is_clash(outcome.number)) {
         demand(check, ways == 0, "a list clashes although there are readings");
         return false;
     }
@@ -343,6 +364,7 @@ static void check_malformed(Check *check) {
         Outcome second = run(MODE_JOIN, &sound, &broken);
         demand(check,
                first.number == FIRST_MALFORMED && second.number == SECOND_MALFORMED &&
+                   first.node == 0 && second.node == 0 &&
                    fit(broken.at, broken.count, sound.at, sound.count) == FIRST_MALFORMED &&
                    fit(sound.at, sound.count, broken.at, broken.count) == SECOND_MALFORMED,
                "malformed words are not refused");
@@ -400,10 +422,10 @@ int run_check(uint64_t seed, uint64_t count) {
         cases += check.failure == NULL;
     }
     printf("self-check seed %" PRIu64 ": %" PRIu64 " cases over %zu structures, %" PRIu64
-           " successes, %" PRIu64 " clashes, %" PRIu64 " quick results shorter than joined, "
-           "%" PRIu64 " readings in full mode\n",
-           seed, cases, check.structures.count, check.successes, check.clashes, check.dropped,
-           check.readings);
+           " successes, clashes by 6, 10, 11: %" PRIu64 " %" PRIu64 " %" PRIu64 ", %" PRIu64
+           " quick results shorter than joined, %" PRIu64 " readings in full mode\n",
+           seed, cases, check.structures.count, check.successes, check.clashes[0], check.clashes[1],
+           check.clashes[2], check.dropped, check.readings);
     if (check.failure != NULL) {
         printf("difference: %s\n", check.failure);
     }

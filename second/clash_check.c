@@ -6,6 +6,7 @@
 #include "check.h"
 #include "clash_node.h"
 #include "clash_shapes.h"
+#include "clash_text.h"
 #include "join.h"
 
 #include <inttypes.h>
@@ -127,6 +128,30 @@ static uint32_t expected_node(NodeCheck *check, const Pair *pair) {
     free(contents);
     free(class_of);
     description_free(&merged);
+    return node;
+}
+
+// The words of a description without its disjunctions.
+static Words definite_words(const Words *words) {
+    Words definite = {0};
+    words_add_all(&definite, words->at, (size_t)(graph_end(words->at) - words->at));
+    words_add(&definite, 0);
+    return definite;
+}
+
+uint32_t merged_node(Sheet *sheet, const Words *first, const Words *second) {
+    NodeCheck check = {.sheet = *sheet};
+    Words words[] = {definite_words(first), definite_words(second)};
+    uint32_t node = UINT32_MAX;
+    Pair pair;
+    if (definite_read(&words[0], &words[1], &pair)) {
+        uint32_t count = pair.first.graph.node_count + pair.second.graph.node_count;
+        uint32_t found = expected_node(&check, &pair);
+        node = check.failure == NULL && found < count ? found : UINT32_MAX;
+        pair_free(&pair);
+    }
+    words_free(&words[0]);
+    words_free(&words[1]);
     return node;
 }
 

@@ -20,4 +20,8 @@ typedef struct {
 // prints a pair of which it does not hold.
 void check_node(NodeCheck *check, const Pair *pair);
 
+// The smallest node at which the definite graphs in the words of two descriptions clash, by those
+// classes; UINT32_MAX when they do not.
+uint32_t merged_node(Sheet *sheet, const Words *first, const Words *second);
+
 #endif

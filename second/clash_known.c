@@ -22,9 +22,6 @@ typedef struct {
 // Feature 1 is atom 10, and feature 2 atom 11.
 #define TWO_ATOMS "3 2 1 1 2 2 65546 65547 0 "
 
-// The same two atoms, each as feature 3 of the value of feature 1 or 2.
-#define TWO_BELOW "5 2 1 1 2 2 1 3 3 1 3 4 65546 65547 0 "
-
 // Feature 1 is atom 10, feature 2 atom 20, and feature 4 of the value of feature 3 is feature 1's.
 #define BACK "4 3 1 1 2 2 3 3 65546 65556 1 4 1 0 "
 

@@ -133,3 +133,15 @@ bool clash_node(const Graph *first, const Graph *second, uint32_t *node) {
     free(pairs.equal);
     return clash;
 }
+
+Words class_members(const Graph *first, const Graph *second, uint32_t node) {
+    Pairs pairs = closed_pairs(first, second);
+    Words members = {0};
+    for (uint32_t place = 0; place < pairs.count; place++) {
+        if (are_equal(&pairs, node, place)) {
+            words_add(&members, place);
+        }
+    }
+    free(pairs.equal);
+    return members;
+}

@@ -9,4 +9,7 @@
 // clash the node is 0.
 bool clash_node(const Graph *first, const Graph *second, uint32_t *node);
 
+// The nodes of the class of a node, counted alike, by rising number.
+Words class_members(const Graph *first, const Graph *second, uint32_t node);
+
 #endif

@@ -6,21 +6,17 @@ Usage: second/compare.py SEED COUNT, from anywhere; target/second/second must be
 seed gives the same texts.
 """
 
-import pathlib
 import random
-import subprocess
 import sys
 
-TOP = pathlib.Path(__file__).resolve().parent.parent
-SECOND = TOP / "target" / "second" / "second"
+from comparing import DIFFERS, SECOND, TOP, answer, second, status
+
 MEET = TOP / "meet"
 
 
 def generated_calls(seed, count):
     """The words of `count` calls of unification, as meet takes them: mode, both inputs counted."""
-    lines = subprocess.run(
-        [SECOND, "generate", str(seed), str(2 * count)], check=True, capture_output=True, text=True
-    ).stdout.splitlines()
+    lines = second("generate", seed, 2 * count).decode().splitlines()
     calls = [line.split() for line in lines if line.startswith("unify ")]
     return [[mode, *words] for _, mode, _, _, *words in calls][:count]
 
@@ -62,14 +58,9 @@ def spoilt(chance, text):
     return chance.choice([b"", b" ", b"3 0 0", b"3 1 0 0", b"0 0 0", b"bad input"])
 
 
-def answer(command, text):
-    done = subprocess.run(command, input=text, capture_output=True, check=False)
-    return done.returncode, done.stdout
-
-
-def status(printed):
-    """How `meet` exits after what it prints: 0 after number 0, 1 after a clash, 2 after anything else."""
-    return {b"answer 0": 0, b"answer 6": 1}.get(printed.partition(b" words ")[0], 2)
+def number_of(printed):
+    """The number in what `meet` prints; none after bad input."""
+    return printed.partition(b" words ")[0].partition(b"answer ")[2]
 
 
 def main():
@@ -82,8 +73,8 @@ def main():
             text = spoilt(chance, text)
         ours, theirs = answer([MEET], text), answer([SECOND], text)
         bad += ours[1] == b"bad input\n"
-        if theirs[0] != 0 or ours != (status(theirs[1]), theirs[1]):
-            (TOP / "target" / "differs.txt").write_bytes(text)
+        if theirs[0] != 0 or ours != (status(number_of(theirs[1])), theirs[1]):
+            DIFFERS.write_bytes(text)
             sys.exit(f"compare: seed {seed}, text {index} (target/differs.txt): meet {ours}, second {theirs}")
     print(f"compare: {count} texts of seed {seed} answered alike, {bad} of them bad input")
 

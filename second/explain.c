@@ -4,6 +4,7 @@
 #include "bytes.h"
 #include "call.h"
 #include "causes.h"
+#include "explain_clash.h"
 
 #include <inttypes.h>
 
@@ -32,8 +33,12 @@ static void say_number(const Outcome *outcome) {
         [INPUT_LONG] = "refused; an input has more than 1024 words",
         [FIRST_MALFORMED] = "refused; the first input is malformed",
         [SECOND_MALFORMED] = "refused; the second input is malformed",
-        [CLASH] = "a clash; no structure satisfies both inputs",
+        [CLASH] = "a clash; the definite graphs clash",
         [CHOICES_MANY] = "refused; the quick step leaves more than 4096 choices",
+        [QUICK_FAILS] =
+            "a clash; the definite graphs agree, but in the quick step a disjunction has "
+            "no alternative left, or folding clashes",
+        [NO_CHOICE] = "a clash; the quick step does not fail, but no choice is consistent",
     };
     if (outcome->number == SUCCESS) {
         say_success(outcome);
@@ -120,10 +125,25 @@ static void say_malformed(const char *input, const Words *words) {
     }
 }
 
+// Where the definite graphs of the inputs, which are well formed, clash.
+static void say_clash(const Call *call, uint32_t node) {
+    Description first;
+    Description second;
+    if (description_read(call->first.at, call->first.count, &first)) {
+        if (description_read(call->second.at, call->second.count, &second)) {
+            say_where(&first.graph, &second.graph, node);
+            description_free(&second);
+        }
+        description_free(&first);
+    }
+}
+
 static void explain(const Call *call) {
     Outcome outcome = call_run(call);
     say_number(&outcome);
-    if (outcome.number == FIRST_MALFORMED) {
+    if (outcome.number == CLASH) {
+        say_clash(call, outcome.node);
+    } else if (outcome.number == FIRST_MALFORMED) {
         say_malformed("first", &call->first);
     } else if (outcome.number == SECOND_MALFORMED) {
         say_malformed("second", &call->second);
@@ -166,10 +186,12 @@ static void tell_malformed(const Words *words) {
 }
 
 static void tell(const Call *call) {
-    uint32_t number = answer_meet(call);
-    if (number == FIRST_MALFORMED) {
+    Outcome outcome = answer_meet(call);
+    if (outcome.number == CLASH) {
+        printf("node %" PRIu32 "\n", outcome.node);
+    } else if (outcome.number == FIRST_MALFORMED) {
         tell_malformed(&call->first);
-    } else if (number == SECOND_MALFORMED) {
+    } else if (outcome.number == SECOND_MALFORMED) {
         tell_malformed(&call->second);
     }
 }

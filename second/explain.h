@@ -3,7 +3,7 @@
 #ifndef EXPLAIN_H
 #define EXPLAIN_H
 
-#include <stdint.h>
+#include "random.h"
 
 // One call of `meet` from standard input, and sentences about it.
 int run_explain(void);
@@ -15,7 +15,11 @@ int run_told(void);
 // One run of words a line from standard input, one cause a line.
 int run_causes(void);
 
-// Prints so many inputs of `meet`, one a line; most of them are malformed.
-int run_broken(uint64_t seed, uint64_t count);
+// Prints an input of `meet` on a line; it is mostly malformed.
+void print_broken(Random *random);
+
+// Prints an input of `meet` on a line, which clashes: half of the time by 6, often at a node of the
+// second input, else by 10 or 11.
+void print_clashing(Random *random);
 
 #endif

@@ -178,12 +178,8 @@ FormulaCall random_formula_call(Random *random) {
     return call;
 }
 
-int run_texts(uint64_t seed, uint64_t count) {
-    Random random = {seed};
-    for (uint64_t index = 0; index < count; index++) {
-        FormulaCall call = random_formula_call(&random);
-        formula_call_print(&call, stdout);
-        formula_call_free(&call);
-    }
-    return 0;
+void print_formula_call(Random *random) {
+    FormulaCall call = random_formula_call(random);
+    formula_call_print(&call, stdout);
+    formula_call_free(&call);
 }

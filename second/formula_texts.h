@@ -11,7 +11,7 @@ FormulaCall random_formula_call(Random *random);
 // Damages a text at random places; it may still be a formula.
 void damage_text(Random *random, Bytes *text);
 
-// Prints so many calls, one a line.
-int run_texts(uint64_t seed, uint64_t count);
+// Prints a random call on a line.
+void print_formula_call(Random *random);
 
 #endif

@@ -142,12 +142,8 @@ Call random_call(Random *random) {
     return random_one_in(random, 5) ? random_fit(random) : random_unify(random);
 }
 
-int run_generate(uint64_t seed, uint64_t count) {
-    Random random = {seed};
-    for (uint64_t index = 0; index < count; index++) {
-        Call call = random_call(&random);
-        call_print(&call, stdout);
-        call_free(&call);
-    }
-    return 0;
+void print_call(Random *random) {
+    Call call = random_call(random);
+    call_print(&call, stdout);
+    call_free(&call);
 }

@@ -11,8 +11,8 @@ Call random_call(Random *random);
 // A random call of the fit test, its structure now and then with the disjunctions that it must not have.
 Call random_fit(Random *random);
 
-// Prints so many calls in the batch format.
-int run_generate(uint64_t seed, uint64_t count);
+// Prints a random call in the batch format.
+void print_call(Random *random);
 
 // Writes so many stored vectors of the kind `calls`, `fits`, `reading`, `faults`, `joins`, `nodes`,
 // `formula` or `suites`; false for another kind.

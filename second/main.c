@@ -28,6 +28,7 @@ static int usage(void) {
           "       second generate SEED COUNT\n"
           "       second texts SEED COUNT\n"
           "       second broken SEED COUNT\n"
+          "       second clashing SEED COUNT\n"
           "       second suite_texts SEED COUNT\n"
           "       second vectors SEED COUNT calls|fits|reading|faults|joins|nodes|formula|suites "
           "[COUNT KIND ..]\n",
@@ -83,13 +84,13 @@ static const PlainWay plain_ways[] = {
 
 typedef struct {
     const char *name;
-    int (*run)(uint64_t seed, uint64_t count);
-} SeededWay;
+    void (*print)(Random *random);
+} PrintingWay;
 
-// The ways with a seed and a count alone.
-static const SeededWay seeded_ways[] = {
-    {"check", run_checks},  {"generate", run_generate},       {"texts", run_texts},
-    {"broken", run_broken}, {"suite_texts", run_suite_texts},
+// The ways that print so many random lines from a seed.
+static const PrintingWay printing_ways[] = {
+    {"generate", print_call},     {"texts", print_formula_call},     {"broken", print_broken},
+    {"clashing", print_clashing}, {"suite_texts", print_suite_text},
 };
 
 static int run_plain(const char *name) {
@@ -101,10 +102,21 @@ static int run_plain(const char *name) {
     return usage();
 }
 
+static int print_lines(void (*print)(Random *random), uint64_t seed, uint64_t count) {
+    Random random = {seed};
+    for (uint64_t line = 0; line < count; line++) {
+        print(&random);
+    }
+    return 0;
+}
+
 static int run_seeded(const char *name, uint64_t seed, uint64_t count) {
-    for (size_t index = 0; index < sizeof seeded_ways / sizeof *seeded_ways; index++) {
-        if (strcmp(name, seeded_ways[index].name) == 0) {
-            return seeded_ways[index].run(seed, count);
+    if (strcmp(name, "check") == 0) {
+        return run_checks(seed, count);
+    }
+    for (size_t index = 0; index < sizeof printing_ways / sizeof *printing_ways; index++) {
+        if (strcmp(name, printing_ways[index].name) == 0) {
+            return print_lines(printing_ways[index].print, seed, count);
         }
     }
     return usage();

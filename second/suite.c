@@ -29,7 +29,7 @@ static Words all_faults(const Suite *suite) {
     Words faults = {0};
     for (uint32_t record = 0; record < suite->count; record++) {
         const Test *test = &suite->tests[record];
-        if (test->mode > MODE_FULL || test->number > RESULT_LONG) {
+        if (test->mode > MODE_FULL || test->number >= NUMBERS) {
             words_add(&faults, 2 * record + 1);
         }
         if (is_beyond(test->first, &suite->words) || is_beyond(test->second, &suite->words)) {
@@ -139,7 +139,7 @@ static void leave_result(const Outcome *outcomes, size_t count, Words *result) {
     }
 }
 
-// The first 16,384 words are zero after a call with number 0, 6, 7 or 8.
+// The first 16,384 words are zero after a call with number 0, 6, 7, 8, 10 or 11.
 static void leave_working(const Outcome *outcomes, size_t count, Words *working) {
     for (size_t index = 0; index < count; index++) {
         if (outcomes[index].number == SUCCESS || outcomes[index].number >= CLASH) {

@@ -64,7 +64,7 @@ static void check_refusal(SuiteCheck *check, const SuiteCall *call, uint32_t ans
         suite_demand(check, suite_refusal(&part) == answer, "a later fault is told");
         suite_demand(check, suite_refusal(&alone) == answer, "a fault depends on other tests");
         suite_demand(check, answer == (beyond ? 31 : 32), "31 does not come before 32");
-        suite_demand(check, beyond || test->mode > 2 || test->number > 8, "32 without a fault");
+        suite_demand(check, beyond || test->mode > 2 || test->number > 11, "32 without a fault");
     }
     lent_free(&before);
     lent_free(&lent);

@@ -39,7 +39,7 @@ static void put_beyond(Random *random, Test *test, uint32_t area) {
 
 static void put_unknown(Random *random, Test *test) {
     static const uint32_t modes[] = {3, 3, 4, 65536, UINT32_MAX};
-    static const uint32_t numbers[] = {9, 9, 10, 30, UINT32_MAX};
+    static const uint32_t numbers[] = {12, 12, 13, 30, UINT32_MAX};
     uint32_t which = random_below(random, 3);
     if (which != 0) {
         test->mode = modes[random_below(random, 5)];

@@ -8,15 +8,18 @@
 #include <inttypes.h>
 #include <string.h>
 
-// The word area of the cases: N at 0, A at 3, B at 9, P at 15, E at 31; it ends at 39.
-#define AREA N A B P E
+// The word area of the cases: N at 0, A at 3, B at 9, P at 15, feature 1 is atom 12 at 31, atom 12 or
+// atom 13 at 37, E at 53; it ends at 61.
+#define AREA N A B P TWELVE TWELVE_OR_THIRTEEN E
 
 // Tests with what comes of them, which is expected: records of seven words.
 #define NOTHING "0 0 0 0 3 0 3 "
 #define A_B "1 6 0 3 6 9 6 "
 #define P_P "2 0 2 15 16 15 16 "
 #define P_A "0 0 0 15 16 3 6 "
-#define EMPTY_FIRST "2 4 0 39 0 0 3 "
+#define P_TWELVE "1 10 0 15 16 31 6 "
+#define P_OTHERS "2 11 0 15 16 37 16 "
+#define EMPTY_FIRST "2 4 0 61 0 0 3 "
 
 #define P_P_WORDS "1 0 2 2 " A B "2 " A B
 #define P_A_WORDS "2 1 1 1 65546 1 2 " A B
@@ -37,11 +40,16 @@ static const KnownSuite cases[] = {
     {"empty without areas", "", 0, 0, 0, "0 0 64", "", false},
     {"one good", NOTHING, 40, 16384, 0, "1 1 64 0 0 1", N, true},
     {"a clash is good", A_B, 40, 16384, 0, "1 1 64 1 6 1", "", true},
+    {"10 is good", P_TWELVE, 40, 16384, 0, "1 1 64 1 10 1", "", true},
+    {"11 is good", P_OTHERS, 40, 16384, 0, "1 1 64 2 11 1", "", true},
+    {"10 is not 6", "1 6 0 15 16 31 6", 40, 16384, 0, "1 0 0 1 10 1", "", true},
+    {"11 is not 6", "2 6 0 15 16 37 16", 40, 16384, 0, "1 0 0 2 11 1", "", true},
+    {"9 comes of no test", "0 9 0 0 3 0 3", 40, 16384, 0, "1 0 0 0 0 1", N, true},
     {"readings good", P_P, 40, 16384, 0, "1 1 64 2 0 1", P_P_WORDS, true},
     {"readings wrong", "2 0 3 15 16 15 16", 40, 16384, 0, "1 0 0 2 0 1", P_P_WORDS, true},
     {"number wrong", "0 6 0 0 3 0 3", 40, 16384, 0, "1 0 0 0 0 1", N, true},
     {"both wrong", "0 6 4294967295 0 3 0 3", 40, 16384, 0, "1 0 0 0 0 1", N, true},
-    {"refused with readings", "2 4 1 39 0 0 3", 40, 16384, 0, "1 0 0 2 4 1", "", false},
+    {"refused with readings", "2 4 1 61 0 0 3", 40, 16384, 0, "1 0 0 2 4 1", "", false},
     {"second of three wrong", NOTHING "1 0 0 3 6 9 6 " NOTHING, 40, 16384, 0, "3 2 1 0 0 2 1 6 1",
      N, true},
     {"second and third wrong", NOTHING "1 0 0 3 6 9 6 0 8 0 0 3 0 3", 40, 16384, 0,
@@ -58,25 +66,25 @@ static const KnownSuite cases[] = {
     {"result a word short", P_A, 18, 16384, 0, "1 0 0 0 8 1", "", true},
     {"no room is good", "0 8 0 15 16 3 6", 18, 20000, 0, "1 1 64 0 8 1", "", true},
     {"working area small", NOTHING "0 2 0 0 3 0 3", 40, 16383, 0, "2 1 0 0 2 2", "", false},
-    {"malformed leaves the areas", EMPTY_FIRST "0 5 0 0 3 39 0", 40, 16384, 0, "2 2 64 0 5 1 2 4 1",
+    {"malformed leaves the areas", EMPTY_FIRST "0 5 0 0 3 61 0", 40, 16384, 0, "2 2 64 0 5 1 2 4 1",
      "", false},
-    {"at the end", "0 5 0 0 3 38 1", 40, 16384, 0, "1 1 64 0 5 1", "", false},
-    {"the last description", "0 0 0 31 8 0 3", 40, 16384, 0, "1 1 64 0 0 1", E, true},
-    {"the whole area", "0 4 0 0 39 0 39", 40, 16384, 0, "1 1 64 0 4 1", "", false},
-    {"greatest mode and number", "2 8 0 0 3 0 3", 40, 16384, 0, "1 0 0 2 0 1", N, true},
-    {"a word beyond", "0 0 0 31 9 0 3", 40, 16384, 31, "", "", false},
-    {"a word beyond, second", "0 0 0 0 3 39 1", 40, 16384, 31, "", "", false},
-    {"no words beyond", "0 0 0 40 0 0 3", 40, 16384, 31, "", "", false},
+    {"at the end", "0 5 0 0 3 60 1", 40, 16384, 0, "1 1 64 0 5 1", "", false},
+    {"the last description", "0 0 0 53 8 0 3", 40, 16384, 0, "1 1 64 0 0 1", E, true},
+    {"the whole area", "0 4 0 0 61 0 61", 40, 16384, 0, "1 1 64 0 4 1", "", false},
+    {"greatest mode and number", "2 11 0 0 3 0 3", 40, 16384, 0, "1 0 0 2 0 1", N, true},
+    {"a word beyond", "0 0 0 53 9 0 3", 40, 16384, 31, "", "", false},
+    {"a word beyond, second", "0 0 0 0 3 61 1", 40, 16384, 31, "", "", false},
+    {"no words beyond", "0 0 0 62 0 0 3", 40, 16384, 31, "", "", false},
     {"sum of 32 bits is 0", "0 0 0 4294967295 1 0 3", 40, 16384, 31, "", "", false},
     {"sum of 32 bits is small", "0 0 0 0 3 4294967290 9", 40, 16384, 31, "", "", false},
     {"most words", "0 0 0 1 4294967295 0 3", 40, 16384, 31, "", "", false},
     {"mode above 2", "3 0 0 0 3 0 3", 40, 16384, 32, "", "", false},
-    {"number above 8", "0 9 0 0 3 0 3", 40, 16384, 32, "", "", false},
-    {"32 before 31", "3 0 0 0 3 0 3 0 0 0 40 0 0 3", 40, 16384, 32, "", "", false},
-    {"31 before 32", "0 0 0 40 0 0 3 3 0 0 0 3 0 3", 40, 16384, 31, "", "", false},
-    {"31 and 32 in one", NOTHING "3 0 0 40 0 0 3", 40, 16384, 31, "", "", false},
-    {"31 in the second place and 32", "0 9 0 0 3 40 0", 40, 16384, 31, "", "", false},
-    {"the last is at fault", NOTHING P_P "0 9 0 0 3 0 3", 40, 16384, 32, "", "", false},
+    {"number above 11", "0 12 0 0 3 0 3", 40, 16384, 32, "", "", false},
+    {"32 before 31", "3 0 0 0 3 0 3 0 0 0 62 0 0 3", 40, 16384, 32, "", "", false},
+    {"31 before 32", "0 0 0 62 0 0 3 3 0 0 0 3 0 3", 40, 16384, 31, "", "", false},
+    {"31 and 32 in one", NOTHING "3 0 0 62 0 0 3", 40, 16384, 31, "", "", false},
+    {"31 in the second place and 32", "0 12 0 0 3 62 0", 40, 16384, 31, "", "", false},
+    {"the last is at fault", NOTHING P_P "0 12 0 0 3 0 3", 40, 16384, 32, "", "", false},
     {"32 with a small working area", "3 0 0 0 3 0 3", 0, 0, 32, "", "", false},
 };
 
@@ -176,11 +184,11 @@ int run_known_suites(void) {
     all &= many_hold(64, "", 0, 64, 64);
     all &= many_hold(63, "0 6 0 0 3 0 3", 0, 63, 63);
     all &= many_hold(65, "", 30, 0, 0);
-    all &= many_hold(64, "0 9 0 40 0 0 3", 30, 0, 0);
-    all &= many_hold(63, "0 9 0 0 3 0 3 0 0 0 40 0 0 3", 30, 0, 0);
-    all &= many_hold(63, "0 9 0 0 3 0 3", 32, 0, 0);
+    all &= many_hold(64, "0 12 0 62 0 0 3", 30, 0, 0);
+    all &= many_hold(63, "0 12 0 0 3 0 3 0 0 0 62 0 0 3", 30, 0, 0);
+    all &= many_hold(63, "0 12 0 0 3 0 3", 32, 0, 0);
     all &= many_hold(1000, "", 30, 0, 0);
     printf("known: %d suites and 7 long ones: %s\n", (int)CASES,
-           all ? "as request Five says" : "DIFFERENT");
+           all ? "as requests Five and Six say" : "DIFFERENT");
     return all ? 0 : 1;
 }

@@ -13,9 +13,9 @@ typedef struct {
     uint32_t not_run;
 } Verdicts;
 
-// Whether a call decided anything: numbers 0 and 6 do.
+// Whether a call decided anything: it unified, or came to a clash.
 static bool decides(const Outcome *outcome) {
-    return outcome->number == SUCCESS || outcome->number == CLASH;
+    return outcome->number == SUCCESS || is_clash(outcome->number);
 }
 
 // The name of a test, else its number from 1.

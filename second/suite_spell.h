@@ -13,7 +13,7 @@ Bytes suite_spell(Random *random, const Suite *suite, Bytes *names);
 // Spoils a text, or does what only looks like that.
 void damage_suite_text(Random *random, Bytes *text);
 
-// Prints so many texts of suites in hexadecimal digits, one a line.
-int run_suite_texts(uint64_t seed, uint64_t count);
+// Prints the text of a suite in hexadecimal digits, on a line.
+void print_suite_text(Random *random);
 
 #endif

@@ -1,6 +1,7 @@
 // Seeded texts of suites, good ones and damaged ones.
 #include "suite_spell.h"
 
+#include "damage.h"
 #include "hexadecimal.h"
 #include "suite_shapes.h"
 #include "suite_text.h"
@@ -33,6 +34,7 @@ static const char *const pieces[] = {
     "\r",
     " 3 ",
     " 9 ",
+    " 12 ",
     " 2049 ",
     " 4294967295 ",
     " 4294967296 ",
@@ -40,16 +42,6 @@ static const char *const pieces[] = {
 };
 
 enum { PIECES = sizeof pieces / sizeof *pieces };
-
-// Puts bytes in the place of so many others.
-static void put(Bytes *text, size_t place, size_t gone, const char *bytes, size_t count) {
-    Bytes changed = {0};
-    bytes_add_all(&changed, text->at, place);
-    bytes_add_all(&changed, bytes, count);
-    bytes_add_all(&changed, text->at + place + gone, text->count - place - gone);
-    bytes_free(text);
-    *text = changed;
-}
 
 // Where a line begins or ends, or anywhere.
 static size_t random_spot(Random *random, const Bytes *text) {
@@ -75,41 +67,26 @@ static size_t spot_before_tests(const Bytes *text) {
     return place;
 }
 
-static void damage_once(Random *random, Bytes *text) {
-    size_t place = random_below(random, (uint32_t)text->count);
+// The damage at a place within a text that is not empty, or at one that is likelier to matter.
+static void damage_at(Random *random, Bytes *text, size_t place) {
     char byte = (char)(unsigned char)random_below(random, 256);
     const char *piece = pieces[random_below(random, PIECES)];
-    switch (random_below(random, 12)) {
-    case 0:
-        put(text, place, 1, &byte, 1);
-        break;
-    case 1:
-        put(text, place, 1, &byte, 0);
-        break;
-    case 2:
-        text->count = place;
-        break;
-    case 3:
-        byte = '\n';
-        put(text, place, 1, &byte, 1);
-        break;
-    case 4:
-        put(text, text->count, 0, piece, strlen(piece));
-        break;
-    case 5:
-        put(text, spot_before_tests(text), 0, "# a\n", 4);
-        break;
-    default:
-        put(text, random_spot(random, text), 0, piece, strlen(piece));
-        break;
+    uint32_t kind = random_below(random, BYTE_DAMAGES + 9);
+    if (kind < BYTE_DAMAGES) {
+        damage_byte(text, place, (ByteDamage)kind, byte);
+    } else if (kind == BYTE_DAMAGES) {
+        damage_byte(text, place, BYTE_REPLACED, '\n');
+    } else if (kind == BYTE_DAMAGES + 1) {
+        bytes_put(text, text->count, 0, piece, strlen(piece));
+    } else if (kind == BYTE_DAMAGES + 2) {
+        bytes_put(text, spot_before_tests(text), 0, "# a\n", 4);
+    } else {
+        bytes_put(text, random_spot(random, text), 0, piece, strlen(piece));
     }
 }
 
 void damage_suite_text(Random *random, Bytes *text) {
-    uint32_t times = 1 + random_one_in(random, 5);
-    for (uint32_t time = 0; time < times && text->count > 0; time++) {
-        damage_once(random, text);
-    }
+    damage_somewhere(random, text, damage_at);
 }
 
 // Adds spaces, up to the longest text or one byte more.
@@ -139,13 +116,9 @@ static Bytes random_suite_text(Random *random) {
     return text;
 }
 
-int run_suite_texts(uint64_t seed, uint64_t count) {
-    Random random = {seed};
-    for (uint64_t index = 0; index < count; index++) {
-        Bytes text = random_suite_text(&random);
-        print_hexadecimal(&text, stdout);
-        putchar('\n');
-        bytes_free(&text);
-    }
-    return 0;
+void print_suite_text(Random *random) {
+    Bytes text = random_suite_text(random);
+    print_hexadecimal(&text, stdout);
+    putchar('\n');
+    bytes_free(&text);
 }

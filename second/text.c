@@ -88,7 +88,7 @@ static void print_answer(const Outcome *outcome) {
            outcome->length, outcome->readings);
 }
 
-uint32_t answer_meet(const Call *call) {
+Outcome answer_meet(const Call *call) {
     Outcome outcome = call_run(call);
     print_answer(&outcome);
     putchar('\n');
@@ -97,7 +97,7 @@ uint32_t answer_meet(const Call *call) {
         putchar('\n');
     }
     words_free(&outcome.result);
-    return outcome.number;
+    return outcome;
 }
 
 bool meet_read(Call *call) {

@@ -1,6 +1,7 @@
 // Unification: the checks in the order of the table, then the step the mode asks for.
 #include "unify.h"
 
+#include "clash_node.h"
 #include "full.h"
 #include "join.h"
 #include "tidy.h"
@@ -23,8 +24,19 @@ static bool join_descriptions(const Description *first, const Description *secon
     return true;
 }
 
+bool is_clash(uint32_t number) {
+    return number == CLASH || number == QUICK_FAILS || number == NO_CHOICE;
+}
+
 static Outcome refusal(uint32_t number) {
     return (Outcome){.number = number};
+}
+
+// The definite graphs clash, at some node.
+static Outcome refusal_at_node(const Description *first, const Description *second) {
+    Outcome outcome = refusal(CLASH);
+    clash_node(&first->graph, &second->graph, &outcome.node);
+    return outcome;
 }
 
 // Writes a description, which is consumed, if the result area has room for it.
@@ -46,7 +58,7 @@ static Outcome run_full(Description *joined, size_t result_room) {
     Description result;
     uint32_t readings = full(joined, &result);
     if (readings == 0) {
-        return refusal(CLASH);
+        return refusal(NO_CHOICE);
     }
     return deliver(&result, readings, result_room);
 }
@@ -55,7 +67,7 @@ static Outcome run_full(Description *joined, size_t result_room) {
 static Outcome run_tidied(uint32_t mode, Description *joined, size_t result_room) {
     Description quick;
     if (!tidy_whole(joined, &quick)) {
-        return refusal(CLASH);
+        return refusal(QUICK_FAILS);
     }
     if (mode == MODE_QUICK) {
         return deliver(&quick, 0, result_room);
@@ -69,7 +81,7 @@ static Outcome run_mode(uint32_t mode, const Description *first, const Descripti
                         size_t result_room) {
     Description joined;
     if (!join_descriptions(first, second, &joined)) {
-        return refusal(CLASH);
+        return refusal_at_node(first, second);
     }
     if (mode == MODE_JOIN) {
         return deliver(&joined, 0, result_room);

@@ -14,10 +14,12 @@ enum {
     INPUT_LONG = 3,
     FIRST_MALFORMED = 4,
     SECOND_MALFORMED = 5,
-    CLASH = 6,
+    CLASH = 6, // the definite graphs clash; in the fit test, the structure does not satisfy
     CHOICES_MANY = 7,
     RESULT_LONG = 8,
-    STRUCTURE_DISJUNCTIVE = 9
+    STRUCTURE_DISJUNCTIVE = 9,
+    QUICK_FAILS = 10,
+    NO_CHOICE = 11
 };
 
 enum { MODE_JOIN = 0, MODE_QUICK = 1, MODE_FULL = 2 };
@@ -26,8 +28,12 @@ typedef struct {
     uint32_t number;
     uint32_t length;
     uint32_t readings;
-    Words result; // empty unless the number is 0; freed by the caller
+    uint32_t node; // after 6 the smallest node whose class holds a clash, else 0
+    Words result;  // empty unless the number is 0; freed by the caller
 } Outcome;
+
+// Whether a number of unification says that the two inputs do not agree.
+bool is_clash(uint32_t number);
 
 // Unifies two descriptions, for a result area and a working area of the given sizes.
 Outcome unify(uint32_t mode, const uint32_t *first, size_t first_length, const uint32_t *second,

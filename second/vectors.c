@@ -21,7 +21,8 @@ enum { LONGEST_USUAL = 2000 };
 // What a vector is of.
 enum { STORED_UNIFY, STORED_FIT, STORED_JOIN };
 
-// What it is of, mode, room, work, number, length, readings, both inputs, and the words of a result.
+// What it is of, mode, room, work, number, length, readings, node, both inputs, and the words of a
+// result.
 static void put_call(uint32_t stored, const Call *call) {
     Outcome outcome = call_run(call);
     put_word(stored);
@@ -31,6 +32,7 @@ static void put_call(uint32_t stored, const Call *call) {
     put_word(outcome.number);
     put_word(outcome.length);
     put_word(outcome.readings);
+    put_word(outcome.node);
     put_counted(&call->first);
     put_counted(&call->second);
     put_counted(&outcome.result);

@@ -16,7 +16,7 @@ struct call {
 };
 
 struct answer {
-    uint32_t number, told[2], result[BUBLASTYR_LONGEST_RESULT];
+    uint32_t number, told[3], result[BUBLASTYR_LONGEST_RESULT];
 };
 
 static uint32_t working[BUBLASTYR_WORKING];

@@ -46,7 +46,7 @@ static void put_inputs(uint32_t count, uint32_t nodes, int clash) {
 
 int main(int count, char **words_typed) {
     static const uint32_t nothing[] = {1, 0, 0};
-    uint32_t told[2], number;
+    uint32_t told[3], number;
     if (count != 5)
         return 2;
     put_inputs((uint32_t)atoi(words_typed[2]), (uint32_t)atoi(words_typed[3]),

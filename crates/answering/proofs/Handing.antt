@@ -10,7 +10,7 @@ use Rattle.area.specs.Region.{region}
 use Rattle.answering.specs.declared.hand.Made.{Made}
 use Rattle.answering.specs.declared.hand.Made.the-variants as made
 use Rattle.answering.specs.declared.answer.Answer.{Answer}
-use Rattle.answering.specs.declared.answer.Answer.the-variants.{Done, Clash, TooMany, NoRoom}
+use Rattle.answering.specs.declared.answer.Answer.the-variants.{Done, Clash, TooMany, NoRoom, QuickFails, NoChoice}
 use Rattle.answering.specs.Handing.{ResultInside, Handed}
 use Rattle.answering.specs.Caused.{Caused}
 
@@ -18,13 +18,13 @@ pub handed-room : (w : List ℕ) (m : Made) (n k : ℕ) → m ≡ made.Ready n k
 handed-room w m n k e h = subst (ResultInside w) e h
 
 module _ (w s : List ℕ) where
-  pub handed-clash : (m : Made) → m ≡ made.Clash → Handed w s m Clash s
-  handed-clash m e = rw e (refl, refl)
+  pub handed-clash : (m : Made) (i : ℕ) → m ≡ made.Clash i → Handed w s m (Clash i) s
+  handed-clash m i e = rw e (refl, refl)
 
-  pub handed-fails : (m : Made) → m ≡ made.QuickFails → Handed w s m Clash s
+  pub handed-fails : (m : Made) → m ≡ made.QuickFails → Handed w s m QuickFails s
   handed-fails m e = rw e (refl, refl)
 
-  pub handed-none : (m : Made) → m ≡ made.NoChoice → Handed w s m Clash s
+  pub handed-none : (m : Made) → m ≡ made.NoChoice → Handed w s m NoChoice s
   handed-none m e = rw e (refl, refl)
 
   pub handed-many : (m : Made) → m ≡ made.TooMany → Handed w s m TooMany s
@@ -39,7 +39,7 @@ module _ (w s : List ℕ) where
 
 -- only a malformed input has a cause, and of such nothing is made
 pub handed-caused : (a b w s : List ℕ) (m : Made) (r : Answer) (s′ : List ℕ) → Handed w s m r s′ → Caused a b r
-handed-caused a b w s made.Clash r s′ (e, same) = subst (Caused a b) (sym e) tt
+handed-caused a b w s (made.Clash i) r s′ (e, same) = subst (Caused a b) (sym e) tt
 handed-caused a b w s made.QuickFails r s′ (e, same) = subst (Caused a b) (sym e) tt
 handed-caused a b w s made.TooMany r s′ (e, same) = subst (Caused a b) (sym e) tt
 handed-caused a b w s made.NoChoice r s′ (e, same) = subst (Caused a b) (sym e) tt

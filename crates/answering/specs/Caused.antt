@@ -7,7 +7,7 @@ use Rattle.roles.specs.Coded.{cause-of}
 use Rattle.roles.specs.declared.cause.Cause.{Cause}
 use Rattle.answering.specs.declared.answer.Answer.{Answer}
 use Rattle.answering.specs.declared.answer.Answer.the-variants.{Done, BadMode, SmallArea, TooLong, BadFirst, BadSecond, Clash}
-use Rattle.answering.specs.declared.answer.Answer.the-variants.{TooMany, NoRoom}
+use Rattle.answering.specs.declared.answer.Answer.the-variants.{TooMany, NoRoom, QuickFails, NoChoice}
 
 -- the cause is that of the first word that breaks a rule
 abbrev pub CauseIn : List ℕ → Cause → Type 0
@@ -21,6 +21,8 @@ Caused first second (Done n r) = Unit {0}
 Caused first second BadMode = Unit {0}
 Caused first second SmallArea = Unit {0}
 Caused first second TooLong = Unit {0}
-Caused first second Clash = Unit {0}
+Caused first second (Clash i) = Unit {0}
 Caused first second TooMany = Unit {0}
 Caused first second (NoRoom n) = Unit {0}
+Caused first second QuickFails = Unit {0}
+Caused first second NoChoice = Unit {0}

@@ -4,11 +4,11 @@ use crate::areas::copy_out;
 use area::map::RESULT;
 ghost use Rattle.answering.specs.Handing.{ResultInside, Handed};
 
-// What was made: a result of so many words, which stand in the working area, with so many readings; or the definite graphs clash,
-// the quick step fails, there are too many choices, or no choice is consistent.
+// What was made: a result of so many words, which stand in the working area, with so many readings; or the definite graphs clash
+// at a node, the quick step fails, there are too many choices, or no choice is consistent.
 pub enum Made {
     Ready { length: usize, readings: u32 },
-    Clash,
+    Clash { node: usize },
     QuickFails,
     TooMany,
     NoChoice,
@@ -20,10 +20,10 @@ pub fn hand_over(made: Made, working: &[u32], result: &mut [u32]) -> Answer
     ensures { λ r. ⌜ Handed (now (working .entry)) (now (result .entry)) made r (now (result .exit)) ⌝ }
 {
     match made {
-        Made::Clash => Answer::Clash,
-        Made::QuickFails => Answer::Clash,
+        Made::Clash { node } => Answer::Clash { node },
+        Made::QuickFails => Answer::QuickFails,
         Made::TooMany => Answer::TooMany,
-        Made::NoChoice => Answer::Clash,
+        Made::NoChoice => Answer::NoChoice,
         Made::Ready { length, readings } => {
             if result.len() < length {
                 return Answer::NoRoom { length };

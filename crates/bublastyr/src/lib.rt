@@ -6,7 +6,7 @@ ghost use Rattle.malformed.specs.Malformed.{Reported};
 ghost use Rattle.translate.specs.Answered.{Answered};
 ghost use Rattle.suite.specs.Suite.{Suited};
 
-// Unifies two descriptions. Answers document 01's number; length and readings go to `told`.
+// Unifies two descriptions. Answers document 01's number; length, readings and node go to `told`.
 #[no_mangle]
 pub extern "C" fn bublastyr_unify(
     mode: u32,
@@ -14,37 +14,47 @@ pub extern "C" fn bublastyr_unify(
     second: &[u32],
     result: &mut [u32],
     working: &mut [u32],
-    told: &mut [u32; 2],
+    told: &mut [u32; 3],
 ) -> u32
     ensures { λ r. ⌜ Outcome (record { mode = mode; first = now (first .entry); second = now (second .entry) })
         (record { result = now (result .entry); working = now (working .entry) })
-        (record { number = r; extent = getD (now (told .exit)) 0 0; readings = getD (now (told .exit)) 1 0 })
+        (record {
+          number = r;
+          extent = getD (now (told .exit)) 0 0;
+          readings = getD (now (told .exit)) 1 0;
+          node = getD (now (told .exit)) 2 0;
+        })
         (record { result = now (result .exit); working = now (working .exit) }) ⌝ }
 {
     let answer = unify::unify(mode, first, second, result, working);
     let row = answering::answer::told(answer);
-    *told = [row.length as u32, row.readings];
+    *told = [row.length as u32, row.readings, row.node as u32];
     row.number
 }
 
-// Unifies two descriptions in mode 2 by the plain engine. Answers document 01's number; length and readings go to `told`.
+// Unifies two descriptions in mode 2 by the plain engine. Answers document 01's number; length, readings and node go to `told`.
 #[no_mangle]
 pub extern "C" fn bublastyr_plain(
     first: &[u32],
     second: &[u32],
     result: &mut [u32],
     working: &mut [u32],
-    told: &mut [u32; 2],
+    told: &mut [u32; 3],
 ) -> u32
     ensures { λ r. ⌜ Outcome (record { mode = 2; first = now (first .entry); second = now (second .entry) })
         (record { result = now (result .entry); working = now (working .entry) })
-        (record { number = r; extent = getD (now (told .exit)) 0 0; readings = getD (now (told .exit)) 1 0 })
+        (record {
+          number = r;
+          extent = getD (now (told .exit)) 0 0;
+          readings = getD (now (told .exit)) 1 0;
+          node = getD (now (told .exit)) 2 0;
+        })
         (record { result = now (result .exit); working = now (working .exit) }) ⌝ }
 {
     let answer = unify::plain(first, second, result, working);
-    let row = answering::answer::told(answer);
-    *told = [row.length as u32, row.readings];
-    row.number
+    let plain = answering::answer::told(answer);
+    *told = [plain.length as u32, plain.readings, plain.node as u32];
+    plain.number
 }
 
 // Tells whether the structure satisfies the description: document 01's number.
@@ -88,7 +98,7 @@ pub extern "C" fn bublastyr_suite(
     result: &mut [u32],
     working: &mut [u32],
     running: &mut suite::running::Running,
-    counts: &mut [[u32; 9]; 3],
+    counts: &mut [[u32; 12]; 3],
 ) -> u32
     ensures { λ r. ⌜ Suited (now (words .entry)) (now (tests .entry))
         (record {

@@ -27,7 +27,10 @@ fn same_row(a: Row, b: Row) -> bool {
     if a.length != b.length {
         return false;
     }
-    a.readings == b.readings
+    if a.readings != b.readings {
+        return false;
+    }
+    a.node == b.node
 }
 
 // Runs the fast engine in mode 2 in these areas, which hold something else before.
@@ -46,7 +49,7 @@ fn by_expansion(first: &[u32], second: &[u32], result: &mut [u32], working: &mut
     told(answer)
 }
 
-// Whether both engines answer these inputs alike: number, length, readings, and every word of both areas, which are as long.
+// Whether both engines answer these inputs alike: number, length, readings, node, and every word of both areas, which are as long.
 pub fn alike(first: &[u32], second: &[u32]) -> bool {
     let mut result = result_space();
     let mut working = work_space();

@@ -45,7 +45,12 @@ pub record Facts : Type 0 where
   pub r : Bool
 
 abbrev three : Joining Facts
-three = record { join = join; nil = record { p = false; q = false; r = false } }
+three = record {
+  join = join;
+  nil = record { p = false; q = false; r = false };
+  ClashNode = λ g h i. i ≡ 0;
+  clash-node = λ g h. 0;
+}
   where
     all : List Facts → Facts
     all [] = record { p = false; q = false; r = false }

@@ -12,7 +12,7 @@ use Rattle.descriptions.specs.Call.{Call}
 use Rattle.descriptions.specs.Answer.{Answer}
 use Rattle.descriptions.specs.Outcome.{Areas, Outcome, Row, wiped, worked}
 use Rattle.descriptions.specs.Unified.{unified}
-use Rattle.descriptions.specs.Rules.{Given, done, eight, five, four, one, seven, six, six-after, three, two}
+use Rattle.descriptions.specs.Rules.{Given, done, eight, eleven, five, four, one, seven, six, ten, three, two}
 use Rattle.descriptions.proofs.Table.{unified-given}
 use Rattle.descriptions.proofs.Layouts.{Reads}
 use Rattle.descriptions.specs.Joining.{Joining}
@@ -56,9 +56,10 @@ module _ {Graph : Type 0} (J : Joining Graph) (𝓕 : Layout Graph) where
   given-writes C room work r (three m w h) = nothing (not-zero 3 (omega arith)) refl
   given-writes C room work r (four m w la lb n) = nothing (not-zero 4 (omega arith)) refl
   given-writes C room work r (five m w la lb i n) = nothing (not-zero 5 (omega arith)) refl
-  given-writes C room work r (six d e A c) = nothing (not-zero 6 (omega arith)) refl
+  given-writes C room work r (six d e i A h n) = nothing (not-zero 6 (omega arith)) refl
+  given-writes C room work r (ten d e A j l h) = nothing (not-zero 10 (omega arith)) refl
   given-writes C room work r (seven d e A c t) = nothing (not-zero 7 (omega arith)) refl
-  given-writes C room work r (six-after d e A c t m n) = nothing (not-zero 6 (omega arith)) refl
+  given-writes C room work r (eleven d e A c t m n) = nothing (not-zero 11 (omega arith)) refl
   given-writes C room work r (eight d e s A c t h l) = nothing (not-zero 8 (omega arith)) refl
   given-writes C room work r (done d e s A c t h l) = result refl refl l
 
@@ -70,9 +71,10 @@ module _ {Graph : Type 0} (J : Joining Graph) (𝓕 : Layout Graph) where
   given-area C room work r (three m w h) = inl (omega arith, omega arith)
   given-area C room work r (four m w la lb n) = inl (omega arith, omega arith)
   given-area C room work r (five m w la lb i n) = inl (omega arith, omega arith)
-  given-area C room work r (six d e A c) = inr (inr (omega arith), A .area-fine)
+  given-area C room work r (six d e i A h n) = inr (inr (omega arith), A .area-fine)
+  given-area C room work r (ten d e A j l h) = inr (inr (omega arith), A .area-fine)
   given-area C room work r (seven d e A c t) = inr (inr (omega arith), A .area-fine)
-  given-area C room work r (six-after d e A c t m n) = inr (inr (omega arith), A .area-fine)
+  given-area C room work r (eleven d e A c t m n) = inr (inr (omega arith), A .area-fine)
   given-area C room work r (eight d e s A c t h l) = inr (inr (omega arith), A .area-fine)
   given-area C room work r (done d e s A c t h l) = inr (inl refl, A .area-fine)
 
@@ -89,7 +91,7 @@ module _ {Graph : Type 0} {J : Joining Graph} {𝓛 : Laws J} {𝓕 : Layout Gra
 
     pub outcome : (r : Row) × (after : Areas) × Outcome J 𝓕 C before r after
     outcome = (
-      record { number = told .number; extent = told .extent; readings = told .readings },
+      record { number = told .number; extent = told .extent; readings = told .readings; node = told .node },
       record { result = told .result ++ drop (length (told .result)) (before .result); working = worked (told .number) (before .working) },
       record {
         answer = told;
@@ -97,6 +99,7 @@ module _ {Graph : Type 0} {J : Joining Graph} {𝓛 : Laws J} {𝓕 : Layout Gra
         the-number = refl;
         the-extent = refl;
         the-readings = refl;
+        the-node = refl;
         the-result = refl;
         the-working = refl;
       },

@@ -15,7 +15,7 @@ use Rattle.descriptions.specs.Call.{Call}
 use Rattle.descriptions.specs.Answer.{Answer, consistent}
 use Rattle.descriptions.specs.Unified.{unified}
 use Rattle.descriptions.specs.Rules.{Accepted, Given, mode-readings, mode-result}
-use Rattle.descriptions.specs.Demands.{Demand2, Demand3, Refused, Succeeds}
+use Rattle.descriptions.specs.Demands.{ClashNumber, Demand2, Demand3, Refused, Succeeds}
 use Rattle.descriptions.specs.Demands.{ListCall, call, one-of-each, items, reached, start, ways, next-call, with-words}
 use Rattle.descriptions.proofs.Layouts.{Reads, one-image}
 use Rattle.descriptions.proofs.Tests.{Tells, holds, tells-eq}
@@ -25,7 +25,7 @@ use Rattle.descriptions.proofs.Chain.{both, consistent-means}
 use Rattle.descriptions.proofs.Table.{full-is, unified-given}
 use Rattle.descriptions.proofs.Lists.{AllCan, Stands-for, both-swap, next-ways, no-more, nothing-said, one-more, one-more-behind}
 use Rattle.descriptions.proofs.Lists.{regroup, sofar, stands-ways}
-use Rattle.descriptions.proofs.Kept.{Good, None, none-means, none-sat, on-six, on-zero, which}
+use Rattle.descriptions.proofs.Kept.{Good, None, none-means, none-sat, on-clash, on-zero, which}
 use Rattle.descriptions.specs.Joining.{Joining}
 use Rattle.descriptions.specs.Structures.{Structures}
 use Rattle.descriptions.proofs.Laws.{Laws}
@@ -143,9 +143,9 @@ module _ {Graph : Type 0} {J : Joining Graph} {𝓛 : Laws J} {𝓜 : Structures
         let j : e ≡ b = one-image 𝓡 e b (A .second-well) q (sym (A .second-is)) in
         (s, subst (λ (x : Desc Graph). Good J 𝓕 C work r x b s) i (subst (λ (y : Desc Graph). Good J 𝓕 C work r d y s) j g))
 
-    pub six-result : r .number ≡ 6 → None J a b
-    six-result z =
-        let (d, e, A, n) = on-six J 𝓕 C room work r given z in
+    pub clash-result : ClashNumber (r .number) → None J a b
+    clash-result z =
+        let (d, e, A, n) = on-clash J 𝓕 C room work r given z in
         let i : d ≡ a = one-image 𝓡 d a (A .first-well) p (sym (A .first-is)) in
         let j : e ≡ b = one-image 𝓡 e b (A .second-well) q (sym (A .second-is)) in
         subst (λ (x : Desc Graph). None J x b) i (subst (λ (y : Desc Graph). None J d y) j n)
@@ -163,7 +163,7 @@ module _ {Graph : Type 0} {J : Joining Graph} {𝓛 : Laws J} {𝓜 : Structures
   demand2 = record {
     success = λ mode a b p q room work z. let (s, g) = zero-result mode a b p q room work z in
         (s, zero-succeeds mode a b p q room work s g);
-    clash = λ mode a b p q room work z S. none-sat 𝓢 S a b (well-can a p) (well-can b q) (six-result mode a b p q room work z);
+    clash = λ mode a b p q room work z S. none-sat 𝓢 S a b (well-can a p) (well-can b q) (clash-result mode a b p q room work z);
   }
 
   -- a call on the words in hand, by the inputs in their order
@@ -193,14 +193,14 @@ module _ {Graph : Type 0} {J : Joining Graph} {𝓛 : Laws J} {𝓜 : Structures
         let (t, g) = zero-result (s .mode) before behind (front-well 𝓕 s d p) (back-well 𝓕 s d p) (s .room) (s .work) number in
         (t, subst (λ (r : Answer). Good J 𝓕 between (s .work) r before behind t) (sym answered) g)
 
-    call-six : call 𝓕 (unified J 𝓕) ws s .number ≡ 6 → None J before behind
-    call-six z =
-        six-result (s .mode) before behind (front-well 𝓕 s d p) (back-well 𝓕 s d p) (s .room) (s .work)
-        (sym (ap (λ (r : Answer). r .number) answered) ∙ z)
+    call-clash : ClashNumber (call 𝓕 (unified J 𝓕) ws s .number) → None J before behind
+    call-clash z =
+        clash-result (s .mode) before behind (front-well 𝓕 s d p) (back-well 𝓕 s d p) (s .room) (s .work)
+        (subst (λ (r : Answer). ClashNumber (r .number)) answered z)
 
     call-which : (call 𝓕 (unified J 𝓕) ws s .number ≡ 0)
-        ⊎ ((call 𝓕 (unified J 𝓕) ws s .number ≡ 6) ⊎ Refused (call 𝓕 (unified J 𝓕) ws s .number))
-    call-which = subst (λ (r : Answer). (r .number ≡ 0) ⊎ ((r .number ≡ 6) ⊎ Refused (r .number))) (sym answered)
+        ⊎ (ClashNumber (call 𝓕 (unified J 𝓕) ws s .number) ⊎ Refused (call 𝓕 (unified J 𝓕) ws s .number))
+    call-which = subst (λ (r : Answer). (r .number ≡ 0) ⊎ (ClashNumber (r .number) ⊎ Refused (r .number))) (sym answered)
         (which J 𝓕 between (s .room) (s .work) (unified J 𝓕 between (s .room) (s .work))
         (unified-given 𝓡 between (s .room) (s .work)))
 
@@ -248,11 +248,11 @@ module _ {Graph : Type 0} {J : Joining Graph} {𝓛 : Laws J} {𝓜 : Structures
       count l ws h = let (d, p, e, m) = after-calls l ws h in (d, p, e, stands-ways 𝓛 (items 𝓕 l) (items-can 𝓡 l) d m)
 
       clash : (l : List (ListCall 𝓕)) (ws : List ℕ) (s : ListCall 𝓕) → reached 𝓕 (unified J 𝓕) (start J 𝓕) l ≡ some ws →
-          call 𝓕 (unified J 𝓕) ws s .number ≡ 6 → ways J (items 𝓕 l ++ s .item ∷ []) ≡ 0
+          ClashNumber (call 𝓕 (unified J 𝓕) ws s .number) → ways J (items 𝓕 l ++ s .item ∷ []) ≡ 0
       clash l ws s h z =
           let (d, p, e, m) = after-calls l ws h in
           next-step 𝓡 l s d p m ∙ ap length
-          (none-means 𝓛 (front 𝓕 s d) (back 𝓕 s d) (before-can ws s d p e) (behind-can ws s d p e) (call-six ws s d p e z))
+          (none-means 𝓛 (front 𝓕 s d) (back 𝓕 s d) (before-can ws s d p e) (behind-can ws s d p e) (call-clash ws s d p e z))
 
       -- the consistent choices of both inputs are the ways
       consistent-ways : (l : List (ListCall 𝓕)) (ws : List ℕ) (s : ListCall 𝓕) (d : Desc Graph) (p : WellFormed d depth-limit)
@@ -270,7 +270,8 @@ module _ {Graph : Type 0} {J : Joining Graph} {𝓛 : Laws J} {𝓜 : Structures
           g .count ∙ ap (λ (n : ℕ). mode-readings J n (front 𝓕 s d) (back 𝓕 s d)) k ∙ consistent-ways l ws s d p e m
 
       told : (l : List (ListCall 𝓕)) (ws : List ℕ) (s : ListCall 𝓕) → reached 𝓕 (unified J 𝓕) (start J 𝓕) l ≡ some ws → s .mode ≡ 2 →
-          ways J (items 𝓕 l ++ s .item ∷ []) ≡ 0 → (call 𝓕 (unified J 𝓕) ws s .number ≡ 6) ⊎ Refused (call 𝓕 (unified J 𝓕) ws s .number)
+          ways J (items 𝓕 l ++ s .item ∷ []) ≡ 0 →
+          ClashNumber (call 𝓕 (unified J 𝓕) ws s .number) ⊎ Refused (call 𝓕 (unified J 𝓕) ws s .number)
       told l ws s h k w =
           let (d, p, e, m) = after-calls l ws h in
           ⊎-elim

@@ -2,8 +2,8 @@
 -- Assumes nothing.
 use mathlib.Core.Path.{_≡_}
 use mathlib.Core.Option.{none, some}
-use mathlib.Core.List.{List, _∷_, _++_, List·Memᴰ}
-use Prim.Native.Nat.{_<_}
+use mathlib.Core.List.{List, [], _∷_, _++_, List·Memᴰ}
+use Prim.Native.Nat.{ℕ, _<_}
 use lib.ListN.{length}
 use Rattle.descriptions.specs.Joining.{Joining}
 use Rattle.descriptions.specs.Canonical.{All}
@@ -29,3 +29,7 @@ pub record Laws {Graph : Type 0} (J : Joining Graph) : Type 1 where
       All Canonical hs → J .join (K ∷ hs) ≡ J .join (gs ++ hs)
   -- "the graph that says nothing"
   pub silent : (hs : List Graph) → All Canonical hs → J .join (J .nil ∷ hs) ≡ J .join hs
+  -- where two graphs clash, the program tells the node; there is one only, and only where they clash
+  pub located : (g h : Graph) → Canonical g → Canonical h → J .join (g ∷ h ∷ []) ≡ none → J .ClashNode g h (J .clash-node g h)
+  pub one-node : (g h : Graph) (i j : ℕ) → J .ClashNode g h i → J .ClashNode g h j → i ≡ j
+  pub node-clash : (g h : Graph) → Canonical g → Canonical h → (i : ℕ) → J .ClashNode g h i → J .join (g ∷ h ∷ []) ≡ none

@@ -19,7 +19,7 @@ use Rattle.descriptions.specs.Programs.{Left, Program, all-small, are-wo
 use Rattle.descriptions.specs.Limits.{word-limit, length-limit}
 use Rattle.descriptions.specs.Unified.{unified}
 use Rattle.descriptions.specs.Rules.{Given}
-use Rattle.descriptions.specs.Demands.{Demand2, Demand3, Refused, Succeeds, Unifier}
+use Rattle.descriptions.specs.Demands.{ClashNumber, Demand2, Demand3, Refused, Succeeds, Unifier}
 use Rattle.descriptions.specs.Demands.{ListCall, call, items, reached, start, ways, next-call, with-words}
 use Rattle.descriptions.proofs.Tests.{eqb-yes}
 use Rattle.descriptions.proofs.Table.{given-unified, one-answer, unified-given}
@@ -62,10 +62,16 @@ module _ {Graph : Type 0} (J : Joining Graph) (𝓕 : Layout Graph) where
   left-answer C before r o = go (eqb (r .row .number) 0) refl (given-writes J 𝓕 C _ _ (o .answer) (o .given))
     where
       whole : List ℕ → Answer
-      whole ws = record { number = r .row .number; extent = r .row .extent; readings = r .row .readings; result = ws }
+      whole ws = record {
+        number = r .row .number;
+        extent = r .row .extent;
+        readings = r .row .readings;
+        node = r .row .node;
+        result = ws;
+      }
 
       parts : (ws : List ℕ) → o .answer .result ≡ ws → o .answer ≡ whole ws
-      parts ws e = rw (o .the-number, o .the-extent, o .the-readings, sym e) refl
+      parts ws e = rw (o .the-number, o .the-extent, o .the-readings, o .the-node, sym e) refl
 
       go : (t : Bool) → eqb (r .row .number) 0 ≡ t → Writes (length (before .result)) (o .answer) →
           o .answer ≡ whole (elim t [ true ↦ take (r .row .extent) (r .after .result) | false ↦ [] ])
@@ -92,7 +98,7 @@ module _ {Graph : Type 0} {J : Joining Graph} {𝓛 : Laws J} {𝓜 : Structures
           subst (λ (r : Answer). r .number ≡ 0 → (d : Desc Graph) × Succeeds J 𝓜 𝓕 mode a b r d) (same (with-words 𝓕 mode a b) room work)
           (demand2 𝓢 𝓡 .success mode a b x y room work);
       clash = λ mode a b x y room work.
-          subst (λ (r : Answer). r .number ≡ 6 → (S : Structure) → Sat 𝓜 S a → Sat 𝓜 S b → ⊥) (same (with-words 𝓕 mode a b) room work)
+          subst (λ (r : Answer). ClashNumber (r .number) → (S : Structure) → Sat 𝓜 S a → Sat 𝓜 S b → ⊥) (same (with-words 𝓕 mode a b) room work)
           (demand2 𝓢 𝓡 .clash mode a b x y room work);
     }
 
@@ -116,9 +122,9 @@ module _ {Graph : Type 0} {J : Joining Graph} {𝓛 : Laws J} {𝓜 : Structures
     pub table-demand3 : Demand3 J 𝓕 U
     table-demand3 = record {
       number = λ l ws e. demand3 𝓢 𝓡 .number l ws (came l ws e);
-      clash = λ l ws s e. subst (λ (r : Answer). r .number ≡ 6 →
+      clash = λ l ws s e. subst (λ (r : Answer). ClashNumber (r .number) →
           ways J (items 𝓕 l ++ s .item ∷ []) ≡ 0) (called ws s) (demand3 𝓢 𝓡 .clash l ws s (came l ws e));
-      told = λ l ws s e m z. subst (λ (r : Answer). (r .number ≡ 6) ⊎ Refused (r .number)) (called ws s)
+      told = λ l ws s e m z. subst (λ (r : Answer). ClashNumber (r .number) ⊎ Refused (r .number)) (called ws s)
           (demand3 𝓢 𝓡 .told l ws s (came l ws e) m z);
       counted = λ l ws s e m. subst (λ (r : Answer). r .number ≡ 0 → r .readings ≡ ways J (items 𝓕 l ++ s .item ∷ [])) (called ws s)
           (demand3 𝓢 𝓡 .counted l ws s (came l ws e) m);

@@ -11,14 +11,14 @@ use lib.ListN.{length, drop}
 use lib.Dec.{ltb}
 use borrow.Author.Tests.{le-ltb, lt-ltb}
 use Rattle.descriptions.specs.Limits.{choice-limit, depth-limit, input-limit, working-size}
-use Rattle.descriptions.specs.Descr.{Desc, agree, agreeing, choices, number, readings}
+use Rattle.descriptions.specs.Descr.{Desc, agree, agreeing, _then_, choices, definite-graph, desc, number, readings}
 use Rattle.descriptions.specs.Modes.{fold, full, joined, prune, quick, some-agree}
 use Rattle.descriptions.specs.Call.{Call}
-use Rattle.descriptions.specs.Answer.{Answer, consistent, refuse}
+use Rattle.descriptions.specs.Answer.{Answer, clash-at, consistent, no-room, refuse, success}
 use Rattle.descriptions.specs.Outcome.{Areas, Outcome, Row, worked}
-use Rattle.descriptions.specs.Unified.{complete, deliver, in-mode, unified}
-use Rattle.descriptions.specs.Rules.{Accepted, Clashes, Given, TooMany, done, eight, five, four, mode-readings, mode-result, one}
-use Rattle.descriptions.specs.Rules.{seven, six, six-after, three, two}
+use Rattle.descriptions.specs.Unified.{beyond, complete, deliver, deliver-or, in-mode, unified}
+use Rattle.descriptions.specs.Rules.{Accepted, Clashes, Given, TooMany, done, eight, eleven, five, four, mode-readings, mode-result}
+use Rattle.descriptions.specs.Rules.{one, seven, six, ten, three, two}
 use Rattle.descriptions.proofs.Tests.{Tells, fails, holds, none-is, tells-lt}
 use Rattle.descriptions.proofs.Layouts.{Decoded, Reads, is, malformed}
 use Rattle.descriptions.proofs.Full.{whole}
@@ -35,17 +35,19 @@ is-long ws = lt-ltb input-limit (length ws)
 module _ {Graph : Type 0} (𝓕 : Layout Graph) where
   open Layout 𝓕 using (words)
 
-  deliver-none : (room n : ℕ) → deliver 𝓕 room n none ≡ refuse 6
-  unfolding deliver
-  deliver-none room n = refl
+  deliver-none : (n room k : ℕ) → deliver-or 𝓕 n room k none ≡ refuse n
+  unfolding deliver-or
+  deliver-none n room k = refl
 
-  deliver-eight : (room n : ℕ) (r : Desc Graph) → room < length (words r) →
-      deliver 𝓕 room n (some r) ≡ record { number = 8; extent = length (words r); readings = 0; result = [] }
+  deliver-some : (n room k : ℕ) (r : Desc Graph) → deliver-or 𝓕 n room k (some r) ≡ deliver 𝓕 room k r
+  unfolding deliver-or
+  deliver-some n room k r = refl
+
+  deliver-eight : (room n : ℕ) (r : Desc Graph) → room < length (words r) → deliver 𝓕 room n r ≡ no-room (length (words r))
   unfolding deliver
   deliver-eight room n r h = rw (lt-ltb room (length (words r)) h, deliver)
 
-  deliver-done : (room n : ℕ) (r : Desc Graph) → length (words r) ≤ room →
-      deliver 𝓕 room n (some r) ≡ record { number = 0; extent = length (words r); readings = n; result = words r }
+  deliver-done : (room n : ℕ) (r : Desc Graph) → length (words r) ≤ room → deliver 𝓕 room n r ≡ success n (words r)
   unfolding deliver
   deliver-done room n r h = rw (le-ltb room (length (words r)) h, deliver)
 
@@ -56,6 +58,16 @@ module _ {Graph : Type 0} (J : Joining Graph) where
   pub quick-joined : (d e : Desc Graph) → joined J d e ≡ none → quick J d e ≡ none
   unfolding quick
   quick-joined d e h = rw (h, quick)
+
+  -- the definite graphs clash where the descriptions do not join
+  pub joined-clash : (d e : Desc Graph) → joined J d e ≡ none → join (definite-graph d ∷ definite-graph e ∷ []) ≡ none
+  unfolding joined
+  joined-clash (desc g ds) (desc h es) n = go (join (g ∷ h ∷ [])) n
+    where
+      go : (o : Option Graph) → _≡_ {A = Option (Desc Graph)} (elim o [ none ↦ none | some k ↦ some (desc k (ds then es)) ]) none →
+          o ≡ none
+      go none q = refl
+      go (some k) q = let z : _≡_ {A = ℕ} 0 1 = cc in absurd (omega arith)
 
   -- no consistent choice
   agreeing-none : (l : List (List Graph)) → some-agree J l ≡ false → agreeing J l ≡ 0
@@ -122,44 +134,32 @@ module _ {Graph : Type 0} (J : Joining Graph) (𝓕 : Layout Graph) where
     abbrev G : Answer → Type 0
     G r = Given J 𝓕 C room work r
 
-    -- the answer where a result is there or not
+    -- the answer where a result is there
     give : (d e : Desc Graph) → Accepted 𝓕 C work d e → ¬ (Clashes J (C .mode) d e) → ¬ (TooMany J (C .mode) d e) → (r : Desc Graph) →
-        mode-result J (C .mode) d e ≡ some r → G (deliver 𝓕 room (mode-readings J (C .mode) d e) (some r))
+        mode-result J (C .mode) d e ≡ some r → G (deliver 𝓕 room (mode-readings J (C .mode) d e) r)
     unfolding deliver
     give d e A c m r h = go (ltb room (length (words r))) (tells-lt room (length (words r)))
       where
-        go : (t : Bool) → Tells (room < length (words r)) t → G (elim t [
-          | true ↦ record { number = 8; extent = length (words r); readings = 0; result = [] }
-          | false ↦ record { number = 0; extent = length (words r); readings = mode-readings J (C .mode) d e; result = words r }
-        ])
+        go : (t : Bool) → Tells (room < length (words r)) t →
+            G (elim t [ true ↦ no-room (length (words r)) | false ↦ success (mode-readings J (C .mode) d e) (words r) ])
         go true (holds l) = eight d e r A c m h l
         go false (fails n) = done d e r A c m h (omega arith)
-
-  none-of : (C : Call) (room work n : ℕ) → Given J 𝓕 C room work (refuse 6) → Given J 𝓕 C room work (deliver 𝓕 room n none)
-  unfolding deliver
-  none-of C room work n g = g
-
-  six-of : (C : Call) (room work : ℕ) (d e : Desc Graph) (n : ℕ) → Accepted 𝓕 C work d e → Clashes J (C .mode) d e →
-      Given J 𝓕 C room work (deliver 𝓕 room n none)
-  six-of C room work d e n A c = none-of C room work n (six d e A c)
 
   abbrev asked : ℕ → List ℕ → List ℕ → Call
   asked mode a b = record { mode = mode; first = a; second = b }
 
-  in-mode-given : (mode : ℕ) (a b : List ℕ) (room work : ℕ) (d e : Desc Graph) → Accepted 𝓕 (asked mode a b) work d e →
-      Given J 𝓕 (asked mode a b) room work (in-mode J 𝓕 mode d e room)
-  unfolding in-mode complete
-  in-mode-given zero a b room work d e A = go (joined J d e) refl
+  -- where the definite graphs join, to j
+  beyond-given : (mode : ℕ) (a b : List ℕ) (room work : ℕ) (d e : Desc Graph) → Accepted 𝓕 (asked mode a b) work d e →
+      (j : Desc Graph) → joined J d e ≡ some j → Given J 𝓕 (asked mode a b) room work (beyond J 𝓕 mode d e room j)
+  unfolding beyond complete deliver-or
+  beyond-given zero a b room work d e A j h =
+      give (asked 0 a b) room work d e A (clash-zero J d e j h) (few J 0 d e (omega arith)) j h
+  beyond-given (suc zero) a b room work d e A j s = go (quick J d e) refl
     where
-      go : (o : Option (Desc Graph)) → joined J d e ≡ o → Given J 𝓕 (asked 0 a b) room work (deliver 𝓕 room 0 o)
-      go none h = six-of (asked 0 a b) room work d e 0 A (inl h)
-      go (some r) h = give (asked 0 a b) room work d e A (clash-zero J d e r h) (few J 0 d e (omega arith)) r h
-  in-mode-given (suc zero) a b room work d e A = go (quick J d e) refl
-    where
-      go : (o : Option (Desc Graph)) → quick J d e ≡ o → Given J 𝓕 (asked 1 a b) room work (deliver 𝓕 room 0 o)
-      go none h = six-of (asked 1 a b) room work d e 0 A (inr (omega arith, h))
+      go : (o : Option (Desc Graph)) → quick J d e ≡ o → Given J 𝓕 (asked 1 a b) room work (deliver-or 𝓕 10 room 0 o)
+      go none h = ten d e A (λ n. none-is j (sym n ∙ s)) (omega arith) h
       go (some r) h = give (asked 1 a b) room work d e A (clash-more J 1 d e r h) (few J 1 d e (omega arith)) r h
-  in-mode-given (suc (suc m)) a b room work d e A = go (quick J d e) refl
+  beyond-given (suc (suc m)) a b room work d e A j s = go (quick J d e) refl
     where
       mode : ℕ
       mode = suc (suc m)
@@ -168,14 +168,12 @@ module _ {Graph : Type 0} (J : Joining Graph) (𝓕 : Layout Graph) where
       two-is = let h = A .mode-fine in omega (arith, h)
 
       counted : Answer
-      counted = deliver 𝓕 room (consistent J d e) (full J d e)
+      counted = deliver-or 𝓕 11 room (consistent J d e) (full J d e)
 
       after : (q : Desc Graph) → quick J d e ≡ some q → ¬ (choice-limit < number q) →
           (o : Option (Desc Graph)) → full J d e ≡ o → FullView J d e o →
-          Given J 𝓕 (asked mode a b) room work (deliver 𝓕 room (consistent J d e) o)
-      after q h n none f (full-none c) =
-          none-of (asked mode a b) room work (consistent J d e)
-          (six-after d e A (clash-more J mode d e q h) (few-two J mode d e q h n) two-is c)
+          Given J 𝓕 (asked mode a b) room work (deliver-or 𝓕 11 room (consistent J d e) o)
+      after q h n none f (full-none c) = eleven d e A (clash-more J mode d e q h) (few-two J mode d e q h n) two-is c
       after q h n (some r) f v = give (asked mode a b) room work d e A (clash-more J mode d e q h) (few-two J mode d e q h n) r f
 
       limit : (q : Desc Graph) → quick J d e ≡ some q → (t : Bool) → Tells (choice-limit < number q) t →
@@ -185,54 +183,78 @@ module _ {Graph : Type 0} (J : Joining Graph) (𝓕 : Layout Graph) where
 
       go : (o : Option (Desc Graph)) → quick J d e ≡ o →
           Given J 𝓕 (asked mode a b) room work (elim o [
-            | none ↦ refuse 6
+            | none ↦ refuse 10
             | some q ↦ elim (ltb choice-limit (number q)) [ true ↦ refuse 7 | false ↦ counted ]
           ])
-      go none h = six d e A (inr (omega arith, h))
+      go none h = ten d e A (λ n. none-is j (sym n ∙ s)) (omega arith) h
       go (some q) h = limit q h (ltb choice-limit (number q)) (tells-lt choice-limit (number q))
 
   -- mode 2, the quick step done and the choices few
   complete-full : (room : ℕ) (d e : Desc Graph) → ¬ (Clashes J 2 d e) → ¬ (TooMany J 2 d e) →
-      complete J 𝓕 room d e ≡ deliver 𝓕 room (consistent J d e) (full J d e)
+      complete J 𝓕 room d e ≡ deliver-or 𝓕 11 room (consistent J d e) (full J d e)
   unfolding complete
   complete-full room d e c t = go (quick J d e) refl
     where
+      counted : Answer
+      counted = deliver-or 𝓕 11 room (consistent J d e) (full J d e)
+
       go : (o : Option (Desc Graph)) → quick J d e ≡ o →
           _≡_ {A = Answer} (elim o [
-            | none ↦ refuse 6
-            | some q ↦ elim (ltb choice-limit (number q)) [ true ↦ refuse 7 | false ↦ deliver 𝓕 room (consistent J d e) (full J d e) ]
-          ])
-          (deliver 𝓕 room (consistent J d e) (full J d e))
+            | none ↦ refuse 10
+            | some q ↦ elim (ltb choice-limit (number q)) [ true ↦ refuse 7 | false ↦ counted ]
+          ]) counted
       go none h = absurd (c (inr (omega arith, h)))
       go (some q) h = two (ltb choice-limit (number q)) (tells-lt choice-limit (number q))
         where
-          two : (s : Bool) → Tells (choice-limit < number q) s →
-              _≡_ {A = Answer} (elim s [ true ↦ refuse 7 | false ↦ deliver 𝓕 room (consistent J d e) (full J d e) ])
-              (deliver 𝓕 room (consistent J d e) (full J d e))
+          two : (s : Bool) → Tells (choice-limit < number q) s → _≡_ {A = Answer} (elim s [ true ↦ refuse 7 | false ↦ counted ]) counted
           two true (holds l) = absurd (t (refl, q, h, l))
           two false n = refl
 
-  in-mode-result : (mode : ℕ) (d e : Desc Graph) (room : ℕ) → mode ≤ 2 → ¬ (Clashes J mode d e) → ¬ (TooMany J mode d e) →
-      in-mode J 𝓕 mode d e room ≡ deliver 𝓕 room (mode-readings J mode d e) (mode-result J mode d e)
-  unfolding in-mode
-  in-mode-result zero d e room m c t = refl
-  in-mode-result (suc zero) d e room m c t = refl
-  in-mode-result (suc (suc k)) d e room m c t = let z : suc (suc k) ≡ 2 = omega arith in
-      complete-full room d e (subst (λ (n : ℕ). ¬ (Clashes J n d e)) z c) (subst (λ (n : ℕ). ¬ (TooMany J n d e)) z t)
+  -- the definite graphs join
+  module _ (d e : Desc Graph) (room : ℕ) where
+    in-mode-beyond : (mode : ℕ) (j : Desc Graph) → joined J d e ≡ some j → in-mode J 𝓕 mode d e room ≡ beyond J 𝓕 mode d e room j
+    unfolding in-mode
+    in-mode-beyond mode j h = rw (h, in-mode)
 
-  in-mode-clash : (mode : ℕ) (d e : Desc Graph) (room : ℕ) → Clashes J mode d e → in-mode J 𝓕 mode d e room ≡ refuse 6
-  unfolding in-mode complete
-  in-mode-clash zero d e room (inl h) = ap (deliver 𝓕 room 0) h ∙ deliver-none 𝓕 room 0
-  in-mode-clash zero d e room (inr h) = let l = h .0 in absurd (omega (arith, l))
-  in-mode-clash (suc zero) d e room (inl h) = ap (deliver 𝓕 room 0) (quick-joined J d e h) ∙ deliver-none 𝓕 room 0
-  in-mode-clash (suc zero) d e room (inr h) = ap (deliver 𝓕 room 0) (h .1) ∙ deliver-none 𝓕 room 0
-  in-mode-clash (suc (suc m)) d e room (inl h) = rw (quick-joined J d e h, complete)
-  in-mode-clash (suc (suc m)) d e room (inr h) = let k = h .1 in rw (k, complete)
+    joins : ¬ (joined J d e ≡ none) → (j : Desc Graph) × (joined J d e ≡ some j)
+    joins n = go (joined J d e) refl
+      where
+        go : (o : Option (Desc Graph)) → joined J d e ≡ o → (j : Desc Graph) × (o ≡ some j)
+        go none h = absurd (n h)
+        go (some j) h = (j, refl)
 
-  in-mode-many : (mode : ℕ) (d e : Desc Graph) (room : ℕ) → TooMany J mode d e → in-mode J 𝓕 mode d e room ≡ refuse 7
-  unfolding in-mode complete
-  in-mode-many mode d e room (z, q, h, l) = let k : in-mode J 𝓕 2 d e room ≡ refuse 7 =
-      rw (h, lt-ltb choice-limit (number q) l, complete) in rw z k
+    in-mode-ten : (mode : ℕ) → ¬ (joined J d e ≡ none) → 1 ≤ mode → quick J d e ≡ none → in-mode J 𝓕 mode d e room ≡ refuse 10
+    unfolding beyond complete
+    in-mode-ten zero n l h = absurd (omega arith)
+    in-mode-ten (suc zero) n l h = let (j, s) = joins n in
+        in-mode-beyond 1 j s ∙ ap (deliver-or 𝓕 10 room 0) h ∙ deliver-none 𝓕 10 room 0
+    in-mode-ten (suc (suc m)) n l h = let (j, s) = joins n in in-mode-beyond (suc (suc m)) j s ∙ rw (h, complete)
+
+    in-mode-many : (mode : ℕ) → TooMany J mode d e → in-mode J 𝓕 mode d e room ≡ refuse 7
+    unfolding beyond complete
+    in-mode-many mode (z, q, h, l) =
+        let (j, s) = joins (λ n. none-is q (sym (quick-joined J d e n) ∙ h)) in
+        let k : in-mode J 𝓕 2 d e room ≡ refuse 7 = in-mode-beyond 2 j s ∙ rw (h, lt-ltb choice-limit (number q) l, complete) in
+        rw z k
+
+    in-mode-eleven : ¬ (Clashes J 2 d e) → ¬ (TooMany J 2 d e) → full J d e ≡ none → in-mode J 𝓕 2 d e room ≡ refuse 11
+    unfolding beyond
+    in-mode-eleven c t f = let (j, s) = joins (λ n. c (inl n)) in
+        in-mode-beyond 2 j s ∙ complete-full room d e c t ∙ ap (deliver-or 𝓕 11 room (consistent J d e)) f
+        ∙ deliver-none 𝓕 11 room (consistent J d e)
+
+    in-mode-result : (mode : ℕ) → mode ≤ 2 → ¬ (Clashes J mode d e) → ¬ (TooMany J mode d e) → (r : Desc Graph) →
+        mode-result J mode d e ≡ some r → in-mode J 𝓕 mode d e room ≡ deliver 𝓕 room (mode-readings J mode d e) r
+    unfolding beyond
+    in-mode-result zero m c t r h = in-mode-beyond 0 r h
+    in-mode-result (suc zero) m c t r h = let (j, s) = joins (λ n. c (inl n)) in
+        in-mode-beyond 1 j s ∙ ap (deliver-or 𝓕 10 room 0) h ∙ deliver-some 𝓕 10 room 0 r
+    in-mode-result (suc (suc k)) m c t r h =
+        let z : suc (suc k) ≡ 2 = omega arith in
+        let (j, s) = joins (λ n. c (inl n)) in
+        in-mode-beyond (suc (suc k)) j s
+        ∙ complete-full room d e (subst (λ (n : ℕ). ¬ (Clashes J n d e)) z c) (subst (λ (n : ℕ). ¬ (TooMany J n d e)) z t)
+        ∙ ap (deliver-or 𝓕 11 room (consistent J d e)) h ∙ deliver-some 𝓕 11 room (consistent J d e) r
 
   pub full-is : (d e : Desc Graph) → consistent J d e ≡ 0 → full J d e ≡ none
   full-is d e c = go (full J d e) (full-view d e)
@@ -242,8 +264,39 @@ module _ {Graph : Type 0} (J : Joining Graph) (𝓕 : Layout Graph) where
       go (some r) (full-some s h) = absurd (omega (arith, h, c))
 
 module _ {Graph : Type 0} {J : Joining Graph} {𝓛 : Laws J} {𝓕 : Layout Graph} (𝓡 : Reads 𝓛 𝓕) where
+  open Joining J using (ClashNode, clash-node)
   open Layout 𝓕 using (words, WellFormed, decode)
-  open Reads 𝓡 using (decoded, decode-words)
+  open Reads 𝓡 using (decoded, decode-words, well-can)
+
+  definite-can : (d : Desc Graph) → WellFormed d depth-limit → 𝓛 .Canonical (definite-graph d)
+  definite-can (desc g ds) p = well-can (desc g ds) p .0
+
+  -- the definite graphs clash at the node that the program tells
+  clash-located : (d e : Desc Graph) → WellFormed d depth-limit → WellFormed e depth-limit → joined J d e ≡ none →
+      ClashNode (definite-graph d) (definite-graph e) (clash-node (definite-graph d) (definite-graph e))
+  clash-located d e p q n =
+      𝓛 .located (definite-graph d) (definite-graph e) (definite-can d p) (definite-can e q) (joined-clash J d e n)
+
+  in-mode-given : (mode : ℕ) (a b : List ℕ) (room work : ℕ) (d e : Desc Graph) → Accepted 𝓕 (asked J 𝓕 mode a b) work d e →
+      Given J 𝓕 (asked J 𝓕 mode a b) room work (in-mode J 𝓕 mode d e room)
+  unfolding in-mode
+  in-mode-given mode a b room work d e A = go (joined J d e) refl
+    where
+      go : (o : Option (Desc Graph)) → joined J d e ≡ o →
+          Given J 𝓕 (asked J 𝓕 mode a b) room work (elim o [
+            | none ↦ clash-at (clash-node (definite-graph d) (definite-graph e))
+            | some j ↦ beyond J 𝓕 mode d e room j
+          ])
+      go none h = six d e (clash-node (definite-graph d) (definite-graph e)) A h (clash-located d e (A .first-well) (A .second-well) h)
+      go (some j) h = beyond-given J 𝓕 mode a b room work d e A j h
+
+  in-mode-clash : (mode : ℕ) (d e : Desc Graph) (room i : ℕ) → WellFormed d depth-limit → WellFormed e depth-limit →
+      joined J d e ≡ none → ClashNode (definite-graph d) (definite-graph e) i → in-mode J 𝓕 mode d e room ≡ clash-at i
+  unfolding in-mode
+  in-mode-clash mode d e room i p q h n =
+      let same = 𝓛 .one-node (definite-graph d) (definite-graph e) _ i (clash-located d e p q h) n in
+      let told : in-mode J 𝓕 mode d e room ≡ clash-at (clash-node (definite-graph d) (definite-graph e)) = rw (h, in-mode) in
+      told ∙ ap clash-at same
 
   -- every answer of `unified` is given by the table
   pub unified-given : (C : Call) (room work : ℕ) → Given J 𝓕 C room work (unified J 𝓕 C room work)
@@ -275,7 +328,7 @@ module _ {Graph : Type 0} {J : Joining Graph} {𝓛 : Laws J} {𝓕 : Layout Gra
       fifth : C .mode ≤ 2 → working-size ≤ work → length a ≤ input-limit → length b ≤ input-limit →
           (d : Desc Graph) → WellFormed d depth-limit → a ≡ words d → (o : Option (Desc Graph)) → Decoded 𝓕 b o → G (from-five d o)
       fifth m w la lb d p h none (malformed n) = five m w la lb (d, p, h) n
-      fifth m w la lb d p h (some e) (is f q k) = in-mode-given J 𝓕 (C .mode) a b room work d e (record {
+      fifth m w la lb d p h (some e) (is f q k) = in-mode-given (C .mode) a b room work d e (record {
         mode-fine = m;
         area-fine = w;
         first-short = la;
@@ -347,19 +400,20 @@ module _ {Graph : Type 0} {J : Joining Graph} {𝓛 : Laws J} {𝓕 : Layout Gra
           let g = is-short (C .first) la in let h = is-short (C .second) lb in
           let k : decode (C .first) ≡ some (i .0) = ap decode (i .2) ∙ decode-words (i .0) (i .1) in rw (e, f, g, h, k, q, unified)
       go (some d) q (is c p s) = absurd (n (d, p, s))
-  given-unified C room work r (six d e A c) = accepted-unified C room work d e A ∙ in-mode-clash J 𝓕 (C .mode) d e room c
-  given-unified C room work r (seven d e A c t) = accepted-unified C room work d e A ∙ in-mode-many J 𝓕 (C .mode) d e room t
-  given-unified C room work r (six-after d e A c t z n) =
-      accepted-unified C room work d e A ∙ in-mode-result J 𝓕 (C .mode) d e room (A .mode-fine) c t
-      ∙ rw z (ap (deliver 𝓕 room (consistent J d e)) (full-is J 𝓕 d e n) ∙ deliver-none 𝓕 room (consistent J d e))
+  given-unified C room work r (six d e i A h n) =
+      accepted-unified C room work d e A ∙ in-mode-clash (C .mode) d e room i (A .first-well) (A .second-well) h n
+  given-unified C room work r (ten d e A j l h) = accepted-unified C room work d e A ∙ in-mode-ten J 𝓕 d e room (C .mode) j l h
+  given-unified C room work r (seven d e A c t) = accepted-unified C room work d e A ∙ in-mode-many J 𝓕 d e room (C .mode) t
+  given-unified C room work r (eleven d e A c t z n) =
+      accepted-unified C room work d e A ∙ ap (λ (m : ℕ). in-mode J 𝓕 m d e room) z
+      ∙ in-mode-eleven J 𝓕 d e room (subst (λ (m : ℕ). ¬ (Clashes J m d e)) z c) (subst (λ (m : ℕ). ¬ (TooMany J m d e)) z t)
+      (full-is J 𝓕 d e n)
   given-unified C room work r (eight d e s A c t h l) =
-      let n = mode-readings J (C .mode) d e in
-      accepted-unified C room work d e A ∙ in-mode-result J 𝓕 (C .mode) d e room (A .mode-fine) c t
-      ∙ ap (deliver 𝓕 room n) h ∙ deliver-eight 𝓕 room n s l
+      accepted-unified C room work d e A ∙ in-mode-result J 𝓕 d e room (C .mode) (A .mode-fine) c t s h
+      ∙ deliver-eight 𝓕 room (mode-readings J (C .mode) d e) s l
   given-unified C room work r (done d e s A c t h l) =
-      let n = mode-readings J (C .mode) d e in
-      accepted-unified C room work d e A ∙ in-mode-result J 𝓕 (C .mode) d e room (A .mode-fine) c t
-      ∙ ap (deliver 𝓕 room n) h ∙ deliver-done 𝓕 room n s l
+      accepted-unified C room work d e A ∙ in-mode-result J 𝓕 d e room (C .mode) (A .mode-fine) c t s h
+      ∙ deliver-done 𝓕 room (mode-readings J (C .mode) d e) s l
 
   -- an answer is given by the table exactly when it is `unified`'s
   pub table : (C : Call) (room work : ℕ) (r : Answer) → (unified J 𝓕 C room work ≡ r) ↔ Given J 𝓕 C room work r
@@ -380,7 +434,7 @@ module _ {Graph : Type 0} {J : Joining Graph} {𝓛 : Laws J} {𝓕 : Layout Gra
   -- two outcomes allowed for one input are equal
   pub one-outcome : (C : Call) (before : Areas) (r r′ : Row) (after after′ : Areas) →
       Outcome J 𝓕 C before r after → Outcome J 𝓕 C before r′ after′ →
-      (r .number ≡ r′ .number) × (r .extent ≡ r′ .extent) × (r .readings ≡ r′ .readings)
+      (r .number ≡ r′ .number) × (r .extent ≡ r′ .extent) × (r .readings ≡ r′ .readings) × (r .node ≡ r′ .node)
       × (after .result ≡ after′ .result) × (after .working ≡ after′ .working)
   one-outcome C before r r′ after after′ p q =
       let s : p .answer ≡ q .answer = one-answer C _ _ (p .answer) (q .answer) (p .given) (q .given) in
@@ -388,6 +442,7 @@ module _ {Graph : Type 0} {J : Joining Graph} {𝓛 : Laws J} {𝓕 : Layout Gra
         e,
         p .the-extent ∙ ap (λ (z : Answer). z .extent) s ∙ sym (q .the-extent),
         p .the-readings ∙ ap (λ (z : Answer). z .readings) s ∙ sym (q .the-readings),
+        p .the-node ∙ ap (λ (z : Answer). z .node) s ∙ sym (q .the-node),
         p .the-result ∙ ap (λ (z : Answer). z .result ++ drop (length (z .result)) (before .result)) s ∙ sym (q .the-result),
         p .the-working ∙ ap (λ (k : ℕ). worked k (before .working)) e ∙ sym (q .the-working),
       )

@@ -22,6 +22,10 @@ use Rattle.descriptions.specs.Layout.{Layout}
 abbrev pub Unifier : Type 0
 Unifier = Call → ℕ → ℕ → Answer
 
+-- "Demand 3 reads "a clash" as any of the three."
+abbrev pub ClashNumber : ℕ → Type 0
+ClashNumber n = (n ≡ 6) ⊎ ((n ≡ 10) ⊎ (n ≡ 11))
+
 -- a refusal on another ground
 abbrev pub Refused : ℕ → Type 0
 Refused n = ((1 ≤ n) × (n ≤ 5)) ⊎ ((7 ≤ n) × (n ≤ 8))
@@ -95,10 +99,10 @@ module _ {Graph : Type 0} (J : Joining Graph) (𝓕 : Layout Graph) where
         (d : Desc Graph) × WellFormed d depth-limit × (ws ≡ words d) × (readings J d ≡ ways J (items 𝓕 l))
     -- "A clash is reported only when that number is zero"
     pub clash : (l : List (ListCall 𝓕)) (ws : List ℕ) (s : ListCall 𝓕) → reached 𝓕 U start l ≡ some ws →
-        call 𝓕 U ws s .number ≡ 6 → ways J (items 𝓕 l ++ s .item ∷ []) ≡ 0
+        ClashNumber (call 𝓕 U ws s .number) → ways J (items 𝓕 l ++ s .item ∷ []) ≡ 0
     -- "the complete mode, unless it refuses on another ground, reports a clash whenever it is zero"
     pub told : (l : List (ListCall 𝓕)) (ws : List ℕ) (s : ListCall 𝓕) → reached 𝓕 U start l ≡ some ws → s .mode ≡ 2 →
-        ways J (items 𝓕 l ++ s .item ∷ []) ≡ 0 → (call 𝓕 U ws s .number ≡ 6) ⊎ Refused (call 𝓕 U ws s .number)
+        ways J (items 𝓕 l ++ s .item ∷ []) ≡ 0 → ClashNumber (call 𝓕 U ws s .number) ⊎ Refused (call 𝓕 U ws s .number)
     -- "and on success it reports that number"
     pub counted : (l : List (ListCall 𝓕)) (ws : List ℕ) (s : ListCall 𝓕) → reached 𝓕 U start l ≡ some ws →
         s .mode ≡ 2 → call 𝓕 U ws s .number ≡ 0 →
@@ -109,7 +113,7 @@ module _ {Graph : Type 0} (J : Joining Graph) (𝓜 : Structures Graph) (𝓕 : 
   open Layout 𝓕 using (words, WellFormed)
 
   -- Demand 2. On 0 the result is the mode's, it is a description, and a structure satisfies it exactly when it satisfies both inputs;
-  -- on 6 no structure satisfies both.
+  -- on a clash, whichever of the three, no structure satisfies both.
   pub record Succeeds (mode : ℕ) (a b : Desc Graph) (r : Answer) (d : Desc Graph) : Type 1 where
     pub written : r .result ≡ words d
     pub measured : r .extent ≡ length (words d)
@@ -122,4 +126,4 @@ module _ {Graph : Type 0} (J : Joining Graph) (𝓜 : Structures Graph) (𝓕 : 
         U (with-words 𝓕 mode a b) room work .number ≡ 0 → (d : Desc Graph)
         × Succeeds mode a b (U (with-words 𝓕 mode a b) room work) d
     pub clash : (mode : ℕ) (a b : Desc Graph) → WellFormed a depth-limit → WellFormed b depth-limit → (room work : ℕ) →
-        U (with-words 𝓕 mode a b) room work .number ≡ 6 → (S : Structure) → Sat 𝓜 S a → Sat 𝓜 S b → ⊥
+        ClashNumber (U (with-words 𝓕 mode a b) room work .number) → (S : Structure) → Sat 𝓜 S a → Sat 𝓜 S b → ⊥

@@ -24,6 +24,9 @@ mutual
 infixr 5 _and_
 infixr 6 _or_
 module _ {Graph : Type 0} where
+  abbrev pub definite-graph : Desc Graph → Graph
+  definite-graph (desc g ds) = g
+
   abbrev pub disjs : Disjs Graph → ℕ
   disjs end = 0
   disjs (a and ds) = suc (disjs ds)

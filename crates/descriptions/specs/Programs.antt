@@ -1,4 +1,4 @@
--- A program as the code of unification is one: words of a machine come in; number, length, readings and both areas come back.
+-- A program as the code of unification is one: words of a machine come in; number, length, readings, node and both areas come back.
 -- Assumes nothing: these are definitions.
 use mathlib.Core.Path.{_≡_}
 use mathlib.Core.Bool.{Bool, true, false, _&&_}
@@ -45,7 +45,13 @@ abbrev pub written : Left → List ℕ
 written r = elim (eqb (r .row .number) 0) [ true ↦ take (r .row .extent) (r .after .result) | false ↦ [] ]
 
 abbrev pub answer-of : Left → Answer
-answer-of r = record { number = r .row .number; extent = r .row .extent; readings = r .row .readings; result = written r }
+answer-of r = record {
+  number = r .row .number;
+  extent = r .row .extent;
+  readings = r .row .readings;
+  node = r .row .node;
+  result = written r;
+}
 
 -- areas of so many words
 abbrev pub blank : ℕ → ℕ → Areas

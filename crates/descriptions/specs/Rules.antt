@@ -3,15 +3,14 @@
 use mathlib.Core.Path.{_≡_}
 use mathlib.Core.Logic.{_⊎_}
 use mathlib.Core.Option.{Option, none, some}
-use mathlib.Core.List.{[]}
 use Prim.Native.Nat.{ℕ, zero, suc, _≤_, _<_}
 use lib.ListN.{length}
 use Rattle.descriptions.specs.Limits.{choice-limit, depth-limit, input-limit, working-size}
-use Rattle.descriptions.specs.Descr.{Desc, number}
+use Rattle.descriptions.specs.Descr.{Desc, definite-graph, number}
 use Rattle.descriptions.specs.Layout.{Image, Layout}
 use Rattle.descriptions.specs.Modes.{full, joined, quick}
 use Rattle.descriptions.specs.Call.{Call}
-use Rattle.descriptions.specs.Answer.{Answer, consistent, refuse}
+use Rattle.descriptions.specs.Answer.{Answer, clash-at, consistent, no-room, refuse, success}
 use Rattle.descriptions.specs.Joining.{Joining}
 
 module _ {Graph : Type 0} (𝓕 : Layout Graph) (c : Call) where
@@ -42,7 +41,7 @@ module _ {Graph : Type 0} (J : Joining Graph) where
   mode-readings (suc zero) d e = 0
   mode-readings (suc (suc m)) d e = consistent J d e
 
-  -- "clash: in the joining or, modes 1 and 2, the quick step"
+  -- "clash: in the joining or, modes 1 and 2, the quick step": 6 or 10
   abbrev pub Clashes : ℕ → Desc Graph → Desc Graph → Type 0
   Clashes mode d e = (joined J d e ≡ none) ⊎ ((1 ≤ mode) × (quick J d e ≡ none))
 
@@ -51,6 +50,7 @@ module _ {Graph : Type 0} (J : Joining Graph) where
   TooMany mode d e = (mode ≡ 2) × (q : Desc Graph) × (quick J d e ≡ some q) × (choice-limit < number q)
 
 module _ {Graph : Type 0} (J : Joining Graph) (𝓕 : Layout Graph) (c : Call) (room work : ℕ) where
+  open Joining J using (ClashNode)
   open Layout 𝓕 using (words)
   open Call c using (mode, first, second)
 
@@ -63,14 +63,19 @@ module _ {Graph : Type 0} (J : Joining Graph) (𝓕 : Layout Graph) (c : Call) (
         ¬ (Image 𝓕 first) → Given (refuse 4)
     five : mode ≤ 2 → working-size ≤ work → length first ≤ input-limit → length second ≤ input-limit → Image 𝓕 first →
         ¬ (Image 𝓕 second) → Given (refuse 5)
-    six : (d e : Desc Graph) → Accepted 𝓕 c work d e → Clashes J mode d e → Given (refuse 6)
+    -- "6 definite graphs clash, with the node"
+    six : (d e : Desc Graph) (i : ℕ) → Accepted 𝓕 c work d e → joined J d e ≡ none →
+        ClashNode (definite-graph d) (definite-graph e) i → Given (clash-at i)
+    -- "10 the quick step failed", where the definite graphs join
+    ten : (d e : Desc Graph) → Accepted 𝓕 c work d e → ¬ (joined J d e ≡ none) → 1 ≤ mode → quick J d e ≡ none →
+        Given (refuse 10)
     seven : (d e : Desc Graph) → Accepted 𝓕 c work d e → ¬ (Clashes J mode d e) → TooMany J mode d e → Given (refuse 7)
-    -- "in mode 2, after check 7, also no consistent choice"
-    six-after : (d e : Desc Graph) → Accepted 𝓕 c work d e → ¬ (Clashes J mode d e) → ¬ (TooMany J mode d e) →
-        mode ≡ 2 → consistent J d e ≡ 0 → Given (refuse 6)
+    -- "in mode 2, after check 7, also no consistent choice": "11 no consistent choice"
+    eleven : (d e : Desc Graph) → Accepted 𝓕 c work d e → ¬ (Clashes J mode d e) → ¬ (TooMany J mode d e) →
+        mode ≡ 2 → consistent J d e ≡ 0 → Given (refuse 11)
     eight : (d e r : Desc Graph) → Accepted 𝓕 c work d e → ¬ (Clashes J mode d e) → ¬ (TooMany J mode d e) →
         mode-result J mode d e ≡ some r → room < length (words r) →
-        Given (record { number = 8; extent = length (words r); readings = 0; result = [] })
+        Given (no-room (length (words r)))
     done : (d e r : Desc Graph) → Accepted 𝓕 c work d e → ¬ (Clashes J mode d e) → ¬ (TooMany J mode d e) →
         mode-result J mode d e ≡ some r → length (words r) ≤ room →
-        Given (record { number = 0; extent = length (words r); readings = mode-readings J mode d e; result = words r })
+        Given (success (mode-readings J mode d e) (words r))

@@ -2,14 +2,13 @@
 -- Assumes nothing.
 use Prim.Native.Nat.{ℕ, _≤_, _<_}
 use native.Mathlib.Omega.{arith}
-use mathlib.Core.Path.{_≡_, sym, ap, subst}
-use mathlib.Core.Logic.{inl, inr}
+use mathlib.Core.Path.{_≡_, sym, ap, _∙_, subst}
+use mathlib.Core.Logic.{inl, inr, _≢_}
 use mathlib.Core.List.{List, [], _++_}
 use lib.ListN.{length, getD, length-append}
 use Rattle.theory.specs.Limits.{input-limit}
 use Rattle.theory.specs.Answer.{Answer, Call, refuse}
 use Rattle.theory.specs.Rules.{Given, one}
-use Rattle.theory.specs.Unified.{unified}
 use Rattle.theory.proofs.Reading.{reads}
 use Rattle.descriptions.proofs.Table.{unified-given, one-answer}
 use Rattle.roles.specs.Faults.{Faulty}
@@ -29,10 +28,12 @@ use Rattle.answer_text.specs.declared.line.Written.{Written}
 use Rattle.answer_text.specs.declared.line.Written.the-variants.{Bytes, NoRoom}
 use Rattle.answer_text.proofs.Goings.{nothing, both, first-stops}
 use Rattle.answer_text.proofs.Answers.{labelled-most}
-use Rattle.explaining.specs.Explained.{FaultTold, Tells, number-for, Lined, cause-label, word-label, stands-label, hint-label}
-use Rattle.explaining.specs.Explained.{fault-text, line-text}
+use Rattle.reply.specs.Printed.{answered}
+use Rattle.reply.proofs.Lengths.{node-small}
+use Rattle.explaining.specs.Explained.{FaultTold, Tells, number-for, node-for, Lined, cause-label, word-label, stands-label}
+use Rattle.explaining.specs.Explained.{hint-label, node-label, fault-text, line-text}
 use Rattle.explaining.specs.declared.line.SecondLine.{SecondLine}
-use Rattle.explaining.specs.declared.line.SecondLine.the-variants.{Nothing, Fault}
+use Rattle.explaining.specs.declared.line.SecondLine.the-variants.{Nothing, Fault, Node}
 
 -- ---- what it tells
 pub told-of : (ws : List ℕ) (c : Cause) (p k w h : ℕ) → Faulty ws (cause-of c) p → k ≡ cause-number (cause-of c) → w ≡ getD ws p 0 →
@@ -53,6 +54,12 @@ fault-small k p w h few near fits known =
     let y = length-append (labelled word-label p) (labelled stands-label w ++ last) in
     let z = length-append (labelled stands-label w) last in
     let e = length-append (labelled hint-label h) newline in
+    omega arith
+
+pub node-short : (i : ℕ) → i ≤ largest → length (line-text (Node i)) ≤ 100
+node-short i h =
+    let a = labelled-most node-label i h in
+    let e = length-append (labelled node-label i) newline in
     omega arith
 
 -- ---- how it is written, number by number
@@ -95,6 +102,10 @@ pub line-fault : (line : SecondLine) (k p w h : ℕ) → line ≡ Fault k p w h 
     Appends (fault-text k p w h) dst at end r → Appends (line-text line) dst at end r
 line-fault line k p w h e dst at end r f = subst (λ (l : SecondLine). Appends (line-text l) dst at end r) (sym e) f
 
+pub line-node : (line : SecondLine) (i : ℕ) → line ≡ Node i → (dst : List ℕ) (at : ℕ) (end : List ℕ) (r : Written) →
+    Appends (labelled node-label i ++ newline) dst at end r → Appends (line-text line) dst at end r
+line-node line i e dst at end r f = subst (λ (l : SecondLine). Appends (line-text l) dst at end r) (sym e) f
+
 -- ---- what is malformed
 module _ (a b : List ℕ) (m : Malformed) (found : MalformedIn a b m) where
   is : (m′ : Malformed) → m ≡ m′ → MalformedIn a b m′
@@ -118,35 +129,40 @@ module _ (a b : List ℕ) (m : Malformed) (found : MalformedIn a b m) where
 module _ (asked : Call) where
   open Call asked using (mode, first, second)
 
-  abbrev answer : Answer
-  answer = unified asked 2048 16384
-
-  given : Given asked 2048 16384 answer
+  given : Given asked 2048 16384 (answered asked)
   given = unified-given reads asked 2048 16384
+
+  -- after 6 the node
+  pub lined-node : (n i : ℕ) → n ≡ number-for asked → i ≡ node-for asked → n ≡ 6 → Lined asked (Node i) × (length (line-text (Node i)) ≤ 100)
+  lined-node n i e f six = ((sym e ∙ six, f), node-short i (subst (λ (k : ℕ). k ≤ largest) (sym f) (node-small asked)))
 
   -- a mode above 2 is answered 1
   pub nothing-above : 2 < mode → Lined asked Nothing
   nothing-above h =
-      let e : number-for asked ≡ 1 = ap (λ (r : Answer). r .number) (one-answer reads asked 2048 16384 answer (refuse 1) given (one h)) in
-      (λ f. omega arith, λ f. omega arith)
+      let e : number-for asked ≡ 1 =
+      ap (λ (r : Answer). r .number) (one-answer reads asked 2048 16384 (answered asked) (refuse 1) given (one h)) in
+      (λ f. omega arith, λ f. omega arith, λ f. omega arith)
 
   module _ (fine : mode ≤ 2) (m : Malformed) (found : MalformedIn first second m) where
-    pub nothing-neither : m ≡ Neither → Lined asked Nothing
-    nothing-neither e =
-        let n = same-number asked 2048 16384 fine (omega arith) Neither (is first second m found Neither e) answer given in (n .1, n .2)
+    pub nothing-neither : m ≡ Neither → number-for asked ≢ 6 → Lined asked Nothing
+    nothing-neither e six =
+        let n = same-number asked 2048 16384 fine (omega arith) Neither (is first second m found Neither e) (answered asked) given in
+        (n .1, n .2, six)
 
     pub nothing-long : m ≡ TooLong → Lined asked Nothing
     nothing-long e =
-        let n = same-number asked 2048 16384 fine (omega arith) TooLong (is first second m found TooLong e) answer given in
-        (λ f. omega arith, λ f. omega arith)
+        let n = same-number asked 2048 16384 fine (omega arith) TooLong (is first second m found TooLong e) (answered asked) given in
+        (λ f. omega arith, λ f. omega arith, λ f. omega arith)
 
     module _ (c : Cause) (p : ℕ) where
       pub lined-first : m ≡ First c p → (line : SecondLine) → Tells first line → Lined asked line
       lined-first e (Fault k q w h) t =
-          inl (same-number asked 2048 16384 fine (omega arith) (First c p) (is first second m found (First c p) e) answer given, t)
+          inl (same-number asked 2048 16384 fine (omega arith) (First c p) (is first second m found (First c p) e) (answered asked) given, t)
       lined-first e Nothing t = absurd t
+      lined-first e (Node i) t = absurd t
 
       pub lined-second : m ≡ Second c p → (line : SecondLine) → Tells second line → Lined asked line
       lined-second e (Fault k q w h) t =
-          inr (same-number asked 2048 16384 fine (omega arith) (Second c p) (is first second m found (Second c p) e) answer given, t)
+          inr (same-number asked 2048 16384 fine (omega arith) (Second c p) (is first second m found (Second c p) e) (answered asked) given, t)
       lined-second e Nothing t = absurd t
+      lined-second e (Node i) t = absurd t

@@ -1,4 +1,4 @@
-// From the text that `explain` reads to the text that it prints: what `meet` prints, and a second line after 4 and 5.
+// From the text that `explain` reads to the text that it prints: what `meet` prints, and a second line after 4, 5 and 6.
 pub mod line;
 
 use crate::line::put_second_line;
@@ -7,7 +7,7 @@ use answer_text::answer::write_bad;
 use answer_text::line::Written;
 use call_text::call::Counts;
 use call_text::call::read_call;
-use reply::answer;
+use reply::answer_told;
 ghost use mathlib.Core.Path.{_≡_};
 ghost use mathlib.Core.Option.{some};
 ghost use lib.ListN.{length};
@@ -29,8 +29,11 @@ fn explain_call(mode: u32, first: &[u32], second: &[u32], out: &mut [u8]) -> Wri
     ensures { λ r. ⌜ ExplainWrote (some (record { mode = mode; first = now (first .entry); second = now (second .entry) }))
         (now (out .entry)) (now (out .exit)) r ⌝ }
 {
-    let line = second_line(mode, first, second);
-    let front = answer(mode, first, second, out);
+    let replied = answer_told(mode, first, second, out);
+    let number = replied.number;
+    let node = replied.node;
+    let line = second_line(mode, first, second, number, node);
+    let front = replied.written;
     let Written::Bytes(at) = front else {
         return Written::NoRoom;
     };

@@ -1,4 +1,4 @@
-// The second line: what is told of a malformed input.
+// The second line: what is told of a malformed input, or where definite graphs clash.
 use answer_text::line::Written;
 use answer_text::line::put_labelled;
 use answer_text::line::put_last;
@@ -14,12 +14,13 @@ ghost use Rattle.theory.specs.Limits.{input-limit};
 ghost use Rattle.roles.specs.Faults.{Faulty};
 ghost use Rattle.roles.specs.Coded.{cause-of};
 ghost use Rattle.answer_text.specs.Going.{Appends};
-ghost use Rattle.explaining.specs.Explained.{Tells, Lined, line-text, fault-text};
+ghost use Rattle.explaining.specs.Explained.{Tells, number-for, node-for, Lined, line-text, fault-text};
 
-// Nothing; or the number of a cause, the place of the word that decides, that word and the hint.
+// Nothing; or the number of a cause, the place of the word that decides, that word and the hint; or the node of a clash.
 pub enum SecondLine {
     Nothing,
     Fault(u32, usize, u32, u32),
+    Node(usize),
 }
 
 // The word at a place; 0 where the words end.
@@ -43,11 +44,16 @@ fn fault_line(ws: &[u32], cause: Cause, place: usize) -> SecondLine
     SecondLine::Fault(number, place, word, hinted)
 }
 
-// What is told of a call beside its answer.
-pub fn second_line(mode: u32, first: &[u32], second: &[u32]) -> SecondLine
+// What is told of a call, which is answered this number with this node, beside its answer.
+pub fn second_line(mode: u32, first: &[u32], second: &[u32], number: u32, node: usize) -> SecondLine
+    requires { ⌜ (number ≡ number-for (record { mode = mode; first = now first; second = now second }))
+        × (node ≡ node-for (record { mode = mode; first = now first; second = now second })) ⌝ }
     ensures { λ r. ⌜ Lined (record { mode = mode; first = now (first .entry); second = now (second .entry) }) r
         × (length (line-text r) ≤ 100) ⌝ }
 {
+    if number == 6 {
+        return SecondLine::Node(node);
+    }
     if 2 < mode {
         return SecondLine::Nothing;
     }
@@ -100,5 +106,6 @@ pub fn put_second_line(out: &mut [u8], at: usize, line: SecondLine) -> Written
             word,
             hinted,
         ),
+        SecondLine::Node(node) => put_last(out, at, b"node ", node as u64),
     }
 }

@@ -10,7 +10,7 @@ use lib.Seq.{getD-set-same, getD-set-other}
 use Rattle.theory.specs.Limits.{code-limit}
 use Rattle.theory.specs.Net.{Node, atom, arcs, Graph, nodeAt}
 use Rattle.theory.specs.Layout.{node-words, nodes-words, NodeFits, GraphFits}
-use Rattle.locating.specs.ClashNode.{bared-node, bared}
+use Rattle.finding_clash.specs.Bared.{bared-node, bared}
 use Rattle.layout.specs.Standing.{Stands}
 use Rattle.layout.proofs.Standing.{stands-nil, stands-nodes, stands-atom, stands-node, stands-arcs, stands-order, stands-frame}
 use Rattle.area.specs.Map.{NODES, MARKS, SIZE}

@@ -10,8 +10,8 @@ use Rattle.theory.specs.Limits.{code-limit}
 use Rattle.theory.specs.Net.{Node, atom, arcs, Graph, nodeAt, arcsOf, Net, beside, Same, roots, Canonical}
 use Rattle.theory.specs.Layout.{NodeFits, GraphFits}
 use Rattle.theory.proofs.Instance.{numbered-target}
-use Rattle.locating.specs.ClashNode.{ClashAt, two-atoms, atom-and-arc, node-number}
-use Rattle.locating.proofs.Numbers.{number-low, spot-at}
+use Rattle.theory.specs.ClashNode.{ClashAt, two-atoms, atom-and-arc, node-number}
+use Rattle.theory.proofs.NodeNumbers.{number-low, spot-at}
 use Rattle.finding_clash.specs.Heads.{head-of}
 use Rattle.finding_clash.specs.Notes.{Conflict, two-heads, head-and-arcs, ClassNote, bears-nothing, bears-arcs, bears-head}
 use Rattle.finding_clash.specs.Notes.{bears-clash}

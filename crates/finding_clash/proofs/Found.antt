@@ -8,10 +8,11 @@ use native.Mathlib.Omega.{arith}
 use native.Mathlib.Decide.{decLt}
 use lib.ListN.{length, getD}
 use Rattle.theory.specs.Net.{Graph, Net, beside, Same, roots, Clash}
-use Rattle.locating.specs.ClashNode.{ClashAt, node-number, NodeClashes, bared, ClashNode}
-use Rattle.locating.proofs.Numbers.{number-low, spot-at}
-use Rattle.locating.proofs.Bare.{length-bare, bare-agrees, labelled-bare}
-use Rattle.locating.proofs.Somewhere.{clash-is-somewhere, node-low}
+use Rattle.theory.specs.ClashNode.{ClashAt, node-number, NodeClashes, ClashNode}
+use Rattle.finding_clash.specs.Bared.{bared}
+use Rattle.theory.proofs.NodeNumbers.{number-low, spot-at}
+use Rattle.finding_clash.proofs.Bare.{length-bare, bare-agrees, labelled-bare}
+use Rattle.theory.proofs.Somewhere.{clash-is-somewhere, node-low}
 use Rattle.packing.specs.Packed.{word-nodes, word-number}
 use Rattle.packing.proofs.Packed.{nodes-back, number-back}
 use Rattle.area.specs.Map.{NODES, WORDS, MARKS, STACK, SIZE, SECOND}

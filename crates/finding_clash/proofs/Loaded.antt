@@ -16,7 +16,7 @@ use Rattle.area.specs.Region.{region}
 use Rattle.opening.specs.Opening.{Read, Stand, Opening, definite, Opens}
 use Rattle.opening.specs.declared.Opened.{Opened}
 use Rattle.opening.proofs.Universe.{in-one, in-two, nodes-room, lies}
-use Rattle.locating.specs.ClashNode.{ClashNode}
+use Rattle.theory.specs.ClashNode.{ClashNode}
 use Rattle.finding_clash.specs.TwoGraphs.{TwoLie, Locating, Locates}
 
 -- a definite graph is shorter than its description

@@ -9,11 +9,12 @@ use lib.ListN.{length, getD}
 use Rattle.theory.specs.Net.{Node, atom, arcs, Graph, nodeAt, beside}
 use Rattle.theory.specs.Layout.{nodes-words, ArcsFit, NodeFits, GraphFits}
 use Rattle.theory.specs.Weight.{weight}
-use Rattle.locating.specs.ClashNode.{node-number, bared-node, bared}
-use Rattle.locating.proofs.Bare.{length-bare, weight-bare, fits-bare, canonical-bare}
+use Rattle.theory.specs.ClashNode.{node-number}
+use Rattle.finding_clash.specs.Bared.{bared-node, bared}
+use Rattle.finding_clash.proofs.Bare.{length-bare, weight-bare, fits-bare, canonical-bare}
 use Rattle.packing.specs.Packed.{graph-word}
 use Rattle.layout.specs.Standing.{Stands}
-use Rattle.layout.proofs.Standing.{stands-nil, stands-cons}
+use Rattle.layout.proofs.Standing.{stands-cons, stands-get, stands-nil}
 use Rattle.loading.specs.Loaded.{moved-arcs, moved-node, moved, located}
 use Rattle.loading.proofs.Sizes.{located-length}
 use Rattle.area.specs.Map.{WORDS, MARKS, RESULT, SIZE, SECOND}
@@ -62,13 +63,6 @@ moved-head n (v ∷ vs) (suc j) = moved-head n vs j
 located-weight : (n : ℕ) (g : Graph) → length (located n g) ≡ weight g
 unfolding weight
 located-weight n g = located-length n g
-
--- ---- words that stand, word by word
-stands-get : (ws xs : List ℕ) (p q j : ℕ) → Stands ws p xs q → j < length xs → getD ws (p + j) 0 ≡ getD xs j 0
-stands-get ws [] p q j s h = absurd (omega arith)
-stands-get ws (x ∷ xs) p q zero s h = let z : p + 0 ≡ p = omega arith in rw z (stands-cons ws x xs p q .0 s .1)
-stands-get ws (x ∷ xs) p q (suc j) s h = let z : p + suc j ≡ p + 1 + j = omega arith in
-    rw z (stands-get ws xs (p + 1) q j (stands-cons ws x xs p q .0 s .2) (omega arith))
 
 get-stands : (ws xs : List ℕ) (p q : ℕ) → q ≡ p + length xs → q ≤ length ws →
     ((j : ℕ) → j < length xs → getD ws (p + j) 0 ≡ getD xs j 0) → Stands ws p xs q

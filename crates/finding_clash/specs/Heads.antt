@@ -8,9 +8,9 @@ use lib.ListN.{length, getD}
 use Rattle.theory.specs.Limits.{code-limit}
 use Rattle.theory.specs.Net.{Node, atom, arcs, Graph, nodeAt}
 use Rattle.theory.specs.Layout.{nodes-words, NodeFits, GraphFits}
-use Rattle.locating.specs.ClashNode.{bared}
 use Rattle.layout.specs.Standing.{Stands}
 use Rattle.area.specs.Map.{NODES, MARKS, SIZE}
+use Rattle.finding_clash.specs.Bared.{bared}
 
 -- "Head 0..65,535 is the number of arcs; head 65,536..131,071 is the atom numbered head - 65,536, with no arcs."
 abbrev pub head-of : Node → ℕ

@@ -8,11 +8,12 @@ use lib.ListN.{length, getD}
 use Rattle.theory.specs.Net.{Graph, nodeAt, beside, Canonical, Clash, Agree}
 use Rattle.theory.specs.Layout.{GraphFits}
 use Rattle.theory.specs.Weight.{weight}
-use Rattle.locating.specs.ClashNode.{node-number, bared, ClashNode}
+use Rattle.theory.specs.ClashNode.{node-number, ClashNode}
 use Rattle.area.specs.Map.{WORDS, MARKS, RESULT, SIZE, LOADED, SECOND}
 use Rattle.loading.specs.Entry.{entry}
 use Rattle.classes.specs.Entry.{Lies}
 use Rattle.classes.specs.Holds.{Holds}
+use Rattle.finding_clash.specs.Bared.{bared}
 use Rattle.finding_clash.specs.Heads.{head-of}
 
 -- the graphs g and h lie in the loaded words of w, the first at 0 and the second at SECOND, whose node 0 has the number b

@@ -1,6 +1,6 @@
 -- Laws of words that stand at a place: split and joined, with their bounds, and by the parts of a description.
 -- Assumes nothing.
-use Prim.Native.Nat.{ℕ, _+_, _≤_, _<_}
+use Prim.Native.Nat.{ℕ, zero, suc, _+_, _≤_, _<_}
 use native.Mathlib.Omega.{arith}
 use native.Mathlib.Numerals.{add-one}
 use mathlib.Core.Path.{_≡_, refl, sym, subst, ap, _∙_}
@@ -36,6 +36,13 @@ module _ (ws : List ℕ) where
   pub stands-nil : (p q : ℕ) → Stands ws p [] q ↔ (p ≡ q)
   unfolding Stands
   stands-nil p q = (λ s. s, λ s. s)
+
+  -- word by word
+  pub stands-get : (xs : List ℕ) (p q j : ℕ) → Stands ws p xs q → j < length xs → getD ws (p + j) 0 ≡ getD xs j 0
+  stands-get [] p q j s h = absurd (omega arith)
+  stands-get (x ∷ xs) p q zero s h = let z : p + 0 ≡ p = omega arith in rw z (stands-cons x xs p q .0 s .1)
+  stands-get (x ∷ xs) p q (suc j) s h = let z : p + suc j ≡ p + 1 + j = omega arith in
+      rw z (stands-get xs (p + 1) q j (stands-cons x xs p q .0 s .2) (omega arith))
 
   pub stands-length : (xs : List ℕ) (p q : ℕ) → Stands ws p xs q → q ≡ p + length xs
   unfolding Stands

@@ -12,7 +12,7 @@ use lib.ListN.{length, getD, drop-of-length-le}
 use Rattle.theory.specs.Limits.{code-limit, depth-limit, input-limit, working-size}
 use Rattle.theory.specs.LayoutOne.{Image}
 use Rattle.theory.specs.Answer.{Answer, Call, refuse}
-use Rattle.theory.specs.Rules.{Given, one, two, three, four, five, six, seven, six-after, eight, done}
+use Rattle.theory.specs.Rules.{Given, one, two, three, four, five, six, ten, seven, eleven, eight, done}
 use Rattle.theory.proofs.Reading.{reads}
 use Rattle.descriptions.proofs.Table.{one-answer}
 use Rattle.roles.specs.Faults.{Cause, words-end, no-nodes, bad-head, bad-feature, bad-target, not-met, few-alternatives}
@@ -149,9 +149,10 @@ module _ (asked : Call) (room work : ℕ) (mode-fine : asked .mode ≤ 2) (area-
   accepted-number s i j r (three m w h) = absurd (not-both (asked .first) (asked .second) s h)
   accepted-number s i j r (four m w la lb n) = absurd (n i)
   accepted-number s i j r (five m w la lb i′ n) = absurd (n j)
-  accepted-number s i j r (six d e A c) = (λ z. omega arith, λ z. omega arith, λ z. omega arith)
+  accepted-number s i j r (six d e k A c n) = (λ z. omega arith, λ z. omega arith, λ z. omega arith)
+  accepted-number s i j r (ten d e A c m q) = (λ z. omega arith, λ z. omega arith, λ z. omega arith)
   accepted-number s i j r (seven d e A c t) = (λ z. omega arith, λ z. omega arith, λ z. omega arith)
-  accepted-number s i j r (six-after d e A c t m n) = (λ z. omega arith, λ z. omega arith, λ z. omega arith)
+  accepted-number s i j r (eleven d e A c t m n) = (λ z. omega arith, λ z. omega arith, λ z. omega arith)
   accepted-number s i j r (eight d e x A c t f l) = (λ z. omega arith, λ z. omega arith, λ z. omega arith)
   accepted-number s i j r (done d e x A c t f l) = (λ z. omega arith, λ z. omega arith, λ z. omega arith)
 

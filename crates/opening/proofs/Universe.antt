@@ -14,7 +14,7 @@ use Rattle.theory.specs.Layout.{words, alts-words, GraphFits, WellFormed, WellA
 use Rattle.theory.specs.Weight.{weight}
 use Rattle.theory.proofs.Reading.{well-can}
 use Rattle.layout.specs.Standing.{Stands}
-use Rattle.layout.proofs.Standing.{stands-cons, stands-bounds}
+use Rattle.layout.proofs.Standing.{stands-bounds, stands-cons, stands-get}
 use Rattle.loading.specs.Entry.{Entry, entry}
 use Rattle.loading.specs.Loaded.{extent, header, located, nodes-in, nodes-any}
 use Rattle.loading.proofs.Sizes.{nodes-few, graph-extent, located-length}
@@ -27,13 +27,6 @@ use Rattle.classes.specs.Entry.{Lies, Aside, Comes}
 use Rattle.classes.specs.Holds.{Holds}
 use Rattle.classes.proofs.Room.{room-enough}
 use Rattle.opening.specs.Opening.{Stand, definite}
-
--- what stands at p, word by word
-stands-get : (ws xs : List ℕ) (p q j : ℕ) → Stands ws p xs q → j < length xs → getD ws (p + j) 0 ≡ getD xs j 0
-stands-get ws [] p q j s h = absurd (omega arith)
-stands-get ws (x ∷ xs) p q zero s h = let z : p + 0 ≡ p = omega arith in rw z (stands-cons ws x xs p q .0 s .1)
-stands-get ws (x ∷ xs) p q (suc j) s h = let z : p + suc j ≡ p + 1 + j = omega arith in
-    rw z (stands-get ws xs (p + 1) q j (stands-cons ws x xs p q .0 s .2) (omega arith))
 
 -- the graphs of a well-formed description are canonical, and their features and atoms in range
 abbrev Good : Entry → Type 0

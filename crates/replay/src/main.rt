@@ -1,7 +1,9 @@
-// Runs stored vectors of the second program and compares what comes of each with what is stored: number, length, readings and every word of
-// both areas of a unification, in mode 2 by both engines, the number of a fit test, the number and the words of a join.
+// Runs stored vectors of the second program and compares what comes of each with what is stored: number, length, readings, node and every
+// word of both areas of a unification, in mode 2 by both engines, the number of a fit test, the number and the words of a join, which is
+// unified too.
 // Standard input has for each vector: 0 for a unification, 1 for a fit test or 2 for a join, mode, words of the result area, words of the
-// working area, number, length, readings, and the words of both inputs and of the result, each after their length; 4,294,967,295 ends them.
+// working area, number, length, readings, node, and the words of both inputs and of the result, each after their length; 4,294,967,295 ends
+// them. The node of a fit test is not looked at.
 mod areas;
 mod joining;
 
@@ -25,14 +27,14 @@ ghost use Prim.Native.Nat.{_≤_};
 // How many kinds of vectors there are; another word ends them.
 const KINDS: u32 = 3;
 
-// A kind has so many counts: a count for each number, 0 to 9, that came out as stored, and one of what came out otherwise.
-const COUNTS: usize = 11;
+// A kind has so many counts: a count for each number, 0 to 11, that came out as stored, and one of what came out otherwise.
+const COUNTS: usize = 13;
 
 // The counts of all kinds.
-const ALL_COUNTS: usize = 33;
+const ALL_COUNTS: usize = 39;
 
 // Before its words a vector has its kind and so many words more.
-const ROW: usize = 6;
+const ROW: usize = 7;
 
 // At most so many vectors are run.
 const MOST_TURNS: u32 = 1000000;
@@ -46,9 +48,10 @@ struct Vector {
     number: u32,
     length: u32,
     readings: u32,
+    node: u32,
 }
 
-// Whether a row has the stored number, length and readings.
+// Whether a row has the stored number, length, readings and node.
 fn row_right(row: Row, v: Vector) -> bool {
     if row.number != v.number {
         return false;
@@ -56,7 +59,10 @@ fn row_right(row: Row, v: Vector) -> bool {
     if row.length != v.length as usize {
         return false;
     }
-    row.readings == v.readings
+    if row.readings != v.readings {
+        return false;
+    }
+    row.node == v.node as usize
 }
 
 // Unifies in these areas, by the plain engine or in the stored mode.
@@ -143,7 +149,12 @@ fn as_stored(v: Vector, a: &[u32], b: &[u32], words: &[u32]) -> bool {
     match kind {
         0 => lent(v, a, b, words),
         1 => fitted(a, b, v.number),
-        _ => joined(a, b, v.number, words),
+        _ => {
+            if joined(a, b, v.number, words) {
+                return lent(v, a, b, words);
+            }
+            false
+        }
     }
 }
 
@@ -174,14 +185,14 @@ fn read(v: Vector) -> bool {
 
 // Which of the counts of its kind a vector belongs to.
 fn column(v: Vector) -> usize
-    ensures { λ r. ⌜ r ≤ 10 ⌝ }
+    ensures { λ r. ⌜ r ≤ 12 ⌝ }
 {
     if read(v) {
-        if v.number < 10 {
+        if v.number < 12 {
             return v.number as usize;
         }
     }
-    10
+    12
 }
 
 // Runs the next vector and counts what came of it. Whether there was one.
@@ -203,6 +214,7 @@ fn turn(counts: &mut [u32]) -> bool {
         number: row[3],
         length: row[4],
         readings: row[5],
+        node: row[6],
     };
     vectors::count(counts, kind as usize * COUNTS + column(v));
     filled
@@ -227,29 +239,29 @@ fn say_count(label: &[u8], n: u32) {
 
 // Says the counts of a kind, which stand from `from` on.
 fn say(label: &[u8], counts: &[u32; ALL_COUNTS], from: usize)
-    requires { ⌜ from ≤ 22 ⌝ }
+    requires { ⌜ from ≤ 26 ⌝ }
 {
     io::write_all(1, label);
     let mut i: usize = 0;
-    while i < 10 {
+    while i < 12 {
         say_count(b" ", counts[from + i]);
         i += 1;
     }
-    say_count(b", otherwise: ", counts[from + 10]);
+    say_count(b", otherwise: ", counts[from + 12]);
     io::write_all(1, b"\n");
 }
 
 fn main() {
     let mut counts: [u32; ALL_COUNTS] = [0; ALL_COUNTS];
     all(&mut counts);
-    say(b"unified, as stored with numbers 0 to 9:", &counts, 0);
+    say(b"unified, as stored with numbers 0 to 11:", &counts, 0);
     say(
-        b"tested for fit, as stored with numbers 0 to 9:",
+        b"tested for fit, as stored with numbers 0 to 11:",
         &counts,
         COUNTS,
     );
     say(
-        b"joined, as stored with numbers 0 to 9:",
+        b"joined, as stored with numbers 0 to 11:",
         &counts,
         COUNTS * 2,
     );

@@ -13,8 +13,8 @@ use Rattle.theory.specs.Descr.{Desc, number, readings}
 use Rattle.theory.specs.Layout.{words}
 use Rattle.theory.specs.Modes.{joined, quick}
 use Rattle.theory.specs.Answer.{Answer, Call, consistent}
-use Rattle.theory.specs.Rules.{mode-result, mode-readings, Accepted, Clashes, TooMany, Given, one, two, three, four, five, six, seven}
-use Rattle.theory.specs.Rules.{six-after, eight, done}
+use Rattle.theory.specs.Rules.{mode-result, mode-readings, Accepted, Clashes, TooMany, Given, one, two, three, four, five, six, ten}
+use Rattle.theory.specs.Rules.{seven, eleven, eight, done}
 use Rattle.theory.specs.Unified.{unified}
 use Rattle.theory.proofs.Counting.{readings-number}
 use Rattle.theory.proofs.Reading.{well-can, result-words, result-well, reads}
@@ -28,7 +28,8 @@ use Rattle.answer_text.specs.Answer.{bad-text, Wrote}
 use Rattle.answer_text.specs.declared.line.Written.{Written}
 use Rattle.answer_text.specs.declared.line.Written.the-variants.{Bytes}
 use Rattle.answer_text.proofs.Answers.{text-small, wrote-fits}
-use Rattle.reply.specs.Printed.{spoken, printed}
+use Rattle.unify.proofs.NodeSizes.{given-low}
+use Rattle.reply.specs.Printed.{answered, spoken, printed}
 
 -- ---- the numbers of an answer
 -- number, length, readings and words are 32-bit words, and the words have room
@@ -85,18 +86,19 @@ module _ (asked : Call) (work : ℕ) (d e : Desc) (A : Accepted asked work d e) 
         go (suc zero) h = omega arith
         go (suc (suc m)) h = let x = A .mode-fine in complete-few (omega arith)
 
-refused : (room n : ℕ) → n ≤ largest → Short room (record { number = n; extent = 0; readings = 0; result = [] })
-refused room n h = record { few = h; short = omega arith; known = omega arith; below = tt; inside = omega arith }
+refused : (room n i : ℕ) → n ≤ largest → Short room (record { number = n; extent = 0; readings = 0; node = i; result = [] })
+refused room n i h = record { few = h; short = omega arith; known = omega arith; below = tt; inside = omega arith }
 
 given-short : (asked : Call) (room work : ℕ) (r : Answer) → Given asked room work r → Short room r
-given-short asked room work r (one h) = refused room 1 (omega arith)
-given-short asked room work r (two m h) = refused room 2 (omega arith)
-given-short asked room work r (three m w h) = refused room 3 (omega arith)
-given-short asked room work r (four m w la lb n) = refused room 4 (omega arith)
-given-short asked room work r (five m w la lb i n) = refused room 5 (omega arith)
-given-short asked room work r (six d e A c) = refused room 6 (omega arith)
-given-short asked room work r (seven d e A c t) = refused room 7 (omega arith)
-given-short asked room work r (six-after d e A c t m n) = refused room 6 (omega arith)
+given-short asked room work r (one h) = refused room 1 0 (omega arith)
+given-short asked room work r (two m h) = refused room 2 0 (omega arith)
+given-short asked room work r (three m w h) = refused room 3 0 (omega arith)
+given-short asked room work r (four m w la lb n) = refused room 4 0 (omega arith)
+given-short asked room work r (five m w la lb i n) = refused room 5 0 (omega arith)
+given-short asked room work r (six d e i A c n) = refused room 6 i (omega arith)
+given-short asked room work r (ten d e A j m q) = refused room 10 0 (omega arith)
+given-short asked room work r (seven d e A c t) = refused room 7 0 (omega arith)
+given-short asked room work r (eleven d e A c t m n) = refused room 11 0 (omega arith)
 given-short asked room work r (eight d e s A c t f l) =
     let h = extent-short asked work d e A s f in
     record { few = omega arith; short = omega arith; known = omega arith; below = tt; inside = omega arith }
@@ -104,6 +106,12 @@ given-short asked room work r (done d e s A c t f l) =
     let h = extent-short asked work d e A s f in
     let k = readings-few asked work d e A c t in
     record { few = omega arith; short = omega arith; known = omega arith; below = result-below asked work d e A s f; inside = l }
+
+-- the node that is told is a word of 32 bits
+pub node-small : (asked : Call) → answered asked .node ≤ largest
+node-small asked =
+    let h = given-low asked 2048 16384 (answered asked) (unified-given reads asked 2048 16384) in
+    omega arith
 
 -- ---- the text
 pub spoken-small : (asked : Call) → length (spoken asked) ≤ 23000

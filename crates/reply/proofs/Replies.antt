@@ -21,7 +21,7 @@ use Rattle.call_text.specs.declared.call.Counts.the-variants.{Good, BadInput}
 use Rattle.answer_text.specs.Answer.{second-line, answer-text, bad-text, Wrote}
 use Rattle.answer_text.specs.declared.line.Written.{Written}
 use Rattle.call_text.proofs.Calls.{with-room}
-use Rattle.reply.specs.Printed.{in-text, spoken, printed}
+use Rattle.reply.specs.Printed.{in-text, answered, spoken, ReplyTold, printed}
 
 -- only number 0 has a second line
 no-words : (n l r : ℕ) (xs ys : List ℕ) → (n ≡ 0 → ⊥) → answer-text n l r xs ≡ answer-text n l r ys
@@ -30,9 +30,21 @@ no-words n l r xs ys h = let e : eqb n 0 ≡ false = ne-eqb n 0 h in rw (e, seco
 
 module _ (c : theory.Call) (before after : Areas) (r : Row) (ls : length (before .result) ≡ 2048) (lw : length (before .working) ≡ 16384)
     (o : Outcome c before r after) where
+  answered-is : answered c ≡ o .answer
+  answered-is = ap₂ {C = theory.Answer} (λ (x y : ℕ). unified c x y) (sym ls) (sym lw) ∙ outcome-answer c before r after o
+
   said : spoken c ≡ in-text (o .answer)
   unfolding spoken
-  said = ap₂ {C = List ℕ} (λ (x y : ℕ). in-text (unified c x y)) (sym ls) (sym lw) ∙ ap in-text (outcome-answer c before r after o)
+  said = ap in-text answered-is
+
+  -- what is written of the answer, with its number and node
+  pub reply-told : (text out out′ : List ℕ) (w : Written) → text ≡ spoken c → Wrote text out out′ w →
+      ReplyTold c out out′ (record { written = w; number = r .number; node = r .node })
+  reply-told text out out′ w e h = record {
+    wrote = subst (λ (x : List ℕ). Wrote x out out′ w) e h;
+    the-number = o .the-number ∙ sym (ap (λ (s : theory.Answer). s .number) answered-is);
+    the-node = o .the-node ∙ sym (ap (λ (s : theory.Answer). s .node) answered-is);
+  }
 
   wrote : Writes (length (before .result)) (o .answer)
   wrote = given-writes c (length (before .result)) (length (before .working)) (o .answer) (o .given)

@@ -9,7 +9,7 @@ use unify::unify;
 ghost use mathlib.Core.Path.{_≡_};
 ghost use lib.ListN.{length};
 ghost use Rattle.answer_text.specs.Answer.{Wrote};
-ghost use Rattle.reply.specs.Printed.{result-size, spoken, printed};
+ghost use Rattle.reply.specs.Printed.{result-size, spoken, ReplyTold, printed};
 ghost use Rattle.theory.specs.Limits.{working-size};
 
 // "Its result area has 2,048 words", and so have the inputs at most.
@@ -30,7 +30,14 @@ fn working_space() -> [u32; WORKING_SIZE]
     [0; WORKING_SIZE]
 }
 
-// Unifies two inputs in these areas, and writes the answer to the start of out.
+// What was written of an answer, and its number and node.
+pub struct Replied {
+    pub written: Written,
+    pub number: u32,
+    pub node: usize,
+}
+
+// Unifies two inputs in these areas, writes the answer to the start of out, and tells its number and node.
 fn answer_in(
     mode: u32,
     first: &[u32],
@@ -38,9 +45,9 @@ fn answer_in(
     result: &mut [u32],
     working: &mut [u32],
     out: &mut [u8],
-) -> Written
+) -> Replied
     requires { ⌜ (length (now result) ≡ result-size) × (length (now working) ≡ working-size) ⌝ }
-    ensures { λ r. ⌜ Wrote (spoken (record { mode = mode; first = now (first .entry); second = now (second .entry) }))
+    ensures { λ r. ⌜ ReplyTold (record { mode = mode; first = now (first .entry); second = now (second .entry) })
         (now (out .entry)) (now (out .exit)) r ⌝ }
 {
     let came = unify(mode, first, second, result, working);
@@ -48,10 +55,31 @@ fn answer_in(
     let number = row.number;
     let length = row.length;
     let readings = row.readings;
+    let node = row.node;
     if number == 0 {
-        return write_answer(out, number, length, readings, &result[..length]);
+        let written = write_answer(out, number, length, readings, &result[..length]);
+        return Replied {
+            written,
+            number,
+            node,
+        };
     }
-    write_answer(out, number, length, readings, &result[..0])
+    let written = write_answer(out, number, length, readings, &result[..0]);
+    Replied {
+        written,
+        number,
+        node,
+    }
+}
+
+// Unifies two inputs, writes the answer to the start of out, and tells its number and node.
+pub fn answer_told(mode: u32, first: &[u32], second: &[u32], out: &mut [u8]) -> Replied
+    ensures { λ r. ⌜ ReplyTold (record { mode = mode; first = now (first .entry); second = now (second .entry) })
+        (now (out .entry)) (now (out .exit)) r ⌝ }
+{
+    let mut result = space();
+    let mut working = working_space();
+    answer_in(mode, first, second, &mut result, &mut working, out)
 }
 
 // Unifies two inputs, and writes the answer to the start of out.
@@ -59,9 +87,8 @@ pub fn answer(mode: u32, first: &[u32], second: &[u32], out: &mut [u8]) -> Writt
     ensures { λ r. ⌜ Wrote (spoken (record { mode = mode; first = now (first .entry); second = now (second .entry) }))
         (now (out .entry)) (now (out .exit)) r ⌝ }
 {
-    let mut result = space();
-    let mut working = working_space();
-    answer_in(mode, first, second, &mut result, &mut working, out)
+    let replied = answer_told(mode, first, second, out);
+    replied.written
 }
 
 // Answers the call that the text is, whose inputs are read into these, and writes what `meet` prints to the start of out.

@@ -76,14 +76,15 @@ module _ (c : List (List ℕ)) (a b : ℕ) (ha : a < length c) (hb : b < length 
       go true (equal e) false (differ n) = subst (λ (z : ℕ). cell (raised-at c a b) z k ≡ cell c z k) e (cell-beside k n)
       go false (differ n) u v = cell-elsewhere m k n
 
-no-cell : (j m k : ℕ) → cell (replicate j (replicate 9 0)) m k ≡ 0
+-- whatever is read of zeros is 0
+pub all-zero : (n i : ℕ) → _≡_ {A = ℕ} (getD (replicate n 0) i 0) 0
+all-zero zero i = refl
+all-zero (suc n) zero = refl
+all-zero (suc n) (suc i) = all-zero n i
+
+no-cell : (j m k : ℕ) → cell (replicate j (replicate 12 0)) m k ≡ 0
 no-cell zero m k = refl
-no-cell (suc j) zero k = go 9 k
-  where
-    go : (n i : ℕ) → _≡_ {A = ℕ} (getD (replicate n 0) i 0) 0
-    go zero i = refl
-    go (suc n) zero = refl
-    go (suc n) (suc i) = go n i
+no-cell (suc j) zero k = all-zero 12 k
 no-cell (suc j) (suc m) k = no-cell j m k
 
 module _ (ws : List ℕ) (ts : List Test) (y w : List ℕ) (n : ℕ) (f : Runnable n (length ws) ts) (m k : ℕ) where

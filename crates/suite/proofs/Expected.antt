@@ -29,7 +29,7 @@ module _ (ws : List ℕ) (t : Test) (s : Night) where
   abbrev told : Answer
   told = answer-then ws t s
 
-  call-made : Outcome (test-call ws t) lent (record { number = told .number; extent = told .extent; readings = told .readings })
+  call-made : Outcome (test-call ws t) lent (record { number = told .number; extent = told .extent; readings = told .readings; node = told .node })
       (record { result = result-after told (s .result); working = worked (told .number) (s .working) })
   unfolding test-answer result-after
   call-made = record {
@@ -38,6 +38,7 @@ module _ (ws : List ℕ) (t : Test) (s : Night) where
     the-number = refl;
     the-extent = refl;
     the-readings = refl;
+    the-node = refl;
     the-result = refl;
     the-working = refl;
   }

@@ -47,25 +47,25 @@ module _ (n space : ℕ) (t : Test) (z : n ≡ 0) where
             record-fault,
           )) ∙ fault-fresh
 
-      pub number-beyond : t .mode ≤ 2 → 8 < t .number → 32 ≡ fault-after n space t
+      pub number-beyond : t .mode ≤ 2 → 11 < t .number → 32 ≡ fault-after n space t
       unfolding record-fault
       number-beyond m h =
           (rw (
             le-ltb space (t .first + t .firsts) f,
             le-ltb space (t .second + t .seconds) s,
             le-ltb 2 (t .mode) m,
-            lt-ltb 8 (t .number) h,
+            lt-ltb 11 (t .number) h,
             record-fault,
           )) ∙ fault-fresh
 
-      pub none-beyond : t .mode ≤ 2 → t .number ≤ 8 → 0 ≡ fault-after n space t
+      pub none-beyond : t .mode ≤ 2 → t .number ≤ 11 → 0 ≡ fault-after n space t
       unfolding record-fault
       none-beyond m h =
           (rw (
             le-ltb space (t .first + t .firsts) f,
             le-ltb space (t .second + t .seconds) s,
             le-ltb 2 (t .mode) m,
-            le-ltb 8 (t .number) h,
+            le-ltb 11 (t .number) h,
             record-fault,
           )) ∙ fault-fresh
 

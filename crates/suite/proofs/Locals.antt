@@ -26,7 +26,7 @@ one-more i = add-suc i zero ∙ ap suc (add-zero i)
 
 -- the counts
 abbrev pub Cnt : RattleType
-Cnt = Array (Array u32 9) 3
+Cnt = Array (Array u32 12) 3
 
 abbrev pub word : Ty
 word = tyInt w64
@@ -35,7 +35,7 @@ abbrev pub half : Ty
 half = tyInt w32
 
 abbrev pub counts-ty : Ty
-counts-ty = tyArray (tyArray (tyInt w32) 9) 3
+counts-ty = tyArray (tyArray (tyInt w32) 12) 3
 
 -- the parameters, each at its lifetime
 abbrev pub tests-ty : Ty

@@ -26,11 +26,11 @@ within space t f s (inr h) = omega (arith, s, h)
 record-view : (space : ℕ) (t : Test) → RecordView space t (record-fault space t)
 unfolding record-fault
 record-view space t =
-    go (ltb space (t .first + t .firsts)) (ltb space (t .second + t .seconds)) (ltb 2 (t .mode)) (ltb 8 (t .number))
-    (tested space (t .first + t .firsts)) (tested space (t .second + t .seconds)) (tested 2 (t .mode)) (tested 8 (t .number))
+    go (ltb space (t .first + t .firsts)) (ltb space (t .second + t .seconds)) (ltb 2 (t .mode)) (ltb 11 (t .number))
+    (tested space (t .first + t .firsts)) (tested space (t .second + t .seconds)) (tested 2 (t .mode)) (tested 11 (t .number))
   where
     go : (a b c d : Bool) → Tested space (t .first + t .firsts) a → Tested space (t .second + t .seconds) b →
-        Tested 2 (t .mode) c → Tested 8 (t .number) d →
+        Tested 2 (t .mode) c → Tested 11 (t .number) d →
         RecordView space t (elim a [
           | true ↦ 31
           | false ↦ elim b [ true ↦ 31 | false ↦ elim c [ true ↦ 32 | false ↦ elim d [ true ↦ 32 | false ↦ 0 ] ] ]

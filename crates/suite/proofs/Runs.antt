@@ -1,4 +1,4 @@
--- What a run keeps: the counts sum to the tests run, the record counts them too, and the table of counts stays 3 by 9. Assumes nothing.
+-- What a run keeps: the counts sum to the tests run, the record counts them too, and the table of counts stays 3 by 12. Assumes nothing.
 use mathlib.Core.Path.{_≡_, refl, sym, ap, _∙_, subst}
 use mathlib.Core.Bool.{Bool, true, false, not}
 use lib.Dec.{T, ltb, ltb→lt, nltb→le}
@@ -10,7 +10,7 @@ use Rattle.theory.specs.Answer.{Answer}
 use Rattle.theory.proofs.Reading.{reads}
 use Rattle.theory.specs.Answer.{Call}
 use Rattle.theory.specs.Unified.{unified}
-use Rattle.theory.specs.Rules.{Given, one, two, three, four, five, six, seven, six-after, eight, done}
+use Rattle.theory.specs.Rules.{Given, one, two, three, four, five, six, ten, seven, eleven, eight, done}
 use Rattle.descriptions.proofs.Table.{unified-given}
 use Rattle.suite.specs.declared.test.Test.{Test}
 use Rattle.suite.specs.declared.running.Running.{Running}
@@ -53,30 +53,31 @@ next-state ws ts s i number readings y w a = λ j. record {
   working = a .1 .1 .1 j;
 }
 
--- every number of the table is at most 8
-given-small : (c : Call) (room work : ℕ) (y : Answer) → Given c room work y → y .number < 9
+-- every number of the table is at most 11
+given-small : (c : Call) (room work : ℕ) (y : Answer) → Given c room work y → y .number < 12
 given-small c room work y (one h) = omega arith
 given-small c room work y (two m h) = omega arith
 given-small c room work y (three m l h) = omega arith
 given-small c room work y (four m w la lb n) = omega arith
 given-small c room work y (five m w la lb i n) = omega arith
-given-small c room work y (six d e a k) = omega arith
+given-small c room work y (six d e i a k n) = omega arith
+given-small c room work y (ten d e a j l k) = omega arith
 given-small c room work y (seven d e a k t) = omega arith
-given-small c room work y (six-after d e a k t m n) = omega arith
+given-small c room work y (eleven d e a k t m n) = omega arith
 given-small c room work y (eight d e s a k t h l) = omega arith
 given-small c room work y (done d e s a k t h l) = omega arith
 
-pub unified-small : (c : Call) (room work : ℕ) → unified c room work .number < 9
+pub unified-small : (c : Call) (room work : ℕ) → unified c room work .number < 12
 unified-small c room work = given-small c room work _ (unified-given reads c room work)
 
-pub answer-small : (ws : List ℕ) (t : Test) (room work : ℕ) → test-answer ws t room work .number < 9
+pub answer-small : (ws : List ℕ) (t : Test) (room work : ℕ) → test-answer ws t room work .number < 12
 unfolding test-answer
 answer-small ws t room work = unified-small (test-call ws t) room work
 
--- ---- the table of counts is 3 by 9
+-- ---- the table of counts is 3 by 12
 pub record Square (c : List (List ℕ)) : Type 0 where
   pub rows : length c ≡ 3
-  pub cells : (i : ℕ) → i < 3 → length (getD c i []) ≡ 9
+  pub cells : (i : ℕ) → i < 3 → length (getD c i []) ≡ 12
 
 length-put : (l : List ℕ) (i x : ℕ) → length (set l i x) ≡ length l
 length-put [] i x = refl
@@ -109,7 +110,7 @@ none-square : Square no-counts
 unfolding no-counts
 none-square = record { rows = refl; cells = cell }
   where
-    cell : (i : ℕ) → i < 3 → length {A = ℕ} (getD (replicate 3 (replicate 9 0)) i []) ≡ 9
+    cell : (i : ℕ) → i < 3 → length {A = ℕ} (getD (replicate 3 (replicate 12 0)) i []) ≡ 12
     cell zero h = refl
     cell (suc zero) h = refl
     cell (suc (suc zero)) h = refl
@@ -177,7 +178,7 @@ pub ready : (ws : List ℕ) (ts : List Test) (y w : List ℕ) (n : ℕ) → Runn
     → number ≡ test-answer ws (getD ts i no-test) (length (night-after ws ts (begun-night y w) i .result))
     (length (night-after ws ts (begun-night y w) i .working)) .number
     → ((night-after ws ts (begun-night y w) i .running .run < 64) × (night-after ws ts (begun-night y w) i .running .good < 64)) × ((getD ts
-    i no-test .mode < 3) × ((number < 9) × (counts-sum (night-after ws ts (begun-night y w) i .counts) < 64)))
+    i no-test .mode < 3) × ((number < 12) × (counts-sum (night-after ws ts (begun-night y w) i .counts) < 64)))
 ready ws ts y w n f i h number e =
     let s : Night = night-after ws ts (begun-night y w) i in
     let k = kept ws ts y w n f i (omega arith) in
@@ -231,7 +232,7 @@ fault-zero (suc n) space t e = absurd (omega (arith, e))
 fault-free : (space : ℕ) (t : Test) → record-fault space t ≡ 0 → Within space t × (t .mode < 3)
 unfolding record-fault
 fault-free space t =
-    go (ltb space (t .first + t .firsts)) (ltb space (t .second + t .seconds)) (ltb 2 (t .mode)) (ltb 8 (t .number))
+    go (ltb space (t .first + t .firsts)) (ltb space (t .second + t .seconds)) (ltb 2 (t .mode)) (ltb 11 (t .number))
     (tested space (t .first + t .firsts)) (tested space (t .second + t .seconds)) (tested 2 (t .mode))
   where
     go : (a b c d : Bool) → Tested space (t .first + t .firsts) a → Tested space (t .second + t .seconds) b → Tested 2 (t .mode) c

@@ -11,9 +11,9 @@ use Rattle.suite.specs.Suite.{no-test}
 abbrev pub BeyondArea : ℕ → Test → Type 0
 BeyondArea space t = (space < t .first + t .firsts) ⊎ (space < t .second + t .seconds)
 
--- "32 a record with a mode above 2 or an expected number above 8"
+-- "32 a record with a mode above 2 or an expected number above" the greatest, which is 11
 abbrev pub OutOfTable : Test → Type 0
-OutOfTable t = (2 < t .mode) ⊎ (8 < t .number)
+OutOfTable t = (2 < t .mode) ⊎ (11 < t .number)
 
 -- none of the first n records is at fault
 abbrev pub FaultFree : ℕ → List Test → ℕ → Type 0

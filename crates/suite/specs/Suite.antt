@@ -19,8 +19,8 @@ abbrev pub no-test : Test
 no-test = record { mode = 0; number = 0; readings = 0; first = 0; firsts = 0; second = 0; seconds = 0 }
 
 -- ---- refusals
--- "31 a record names words beyond the area, 32 a record with a mode above 2 or an expected number above 8 … then 31"; 0 for a record that
--- is fine
+-- "31 a record names words beyond the area, 32 a record with a mode above 2 or an expected number above" the greatest, "… then 31", and
+-- "its greatest expected number" widens "to 11"; 0 for a record that is fine
 unfoldable pub record-fault : ℕ → Test → ℕ
 record-fault space t =
     elim (ltb space (t .first + t .firsts)) [
@@ -28,7 +28,7 @@ record-fault space t =
       | false ↦
           elim (ltb space (t .second + t .seconds)) [
             | true ↦ 31
-            | false ↦ elim (ltb 2 (t .mode)) [ true ↦ 32 | false ↦ elim (ltb 8 (t .number)) [ true ↦ 32 | false ↦ 0 ] ]
+            | false ↦ elim (ltb 2 (t .mode)) [ true ↦ 32 | false ↦ elim (ltb 11 (t .number)) [ true ↦ 32 | false ↦ 0 ] ]
           ]
     ]
 
@@ -121,9 +121,9 @@ unfoldable pub counts-sum : List (List ℕ) → ℕ
 counts-sum [] = 0
 counts-sum (row ∷ l) = row-sum row + counts-sum l
 
--- "counts by mode and number, 3 by 9"
+-- "counts by mode and number"; "Five's table widens to 3 by 12"
 unfoldable pub no-counts : List (List ℕ)
-no-counts = replicate 3 (replicate 9 0)
+no-counts = replicate 3 (replicate 12 0)
 
 -- "one cell raised per test"
 unfoldable pub raised-at : List (List ℕ) → ℕ → ℕ → List (List ℕ)

@@ -1,7 +1,7 @@
 // What a table is refused for, looked at before any test runs.
 use crate::test::Test;
 use crate::test::row;
-use crate::test::wide;
+use limits::wide;
 ghost use mathlib.Core.Path.{_≡_};
 ghost use Prim.Native.Nat.{_+_};
 ghost use lib.ListN.{length};
@@ -28,7 +28,7 @@ pub fn judged(number: u32, test: Test, space: usize) -> u32
     if 2 < test.mode {
         return 32;
     }
-    if 8 < test.number {
+    if 11 < test.number {
         return 32;
     }
     0

@@ -14,9 +14,9 @@ use crate::running::note;
 use crate::running::noted;
 use crate::test::Test;
 use crate::test::row;
-use crate::test::wide;
 use answering::answer::Row;
 use answering::answer::told;
+use limits::wide;
 use unify::unify;
 ghost use mathlib.Core.Path.{_≡_};
 ghost use lib.ListN.{length};
@@ -44,7 +44,7 @@ fn each(
     result: &mut [u32],
     working: &mut [u32],
     running: &mut Running,
-) -> [[u32; 9]; 3]
+) -> [[u32; 12]; 3]
     requires { ⌜ Runnable n (length (now words)) (now tests) ⌝ }
     ensures { λ r. ⌜ record { counts = r; running = now (running .exit); result = now (result .exit); working = now (working .exit) }
         ≡ night-after (now (words .entry)) (now (tests .entry)) (begun-night (now (result .entry)) (now (working .entry))) n ⌝ }
@@ -64,15 +64,15 @@ fn each(
     counts
 }
 
-// Runs a suite: "Run them in order and report counts by mode and number, 3 by 9, tests as expected, and the first that wasn't". A refused
-// suite leaves everything as it came.
+// Runs a suite: "Run them in order and report counts by mode and number", 3 by 12, "tests as expected, and the first that wasn't".
+// A refused suite leaves everything as it came.
 pub fn suite(
     tests: &[Test],
     words: &[u32],
     result: &mut [u32],
     working: &mut [u32],
     running: &mut Running,
-    counts: &mut [[u32; 9]; 3],
+    counts: &mut [[u32; 12]; 3],
 ) -> u32
     ensures { λ r. ⌜ Suited (now (words .entry)) (now (tests .entry))
         (record {

@@ -1,4 +1,4 @@
-// A test of the table, and the words of a record as numbers.
+// A test of the table.
 ghost use mathlib.Core.Path.{_≡_};
 ghost use Prim.Native.Nat.{_<_};
 ghost use lib.ListN.{length, getD};
@@ -14,13 +14,6 @@ pub struct Test {
     pub firsts: u32,
     pub second: u32,
     pub seconds: u32,
-}
-
-// A word as a number to count with.
-pub(crate) fn wide(x: u32) -> usize
-    ensures { λ r. ⌜ r ≡ x ⌝ }
-{
-    x as usize
 }
 
 // The test at i.

@@ -1,3 +1,2 @@
--- `Verdicts` has what is said and counted of a test, `Pieces` a report written piece by piece.
-pub mod Verdicts
+-- `Pieces` has a report written piece by piece.
 pub mod Pieces

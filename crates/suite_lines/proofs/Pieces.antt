@@ -17,10 +17,10 @@ use Rattle.suite_reading.specs.Text.{FindsName}
 use Rattle.suite_lines.specs.Lines.{test-label, refused-label, as-expected-end, expected-label, came-label, not-run-label}
 use Rattle.suite_lines.specs.Lines.{but-label, mode-label, good-label, other-label, not-run-end, shown-name, verdict-text}
 use Rattle.suite_lines.specs.Lines.{line-of, row-text, mode-row, table-text, totals-text, summary}
-use Rattle.suite_lines.specs.declared.verdict.Verdict.{Verdict}
-use Rattle.suite_lines.specs.declared.verdict.Verdict.the-variants.{Good, Refused, Other, NotRun}
-use Rattle.suite_lines.specs.declared.verdict.Totals.{Totals}
-use Rattle.suite_lines.proofs.verdict.Verdict.{the-type}
+use Rattle.verdicts.specs.declared.verdict.Verdict.{Verdict}
+use Rattle.verdicts.specs.declared.verdict.Verdict.the-variants.{Good, Refused, Other, NotRun}
+use Rattle.verdicts.specs.declared.verdict.Totals.{Totals}
+use Rattle.verdicts.proofs.verdict.Verdict.{the-type}
 
 -- ---- piece after piece
 -- pieces as one text
@@ -53,7 +53,7 @@ pub ends : {dst₀ xs dst piece : List ℕ} {at end : ℕ} → Left dst₀ at xs
 unfolding joined
 ends l mid q f old whole left g = f old whole left (l .turned old whole left g)
 
--- ---- the pieces of each text. The counts of a mode are the nine from 0, 9 or 18 on
+-- ---- the pieces of each text. The counts of a mode are the twelve from 0, 12 or 24 on
 module _ (t : Test) (n r : ℕ) (dst : List ℕ) (at : ℕ) where
   pub refused-begins : Left dst at (verdict-text Refused t n r) dst at (labelled refused-label n ∷ as-expected-end ∷ [])
   unfolding verdict-text joined
@@ -78,7 +78,7 @@ module _ (dst : List ℕ) (at : ℕ) where
 
   pub table-begins : (table : List ℕ) →
       Left dst at (table-text table) dst at (
-      row-text 0 (take 9 table) ∷ row-text 1 (take 9 (drop 9 table)) ∷ row-text 2 (take 9 (drop 18 table)) ∷ [])
+      row-text 0 (take 12 table) ∷ row-text 1 (take 12 (drop 12 table)) ∷ row-text 2 (take 12 (drop 24 table)) ∷ [])
   unfolding table-text mode-row joined
   table-begins table = begins refl
 

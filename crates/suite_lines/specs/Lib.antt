@@ -1,2 +1,2 @@
--- `Lines` says what is said and counted of a test.
+-- `Lines` says what is written of a test and of a suite.
 pub mod Lines

@@ -1,16 +1,14 @@
 -- The lines of a report on a suite, for tests of which it is known what was expected and what came.
 -- Assumes nothing: these are definitions.
-use mathlib.Core.Bool.{Bool, true, false}
 use mathlib.Core.List.{List, [], _∷_, _++_}
 use Prim.Native.Nat.{ℕ, _+_, _*_}
-use lib.ListN.{take, drop, getD, set, replicate}
-use lib.Dec.{eqb}
+use lib.ListN.{take, drop}
 use Rattle.answer_text.specs.Answer.{newline, readings-label, labelled, after-spaces}
 use Rattle.suite.specs.declared.test.Test.{Test}
-use Rattle.suite.specs.Suite.{as-expected}
-use Rattle.suite_lines.specs.declared.verdict.Verdict.{Verdict}
-use Rattle.suite_lines.specs.declared.verdict.Verdict.the-variants.{Good, Refused, Other, NotRun}
-use Rattle.suite_lines.specs.declared.verdict.Totals.{Totals}
+use Rattle.verdicts.specs.Verdicts.{numbers}
+use Rattle.verdicts.specs.declared.verdict.Verdict.{Verdict}
+use Rattle.verdicts.specs.declared.verdict.Verdict.the-variants.{Good, Refused, Other, NotRun}
+use Rattle.verdicts.specs.declared.verdict.Totals.{Totals}
 
 -- `test `
 abbrev pub test-label : List ℕ
@@ -69,17 +67,6 @@ unfoldable pub shown-name : ℕ → List ℕ → List ℕ
 shown-name i [] = labelled test-label (i + 1)
 shown-name i (c ∷ cs) = c ∷ cs
 
--- whether a number decides anything: 1 to 5, 7 and 8 refuse
-unfoldable pub decides : ℕ → Bool
-decides n = elim (eqb n 0) [ true ↦ true | false ↦ eqb n 6 ]
-
--- "A test answered 1 to 5, 7 or 8 is **not run** and never as passed, unless that very number was expected, and then it says so."
-unfoldable pub verdict-of : Test → ℕ → ℕ → Verdict
-verdict-of t n r = elim (as-expected t n r) [
-  | true ↦ elim (decides n) [ true ↦ Good | false ↦ Refused ]
-  | false ↦ elim (decides n) [ true ↦ Other | false ↦ NotRun ]
-]
-
 -- the line of a test after its name
 unfoldable pub verdict-text : Verdict → Test → ℕ → ℕ → List ℕ
 verdict-text Good t n r = []
@@ -96,33 +83,6 @@ line-of i name Good t n r = []
 line-of i name Refused t n r = shown-name i name ++ verdict-text Refused t n r
 line-of i name Other t n r = shown-name i name ++ verdict-text Other t n r
 line-of i name NotRun t n r = shown-name i name ++ verdict-text NotRun t n r
-
--- "N as expected, M not, K not run": a refusal that was expected is as expected
-unfoldable pub totals-after : Verdict → Totals → Totals
-totals-after Good s = record { good = s .good + 1; other = s .other; missed = s .missed }
-totals-after Refused s = record { good = s .good + 1; other = s .other; missed = s .missed }
-totals-after Other s = record { good = s .good; other = s .other + 1; missed = s .missed }
-totals-after NotRun s = record { good = s .good; other = s .other; missed = s .missed + 1 }
-
-abbrev pub no-totals : Totals
-no-totals = record { good = 0; other = 0; missed = 0 }
-
--- "counts by mode and number, 3 by 9", here one mode after the other
-abbrev pub numbers : ℕ
-numbers = 9
-
-abbrev pub cells : ℕ
-cells = 27
-
-unfoldable pub cell-of : ℕ → ℕ → ℕ
-cell-of mode number = numbers * mode + number
-
-unfoldable pub no-table : List ℕ
-no-table = replicate cells 0
-
--- one cell is raised
-unfoldable pub raised-cell : List ℕ → ℕ → List ℕ
-raised-cell table cell = set table cell (getD table cell 0 + 1)
 
 -- a mode, a colon, and each count after a space
 unfoldable pub row-text : ℕ → List ℕ → List ℕ

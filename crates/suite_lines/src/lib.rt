@@ -1,4 +1,2 @@
-// What a report on a suite is made of: verdicts, counts and lines.
+// The lines that a report on a suite is made of.
 pub mod lines;
-pub mod table;
-pub mod verdict;

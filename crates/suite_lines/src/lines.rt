@@ -1,8 +1,4 @@
 // The lines of a report.
-use crate::table::CELLS;
-use crate::table::NUMBERS;
-use crate::verdict::Totals;
-use crate::verdict::Verdict;
 use answer_text::line::Written;
 use answer_text::line::put;
 use answer_text::line::put_after_spaces;
@@ -12,15 +8,18 @@ use answer_text::line::put_run;
 use answering::answer::Row;
 use suite::test::Test;
 use suite_reading::text::find_name;
+use verdicts::table::CELLS;
+use verdicts::table::NUMBERS;
+use verdicts::verdict::Totals;
+use verdicts::verdict::Verdict;
 ghost use mathlib.Core.Path.{_≡_};
-ghost use mathlib.Core.List.{_++_};
 ghost use Prim.Native.Nat.{_≤_};
 ghost use lib.ListN.{length};
-ghost use Rattle.answer_text.specs.Answer.{labelled};
 ghost use Rattle.answer_text.specs.Going.{Appends};
 ghost use Rattle.suite_reading.specs.Text.{name-in};
-ghost use Rattle.suite_lines.specs.Lines.{cells, shown-name, verdict-text, line-of, row-text, table-text, totals-text, summary};
-ghost use Rattle.suite_lines.specs.declared.verdict.Verdict.the-variants.{Refused, Other, NotRun};
+ghost use Rattle.verdicts.specs.Verdicts.{cells};
+ghost use Rattle.verdicts.specs.declared.verdict.Verdict.the-variants.{Refused, Other, NotRun};
+ghost use Rattle.suite_lines.specs.Lines.{shown-name, verdict-text, line-of, row-text, table-text, totals-text, summary};
 
 // Writes the name in a run of bytes, or the number from 1 of the test at i.
 fn put_name(out: &mut [u8], at: usize, i: usize, run: &[u8]) -> Written

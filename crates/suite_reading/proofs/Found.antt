@@ -113,7 +113,7 @@ module _ (text : List ℕ) (named m n k : ℕ) (cs : List ℕ) where
           }))
 
 -- no number comes
-number-stops : (f : ℕ → List ℕ → Option TypedTest) (text : List ℕ) (s : Start) (r : Token) → meant text r ≡ s → Other r
+pub number-stops : {A : Type 0} (f : ℕ → List ℕ → Option A) (text : List ℕ) (s : Start) (r : Token) → meant text r ≡ s → Other r
     → number-then f s ≡ none
 number-stops f text s (Is v q) e o = absurd (o v q refl)
 number-stops f text s Over e o = ap (number-then f) (sym e)
@@ -272,7 +272,7 @@ tests-many (suc n) cs = subst (Many (suc n)) (tests-more n cs (leading-test cs) 
     go none h = tt
     go (some t) h = many-more n t (tests-in n (t .after)) (h (t .after))
 
-expected-many : (ts : List TypedTest) → length (all-expected ts) ≡ length ts
+pub expected-many : (ts : List TypedTest) → length (all-expected ts) ≡ length ts
 unfolding all-expected
 expected-many [] = refl
 expected-many (t ∷ ts) = ap suc (expected-many ts)

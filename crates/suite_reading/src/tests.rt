@@ -4,6 +4,7 @@ use call_text::call::find_counted;
 use call_text::call::is_over;
 use call_text::number::Token;
 use call_text::number::read_token;
+use limits::wide;
 use suite::checks::counted;
 use suite::checks::judged;
 use suite::test::Test;
@@ -120,12 +121,6 @@ pub fn expected(place: Place) -> Test
 pub enum Judgement {
     Fine(u32),
     BadInput,
-}
-
-fn wide(x: u32) -> usize
-    ensures { λ r. ⌜ r ≡ x ⌝ }
-{
-    x as usize
 }
 
 // Looks at n tests, which are all that stands from p on.

@@ -1,7 +1,6 @@
 // The text of a suite: its names are taken out, so that only numbers are left, and looked up.
 ghost use mathlib.Core.Path.{_≡_};
-ghost use mathlib.Core.Bool.{Bool, false};
-ghost use mathlib.Core.List.{List};
+ghost use mathlib.Core.Bool.{false};
 ghost use Prim.Native.Nat.{_≤_};
 ghost use lib.ListN.{length, drop};
 ghost use Rattle.suite_reading.specs.Text.{next-named, name-byte, blank-byte, blanked, from-hash, spaces-off, name-in};

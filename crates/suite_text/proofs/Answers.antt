@@ -1,7 +1,7 @@
 -- What comes of a test: its words are read, and its call is made. Assumes nothing.
 use mathlib.Core.Path.{_≡_, ap, sym, _∙_}
 use mathlib.Core.List.{List, _++_}
-use Prim.Native.Nat.{ℕ}
+use Prim.Native.Nat.{ℕ, _<_}
 use native.Mathlib.Omega.{arith}
 use lib.ListN.{length, take, drop}
 use lib.Seq.{take-append-seam}
@@ -14,9 +14,17 @@ use Rattle.reply.specs.Printed.{result-size}
 use Rattle.call_text.specs.Call.{words-in}
 use Rattle.call_text.specs.Finding.{Puts}
 use Rattle.call_text.proofs.Runs.{words-length}
+use Rattle.suite.proofs.Runs.{unified-small}
+use Rattle.suite_reading.specs.Tests.{TypedTest}
 use Rattle.suite_reading.specs.declared.tests.Place.{Place}
 use Rattle.suite_reading.specs.Finding.{WordsStand}
-use Rattle.suite_text.specs.Report.{call-answer, TestAnswers}
+use Rattle.verdicts.specs.Verdicts.{numbers}
+use Rattle.suite_text.specs.Report.{call-answer, came-of, TestAnswers}
+
+-- every test is answered with a number of the table
+pub number-low : (t : TypedTest) → came-of t .number < numbers
+unfolding call-answer
+number-low t = unified-small (record { mode = t .mode; first = t .first; second = t .second }) result-size working-size
 
 -- the words stand at the start of the area that they were read into
 pub words-read : (text : List ℕ) (at count : ℕ) (words dst dst′ : List ℕ) → WordsStand text at count words →

@@ -7,9 +7,9 @@ use Prim.Native.Nat.{ℕ, zero, suc, _≤_, _<_}
 use native.Mathlib.Omega.{arith}
 use lib.ListN.{length, drop}
 use borrow.Author.Tests.{lt-ltb, le-ltb}
-use Rattle.call_text.specs.Token.{Start, is, token, placed}
+use Rattle.call_text.specs.Token.{is, token, placed}
 use Rattle.call_text.specs.declared.number.Token.{Token}
-use Rattle.call_text.specs.declared.number.Token.the-variants.{Is, Over, Bad}
+use Rattle.call_text.specs.declared.number.Token.the-variants.{Is}
 use Rattle.call_text.proofs.Tokens.{meant, said}
 use Rattle.call_text.proofs.Runs.{Other}
 use Rattle.answer_text.specs.Answer.{newline, answer-label, labelled, bad-text, Wrote}
@@ -22,6 +22,7 @@ use Rattle.suite_reading.specs.Tests.{TypedTest, number-then, tests-in, typed-s
 use Rattle.suite_reading.specs.Finding.{Judges, fine, bad}
 use Rattle.suite_reading.specs.declared.tests.Judgement.{Judgement}
 use Rattle.suite_reading.specs.declared.tests.Judgement.the-variants.{Fine, BadInput}
+use Rattle.suite_reading.proofs.Found.{number-stops}
 use Rattle.suite_text.specs.Report.{tests-report, reported, typed-printed, suite-text-limit, suite-printed, MayRun, ReportWrote}
 
 -- ---- a text without names is as long as it was
@@ -32,12 +33,6 @@ blanked-size named (c ∷ cs) = ap suc (blanked-size (next-named named c) cs)
 
 pub blanked-length : (text numbers : List ℕ) → numbers ≡ blanked false text → length numbers ≡ length text
 blanked-length text numbers e = ap length e ∙ blanked-size false text
-
--- ---- the number of tests
-not-number : {A : Type 0} (f : ℕ → List ℕ → Option A) (text : List ℕ) (r : Token) → Other r → number-then f (meant text r) ≡ none
-not-number f text (Is v q) other = absurd (other v q refl)
-not-number f text Over other = refl
-not-number f text Bad other = refl
 
 -- ---- what was judged
 judged-none : (n : ℕ) (o : Option (List TypedTest)) (j : Judgement) → Judges n o j → j ≡ BadInput → o ≡ none
@@ -79,7 +74,7 @@ module _ (text numbers : List ℕ) (same-text : numbers ≡ blanked false text) 
 
     -- no number stands there
     pub printed-no-number : Other r → bad-text ≡ typed-printed text
-    printed-no-number other = sym (printed-by none (suite-by ∙ not-number (λ n rest. tests-in n rest) numbers r other))
+    printed-no-number other = sym (printed-by none (suite-by ∙ number-stops (λ n rest. tests-in n rest) numbers (meant numbers r) r refl other))
 
     module _ (n next : ℕ) (e : r ≡ Is n next) where
       suite-is : typed-suite numbers ≡ tests-in n (drop next numbers)

@@ -1,24 +1,23 @@
 -- What the table and the last line of a report say, test by test. Assumes nothing.
-use mathlib.Core.Path.{_≡_, refl, sym, ap, _∙_}
+use mathlib.Core.Path.{_≡_, refl, ap, _∙_}
 use mathlib.Core.Bool.{Bool, true, false, _&&_}
 use mathlib.Core.List.{List, [], _∷_}
-use Prim.Native.Nat.{ℕ, zero, suc, _+_, _*_, _≤_, _<_}
+use Prim.Native.Nat.{ℕ, _+_, _*_, _<_}
 use native.Mathlib.Omega.{arith}
 use lib.Dec.{eqb}
-use lib.ListN.{length, getD, set, replicate, length-set}
+use lib.ListN.{length, getD, set}
 use lib.Seq.{getD-set-same, getD-set-other}
-use borrow.Author.Tests.{eqb-true, eqb-false, eq-eqb, ne-eqb}
-use Rattle.theory.specs.Limits.{working-size}
-use Rattle.reply.specs.Printed.{result-size}
+use borrow.Author.Tests.{eqb-true, eqb-false}
 use Rattle.suite.specs.Suite.{as-expected}
-use Rattle.suite.proofs.Runs.{unified-small}
-use Rattle.suite_lines.specs.declared.verdict.Verdict.{Verdict}
-use Rattle.suite_lines.specs.declared.verdict.Verdict.the-variants.{Good, Refused, Other, NotRun}
-use Rattle.suite_lines.specs.declared.verdict.Totals.{Totals}
-use Rattle.suite_lines.specs.Lines.{decides, verdict-of, totals-after, no-totals, numbers, cells, cell-of, no-table, raised-cell}
+use Rattle.verdicts.specs.declared.verdict.Verdict.{Verdict}
+use Rattle.verdicts.specs.declared.verdict.Verdict.the-variants.{Good, Refused, Other, NotRun}
+use Rattle.verdicts.specs.declared.verdict.Totals.{Totals}
+use Rattle.verdicts.specs.Verdicts.{decides, verdict-of, totals-after, no-totals, numbers, cells, cell-of, no-table, raised-cell}
+use Rattle.verdicts.proofs.Laws.{no-cell, raised-size}
 use Rattle.suite_reading.specs.Tests.{TypedTest, expected-in}
-use Rattle.suite_text.specs.Report.{call-answer, came-of, test-verdict, totals-of, table-of}
-use Rattle.suite_text.proofs.Reporting.{Modes, none-left, one-more}
+use Rattle.suite_text.specs.Report.{came-of, test-verdict, totals-of, table-of}
+use Rattle.suite_text.proofs.Answers.{number-low}
+use Rattle.suite_text.proofs.Reporting.{Modes, one-more}
 
 -- 1 where a test holds
 abbrev one-if : Bool → ℕ
@@ -35,11 +34,7 @@ tests-with p (t ∷ ts) = one-if (p t) + tests-with p ts
 abbrev pub gives : ℕ → ℕ → TypedTest → Bool
 gives m k t = eqb (t .mode) m && eqb (came-of t .number) k
 
-number-low : (t : TypedTest) → came-of t .number < 9
-unfolding call-answer
-number-low t = unified-small (record { mode = t .mode; first = t .first; second = t .second }) result-size working-size
-
-module _ (m k : ℕ) (mode-low : m < 3) (low : k < 9) where
+module _ (m k : ℕ) (mode-low : m < 3) (low : k < numbers) where
   -- raising the cell of another mode or number leaves this one
   raised-one : (table : List ℕ) → length table ≡ cells → (t : TypedTest) → t .mode < 3 →
       getD (raised-cell table (cell-of (t .mode) (came-of t .number))) (cell-of m k) 0
@@ -51,29 +46,25 @@ module _ (m k : ℕ) (mode-low : m < 3) (low : k < 9) where
       n = came-of t .number
 
       v : ℕ
-      v = getD table (9 * t .mode + n) 0 + 1
+      v = getD table (numbers * t .mode + n) 0 + 1
 
       go : (a : Bool) → eqb (t .mode) m ≡ a → (b : Bool) → eqb n k ≡ b →
-          getD (set table (9 * t .mode + n) v) (9 * m + k) 0 ≡ getD table (9 * m + k) 0 + one-if (a && b)
+          getD (set table (numbers * t .mode + n) v) (numbers * m + k) 0 ≡ getD table (numbers * m + k) 0 + one-if (a && b)
       go true ea true eb =
           let f = eqb-true (t .mode) m ea in
           let g = eqb-true n k eb in
-          let here : 9 * t .mode + n ≡ 9 * m + k = omega arith in
-          ap (λ (c : ℕ). getD (set table c (getD table c 0 + 1)) (9 * m + k) 0) here
-          ∙ getD-set-same table (9 * m + k) (getD table (9 * m + k) 0 + 1) 0 (omega arith)
+          let here : numbers * t .mode + n ≡ numbers * m + k = omega arith in
+          ap (λ (c : ℕ). getD (set table c (getD table c 0 + 1)) (numbers * m + k) 0) here
+          ∙ getD-set-same table (numbers * m + k) (getD table (numbers * m + k) 0 + 1) 0 (omega arith)
       go true ea false eb =
           let l = number-low t in
           let f = eqb-true (t .mode) m ea in
-          let kept = getD-set-other table (9 * t .mode + n) (9 * m + k) v 0 (λ e. eqb-false n k eb (omega arith)) in
+          let kept = getD-set-other table (numbers * t .mode + n) (numbers * m + k) v 0 (λ e. eqb-false n k eb (omega arith)) in
           omega arith
       go false ea b eb =
           let l = number-low t in
-          let kept = getD-set-other table (9 * t .mode + n) (9 * m + k) v 0 (λ e. eqb-false (t .mode) m ea (omega arith)) in
+          let kept = getD-set-other table (numbers * t .mode + n) (numbers * m + k) v 0 (λ e. eqb-false (t .mode) m ea (omega arith)) in
           omega arith
-
-  raised-long : (table : List ℕ) → length table ≡ cells → (c : ℕ) → length (raised-cell table c) ≡ cells
-  unfolding raised-cell
-  raised-long table size c = length-set table c (getD table c 0 + 1) ∙ size
 
   counted-from : (table : List ℕ) → length table ≡ cells → (ts : List TypedTest) → Modes ts →
       getD (table-of table ts) (cell-of m k) 0 ≡ getD table (cell-of m k) 0 + tests-with (gives m k) ts
@@ -81,7 +72,7 @@ module _ (m k : ℕ) (mode-low : m < 3) (low : k < 9) where
   counted-from table size [] h = omega arith
   counted-from table size (t ∷ ts) (one-more fine h) =
       let c : ℕ = cell-of (t .mode) (came-of t .number) in
-      let rest = counted-from (raised-cell table c) (raised-long table size c) ts h in
+      let rest = counted-from (raised-cell table c) (raised-size table c ∙ size) ts h in
       let one = raised-one table size t fine in
       omega arith
 
@@ -90,13 +81,8 @@ module _ (m k : ℕ) (mode-low : m < 3) (low : k < 9) where
   unfolding no-table
   table-says ts h =
       let e = counted-from no-table refl ts h in
-      let z : getD no-table (cell-of m k) 0 ≡ 0 = empty 27 (cell-of m k) in
+      let z = no-cell (cell-of m k) in
       omega arith
-    where
-      empty : (n j : ℕ) → _≡_ {A = ℕ} (getD (replicate n 0) j 0) 0
-      empty zero j = refl
-      empty (suc n) zero = refl
-      empty (suc n) (suc j) = empty n j
 
 -- ---- the last line
 abbrev is-good : Verdict → Bool

@@ -5,24 +5,24 @@ use mathlib.Core.List.{List, [], _∷_, _++_, append-assoc}
 use Prim.Native.Nat.{ℕ, zero, suc, _+_, _≤_, _<_}
 use native.Mathlib.Omega.{arith}
 use native.Mathlib.Numerals.{add-one}
-use lib.ListN.{length, drop, getD, set, replicate, length-set}
-use Rattle.theory.specs.Answer.{Answer}
+use lib.ListN.{length, drop, getD, set}
 use Rattle.answer_text.specs.Answer.{Wrote}
 use Rattle.answer_text.specs.Going.{Going as Going·text, Appends}
 use Rattle.answer_text.specs.declared.line.Written.{Written}
 use Rattle.answer_text.specs.declared.line.Written.the-variants.{Bytes, NoRoom}
 use Rattle.answer_text.proofs.Goings.{Turned, turns-begin, turns-go, turns-stop, wrote}
 use Rattle.suite.specs.Suite.{no-test, table-fault, Runnable}
-use Rattle.suite.specs.declared.test.Test.{Test}
 use Rattle.suite.proofs.Runs.{found-fine}
-use Rattle.suite_reading.specs.Tests.{TypedTest, leading-test, followed, tests-in, expected-in, all-expected}
-use Rattle.suite_lines.specs.declared.verdict.Verdict.{Verdict}
-use Rattle.suite_lines.specs.declared.verdict.Verdict.the-variants.{Good, Refused, Other, NotRun}
-use Rattle.suite_lines.specs.declared.verdict.Totals.{Totals}
-use Rattle.suite_lines.specs.Lines.{totals-after, no-totals, numbers}
-use Rattle.suite_text.specs.Report.{came-of, test-verdict, test-line, test-lines, totals-of}
-use Rattle.suite_lines.specs.Lines.{cells, cell-of, no-table, raised-cell, summary}
-use Rattle.suite_text.specs.Report.{table-of, tests-report, MayRun, ReportWrote}
+use Rattle.suite_reading.specs.Tests.{TypedTest, leading-test, followed, tests-in, all-expected}
+use Rattle.suite_reading.proofs.Found.{expected-many}
+use Rattle.verdicts.specs.declared.verdict.Verdict.{Verdict}
+use Rattle.verdicts.specs.declared.verdict.Verdict.the-variants.{Good, Refused, Other, NotRun}
+use Rattle.verdicts.specs.declared.verdict.Totals.{Totals}
+use Rattle.verdicts.specs.Verdicts.{totals-after, no-totals, cells, cell-of, no-table, raised-cell}
+use Rattle.verdicts.proofs.Laws.{no-cell, raised-size}
+use Rattle.suite_lines.specs.Lines.{summary}
+use Rattle.suite_text.specs.Report.{came-of, test-verdict, test-line, test-lines, totals-of, table-of, tests-report, MayRun}
+use Rattle.suite_text.specs.Report.{ReportWrote}
 
 -- ---- the tests that are left
 -- one more test stands there, and the others after it
@@ -62,11 +62,6 @@ unfolding all-expected
 modes-by [] h = none-left
 modes-by (t ∷ ts) h = one-more (h 0 (omega arith)) (modes-by ts (λ i l. h (suc i) (omega arith)))
 
-expected-length : (ts : List TypedTest) → length (all-expected ts) ≡ length ts
-unfolding all-expected
-expected-length [] = refl
-expected-length (t ∷ ts) = ap suc (expected-length ts)
-
 -- ---- the report that is left
 abbrev pub left-over : List ℕ → ℕ → List TypedTest → List ℕ → Totals → List ℕ
 left-over text i ts table totals = test-lines text i ts ++ summary (table-of table ts) (totals-of totals ts)
@@ -86,35 +81,26 @@ pub record Reporting (text numbers₀ : List ℕ) (n : ℕ) (whole out₀ out ta
   pub other-low : totals .other ≤ i
   pub missed-low : totals .missed ≤ i
 
-no-cell : (j : ℕ) → getD no-table j 0 ≤ 0
-unfolding no-table
-no-cell j = go 27 j
-  where
-    go : (n j : ℕ) → getD (replicate n 0) j 0 ≤ 0
-    go zero j = omega arith
-    go (suc n) zero = omega arith
-    go (suc n) (suc j) = go n j
-
 -- where the first test is about to run
 module _ (text numbers₀ : List ℕ) (p n : ℕ) (ts : List TypedTest) (e : tests-in n (drop p numbers₀) ≡ some ts) (l : length ts ≡ n)
     (fine : table-fault 0 (all-expected ts) (length ts) ≡ 0) where
   runnable : Runnable (length (all-expected ts)) 0 (all-expected ts)
   runnable =
-      found-fine 0 (all-expected ts) (subst (λ (k : ℕ). table-fault 0 (all-expected ts) k ≡ 0) (sym (expected-length ts)) fine)
+      found-fine 0 (all-expected ts) (subst (λ (k : ℕ). table-fault 0 (all-expected ts) k ≡ 0) (sym (expected-many ts)) fine)
 
   pub reporting-starts : (out : List ℕ) → Reporting text numbers₀ n (tests-report 0 text ts) out out no-table no-totals p 0 0
   unfolding no-table
   reporting-starts out = record {
     still = n;
     adds = omega arith;
-    few = let h = runnable .few in let k = expected-length ts in omega arith;
+    few = let h = runnable .few in let k = expected-many ts in omega arith;
     rest = ts;
     found = e;
     count = l;
-    modes = modes-by ts (λ i h. let k = expected-length ts in runnable .modes i (omega arith));
+    modes = modes-by ts (λ i h. let k = expected-many ts in runnable .modes i (omega arith));
     turned = turns-begin out 0 (tests-report 0 text ts) (left-over text 0 ts no-table no-totals) refl;
     size = refl;
-    low = no-cell;
+    low = λ j. let z = no-cell j in omega arith;
     good-low = omega arith;
     other-low = omega arith;
     missed-low = omega arith;
@@ -131,10 +117,6 @@ raised-low table cell i h j = go table cell j (getD table cell 0 + 1) (let k = h
     go (x ∷ l) zero (suc j) v b h = let k = h (suc j) in omega arith
     go (x ∷ l) (suc c) zero v b h = let k = h zero in omega arith
     go (x ∷ l) (suc c) (suc j) v b h = go l c j v b (λ k. h (suc k))
-
-raised-size : (table : List ℕ) (cell : ℕ) → length (raised-cell table cell) ≡ length table
-unfolding raised-cell
-raised-size table cell = length-set table cell (getD table cell 0 + 1)
 
 -- each total grows by one at most
 totals-low : (w : Verdict) (s : Totals) (i : ℕ) → (s .good ≤ i) × ((s .other ≤ i) × (s .missed ≤ i)) →

@@ -1,27 +1,24 @@
 -- One test of a text: what was found of it, what came of it, and the line that it has. Assumes nothing.
 use mathlib.Core.Path.{_≡_, refl, sym, ap, subst, _∙_}
-use mathlib.Core.Option.{Option, none, some}
+use mathlib.Core.Option.{none}
 use mathlib.Core.List.{List}
-use Prim.Native.Nat.{ℕ, suc, _+_, _-_, _≤_, _<_}
+use Prim.Native.Nat.{ℕ, _-_, _≤_, _<_}
 use native.Mathlib.Omega.{arith}
 use lib.ListN.{length, take, drop}
-use Rattle.theory.specs.Limits.{working-size}
-use Rattle.reply.specs.Printed.{result-size}
 use Rattle.suite.specs.declared.test.Test.{Test}
-use Rattle.suite.proofs.Runs.{unified-small}
 use Rattle.suite_reading.specs.Text.{spaces-off, name-in}
 use Rattle.suite_reading.specs.Tests.{TypedTest, leading-test, expected-test, expected-in}
 use Rattle.suite_reading.specs.Finding.{TestPlaces, FindsTest}
 use Rattle.suite_reading.specs.declared.tests.Place.{Place}
 use Rattle.suite_reading.specs.declared.tests.Found.{Found}
 use Rattle.suite_reading.specs.declared.tests.Found.the-variants as found
-use Rattle.suite_lines.specs.declared.verdict.Verdict.{Verdict}
-use Rattle.suite_lines.specs.declared.verdict.Totals.{Totals}
-use Rattle.suite_lines.specs.Lines.{verdict-of, line-of}
-use Rattle.suite_text.specs.Report.{call-answer, came-of, test-run, test-verdict, test-line}
-use Rattle.suite_lines.specs.Lines.{cell-of, raised-cell, totals-after}
-use Rattle.suite_text.specs.Report.{TestAnswers}
+use Rattle.verdicts.specs.declared.verdict.Verdict.{Verdict}
+use Rattle.verdicts.specs.declared.verdict.Totals.{Totals}
+use Rattle.verdicts.specs.Verdicts.{verdict-of, totals-after, numbers as all-numbers, cell-of, raised-cell}
+use Rattle.suite_lines.specs.Lines.{line-of}
+use Rattle.suite_text.specs.Report.{call-answer, came-of, test-run, test-verdict, test-line, TestAnswers}
 use Rattle.suite_reading.proofs.Found.{found-places, found-none-there}
+use Rattle.suite_text.proofs.Answers.{number-low}
 use Rattle.suite_text.proofs.Rests.{after-shorter, held-place, run-order, run-is}
 use Rattle.suite_text.proofs.Reporting.{Reporting, Going, reporting-next}
 
@@ -65,12 +62,8 @@ module _ {text numbers : List ℕ} {n : ℕ} {whole out₀ out table : List ℕ}
         subst (λ (x : ℕ). (number ≡ call-answer x (tested .first) (tested .second) .number)
         × (readings ≡ call-answer x (tested .first) (tested .second) .readings)) (s .places .mode) y
 
-    pub came-small : number < 9
-    unfolding call-answer
-    came-small =
-        let e = came .0 in
-        let l = unified-small (record { mode = tested .mode; first = tested .first; second = tested .second }) result-size working-size in
-        omega arith
+    pub came-small : number < all-numbers
+    came-small = let e = came .0 in let l = number-low tested in omega arith
 
   -- ---- where its name stands
   module _ (same : length numbers ≡ length text) {from : ℕ} (low : from ≤ length numbers)

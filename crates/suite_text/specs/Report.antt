@@ -15,10 +15,11 @@ use Rattle.reply.specs.Printed.{result-size}
 use Rattle.answer_text.specs.Answer.{newline, answer-label, labelled, bad-text, Wrote}
 use Rattle.answer_text.specs.declared.line.Written.{Written}
 use Rattle.suite.specs.Suite.{table-fault}
-use Rattle.suite_lines.specs.declared.verdict.Verdict.{Verdict}
-use Rattle.suite_lines.specs.declared.verdict.Totals.{Totals}
+use Rattle.verdicts.specs.declared.verdict.Verdict.{Verdict}
+use Rattle.verdicts.specs.declared.verdict.Totals.{Totals}
+use Rattle.verdicts.specs.Verdicts.{verdict-of, totals-after, no-totals, cell-of, no-table, raised-cell}
+use Rattle.suite_lines.specs.Lines.{line-of, summary}
 use Rattle.suite_reading.specs.Text.{blanked, spaces-off, name-in}
-use Rattle.suite_lines.specs.Lines.{verdict-of, line-of, totals-after, no-totals, cell-of, no-table, raised-cell, summary}
 use Rattle.suite_reading.specs.Tests.{TypedTest, expected-in, all-expected, typed-suite}
 use Rattle.suite_reading.specs.declared.tests.Place.{Place}
 use Rattle.suite_reading.specs.Finding.{WordsStand}

@@ -1,5 +1,4 @@
 // From the text of a suite to what is printed for it.
-
 use answer_text::answer::write_bad;
 use answer_text::line::Written;
 use answer_text::line::put_last;
@@ -11,11 +10,6 @@ use call_text::number::Token;
 use call_text::number::read_token;
 use suite_lines::lines::put_line;
 use suite_lines::lines::put_summary;
-use suite_lines::table::no_table;
-use suite_lines::table::raise;
-use suite_lines::verdict::added;
-use suite_lines::verdict::none;
-use suite_lines::verdict::verdict_of;
 use suite_reading::tests::Found;
 use suite_reading::tests::Judgement;
 use suite_reading::tests::Place;
@@ -25,6 +19,11 @@ use suite_reading::tests::judge_tests;
 use suite_reading::text::after_spaces;
 use suite_reading::text::blank;
 use unify::unify;
+use verdicts::table::no_table;
+use verdicts::table::raise;
+use verdicts::verdict::added;
+use verdicts::verdict::none;
+use verdicts::verdict::verdict_of;
 ghost use mathlib.Core.Path.{_≡_};
 ghost use mathlib.Core.Bool.{false};
 ghost use Prim.Native.Nat.{_≤_, _<_};
@@ -35,7 +34,7 @@ ghost use Rattle.call_text.specs.Call.{count-limit};
 ghost use Rattle.answer_text.specs.Answer.{Wrote};
 ghost use Rattle.suite_reading.specs.Text.{blanked};
 ghost use Rattle.suite_reading.specs.Tests.{tests-in};
-ghost use Rattle.suite_lines.specs.Lines.{no-table};
+ghost use Rattle.verdicts.specs.Verdicts.{no-table};
 ghost use Rattle.suite_text.specs.Report.{TestAnswers, MayRun, ReportWrote, typed-printed, suite-text-limit, suite-printed};
 
 // The most bytes that a text may have.

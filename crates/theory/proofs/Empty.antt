@@ -19,9 +19,10 @@ use Rattle.theory.specs.Modes.{joined, quick, full, round, finish, tidy,
 use Rattle.theory.specs.Satisfaction.{Sat}
 use Rattle.theory.specs.Layout.{words, WellFormed}
 use Rattle.theory.specs.Reading.{decode}
-use Rattle.theory.specs.Answer.{Answer, Call, refuse, consistent}
-use Rattle.theory.specs.Unified.{unified, in-mode, complete, deliver}
-use Rattle.theory.specs.Demands.{Unifier, Demand2, ListCall, start, with-words, call, reached, ways, items, Demand3}
+use Rattle.theory.specs.Answer.{Answer, Call, clash-at, refuse, consistent}
+use Rattle.theory.specs.Unified.{unified, in-mode, complete, deliver, deliver-or}
+use Rattle.theory.specs.Located.{clash-node?}
+use Rattle.theory.specs.Demands.{ClashNumber, Unifier, Demand2, ListCall, start, with-words, call, reached, ways, items, Demand3}
 use Rattle.theory.specs.Rules.{Given}
 use Rattle.theory.specs.Outcome.{Areas}
 use Rattle.theory.specs.Programs.{Program, in-words, blank, Meets}
@@ -110,7 +111,7 @@ always-clash c room work = refuse 6
 
 pub clash-2 : Demand2 always-clash → ⊥
 unfolding always-clash
-clash-2 D = D .clash 0 dN dN wN wN 2048 16384 refl bare bare-nothing bare-nothing
+clash-2 D = D .clash 0 dN dN wN wN 2048 16384 (inl refl) bare bare-nothing bare-nothing
 
 ways-nothing : ways (dN ∷ []) ≡ 1
 unfolding Rattle.descriptions.specs.Descr.agreeing Rattle.descriptions.specs.Descr.agree join
@@ -118,7 +119,7 @@ ways-nothing = refl
 
 pub clash-3 : Demand3 always-clash → ⊥
 unfolding always-clash
-clash-3 D = let h : ways (dN ∷ []) ≡ 0 = D .clash [] start (step dN wN 0) refl refl in let k = ways-nothing in omega (arith, h, k)
+clash-3 D = let h : ways (dN ∷ []) ≡ 0 = D .clash [] start (step dN wN 0) refl (inl refl) in let k = ways-nothing in omega (arith, h, k)
 
 -- "one that answers `1 0 0` always", with any count of readings
 pub always-nothing : ℕ → Unifier
@@ -150,7 +151,7 @@ nothing-3 n D =
 
 -- "one that reports 0 and writes nothing", with any length and readings
 pub writes-nothing : (Call → ℕ × ℕ) → Unifier
-writes-nothing f c room work = record { number = 0; extent = f c .0; readings = f c .1; result = [] }
+writes-nothing f c room work = record { number = 0; extent = f c .0; readings = f c .1; node = 0; result = [] }
 
 words-some : (d : Desc) → [] ≡ words d → ⊥
 words-some (desc g ds) e = let h = ap length e in omega (arith, h)
@@ -183,8 +184,9 @@ unfolding joins-always
 joins-P-A = refl
 
 joined-P-A : (unified (with-words 0 dP dA) 2048 16384 .number ≡ 0) × (length (unified (with-words 0 dP dA) 2048 16384 .result) ≡ 19)
-unfolding Rattle.descriptions.specs.Unified.unified Rattle.descriptions.specs.Unified.in-mode Rattle.descriptions.specs.Unified.deliver
-    decode Rattle.descriptions.specs.Modes.joined join
+unfolding Rattle.descriptions.specs.Unified.unified Rattle.descriptions.specs.Unified.in-mode Rattle.descriptions.specs.Unified.beyond
+    Rattle.descriptions.specs.Unified.deliver Rattle.descriptions.specs.Unified.deliver-or decode Rattle.descriptions.specs.Modes.joined
+    join
 joined-P-A = (refl, refl)
 
 pub joins-2 : Demand2 joins-always → ⊥
@@ -206,7 +208,7 @@ pub first-round : Unifier
 first-round c room work = elim (eqb (c .mode) 1) [
   | true ↦ elim (decode (c .first)) [
     | none ↦ refuse 4
-    | some d ↦ elim (decode (c .second)) [ none ↦ refuse 5 | some e ↦ deliver room 0 (quick-once d e) ]
+    | some d ↦ elim (decode (c .second)) [ none ↦ refuse 5 | some e ↦ deliver-or 10 room 0 (quick-once d e) ]
   ]
   | false ↦ unified c room work
 ]
@@ -221,7 +223,7 @@ quick-F = refl
 
 once-F : (first-round (with-words 1 dF dN) 2048 16384 .number ≡ 0) × (length (first-round (with-words 1 dF dN) 2048 16384 .result) ≡ 22)
 unfolding first-round quick-once tidy-once size Rattle.descriptions.specs.Modes.finish Rattle.descriptions.specs.Modes.joined join
-    Rattle.descriptions.specs.Unified.deliver decode
+    Rattle.descriptions.specs.Unified.deliver Rattle.descriptions.specs.Unified.deliver-or decode
 once-F = (refl, refl)
 
 pub once-2 : Demand2 first-round → ⊥
@@ -229,24 +231,25 @@ once-2 = wrong-length first-round dF dN dF′ wF wN (once-F .0) quick-F (λ e. l
 
 -- "one that makes up readings": the same count always
 pub made-up : ℕ → Unifier
-made-up n c room work = let r = unified c room work in record { number = r .number; extent = r .extent; readings = n; result = r .result }
+made-up n c room work = let r = unified c room work in
+    record { number = r .number; extent = r .extent; readings = n; node = r .node; result = r .result }
 
 zero-N : unified (with-words 2 dN dN) 2048 16384 .number ≡ 0
-unfolding Rattle.descriptions.specs.Unified.unified Rattle.descriptions.specs.Unified.in-mode Rattle.descriptions.specs.Unified.complete
-    Rattle.descriptions.specs.Answer.consistent Rattle.descriptions.specs.Unified.deliver decode Rattle.descriptions.specs.Modes.joined
-    Rattle.descriptions.specs.Modes.quick Rattle.descriptions.specs.Modes.full size Rattle.descriptions.specs.Modes.tidy
-    Rattle.descriptions.specs.Modes.finish Rattle.descriptions.specs.Modes.some-agree Rattle.descriptions.specs.Modes.prune
-    Rattle.descriptions.specs.Modes.fold folded-in Rattle.descriptions.specs.Descr.agree Rattle.descriptions.specs.Descr.agreeing
-    Rattle.descriptions.specs.Descr.readings number join
+unfolding Rattle.descriptions.specs.Unified.unified Rattle.descriptions.specs.Unified.in-mode Rattle.descriptions.specs.Unified.beyond
+    Rattle.descriptions.specs.Unified.complete Rattle.descriptions.specs.Answer.consistent Rattle.descriptions.specs.Unified.deliver
+    Rattle.descriptions.specs.Unified.deliver-or decode Rattle.descriptions.specs.Modes.joined Rattle.descriptions.specs.Modes.quick
+    Rattle.descriptions.specs.Modes.full size Rattle.descriptions.specs.Modes.tidy Rattle.descriptions.specs.Modes.finish
+    Rattle.descriptions.specs.Modes.some-agree Rattle.descriptions.specs.Modes.prune Rattle.descriptions.specs.Modes.fold folded-in
+    Rattle.descriptions.specs.Descr.agree Rattle.descriptions.specs.Descr.agreeing Rattle.descriptions.specs.Descr.readings number join
 zero-N = refl
 
 zero-P : unified (with-words 2 dN dP) 2048 16384 .number ≡ 0
-unfolding Rattle.descriptions.specs.Unified.unified Rattle.descriptions.specs.Unified.in-mode Rattle.descriptions.specs.Unified.complete
-    Rattle.descriptions.specs.Answer.consistent Rattle.descriptions.specs.Unified.deliver decode Rattle.descriptions.specs.Modes.joined
-    Rattle.descriptions.specs.Modes.quick Rattle.descriptions.specs.Modes.full size Rattle.descriptions.specs.Modes.tidy
-    Rattle.descriptions.specs.Modes.finish Rattle.descriptions.specs.Modes.some-agree Rattle.descriptions.specs.Modes.prune
-    Rattle.descriptions.specs.Modes.fold folded-in Rattle.descriptions.specs.Descr.agree Rattle.descriptions.specs.Descr.agreeing
-    Rattle.descriptions.specs.Descr.readings number join
+unfolding Rattle.descriptions.specs.Unified.unified Rattle.descriptions.specs.Unified.in-mode Rattle.descriptions.specs.Unified.beyond
+    Rattle.descriptions.specs.Unified.complete Rattle.descriptions.specs.Answer.consistent Rattle.descriptions.specs.Unified.deliver
+    Rattle.descriptions.specs.Unified.deliver-or decode Rattle.descriptions.specs.Modes.joined Rattle.descriptions.specs.Modes.quick
+    Rattle.descriptions.specs.Modes.full size Rattle.descriptions.specs.Modes.tidy Rattle.descriptions.specs.Modes.finish
+    Rattle.descriptions.specs.Modes.some-agree Rattle.descriptions.specs.Modes.prune Rattle.descriptions.specs.Modes.fold folded-in
+    Rattle.descriptions.specs.Descr.agree Rattle.descriptions.specs.Descr.agreeing Rattle.descriptions.specs.Descr.readings number join
 zero-P = refl
 
 ways-P : ways (dP ∷ []) ≡ 2
@@ -266,15 +269,15 @@ made-up-3 n D =
 pub miscounted : (ℕ → ℕ) → Unifier
 miscounted f c room work =
     let r = unified c room work in
-    record { number = r .number; extent = r .extent; readings = f (r .readings); result = r .result }
+    record { number = r .number; extent = r .extent; readings = f (r .readings); node = r .node; result = r .result }
 
 one-N : unified (with-words 2 dN dN) 2048 16384 .readings ≡ 1
-unfolding Rattle.descriptions.specs.Unified.unified Rattle.descriptions.specs.Unified.in-mode Rattle.descriptions.specs.Unified.complete
-    Rattle.descriptions.specs.Answer.consistent Rattle.descriptions.specs.Unified.deliver decode Rattle.descriptions.specs.Modes.joined
-    Rattle.descriptions.specs.Modes.quick Rattle.descriptions.specs.Modes.full size Rattle.descriptions.specs.Modes.tidy
-    Rattle.descriptions.specs.Modes.finish Rattle.descriptions.specs.Modes.some-agree Rattle.descriptions.specs.Modes.prune
-    Rattle.descriptions.specs.Modes.fold folded-in Rattle.descriptions.specs.Descr.agree Rattle.descriptions.specs.Descr.agreeing
-    Rattle.descriptions.specs.Descr.readings number join
+unfolding Rattle.descriptions.specs.Unified.unified Rattle.descriptions.specs.Unified.in-mode Rattle.descriptions.specs.Unified.beyond
+    Rattle.descriptions.specs.Unified.complete Rattle.descriptions.specs.Answer.consistent Rattle.descriptions.specs.Unified.deliver
+    Rattle.descriptions.specs.Unified.deliver-or decode Rattle.descriptions.specs.Modes.joined Rattle.descriptions.specs.Modes.quick
+    Rattle.descriptions.specs.Modes.full size Rattle.descriptions.specs.Modes.tidy Rattle.descriptions.specs.Modes.finish
+    Rattle.descriptions.specs.Modes.some-agree Rattle.descriptions.specs.Modes.prune Rattle.descriptions.specs.Modes.fold folded-in
+    Rattle.descriptions.specs.Descr.agree Rattle.descriptions.specs.Descr.agreeing Rattle.descriptions.specs.Descr.readings number join
 one-N = refl
 
 pub miscounted-3 : (f : ℕ → ℕ) → (f 1 ≡ 1 → ⊥) → Demand3 (miscounted f) → ⊥
@@ -286,9 +289,9 @@ pub made-up-below : ℕ → Unifier
 made-up-below n c room work = elim (ltb (c .mode) 2) [ true ↦ made-up n c room work | false ↦ unified c room work ]
 
 unread-N : (unified (with-words 0 dN dN) 2048 16384 .readings ≡ 0) × (unified (with-words 1 dN dN) 2048 16384 .readings ≡ 0)
-unfolding Rattle.descriptions.specs.Unified.unified Rattle.descriptions.specs.Unified.in-mode Rattle.descriptions.specs.Unified.deliver
-    decode Rattle.descriptions.specs.Modes.joined Rattle.descriptions.specs.Modes.quick size Rattle.descriptions.specs.Modes.tidy
-    Rattle.descriptions.specs.Modes.finish join
+unfolding Rattle.descriptions.specs.Unified.unified Rattle.descriptions.specs.Unified.in-mode Rattle.descriptions.specs.Unified.beyond
+    Rattle.descriptions.specs.Unified.deliver Rattle.descriptions.specs.Unified.deliver-or decode Rattle.descriptions.specs.Modes.joined
+    Rattle.descriptions.specs.Modes.quick size Rattle.descriptions.specs.Modes.tidy Rattle.descriptions.specs.Modes.finish join
 unread-N = (refl, refl)
 
 -- in either of the two modes
@@ -301,12 +304,21 @@ made-up-table n h (suc zero) m g =
     h (sym (ap (λ (r : Answer). r .readings) (given-unified reads (with-words 1 dN dN) 2048 16384 _ g)) ∙ unread-N .1)
 made-up-table n h (suc (suc m)) k g = absurd (omega (arith, k))
 
+-- one that tells another node, of which neither demand says anything: the table does not let it pass
+node-A-B : unified (with-words 0 dA dB) 2048 16384 .node ≡ 1
+unfolding Rattle.descriptions.specs.Unified.unified Rattle.descriptions.specs.Unified.in-mode decode
+    Rattle.descriptions.specs.Modes.joined join clash-node?
+node-A-B = refl
+
+pub node-table : (i : ℕ) → (i ≡ 1 → ⊥) → Given (with-words 0 dA dB) 2048 16384 (clash-at i) → ⊥
+node-table i n g = n (sym (ap (λ (r : Answer). r .node) (given-unified reads (with-words 0 dA dB) 2048 16384 (clash-at i) g)) ∙ node-A-B)
+
 -- "one that reports 0 and writes nothing", of the areas: an answer as the table gives it, and the result area left as it was
 pub leaves-result : Program
 leaves-result c before =
     let r = unified c (length (before .result)) (length (before .working)) in
     record {
-      row = record { number = r .number; extent = r .extent; readings = r .readings };
+      row = record { number = r .number; extent = r .extent; readings = r .readings; node = r .node };
       after = record { result = before .result; working = before .working };
     }
 
@@ -318,8 +330,9 @@ pub silent-areas : (P : Program) (c : Call) (before : Areas) → in-words c befo
 silent-areas P c before w z u n m = n (program-writes sense reads P m c before w z u)
 
 written-N : (unified (with-words 0 dN dN) 3 16384 .number ≡ 0) × (unified (with-words 0 dN dN) 3 16384 .result ≡ 1 ∷ 0 ∷ 0 ∷ [])
-unfolding Rattle.descriptions.specs.Unified.unified Rattle.descriptions.specs.Unified.in-mode Rattle.descriptions.specs.Unified.deliver
-    decode Rattle.descriptions.specs.Modes.joined join
+unfolding Rattle.descriptions.specs.Unified.unified Rattle.descriptions.specs.Unified.in-mode Rattle.descriptions.specs.Unified.beyond
+    Rattle.descriptions.specs.Unified.deliver Rattle.descriptions.specs.Unified.deliver-or decode Rattle.descriptions.specs.Modes.joined
+    join
 written-N = (refl, refl)
 
 pub leaves-refused : Meets leaves-result → ⊥
@@ -352,11 +365,12 @@ trail = step dP wP 0 ∷ behind dP wP 1 ∷ step dP wP 2 ∷ []
 trail-reached : reached unified start trail
     ≡ some (1 ∷ 0 ∷ 3 ∷ 2 ∷ (words dA ++ words dB ++ 2 ∷ (words dA ++ words dB ++ 2 ∷ (words dA ++ words dB))))
 unfolding trail Rattle.descriptions.specs.Unified.unified Rattle.descriptions.specs.Unified.in-mode
-    Rattle.descriptions.specs.Unified.complete Rattle.descriptions.specs.Answer.consistent Rattle.descriptions.specs.Unified.deliver decode
-    Rattle.descriptions.specs.Modes.joined Rattle.descriptions.specs.Modes.quick Rattle.descriptions.specs.Modes.full size
-    Rattle.descriptions.specs.Modes.tidy Rattle.descriptions.specs.Modes.finish Rattle.descriptions.specs.Modes.some-agree
-    Rattle.descriptions.specs.Modes.prune Rattle.descriptions.specs.Modes.fold folded-in Rattle.descriptions.specs.Descr.agree
-    Rattle.descriptions.specs.Descr.agreeing Rattle.descriptions.specs.Descr.readings number join
+    Rattle.descriptions.specs.Unified.beyond Rattle.descriptions.specs.Unified.complete Rattle.descriptions.specs.Answer.consistent
+    Rattle.descriptions.specs.Unified.deliver Rattle.descriptions.specs.Unified.deliver-or decode Rattle.descriptions.specs.Modes.joined
+    Rattle.descriptions.specs.Modes.quick Rattle.descriptions.specs.Modes.full size Rattle.descriptions.specs.Modes.tidy
+    Rattle.descriptions.specs.Modes.finish Rattle.descriptions.specs.Modes.some-agree Rattle.descriptions.specs.Modes.prune
+    Rattle.descriptions.specs.Modes.fold folded-in Rattle.descriptions.specs.Descr.agree Rattle.descriptions.specs.Descr.agreeing
+    Rattle.descriptions.specs.Descr.readings number join
 trail-reached = refl
 
 trail-ways : (ways (items trail) ≡ 2) × (ways (items trail ++ plain (one-arc 1 12) ∷ []) ≡ 0)
@@ -371,11 +385,16 @@ ways-none : ways [] ≡ 1
 unfolding Rattle.descriptions.specs.Descr.agreeing Rattle.descriptions.specs.Descr.agree join
 ways-none = refl
 
+no-clash : (n : ℕ) → n ≡ 1 → ClashNumber n → ⊥
+no-clash n e (inl h) = omega arith
+no-clash n e (inr (inl h)) = omega arith
+no-clash n e (inr (inr h)) = omega arith
+
 pub refuse-meets-2 : Demand2 always-refuse
 unfolding always-refuse
 refuse-meets-2 = record {
   success = λ mode a b p q room work z. let k : _≡_ {A = ℕ} 1 0 = z in absurd (omega arith);
-  clash = λ mode a b p q room work z. let k : _≡_ {A = ℕ} 1 6 = z in absurd (omega arith);
+  clash = λ mode a b p q room work z. absurd (no-clash 1 refl z);
 }
 
 refused : (ws : List ℕ) (s : ListCall) → call always-refuse ws s .number ≡ 1
@@ -385,7 +404,7 @@ refused ws s = refl
 pub refuse-meets-3 : Demand3 always-refuse
 refuse-meets-3 = record {
   number = counts;
-  clash = λ l ws s h z. let k = refused ws s in absurd (omega (arith, k, z));
+  clash = λ l ws s h z. absurd (no-clash (call always-refuse ws s .number) (refused ws s) z);
   told = λ l ws s h m w. let k = refused ws s in inr (inl (omega (arith, k), omega (arith, k)));
   counted = λ l ws s h m z. let k = refused ws s in absurd (omega (arith, k, z));
 }
@@ -404,5 +423,6 @@ refuse-meets-3 = record {
 -- the table does not let it pass
 pub refuse-table : unified (with-words 0 dN dN) 2048 16384 ≡ always-refuse (with-words 0 dN dN) 2048 16384 → ⊥
 unfolding always-refuse Rattle.descriptions.specs.Unified.unified Rattle.descriptions.specs.Unified.in-mode
-    Rattle.descriptions.specs.Unified.deliver decode Rattle.descriptions.specs.Modes.joined join
+    Rattle.descriptions.specs.Unified.beyond Rattle.descriptions.specs.Unified.deliver Rattle.descriptions.specs.Unified.deliver-or decode
+    Rattle.descriptions.specs.Modes.joined join
 refuse-table e = let h : _≡_ {A = ℕ} 0 1 = ap (λ (r : Answer). r .number) e in omega arith

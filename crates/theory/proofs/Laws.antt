@@ -1,21 +1,25 @@
 -- Layout one under rule 0 keeps the laws of a kind of graph.
 -- Assumes nothing.
 use mathlib.Core.Path.{_≡_, refl, sym, _∙_}
-use mathlib.Core.Option.{none, some}
+use mathlib.Core.Option.{Option, none, some}
 use mathlib.Core.List.{List, [], _∷_, _++_, List·Memᴰ·head, List·Memᴰ·tail, List·Memᴰ·cases-cons}
 use mathlib.Core.Logic.{⊎-elim}
-use Prim.Native.Nat.{_<_}
+use Prim.Native.Nat.{ℕ, _<_}
 use native.Mathlib.Omega.{arith}
 use lib.ListN.{length, length-append}
 use Rattle.descriptions.proofs.Laws.{Laws, Within}
-use Rattle.theory.specs.Net.{Graph, Canonical, Joined}
+use Rattle.theory.specs.Net.{Graph, Canonical, Clash, Joined}
 use Rattle.theory.specs.Join.{join}
-use Rattle.theory.specs.JoiningOne.{joining-one}
+use Rattle.theory.specs.ClashNode.{ClashNode}
+use Rattle.theory.specs.Located.{clash-node?}
+use Rattle.theory.specs.JoiningOne.{clash-node, joining-one}
 use Rattle.theory.proofs.Meaning.{canonical-some}
 use Rattle.theory.proofs.Flat.{joined-clash, joined-fewer}
 use Rattle.theory.proofs.Instance.{AllCanonical, join-some, join-none, none-join}
 use Rattle.theory.proofs.Sets.{clash-within, joined-within, join-same}
 use Rattle.theory.proofs.Fit.{same-node, fit-test}
+use Rattle.theory.proofs.ClashSearch.{Finding, clash-at, no-node}
+use Rattle.theory.proofs.Somewhere.{clash-is-somewhere, locates, one-node, somewhere-is-clash}
 use Rattle.theory.proofs.Nothing.{nil, nil-canonical, nil-holds}
 
 pub joined-of : (gs : List Graph) → (0 < length gs) × AllCanonical gs → (K : Graph) → join gs ≡ some K → Joined gs K
@@ -62,6 +66,17 @@ pub glue-joins : (g : Graph) → Canonical g → (l : List Graph) (k : Graph) �
 glue-joins g c [] k e = join-one g c ∙ e
 glue-joins g c (h ∷ l) k e = e
 
+-- where two graphs clash, `clash-node` tells the node
+pub located : (g h : Graph) → Canonical g → Canonical h → join (g ∷ h ∷ []) ≡ none → ClashNode g h (clash-node g h)
+located g h c d e = go (clash-node? g h) (locates g h)
+  where
+    clash : Clash (g ∷ h ∷ [])
+    clash = join-none g (h ∷ []) (c, (d, tt)) e
+
+    go : (o : Option ℕ) → Finding g h o → ClashNode g h (elim o [ none ↦ 0 | some i ↦ i ])
+    go (some i) (clash-at k n) = n
+    go none (no-node f) = let (i, n) = clash-is-somewhere g h clash in absurd (f i (n .clashing))
+
 abbrev pub laws : Laws joining-one
 laws = record {
   Canonical = Canonical;
@@ -71,4 +86,7 @@ laws = record {
   stays = stays;
   stands = stands;
   silent = silent;
+  located = located;
+  one-node = one-node;
+  node-clash = λ g h c d i n. none-join g (h ∷ []) (c, (d, tt)) (somewhere-is-clash g h i n);
 }

@@ -8,7 +8,7 @@ use Rattle.theory.specs.Answer.{Answer, Call}
 use Rattle.theory.specs.LayoutOne.{layout-one}
 use Rattle.theory.specs.JoiningOne.{joining-one}
 use Rattle.theory.specs.Structure.{structures}
-pub use Rattle.descriptions.specs.Demands.{Unifier}
+pub use Rattle.descriptions.specs.Demands.{ClashNumber, Unifier}
 
 abbrev pub Demand2 : (U : Unifier) → Type 1
 Demand2 = Rattle.descriptions.specs.Demands.Demand2 joining-one structures layout-one

@@ -5,7 +5,7 @@ use mathlib.Core.List.{List}
 use Prim.Native.Nat.{ℕ}
 use Rattle.theory.specs.Net.{Graph}
 use Rattle.theory.specs.JoiningOne.{joining-one}
-pub use Rattle.descriptions.specs.Descr.{desc, end, _and_, fail, _or_, disjs, alts, choices, answers, _then_}
+pub use Rattle.descriptions.specs.Descr.{definite-graph, desc, end, _and_, fail, _or_, disjs, alts, choices, answers, _then_}
 unfoldable pub use Rattle.descriptions.specs.Descr.{number, capped}
 
 abbrev pub Desc : Type 0

@@ -2,12 +2,15 @@
 -- but for the numbers of their nodes.
 -- `JoiningOne`, `LayoutOne` and `Structure` say what `descriptions` takes for layout one; files with the names of its files are its
 -- instance.
--- `Join`, `Reading` and `Fitted` are programs, so that cases compute; `FitTest` is the table of the fit test, `Known` has the known
--- inputs and cases.
+-- `ClashNode` says at which node two graphs clash.
+-- `Join`, `Located`, `Reading` and `Fitted` are programs, so that cases compute; `FitTest` is the table of the fit test, `Known` has the
+-- known inputs and cases.
 pub mod Limits
 pub mod Net
 pub mod Structure
 pub mod Join
+pub mod ClashNode
+pub mod Located
 pub mod JoiningOne
 pub mod Descr
 pub mod Canonical

@@ -1,4 +1,4 @@
--- The outcome of a call: number, length, readings, and every word of both areas.
+-- The outcome of a call: number, length, readings, node, and every word of both areas.
 -- Assumes nothing: these are definitions.
 use Rattle.theory.specs.Answer.{Call}
 use Rattle.theory.specs.LayoutOne.{layout-one}

@@ -6,7 +6,7 @@ use Rattle.theory.specs.Descr.{Desc}
 use Rattle.theory.specs.Answer.{Answer, Call}
 use Rattle.theory.specs.LayoutOne.{layout-one}
 use Rattle.theory.specs.JoiningOne.{joining-one}
-pub use Rattle.descriptions.specs.Rules.{one, two, three, four, five, six, seven, six-after, eight, done}
+pub use Rattle.descriptions.specs.Rules.{one, two, three, four, five, six, ten, seven, eleven, eight, done}
 
 abbrev pub mode-result : ℕ → Desc → Desc → Option Desc
 mode-result = Rattle.descriptions.specs.Rules.mode-result joining-one

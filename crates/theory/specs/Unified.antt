@@ -7,8 +7,11 @@ use Rattle.theory.specs.Answer.{Answer, Call}
 use Rattle.theory.specs.LayoutOne.{layout-one}
 use Rattle.theory.specs.JoiningOne.{joining-one}
 
-abbrev pub deliver : ℕ → ℕ → Option Desc → Answer
+abbrev pub deliver : ℕ → ℕ → Desc → Answer
 deliver = Rattle.descriptions.specs.Unified.deliver layout-one
+
+abbrev pub deliver-or : ℕ → ℕ → ℕ → Option Desc → Answer
+deliver-or = Rattle.descriptions.specs.Unified.deliver-or layout-one
 
 abbrev pub complete : ℕ → Desc → Desc → Answer
 complete = Rattle.descriptions.specs.Unified.complete joining-one layout-one

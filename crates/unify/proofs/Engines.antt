@@ -22,6 +22,7 @@ module _ (first second : List ℕ) (before : Areas) where
 
   pub plain-same : (r s : Answer) (after after′ : Areas) → Outcome call before (row-of r) after → Outcome call before (row-of s) after′ →
       (row-of r .number ≡ row-of s .number) × (row-of r .extent ≡ row-of s .extent) × (row-of r .readings ≡ row-of s .readings)
+      × (row-of r .node ≡ row-of s .node)
       × (after .result ≡ after′ .result) × (after .working ≡ after′ .working)
   plain-same r s after after′ p q = one-outcome reads call before (row-of r) (row-of s) after after′ p q
 

@@ -10,8 +10,8 @@ use Rattle.engine.specs.Quickly.{quick-at, Leaves}
 use Rattle.area.specs.Region.{loaded-words}
 use Rattle.marks.specs.Marked.{marking}
 use Rattle.opening.specs.Opening.{Read, Opening}
-use Rattle.opening.specs.declared.Opened.{Opened}
-use Rattle.opening.specs.declared.Opened.the-variants.{Joined, Clashed}
+use Rattle.unify.specs.declared.making.Beginning.{Beginning}
+use Rattle.unify.specs.declared.making.Beginning.the-variants.{Joined, Clashed}
 use Rattle.entering.specs.Stage.{Pair, Stage}
 use Rattle.entering.specs.Moved.{Moved}
 use Rattle.quick.specs.Quickened.{Quickening, Quickens}
@@ -40,9 +40,9 @@ reads o = record {
       o .inputs .second .2;
 }
 
-module _ (mode : ℕ) (a b w : List ℕ) (r : Opened) (w₁ : List ℕ) (g : Begins w a b r w₁) where
-  pub makes-clash : r ≡ Clashed → Makes mode w a b Clash w₁
-  makes-clash e = record { len = g .len; rest = λ j h. g .rest j (omega arith); told = λ d f q. subst (Begun d f w₁) e (g .told d f q) }
+module _ (mode : ℕ) (a b w : List ℕ) (r : Beginning) (w₁ : List ℕ) (g : Begins w a b r w₁) where
+  pub makes-clash : (i : ℕ) → r ≡ Clashed i → Makes mode w a b (Clash i) w₁
+  makes-clash i e = record { len = g .len; rest = λ j h. g .rest j (omega arith); told = λ d f q. subst (Begun d f w₁) e (g .told d f q) }
 
   module _ (n k : ℕ) (q : r ≡ Joined n k) where
     begun : (d e : Desc) → Read a b d e → Begun d e w₁ (Joined n k)

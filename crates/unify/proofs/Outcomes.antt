@@ -10,8 +10,8 @@ use Rattle.theory.specs.Limits.{input-limit, working-size}
 use Rattle.theory.specs.Descr.{Desc}
 use Rattle.theory.specs.Layout.{words}
 use Rattle.theory.specs.LayoutOne.{Image}
-use Rattle.theory.specs.Answer.{Call, refuse}
-use Rattle.theory.specs.Rules.{mode-readings, Accepted, Given, one, two, three, four, five, six, seven, six-after, eight, done}
+use Rattle.theory.specs.Answer.{Answer, Call, clash-at, no-room, refuse, success}
+use Rattle.theory.specs.Rules.{mode-readings, Accepted, Given, one, two, three, four, five, six, ten, seven, eleven, eight, done}
 use Rattle.theory.specs.Outcome.{Areas, Outcome, Row, wiped}
 use Rattle.descriptions.proofs.Areas.{worked-same, worked-zero, worked-more}
 use Rattle.layout.specs.Standing.{Stands}
@@ -25,7 +25,7 @@ use Rattle.opening.specs.Opening.{Read, Opening}
 use Rattle.answering.specs.declared.hand.Made.{Made}
 use Rattle.answering.specs.declared.hand.Made.the-variants as made
 use Rattle.answering.specs.declared.answer.Answer.{Answer as Reply}
-use Rattle.answering.specs.declared.answer.Answer.the-variants.{Done, Clash, TooMany, NoRoom}
+use Rattle.answering.specs.declared.answer.Answer.the-variants.{Done, Clash, TooMany, NoRoom, QuickFails, NoChoice}
 use Rattle.answering.specs.Number.{row-of}
 use Rattle.unify.specs.Making.{Makes, Meant}
 use Rattle.unify.proofs.Made as inputs
@@ -47,7 +47,7 @@ wiped-alike n w w′ e h =
 
 -- the row of a refusal
 abbrev told : ℕ → Row
-told n = record { number = n; extent = 0; readings = 0 }
+told n = record { number = n; extent = 0; readings = 0; node = 0 }
 
 -- ---- numbers 1 to 5
 module _ (c : Call) (s w : List ℕ) where
@@ -61,6 +61,7 @@ module _ (c : Call) (s w : List ℕ) where
     the-number = refl;
     the-extent = refl;
     the-readings = refl;
+    the-node = refl;
     the-result = refl;
     the-working = sym (worked-same n w l h);
   }
@@ -125,7 +126,7 @@ module _ (mode : ℕ) (a b w : List ℕ) (m : mode ≤ 2) (o : Opening w a b) wh
     made-room = go r (k .told d e read)
       where
         go : (r : Made) → Meant mode d e w₁ r → ResultInside w₁ r
-        go made.Clash h = tt
+        go (made.Clash i) h = tt
         go made.QuickFails h = tt
         go made.TooMany h = tt
         go made.NoChoice h = tt
@@ -145,43 +146,50 @@ module _ (mode : ℕ) (a b w : List ℕ) (m : mode ≤ 2) (o : Opening w a b) wh
           at : (y′ : Reply) (s′ : List ℕ) → Comes y′ s′ → y ≡ y′ → s₁ ≡ s′ → Comes y s₁
           at y′ s′ h p q = subst (λ (z : Reply). Comes z s₁) (sym p) (subst (Comes y′) (sym q) h)
 
-          refusal : (n : ℕ) → 6 ≤ n → Given asked (length s) (length w) (refuse n) →
-              Outcome asked (record { result = s; working = w }) (told n) (record { result = s; working = w₂ })
-          refusal n h g = record {
-            answer = refuse n;
+          -- an answer that writes nothing and has no length, and what is told of it
+          nothing-told : ℕ → ℕ → Row
+          nothing-told n i = record { number = n; extent = 0; readings = 0; node = i }
+
+          nothing-given : ℕ → ℕ → Answer
+          nothing-given n i = record { number = n; extent = 0; readings = 0; node = i; result = [] }
+
+          refusal : (n i : ℕ) → 6 ≤ n → Given asked (length s) (length w) (nothing-given n i) →
+              Outcome asked (record { result = s; working = w }) (nothing-told n i) (record { result = s; working = w₂ })
+          refusal n i h g = record {
+            answer = nothing-given n i;
             given = g;
             the-number = refl;
             the-extent = refl;
             the-readings = refl;
+            the-node = refl;
             the-result = refl;
             the-working = zeros ∙ sym (worked-more n w h);
           }
 
-          clash : Given asked (length s) (length w) (refuse 6) → Comes Clash s
-          clash g = refusal 6 (omega arith) g
-
           go : (r : Made) → Meant mode d e w₁ r → Handed w₁ s r y s₁ → Comes y s₁
-          go made.Clash h (p, q) = at Clash s (clash (six d e accepted (inl h))) p q
-          go made.QuickFails (j, h, f) (p, q) = at Clash s (clash (six d e accepted (inr (h, f)))) p q
-          go made.TooMany (c, t) (p, q) = at TooMany s (refusal 7 (omega arith) (seven d e accepted c t)) p q
-          go made.NoChoice (c, t, h, z) (p, q) = at Clash s (clash (six-after d e accepted c t h z)) p q
+          go (made.Clash i) (h, n) (p, q) = at (Clash i) s (refusal 6 i (omega arith) (six d e i accepted h n)) p q
+          go made.QuickFails (j, h, f) (p, q) = at QuickFails s (refusal 10 0 (omega arith) (ten d e accepted j h f)) p q
+          go made.TooMany (c, t) (p, q) = at TooMany s (refusal 7 0 (omega arith) (seven d e accepted c t)) p q
+          go made.NoChoice (c, t, h, z) (p, q) = at NoChoice s (refusal 11 0 (omega arith) (eleven d e accepted c t h z)) p q
           go (made.Ready n j) (c, t, x, f, l, v, h) (inl (short, p, q)) =
               at (NoRoom n) s (record {
-                answer = record { number = 8; extent = length (words x); readings = 0; result = [] };
+                answer = no-room (length (words x));
                 given = eight d e x accepted c t f (omega arith);
                 the-number = refl;
                 the-extent = l;
                 the-readings = refl;
+                the-node = refl;
                 the-result = refl;
                 the-working = zeros ∙ sym (worked-more 8 w (omega arith));
               }) p q
           go (made.Ready n j) (c, t, x, f, l, v, h) (inr (fits, p, q)) =
               at (Done n j) (region RESULT n w₁ ++ drop n s) (record {
-                answer = record { number = 0; extent = length (words x); readings = mode-readings mode d e; result = words x };
+                answer = success (mode-readings mode d e) (words x);
                 given = done d e x accepted c t f (omega arith);
                 the-number = refl;
                 the-extent = l;
                 the-readings = v;
+                the-node = refl;
                 the-result =
                     ap (λ (i : ℕ). region RESULT i w₁ ++ drop i s) l
                     ∙ ap (λ (u : List ℕ). u ++ drop (length (words x)) s) (stands-region w₁ (words x) RESULT (RESULT + n) h);

@@ -6,7 +6,7 @@ use lib.ListN.{length}
 use Rattle.theory.specs.Descr.{Desc}
 use Rattle.theory.specs.Layout.{words}
 use Rattle.theory.specs.Answer.{Answer, Call}
-use Rattle.theory.specs.Rules.{mode-result, Accepted, Given, one, two, three, four, five, six, seven, six-after, eight, done}
+use Rattle.theory.specs.Rules.{mode-result, Accepted, Given, one, two, three, four, five, six, ten, seven, eleven, eight, done}
 use mathlib.Core.Option.{some}
 use Rattle.theory.specs.Outcome.{Areas, Outcome, Row}
 use Rattle.descriptions.specs.Outcome.{worked}
@@ -29,9 +29,10 @@ module _ (c : Call) where
   given-small room work r (three m w h) = omega arith
   given-small room work r (four m w la lb n) = omega arith
   given-small room work r (five m w la lb i n) = omega arith
-  given-small room work r (six d e A c) = omega arith
+  given-small room work r (six d e i A h n) = omega arith
+  given-small room work r (ten d e A j l h) = omega arith
   given-small room work r (seven d e A c t) = omega arith
-  given-small room work r (six-after d e A c t m n) = omega arith
+  given-small room work r (eleven d e A c t m n) = omega arith
   given-small room work r (eight d e s A c t h l) = accepted-small work d e s A h
   given-small room work r (done d e s A c t h l) = accepted-small work d e s A h
 
@@ -43,15 +44,16 @@ module _ (c : Call) where
         omega arith
 
     -- the outcome by the row that is told of it
-    pub outcome-told : (y : Reply) (n l r : ℕ) → Outcome c before (row-of y) after →
-        (n ≡ row-of y .number) × ((l ≡ row-of y .extent) × (r ≡ row-of y .readings)) →
-        Outcome c before (record { number = n; extent = l; readings = r }) after
-    outcome-told y n l r o (e, (f, g)) = record {
+    pub outcome-told : (y : Reply) (n l r i : ℕ) → Outcome c before (row-of y) after →
+        (n ≡ row-of y .number) × ((l ≡ row-of y .extent) × ((r ≡ row-of y .readings) × (i ≡ row-of y .node))) →
+        Outcome c before (record { number = n; extent = l; readings = r; node = i }) after
+    outcome-told y n l r i o (e, (f, (g, h))) = record {
       answer = o .answer;
       given = o .given;
       the-number = e ∙ o .the-number;
       the-extent = f ∙ o .the-extent;
       the-readings = g ∙ o .the-readings;
+      the-node = h ∙ o .the-node;
       the-result = o .the-result;
       the-working = o .the-working ∙ ap (λ (k : ℕ). worked k (before .working)) (sym e);
     }

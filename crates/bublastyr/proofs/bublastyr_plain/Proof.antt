@@ -2,6 +2,7 @@
 use borrow.Author.Needs.{needs}
 use native.Mathlib.Omega.{arith}
 use Rattle.unify.proofs.Sizes.{outcome-small, outcome-told}
+use Rattle.unify.proofs.NodeSizes.{outcome-low}
 use Rattle.bublastyr.proofs.bublastyr_plain.Statement.{statement}
 use Rattle.bublastyr.proofs.bublastyr_plain.Tie as tie
 
@@ -14,7 +15,14 @@ told-requires c κs = search needs
 cast-t12 : tie.Need-cast-t12
 cast-t12 c =
     let call = c .before .before .before .before .before .before in
-    let h = outcome-small _ _ _ _ (outcome-told _ _ _ (call .plain .result) _ _ _ (call .plain .ensures .0) (c .before .told .ensures)) in
+    let h = outcome-small _ _ _ _ (outcome-told _ _ _ (call .plain .result) _ _ _ _ (call .plain .ensures .0) (c .before .told .ensures)) in
+    omega arith
+
+cast-t13 : tie.Need-cast-t13
+cast-t13 c =
+    let call = c .before .before .before .before .before .before .before in
+    let o = outcome-told _ _ _ (call .plain .result) _ _ _ _ (call .plain .ensures .0) (c .before .before .told .ensures) in
+    let h = outcome-low _ _ _ _ o in
     omega arith
 
 same-length : tie.Need-same-length
@@ -25,9 +33,9 @@ same-length-2 c = search needs
 
 returns : tie.Need-returns
 returns c =
-    let call = c .before .before .before .before .before .before .before in
-    outcome-told _ _ _ (call .plain .result) _ _ _ (call .plain .ensures .0) (c .before .before .told .ensures)
+    let call = c .before .before .before .before .before .before .before .before in
+    outcome-told _ _ _ (call .plain .result) _ _ _ _ (call .plain .ensures .0) (c .before .before .before .told .ensures)
 
 pub bublastyr-plain-spec : {M : Type 1} → statement M
 bublastyr-plain-spec =
-    tie.close (tie.spec plain-requires told-requires cast-t12 same-length same-length-2 returns)
+    tie.close (tie.spec plain-requires told-requires cast-t12 cast-t13 same-length same-length-2 returns)

@@ -8,7 +8,7 @@ abbrev Inv-loop : tie.InvT-loop
 Inv-loop label counts from i₀ t5 t6 t7 i = Unit {0}
 
 abbrev μ-loop : tie.MeasureT-loop
-μ-loop label counts from i₀ t5 t6 t7 i = 10 - i
+μ-loop label counts from i₀ t5 t6 t7 i = 12 - i
 
 write-all-requires : tie.Need-write-all-requires Inv-loop μ-loop
 write-all-requires c κs = tt

@@ -2,7 +2,7 @@
 use borrow.Author.Needs.{needs}
 use native.Mathlib.Omega.{arith}
 use Rattle.unify.proofs.Sizes.{outcome-told}
-use Rattle.reply.proofs.Replies.{said-other, said-room, said-done, take-count, wrote-same}
+use Rattle.reply.proofs.Replies.{said-other, said-room, said-done, reply-told, take-count}
 use Rattle.reply.proofs.answer_in.Statement.{statement}
 use Rattle.reply.proofs.answer_in.Tie as tie
 
@@ -17,7 +17,7 @@ slice-reshare-prefix-write-answer c =
     let told = c .before .before in
     let call = told .before .before .before .before .before in
     let asked = call .before .before .before .before .before .before .before .before .pre in
-    let o = outcome-told _ _ _ (call .unify .result) _ _ _ (call .unify .ensures .0) (told .told .ensures) in
+    let o = outcome-told _ _ _ (call .unify .result) _ _ _ _ (call .unify .ensures .0) (told .told .ensures) in
     let h = said-room _ _ _ _ (asked .0) (asked .1) o (omega arith) in
     omega arith
 
@@ -26,7 +26,7 @@ slice-aggregate-write-answer c =
     let told = c .before .before .before in
     let call = told .before .before .before .before .before in
     let asked = call .before .before .before .before .before .before .before .before .pre in
-    let o = outcome-told _ _ _ (call .unify .result) _ _ _ (call .unify .ensures .0) (told .told .ensures) in
+    let o = outcome-told _ _ _ (call .unify .result) _ _ _ _ (call .unify .ensures .0) (told .told .ensures) in
     let h = said-room _ _ _ _ (asked .0) (asked .1) o (omega arith) in
     take-count _ _ (omega arith)
 
@@ -48,9 +48,10 @@ returns c =
     let told = c .before .before .before .before .before .before in
     let call = told .before .before .before .before .before in
     let asked = call .before .before .before .before .before .before .before .before .pre in
-    let o = outcome-told _ _ _ (call .unify .result) _ _ _ (call .unify .ensures .0) (told .told .ensures) in
+    let o = outcome-told _ _ _ (call .unify .result) _ _ _ _ (call .unify .ensures .0) (told .told .ensures) in
     let out = call .before .before .before .before .before .before .before .before .args .out .now in
-    wrote-same _ _ out (wrote .last .0) (wrote .result) (said-done _ _ _ _ (asked .0) (asked .1) o (omega arith)) (wrote .ensures)
+    let is = said-done _ _ _ _ (asked .0) (asked .1) o (omega arith) in
+    reply-told _ _ _ _ (asked .0) (asked .1) o _ out (wrote .last .0) (wrote .result) is (wrote .ensures)
 
 slice-reshare-prefix-write-answer-2 : tie.Need-slice-reshare-prefix-write-answer-2
 slice-reshare-prefix-write-answer-2 c = search needs
@@ -76,9 +77,10 @@ returns-2 c =
     let told = c .before .before .before .before .before .before in
     let call = told .before .before .before .before .before in
     let asked = call .before .before .before .before .before .before .before .before .pre in
-    let o = outcome-told _ _ _ (call .unify .result) _ _ _ (call .unify .ensures .0) (told .told .ensures) in
+    let o = outcome-told _ _ _ (call .unify .result) _ _ _ _ (call .unify .ensures .0) (told .told .ensures) in
     let out = call .before .before .before .before .before .before .before .before .args .out .now in
-    wrote-same _ _ out (wrote .last .0) (wrote .result) (said-other _ _ _ _ (asked .0) (asked .1) o _ (λ e. omega arith)) (wrote .ensures)
+    let is = said-other _ _ _ _ (asked .0) (asked .1) o _ (λ e. omega arith) in
+    reply-told _ _ _ _ (asked .0) (asked .1) o _ out (wrote .last .0) (wrote .result) is (wrote .ensures)
 
 pub answer-in-spec : {M : Type 1} → statement M
 answer-in-spec =

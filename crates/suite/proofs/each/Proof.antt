@@ -233,7 +233,7 @@ module _ {M : Type 1} (𝓤 : URA M) (H : Heap 𝓤) (A : Atoms 𝓤) (W : Given
       -- [running; result; working; tests; words]
       nothing ! $ move ! (1 ∷ 0 ∷ []) $ fjoin ! $ move ! (2 ∷ 0 ∷ []) $ fjoin ! $ move ! (1 ∷ 0 ∷ []) $ fjoin ! $ move ! (2 ∷ 0 ∷ []) $
       fjoin ! $ move ! (1 ∷ 0 ∷ []) $ fjoin ! $ owned ! usize (Is usize) (uint-makes 𝓤 H A W w64) n _ (refl, n-fits) $ fjoin ! $ frame ! $
-      owned ! Cnt (Is Cnt) (array-makes 𝓤 H A W (Array u32 9) (array-makes 𝓤 H A W u32 (uint-makes 𝓤 H A W w32) 9) 3) (s .counts) _ ic $
+      owned ! Cnt (Is Cnt) (array-makes 𝓤 H A W (Array u32 12) (array-makes 𝓤 H A W u32 (uint-makes 𝓤 H A W w32) 12) 3) (s .counts) _ ic $
       done !
 
   -- the tokens, and what the parameters own
@@ -256,7 +256,7 @@ module _ {M : Type 1} (𝓤 : URA M) (H : Heap 𝓤) (A : Atoms 𝓤) (W : Given
       keep ! (0 ∷ 7 ∷ 3 ∷ 10 ∷ 2 ∷ 9 ∷ 5 ∷ 12 ∷ 4 ∷ 11 ∷ []) $ done !
 
   typed-counts : (c : List (List ℕ)) (cv : Val) → Is Cnt c (cv ∷ []) → Holds (hasTy counts-ty cv) × WT cv
-  typed-counts c cv ic = array-lawful 𝓤 H A W (Array u32 9) (array-lawful 𝓤 H A W u32 (uint-lawful 𝓤 H A W w32) 9) 3 .typed c _ ic .0
+  typed-counts c cv ic = array-lawful 𝓤 H A W (Array u32 12) (array-lawful 𝓤 H A W u32 (uint-lawful 𝓤 H A W w32) 12) 3 .typed c _ ic .0
 
   module _ (𝓣 : Tables 𝓤 H) (known-begun : Triple 𝓤 (𝓣 .C #suite·begun) (BegunC 𝓤 H A mem run))
       (known-none : Triple 𝓤 (𝓣 .C #suite·none) (NoneC 𝓤 H A mem run)) (known-row : Triple 𝓤 (𝓣 .C #suite·row) (RowC 𝓤 H A mem run))
@@ -312,7 +312,7 @@ module _ {M : Type 1} (𝓤 : URA M) (H : Heap 𝓤) (A : Atoms 𝓤) (W : Given
         c (cv ∷ []) → length y ≡ m → length w ≡ k
         → ((number : ℕ) (readings : ℕ) (y′ w′ : List ℕ) → AsAnswered ws (getD ts i no-test)
         (record { result = y; working = w }) number readings (record { result = y′; working = w′ })
-        → ((h .run < 64) × (h .good < 64)) × ((getD ts i no-test .mode < 3) × ((number < 9) × (counts-sum c < 64))))
+        → ((h .run < 64) × (h .good < 64)) × ((getD ts i no-test .mode < 3) × ((number < 12) × (counts-sum c < 64))))
         → ((hv′ cv′ : Val) (number readings : ℕ) (y′ w′ : List ℕ) → AsAnswered ws (getD ts i no-test)
         (record { result = y; working = w }) number readings (record { result = y′; working = w′ })
         → Is TR.the-row (noted-record (getD ts i no-test) number readings h) (hv′ ∷ [])

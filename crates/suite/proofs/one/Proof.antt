@@ -7,7 +7,7 @@ use Rattle.suite.proofs.one.Statement.{statement}
 use Rattle.suite.proofs.one.Tie as tie
 use Rattle.suite.proofs.one.Reads as reads
 use Rattle.suite.proofs.one.Lts as lts
-use Rattle.suite.proofs.test.wide.Reads as wide-reads
+use Rattle.limits.proofs.wide.Reads as wide-reads
 use Rattle.answering.proofs.answer.told.Reads as told-reads
 use Rattle.unify.proofs.unify.Reads as unify-reads
 
@@ -76,7 +76,7 @@ returns c =
     let b = last .before .wide3 .result in
     let m = last .wide4 .result in
     let t = args .test in
-    answered _ _ _ _ _ _ _ _ (call .unify .ensures .0) (c .told .ensures .0) (c .told .ensures .1 .1)
+    answered _ _ _ _ _ _ _ _ (call .unify .ensures .0) (c .told .ensures .0) (c .told .ensures .1 .1 .0)
     (call-is (args .words .now) t a (a + n - a) b (b + m - b) (omega arith) (omega arith) (omega arith) (omega arith))
 
 pub one-spec : {M : Type 1} → statement M

@@ -406,7 +406,7 @@ module _ {M : Type 1} (𝓤 : URA M) (H : Heap 𝓤) (A : Atoms 𝓤) (W : Given
     goes-put : Is Cnt c (cv ∷ []) → ent 𝓤 (sep 𝓤 (A .lft κ₅ q₅) (sem 𝓤 H A Table)) (PutC 𝓤 H A mem run .pre to-put)
     goes-put ic =
         qed W (‵ (flft κ₅ q₅) ∷ ‵ Table ∷ []) ∵ nothing ! $ owned ! Cnt (Is Cnt)
-        (array-makes 𝓤 H A W (Array u32 9) (array-makes 𝓤 H A W u32 (uint-makes 𝓤 H A W w32) 9) 3) c _ ic $ fjoin ! $ move ! (2 ∷ 0 ∷ []) $
+        (array-makes 𝓤 H A W (Array u32 12) (array-makes 𝓤 H A W u32 (uint-makes 𝓤 H A W w32) 12) 3) c _ ic $ fjoin ! $ move ! (2 ∷ 0 ∷ []) $
         fjoin ! $
         nothing ! $ move ! (2 ∷ 0 ∷ []) $ join ! $ join ! $ frame ! $ done !
 
@@ -520,8 +520,8 @@ module _ {M : Type 1} (𝓤 : URA M) (H : Heap 𝓤) (A : Atoms 𝓤) (W : Given
         split ! $ move ! (1 ∷ []) $ split ! $ move ! (1 ∷ []) $ split ! $ move ! (1 ∷ []) $ split ! $ move ! (1 ∷ []) $ split ! $
         move ! (1 ∷ []) $ split ! $ move ! (1 ∷ []) $ split ! $
         -- [κ₃; κ₄; κ₂; κ₁; κ₀; record; working; result; words; tests; table; κ₅; _0; …]: _j at 12 + j
-        land ! (from ! (stop !)) (init ! 22 refl (array-lawful 𝓤 H A W (Array u32 9)
-        (array-lawful 𝓤 H A W u32 (uint-lawful 𝓤 H A W w32) 9) 3 .typed (s .counts) _ (fair .0) .0)) $
+        land ! (from ! (stop !)) (init ! 22 refl (array-lawful 𝓤 H A W (Array u32 12)
+        (array-lawful 𝓤 H A W u32 (uint-lawful 𝓤 H A W w32) 12) 3 .typed (s .counts) _ (fair .0) .0)) $
         assigns ! (addr ! (from ! (hop ! (look ! 18 refl) (stop !)))) (from ! (stop !)) (init ! 30 refl (tt, tt)) $
         move ! (11 ∷ 10 ∷ []) $ use2 W (raw (PutC 𝓤 H A mem run .pre (to-put (s .counts) cv))) (goes-put (s .counts) cv (fair .0)) $
         -- _j at 11 + j

@@ -1,5 +1,4 @@
 -- `suite_text::report` meets its contract. Assumes nothing.
-use mathlib.Core.Path.{_≡_, sym, _∙_}
 use native.Mathlib.Omega.{arith}
 use lib.ListN.{length, length-take}
 use Rattle.reply.proofs.Replies.{take-count, wrote-same}

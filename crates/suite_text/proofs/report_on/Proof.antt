@@ -1,5 +1,5 @@
 -- `suite_text::report_on` meets its contract. Assumes nothing.
-use mathlib.Core.Path.{_≡_, ap, sym, subst}
+use mathlib.Core.Path.{_≡_}
 use native.Mathlib.Omega.{arith}
 use Rattle.call_text.proofs.Runs.{neither}
 use Rattle.reply.proofs.Replies.{wrote-same}

@@ -52,7 +52,7 @@ returns c =
     let told = c .told .ensures in
     let answers = test-answered (a .numbers .now) (a .place) _ _ _ _ (one .read-words .ensures)
     (two .read-words2 .ensures) _ _ _ (start .pre .1 .0 .0) (start .pre .1 .0 .1) (call .unify .ensures .0) in
-    rw (told .0, told .1 .1) answers
+    rw (told .0, told .1 .1 .0) answers
 
 pub run-test-spec : {M : Type 1} → statement M
 run-test-spec =

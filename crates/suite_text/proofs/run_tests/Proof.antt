@@ -1,14 +1,14 @@
 -- `suite_text::run_tests` meets its contract. The loop's invariant: what is left of the report is that of the tests that are left.
 -- Assumes nothing.
-use mathlib.Core.Path.{_≡_, refl, sym, ap, subst, _∙_}
-use Prim.Native.Nat.{ℕ, _-_}
+use mathlib.Core.Path.{_≡_, refl, sym, _∙_}
+use Prim.Native.Nat.{_-_}
 use native.Mathlib.Omega.{arith}
-use lib.ListN.{length, drop}
+use lib.ListN.{drop}
 use borrow.Author.Needs.{needs}
 use Rattle.answer_text.specs.declared.line.Written.the-variants.{NoRoom}
 use Rattle.answer_text.proofs.Goings.{named}
 use Rattle.suite_reading.specs.Tests.{tests-in}
-use Rattle.suite_lines.specs.Lines.{cell-of}
+use Rattle.verdicts.specs.Verdicts.{cell-of}
 use Rattle.suite_reading.specs.declared.tests.Found.the-variants.{Wrong}
 use Rattle.suite_text.proofs.Reporting.{Reporting, Kept, whole-of, whole-starts, wrote-whole, mode-low}
 use Rattle.suite_text.proofs.Reporting.{reporting-stops, reporting-goes, reporting-ends, reporting-same}

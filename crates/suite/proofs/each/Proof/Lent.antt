@@ -145,12 +145,12 @@ module _ {M : Type 1} (𝓤 : URA M) (H : Heap 𝓤) (A : Atoms 𝓤) (W : Given
     abbrev pub to-raised : RaisedC 𝓤 H A mem run .Ghost
     to-raised = ((tt, tt, tt, (c, (t, (seen, tt))), (cv ∷ [], (tv ∷ [], (sv ∷ [], tt)))), tt)
 
-    pub goes-raised : (t .mode < 3) × ((seen .number < 9) × (counts-sum c < 64)) → ent 𝓤 (emp 𝓤) (RaisedC 𝓤 H A mem run .pre to-raised)
+    pub goes-raised : (t .mode < 3) × ((seen .number < 12) × (counts-sum c < 64)) → ent 𝓤 (emp 𝓤) (RaisedC 𝓤 H A mem run .pre to-raised)
     goes-raised small =
         qed W [] ∵ says ! small $ nothing ! $ frame ! $ nothing ! $
         owned ! TS.the-row (Is TS.the-row) (LL.makes TS.the-type TS′.the-plain 𝓤 H A) seen _ is $ fjoin ! $
         owned ! TT.the-row (Is TT.the-row) (LL.makes TT.the-type TT′.the-plain 𝓤 H A) t _ it $ fjoin ! $
-        owned ! Cnt (Is Cnt) (array-makes 𝓤 H A W (Array u32 9) (array-makes 𝓤 H A W u32 (uint-makes 𝓤 H A W w32) 9) 3) c _ ic $ fjoin ! $
+        owned ! Cnt (Is Cnt) (array-makes 𝓤 H A W (Array u32 12) (array-makes 𝓤 H A W u32 (uint-makes 𝓤 H A W w32) 12) 3) c _ ic $ fjoin ! $
         done !
 
     abbrev more : List (List ℕ)

@@ -1,6 +1,6 @@
 -- `suite_lines::lines::put_verdict` meets its contract. Assumes nothing.
 use borrow.Author.Needs.{needs}
-use Rattle.suite_lines.specs.declared.verdict.Verdict.the-variants.{Refused, Other, NotRun}
+use Rattle.verdicts.specs.declared.verdict.Verdict.the-variants.{Refused, Other, NotRun}
 use Rattle.suite_lines.proofs.Pieces.{good-said, said}
 use Rattle.suite_lines.proofs.lines.put_verdict.Statement.{statement}
 use Rattle.suite_lines.proofs.lines.put_verdict.Tie as tie

@@ -9,115 +9,109 @@ use Rattle.unify.proofs.making.make.Tie as tie
 begin-requires : tie.Need-begin-requires
 begin-requires c κs = search needs
 
-enum-known-opened : tie.Need-enum-known-opened
-enum-known-opened c = search needs
+enum-known-beginning : tie.Need-enum-known-beginning
+enum-known-beginning c = search needs
 
-enum-told : tie.Need-enum-told
-enum-told c = search needs
+enum-known-beginning-2 : tie.Need-enum-known-beginning-2
+enum-known-beginning-2 c = search needs
+
+show-requires : tie.Need-show-requires
+show-requires c κs =
+    let joined = c .before .before .before in
+    let begun = joined .before .before .before .before in
+    let asked = begun .before .before .before .before .before in
+    asks-show (asked .args .mode) _ _ _ (begun .begin .result) _ (begun .begin .ensures) _ _ (joined .beginning2 .given .1) (asked .pre .1)
 
 same-length : tie.Need-same-length
 same-length c = search needs
 
 returns : tie.Need-returns
-returns c = makes-clash _ _ _ _ (c .before .before .before .before .begin .result) _ (c .before .before .before .before .begin .ensures)
-    (cc)
+returns c =
+    let joined = c .before .before .before .before .before .before in
+    let begun = joined .before .before .before .before in
+    makes-join _ _ _ _ (begun .begin .result) _ (begun .begin .ensures) _ _ (joined .beginning2 .given .1) (omega arith) _ _
+    (c .before .before .show .ensures)
 
-show-requires : tie.Need-show-requires
-show-requires c κs = asks-show
-    (c .before .before .before .before .before .before .before .before .before .before .before .before .args .mode) _ _ _
-    (c .before .before .before .before .before .before .before .begin .result) _
-    (c .before .before .before .before .before .before .before .begin .ensures) _ _ (c .before .before .before .opened .given .1)
-    (c .before .before .before .before .before .before .before .before .before .before .before .before .pre .1)
+quick-requires : tie.Need-quick-requires
+quick-requires c κs =
+    let joined = c .before .before .before in
+    let begun = joined .before .before .before .before in
+    let asked = begun .before .before .before .before .before in
+    asks-quick (asked .args .mode) _ _ _ (begun .begin .result) _ (begun .begin .ensures) _ _ (joined .beginning2 .given .1) (asked .pre .1)
+
+enum-known-step : tie.Need-enum-known-step
+enum-known-step c = search needs
+
+enum-told : tie.Need-enum-told
+enum-told c = search needs
 
 same-length-2 : tie.Need-same-length-2
 same-length-2 c = search needs
 
 returns-2 : tie.Need-returns-2
-returns-2 c = makes-join _ _ _ _ (c .before .before .before .before .before .before .before .before .before .before .begin .result) _
-    (c .before .before .before .before .before .before .before .before .before .before .begin .ensures) _ _
-    (c .before .before .before .before .before .before .opened .given .1) (omega arith) _ _ (c .before .before .show .ensures)
+returns-2 c =
+    let tidied = c .before .before .before .before in
+    let joined = tidied .before .before .before .before in
+    let begun = joined .before .before .before .before in
+    makes-quick-fails _ _ _ _ (begun .begin .result) _ (begun .begin .ensures) _ _ (joined .beginning2 .given .1) (tidied .quick .result) _
+    (tidied .quick .ensures) (omega arith) (cc)
 
-quick-requires : tie.Need-quick-requires
-quick-requires c κs = asks-quick
-    (c .before .before .before .before .before .before .before .before .before .before .before .before .args .mode) _ _ _
-    (c .before .before .before .before .before .before .before .begin .result) _
-    (c .before .before .before .before .before .before .before .begin .ensures) _ _ (c .before .before .before .opened .given .1)
-    (c .before .before .before .before .before .before .before .before .before .before .before .before .pre .1)
-
-enum-known-step : tie.Need-enum-known-step
-enum-known-step c = search needs
-
-enum-told-2 : tie.Need-enum-told-2
-enum-told-2 c = search needs
+show-requires-2 : tie.Need-show-requires-2
+show-requires-2 c κs =
+    let stood = c .before .before .before in
+    let tidied = stood .before .before .before .before in
+    let joined = tidied .before .before .before .before in
+    let begun = joined .before .before .before .before in
+    let asked = begun .before .before .before .before .before in
+    asks-show-quick (asked .args .mode) _ _ _ (begun .begin .result) _ (begun .begin .ensures) _ _ (joined .beginning2 .given .1)
+    (tidied .quick .result) _ (tidied .quick .ensures) _ _ (stood .step .given .1) (asked .pre .1)
 
 same-length-3 : tie.Need-same-length-3
 same-length-3 c = search needs
 
 returns-3 : tie.Need-returns-3
 returns-3 c =
-    let quick = c .before .before .before .before .quick in
-    let begin = c .before .before .before .before .before .before .before .before .before .before .before .before .begin in
-    let joined = c .before .before .before .before .before .before .before .before .opened .given .1 in
-    makes-quick-fails _ _ _ _ (begin .result) _ (begin .ensures) _ _ joined (quick .result) _ (quick .ensures) (omega arith) (cc)
+    let stood = c .before .before .before .before .before .before in
+    let tidied = stood .before .before .before .before in
+    let joined = tidied .before .before .before .before in
+    let begun = joined .before .before .before .before in
+    makes-quick _ _ _ _ (begun .begin .result) _ (begun .begin .ensures) _ _ (joined .beginning2 .given .1) (tidied .quick .result) _
+    (tidied .quick .ensures) _ _ (stood .step .given .1) (omega arith) _ _ (c .before .before .show2 .ensures)
 
-show-requires-2 : tie.Need-show-requires-2
-show-requires-2 c κs = asks-show-quick
-    (c .before .before .before .before .before .before .before .before .before .before .before .before .before .before .before .before
-    .before .before .before .before .args .mode) _ _ _
-    (c .before .before .before .before .before .before .before .before .before .before .before .before .before .before .before .begin
-    .result) _ (c .before .before .before .before .before .before .before .before .before .before .before .before .before .before .before
-    .begin .ensures) _ _ (c .before .before .before .before .before .before .before .before .before .before .before .opened .given .1)
-    (c .before .before .before .before .before .before .before .quick .result) _
-    (c .before .before .before .before .before .before .before .quick .ensures) _ _ (c .before .before .before .step .given .1)
-    (c .before .before .before .before .before .before .before .before .before .before .before .before .before .before .before .before
-    .before .before .before .before .pre .1)
+complete-requires : tie.Need-complete-requires
+complete-requires c κs =
+    let stood = c .before .before .before in
+    let tidied = stood .before .before .before .before in
+    let joined = tidied .before .before .before .before in
+    let begun = joined .before .before .before .before in
+    let asked = begun .before .before .before .before .before in
+    asks-complete (asked .args .mode) _ _ _ (begun .begin .result) _ (begun .begin .ensures) _ _ (joined .beginning2 .given .1)
+    (tidied .quick .result) _ (tidied .quick .ensures) _ _ (stood .step .given .1) (asked .pre .1)
 
 same-length-4 : tie.Need-same-length-4
 same-length-4 c = search needs
 
 returns-4 : tie.Need-returns-4
-returns-4 c = makes-quick _ _ _ _
-    (c .before .before .before .before .before .before .before .before .before .before .before .before .before .before .before .before
-    .before .before .begin .result) _
-    (c .before .before .before .before .before .before .before .before .before .before .before .before .before .before .before .before
-    .before .before .begin .ensures) _ _
-    (c .before .before .before .before .before .before .before .before .before .before .before .before .before .before .opened .given .1)
-    (c .before .before .before .before .before .before .before .before .before .before .quick .result) _
-    (c .before .before .before .before .before .before .before .before .before .before .quick .ensures) _ _
-    (c .before .before .before .before .before .before .step .given .1) (omega arith) _ _ (c .before .before .show2 .ensures)
-
-complete-requires : tie.Need-complete-requires
-complete-requires c κs = asks-complete
-    (c .before .before .before .before .before .before .before .before .before .before .before .before .before .before .before .before
-    .before .before .before .before .args .mode) _ _ _
-    (c .before .before .before .before .before .before .before .before .before .before .before .before .before .before .before .begin
-    .result) _ (c .before .before .before .before .before .before .before .before .before .before .before .before .before .before .before
-    .begin .ensures) _ _ (c .before .before .before .before .before .before .before .before .before .before .before .opened .given .1)
-    (c .before .before .before .before .before .before .before .quick .result) _
-    (c .before .before .before .before .before .before .before .quick .ensures) _ _ (c .before .before .before .step .given .1)
-    (c .before .before .before .before .before .before .before .before .before .before .before .before .before .before .before .before
-    .before .before .before .before .pre .1)
+returns-4 c =
+    let clashed = c .before in
+    let begun = clashed .before .before .before .before in
+    makes-clash _ _ _ _ (begun .begin .result) _ (begun .begin .ensures) _ (clashed .beginning .given .1)
 
 same-length-5 : tie.Need-same-length-5
 same-length-5 c = search needs
 
 returns-5 : tie.Need-returns-5
-returns-5 c = makes-full _ _ _ _
-    (c .before .before .before .before .before .before .before .before .before .before .before .before .before .before .before .before
-    .before .before .begin .result) _
-    (c .before .before .before .before .before .before .before .before .before .before .before .before .before .before .before .before
-    .before .before .begin .ensures) _ _
-    (c .before .before .before .before .before .before .before .before .before .before .before .before .before .before .opened .given .1)
-    (c .before .before .before .before .before .before .before .before .before .before .quick .result) _
-    (c .before .before .before .before .before .before .before .before .before .before .quick .ensures) _ _
-    (c .before .before .before .before .before .before .step .given .1)
-    (omega (
-      arith,
-      c .before .before .before .before .before .before .before .before .before .before .before .before .before .before .before
-          .before .before .before .before .before .before .before .before .pre .0,
-    )) _ _ (c .before .before .complete .ensures)
+returns-5 c =
+    let stood = c .before .before .before .before .before .before in
+    let tidied = stood .before .before .before .before in
+    let joined = tidied .before .before .before .before in
+    let begun = joined .before .before .before .before in
+    let asked = begun .before .before .before .before .before in
+    makes-full _ _ _ _ (begun .begin .result) _ (begun .begin .ensures) _ _ (joined .beginning2 .given .1) (tidied .quick .result) _
+    (tidied .quick .ensures) _ _ (stood .step .given .1) (omega (arith, asked .pre .0)) _ _ (c .before .before .complete .ensures)
 
 pub make-spec : {M : Type 1} → statement M
 make-spec =
-    tie.close (tie.spec begin-requires enum-known-opened enum-told same-length returns show-requires same-length-2 returns-2 quick-requires
-    enum-known-step enum-told-2 same-length-3 returns-3 show-requires-2 same-length-4 returns-4 complete-requires same-length-5 returns-5)
+    tie.close (tie.spec begin-requires enum-known-beginning enum-known-beginning-2 show-requires same-length returns quick-requires
+    enum-known-step enum-told same-length-2 returns-2 show-requires-2 same-length-3 returns-3 complete-requires same-length-4 returns-4
+    same-length-5 returns-5)

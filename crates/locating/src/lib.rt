@@ -1,1 +1,0 @@
-// Where two graphs clash: definitions in specs/, theorems in proofs/. It has no code.
