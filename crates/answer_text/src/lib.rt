@@ -1,3 +1,5 @@
 // The text that `meet` prints: an answer as bytes.
+#![tactic(auto)]
+
 pub mod answer;
 pub mod line;

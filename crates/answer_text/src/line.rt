@@ -4,7 +4,7 @@ ghost use Rattle.answer_text.specs.Answer.{decimal, after_spaces, spaced, labell
 ghost use Rattle.answer_text.specs.Going.{Appends};
 
 // How many bytes of the slice are written, from its start on; or the text is longer than the slice.
-#[derive(Drop)]
+#[derive(Clone, Copy)]
 pub enum Written {
     Bytes(usize),
     NoRoom,

@@ -5,7 +5,7 @@ ghost use Rattle.answering.specs.Number.{row_of};
 use roles::cause::Cause;
 
 // What comes of a call, of a malformed input with its cause; `row_of` gives number, length, readings and node of each.
-#[derive(Drop)]
+#[derive(Clone, Copy)]
 pub enum Answer {
     Done { length: usize, readings: u32 },
     BadMode,
@@ -21,7 +21,7 @@ pub enum Answer {
 }
 
 // A row of document 01's table: number, length and readings; and the node where definite graphs clash.
-#[derive(Drop)]
+#[derive(Clone, Copy)]
 pub struct Row {
     pub number: u32,
     pub length: usize,

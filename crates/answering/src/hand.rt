@@ -7,7 +7,7 @@ use area::map::RESULT;
 
 // What was made: a result of so many words, which stand in the working area, with so many readings; or the definite graphs clash
 // at a node, the quick step fails, there are too many choices, or no choice is consistent.
-#[derive(Drop)]
+#[derive(Clone, Copy)]
 pub enum Made {
     Ready { length: usize, readings: u32 },
     Clash { node: usize },

@@ -1,4 +1,6 @@
 // House blocks, as document 01's section of that name has them: their sums, sealing one, and whether one is damaged.
+#![tactic(auto)]
+
 ghost use Rattle.std.specs.Prelude.{◌≡◌, ◌+◌, ◌<◌, ◌≤◌, length, take, replicate, not};
 ghost use Rattle.std.proofs.lemmas.List.Edits.{sets};
 ghost use Rattle.blocks.specs.Block.{sums, pair, pair_at, zeros, intact, sealed, block, filled, block_of};
@@ -13,7 +15,7 @@ const CHECKED: usize = 508;
 // What both sums are taken modulo.
 const LIMIT: usize = 65535;
 
-#[derive(Drop)]
+#[derive(Clone, Copy)]
 struct Sums {
     pub first: usize,
     pub second: usize,

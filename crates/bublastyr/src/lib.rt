@@ -1,4 +1,6 @@
 // The entry points for C, which include/bublastyr.h declares.
+#![tactic(auto)]
+
 ghost use Rattle.std.specs.Prelude.{get_or};
 ghost use Rattle.theory.specs.FitTest.{FitGiven};
 ghost use Rattle.theory.specs.Outcome.{Outcome};

@@ -9,7 +9,7 @@ use crate::number::{Token, read_token};
 pub const COUNT_LIMIT: usize = 2048;
 
 // A run of words: how many, where they start, and the position after them; or no such run.
-#[derive(Drop)]
+#[derive(Clone, Copy)]
 pub enum Words {
     Run {
         count: usize,
@@ -84,7 +84,7 @@ pub fn read_words(text: &[u8], p: usize, count: usize, dst: &mut [u32])
 pub const TEXT_LIMIT: usize = 65536;
 
 // A call: its mode, and how many words each input has; or no call.
-#[derive(Drop)]
+#[derive(Clone, Copy)]
 pub enum Counts {
     Good {
         mode: u32,
@@ -160,7 +160,7 @@ pub fn read_call(text: &[u8], first: &mut [u32], second: &mut [u32]) -> Counts
 }
 
 // The position after a call, or no call.
-#[derive(Drop)]
+#[derive(Clone, Copy)]
 pub enum Ends {
     At(usize),
     Nowhere,

@@ -3,7 +3,7 @@ ghost use Rattle.std.specs.Prelude.{◌≡◌, ◌≤◌, length, drop};
 ghost use Rattle.call_text.specs.Token.{space_or_newline, digit, more, token, placed};
 
 // What stands next: a number and the position after it, no number any more, or something else.
-#[derive(Drop)]
+#[derive(Clone, Copy)]
 pub enum Token {
     Is { value: u32, next: usize },
     Over,

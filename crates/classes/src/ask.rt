@@ -9,14 +9,14 @@ use forest::held::{Held, held_by};
 use limits::CODE_LIMIT;
 
 // The atom that a class bears, if any.
-#[derive(Drop)]
+#[derive(Clone, Copy)]
 pub enum Borne {
     Atom(u32),
     Nothing,
 }
 
 // The class that an arc leads to, if there is one.
-#[derive(Drop)]
+#[derive(Clone, Copy)]
 pub enum Led {
     To(usize),
     Nowhere,

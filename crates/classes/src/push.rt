@@ -13,7 +13,7 @@ use forest::settle::unite;
 use packing::{nodes_of, number_of};
 
 // The log's entries after a push that went in; or the graph clashes with those that are there.
-#[derive(Drop)]
+#[derive(Clone, Copy)]
 pub enum Pushed {
     In(usize),
     Clashed,

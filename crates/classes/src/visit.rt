@@ -20,7 +20,7 @@ use limits::{CODE_LIMIT, wide};
 
 // The log's entries after an arc, the link to go on from with the next one, and whether there is a clash.
 // The link is 0 where the chain of the class is not known to rise, and 1 where the next arc is looked for from the first on.
-#[derive(Drop)]
+#[derive(Clone, Copy)]
 pub struct Came {
     pub k: usize,
     pub at: usize,

@@ -1,5 +1,7 @@
 // The program `cross`: calls from standard input, one after another in the form of `meet`, each run in mode 2 by both engines. To standard
 // output goes one line: how many calls were run, how many came out alike, and which was the first that did not, counted from 1.
+#![tactic(auto)]
+
 mod alike;
 mod window;
 
@@ -12,7 +14,7 @@ use call_text::number::{Token, read_token};
 const MOST_TURNS: u32 = 4000000000;
 
 // A call was run, alike or not, and its text has so many bytes; or nothing is left; or what is left is no call.
-#[derive(Drop)]
+#[derive(Clone, Copy)]
 enum Turn {
     Ran { same: bool, bytes: usize },
     Over,
@@ -20,7 +22,7 @@ enum Turn {
 }
 
 // What came of all calls: of the first that is not alike and of bad input the number of the call, or 0.
-#[derive(Drop)]
+#[derive(Clone, Copy)]
 struct Report {
     calls: u32,
     alike: u32,

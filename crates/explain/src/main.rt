@@ -1,4 +1,6 @@
 // The program `explain`: one call from standard input, to standard output what comes of it and, of a malformed input, why.
+#![tactic(auto)]
+
 ghost use Rattle.std.specs.Prelude.{◌≡◌, ◌≤◌, length};
 ghost use Rattle.answer_text.specs.declared.line.Written.TheVariants.{Bytes};
 ghost use Rattle.call_text.specs.Call.{heard};

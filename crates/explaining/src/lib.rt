@@ -1,4 +1,6 @@
 // From the text that `explain` reads to the text that it prints: what `meet` prints, and a second line after 4, 5 and 6.
+#![tactic(auto)]
+
 pub mod line;
 
 ghost use Rattle.std.specs.Prelude.{◌≡◌, length};

@@ -12,7 +12,7 @@ use malformed::judging::{Malformed, find_malformed};
 use roles::cause::{Cause, cause_number};
 
 // Nothing; or the number of a cause, the place of the word that decides, that word and the hint; or the node of a clash.
-#[derive(Drop)]
+#[derive(Clone, Copy)]
 pub enum SecondLine {
     Nothing,
     Fault(u32, usize, u32, u32),

@@ -11,7 +11,7 @@ use roles::role::{Nodes, Role};
 
 // How many alternatives are open, one in the other; for each, from the outermost, how many alternatives follow it and how many
 // disjunctions follow its disjunction.
-#[derive(Drop)]
+#[derive(Clone, Copy)]
 pub struct Nesting {
     pub depth: u32,
     pub alternatives: [u32; 4],
@@ -19,7 +19,7 @@ pub struct Nesting {
 }
 
 // The role of the next word, and the open alternatives.
-#[derive(Drop)]
+#[derive(Clone, Copy)]
 pub struct Expected {
     pub role: Role,
     pub nesting: Nesting,

@@ -6,7 +6,7 @@ use crate::nesting::{Expected, Nesting, expected_after};
 use roles::role::{Role, Rule, breaks};
 
 // The role of a word, whether the word breaks a rule, and its place; none stands there where a rule is kept.
-#[derive(Drop)]
+#[derive(Clone, Copy)]
 pub struct Stop {
     pub role: Role,
     pub rule: Rule,

@@ -2,7 +2,7 @@
 use roles::cause::Cause;
 
 // A description has no fault; other words have a cause, and the place of the word that decides.
-#[derive(Drop)]
+#[derive(Clone, Copy)]
 pub enum Fault {
     None,
     At(Cause, usize),

@@ -1,4 +1,6 @@
 // The fit test of document 01: whether a structure, a description with no disjunctions, satisfies a description.
+#![tactic(auto)]
+
 mod sending;
 mod testing;
 
@@ -13,7 +15,7 @@ use layout::skipping::skip_graph;
 use limits::INPUT_LIMIT;
 
 // What comes of a fit test; `number_of` gives document 01's number of each.
-#[derive(Drop)]
+#[derive(Clone, Copy)]
 pub enum Verdict {
     Satisfies,
     Fails,

@@ -11,28 +11,28 @@ use limits::{CODE_LIMIT, wide};
 pub const NODE_LIMIT: usize = 342;
 
 // What looking for a feature finds: the target of its arc and how many arcs come after that, or no such arc.
-#[derive(Drop)]
+#[derive(Clone, Copy)]
 pub enum Lookup {
     Target { target: u32, left: u32 },
     Nowhere,
 }
 
 // How many nodes have their structure node after a step, or that there is no map.
-#[derive(Drop)]
+#[derive(Clone, Copy)]
 pub enum Mapped {
     Met(u32),
     Stopped,
 }
 
 // The same after a node, with the position after it.
-#[derive(Drop)]
+#[derive(Clone, Copy)]
 pub enum MappedNode {
     Went { next: usize, met: u32 },
     Stuck,
 }
 
 // Whether there is a map of a part of the words, and the position after that part.
-#[derive(Drop)]
+#[derive(Clone, Copy)]
 pub enum Trial {
     Fits(usize),
     Fails,

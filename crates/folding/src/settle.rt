@@ -13,7 +13,7 @@ use parting::part::part;
 use sheets::drawing::Drawn;
 
 // An alternative that clashes; or the number of its disjunctions, and how many words there are from them on and from it on.
-#[derive(Drop)]
+#[derive(Clone, Copy)]
 pub enum Settled {
     Clash,
     Fine(u32, usize, usize),
@@ -21,7 +21,7 @@ pub enum Settled {
 
 // A disjunction with no alternative left; or how many disjunctions come of it, how many words there are from them on, and the last
 // alternative before it.
-#[derive(Drop)]
+#[derive(Clone, Copy)]
 pub enum Branch {
     Dead,
     Left(u32, usize, usize),

@@ -7,7 +7,7 @@ use area::map::HELD;
 use limits::wide;
 
 // A chain by its first arc, counted from 1, or an atom by its head.
-#[derive(Drop)]
+#[derive(Clone, Copy)]
 pub enum Held {
     Nothing,
     Arcs(usize),

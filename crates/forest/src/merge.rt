@@ -15,7 +15,7 @@ use area::log::put;
 use area::map::{FRAME_STEP, HELD, NEXT, PARENT, STACK};
 
 // The log's entries and the frames on the stack after a step, and whether it met a clash.
-#[derive(Drop)]
+#[derive(Clone, Copy)]
 pub struct Progress {
     pub k: usize,
     pub s: usize,
@@ -171,7 +171,7 @@ fn is_by_itself(w: &[u32], y: usize) -> bool
 }
 
 // The log's entries after a node by itself went under; or none did.
-#[derive(Drop)]
+#[derive(Clone, Copy)]
 pub enum Adopted {
     In(usize),
     Not,

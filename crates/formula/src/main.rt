@@ -1,4 +1,6 @@
 // The program `formula`: the text of a formula from standard input, what comes of it to standard output.
+#![tactic(auto)]
+
 ghost use Rattle.std.specs.Prelude.{◌≡◌, ◌≤◌, length};
 ghost use Rattle.answer_text.specs.declared.line.Written.TheVariants.{Bytes};
 ghost use Rattle.formula_text.specs.Printed.{Replied};

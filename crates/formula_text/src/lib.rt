@@ -1,4 +1,6 @@
 // From the text of a formula to what is printed for it.
+#![tactic(auto)]
+
 pub mod text;
 
 ghost use Rattle.std.specs.Prelude.{◌≡◌, length};

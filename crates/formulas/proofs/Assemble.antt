@@ -91,6 +91,8 @@ module _ (path : ℕ → Path) (root : path 0 ≡ []) where
       SameAll (put_before o l) (piece_before q k)
   put_same none none l k clash p = p
   put_same (some u) (some v) l k (match x y s) p = (s, p)
+  put_same none (some v) l k x4 p = elim x4 [ ]
+  put_same (some u) none l k x4 p = elim x4 [ ]
 
   mutual
     unfolding gather assemble
@@ -103,6 +105,8 @@ module _ (path : ℕ → Path) (root : path 0 ≡ []) where
             (elim q [ none ↦ none | some h ↦ piece_closed (A plus h.given) h.left (sheet_graph (A plus h.given)) ])
         go none none clash = clash
         go (some u) (some v) (gain g h s) = graph_same F A g h p.0 s
+        go none (some v) x6 = elim x6 [ ]
+        go (some u) none x7 = elim x7 [ ]
 
     assemble_all_same : (ds : Splits) (es : Rows) → LikeAll path ds es → Gains (gather_all ds) (assemble_all es)
     assemble_all_same done over p =
@@ -117,6 +121,8 @@ module _ (path : ℕ → Path) (root : path 0 ≡ []) where
             Gains (elim o [ none ↦ none | some g ↦ gained (gather_left a) g ]) (elim q [ none ↦ none | some h ↦ won (assemble_left b) h ])
         go none none clash r = clash
         go (some u) (some v) (gain g h s) r = won_same (gather_left a) (assemble_left b) g h r s
+        go none (some v) x7 r = elim x7 [ ]
+        go (some u) none x7 r = elim x7 [ ]
 
     assemble_left_same : (a : Sides) (b : Cells) → LikeAny path a b → SameAll (gather_left a) (assemble_left b)
     assemble_left_same out gone p = tt
@@ -131,6 +137,8 @@ module _ (path : ℕ → Path) (root : path 0 ≡ []) where
       go : (o : Option Gathered) (q : Option SheetPiece) → Match o q → gathered_desc o ≡ as_piece q
       go none none clash = refl
       go (some u) (some v) (match x y s) = ap {B = Option Desc} some (desc_same x y s)
+      go none (some v) x'' = elim x'' [ ]
+      go (some u) none x3 = elim x3 [ ]
 
   agrees_get : (n : ℕ) (ps : List Path) → ((i : ℕ) → i < length ps → path (n + i) ≡ get_or ps i []) → Agrees path n ps
   agrees_get n [] h = tt

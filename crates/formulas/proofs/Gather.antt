@@ -84,6 +84,8 @@ put_same : (o : Option Desc) (x : Option Gathered) (a : Alts) (l : List Gathered
     SameLeft (kept_before o a) (put_before x l)
 put_same none none a l clash p = p
 put_same (some d) (some y) a l (match x q) p = record { same = ap (λ (z : Alts). as_desc x or z) p.same; graphed = (q, p.graphed) }
+put_same none (some y) a l x6 p = elim x6 [ ]
+put_same (some d) none a l x6 p = elim x6 [ ]
 
 mutual
   unfolding settle_draft gather
@@ -96,6 +98,8 @@ mutual
           (elim x [ none ↦ none | some g ↦ gather_closed (F ++ g.facts) g.left (part_graph (F ++ g.facts) []) ])
       go none none clash = clash
       go (some t) (some h) (gain r g s) = graph_same F r g s
+      go none (some h) x4 = elim x4 [ ]
+      go (some t) none x5 = elim x5 [ ]
 
   all_same : (ds : Splits) → Gains (settle_all ds) (gather_all ds)
   all_same done = gain (record { folded = []; left = end }) (record { facts = []; left = end })
@@ -106,6 +110,8 @@ mutual
           Gains (elim o [ none ↦ none | some r ↦ after (left_of a) r ]) (elim x [ none ↦ none | some g ↦ gained (gather_left a) g ])
       go none none clash p = clash
       go (some t) (some h) (gain r g s) p = rw p.same (gained_same (gather_left a) r g p.graphed s)
+      go none (some h) x6 p = elim x6 [ ]
+      go (some t) none x6 p = elim x6 [ ]
 
   left_same : (a : Sides) → SameLeft (left_of a) (gather_left a)
   left_same out = record { same = refl; graphed = tt }
@@ -117,3 +123,5 @@ gather_settle d = go (settle_draft d) (gather d) (gather_same d)
     go : (o : Option Desc) (x : Option Gathered) → Matches o x → o ≡ gathered_desc x
     go none none clash = refl
     go (some e) (some y) (match x p) = refl
+    go none (some y) x4 = elim x4 [ ]
+    go (some e) none x5 = elim x5 [ ]

@@ -233,6 +233,8 @@ module _ (L : List Item) where
       SameAll O (piece_before o k) (home_before q l)
   put_same O none none k l clash p = p
   put_same O (some u) (some v) k l (match y x s) p = (s, p)
+  put_same O none (some v) k l x4 p = elim x4 [ ]
+  put_same O (some u) none k l x4 p = elim x4 [ ]
 
   blank_rows : (O : Sheet) → RowsOf O blank_sheet []
   blank_rows O = record {
@@ -254,6 +256,8 @@ module _ (L : List Item) where
             (elim q [ none ↦ none | some g ↦ home_closed (k ∷ g.names) g.left (sheet_graph (A plus all_picked g.names L)) ])
         go none none clash = clash
         go (some x) (some y) (gain h g s) = closed_same A u.0 h g s O es k p.0 i
+        go none (some y) x9 = elim x9 [ ]
+        go (some x) none x11 = elim x11 [ ]
 
     house_all_same : (ds : Rows) (O : Sheet) (k : ℕ) → NamedRows L k O ds → SoundRows ds → Gains O (assemble_all ds) (house_all L k ds)
     house_all_same over O k p u =
@@ -267,6 +271,8 @@ module _ (L : List Item) where
             (elim q [ none ↦ none | some g ↦ handed_over (house_left L k a) g ])
         go none none clash r = clash
         go (some x) (some y) (gain h g s) r = moved_same O (assemble_left a) (house_left L k a) h g r s
+        go none (some y) x11 r = elim x11 [ ]
+        go (some x) none x12 r = elim x12 [ ]
 
     house_left_same : (a : Cells) (O : Sheet) (k : ℕ) → NamedCells L k O a → SoundCells a → SameAll O (assemble_left a) (house_left L k a)
     house_left_same gone O k p u = tt
@@ -283,10 +289,14 @@ module _ (L : List Item) where
       go (some x) (some y) (gain h f r) i = let j : f ≡ g = cc in
           subst (λ (v : HandedOver). Sound (A plus all_picked v.names L)) j
           (sound_same (By A u h f r) (Of A u h f r) (sound_by A u h f r) (to A u h f r) (fro A u h f r))
+      go none (some y) x4 i = elim x4 [ ]
+      go (some x) none x5 i = elim x5 [ ]
 
   match_desc : (O : Sheet) (o : Option SheetPiece) (q : Option Home) → Match O o q → as_piece o ≡ as_home q
   match_desc O none none clash = refl
   match_desc O (some u) (some v) (match y x s) = ap {B = Option Desc} some (ap₂ {C = Desc} desc s.graph s.rest)
+  match_desc O none (some v) x'' = elim x'' [ ]
+  match_desc O (some u) none x3 = elim x3 [ ]
 
 -- what lies in tables is named
 module _ (T : Tables) (L : List Item) where

@@ -5,21 +5,21 @@ ghost use Rattle.graphs.specs.Graph.{readArc, readArcs, read_node, readNodes, re
 use limits::{CODE_LIMIT, wide};
 
 // What an arc leads to: so many nodes are met after it, or it may not stand here.
-#[derive(Drop)]
+#[derive(Clone, Copy)]
 pub enum Arc {
     Meets(u32),
     Misplaced,
 }
 
 // What reading a node finds: the position after it and how many nodes are met, or no such node.
-#[derive(Drop)]
+#[derive(Clone, Copy)]
 pub enum Walk {
     Went { next: usize, met: u32 },
     Stopped,
 }
 
 // What reading a part of the words finds: the position after it, or no such part.
-#[derive(Drop)]
+#[derive(Clone, Copy)]
 pub enum Read {
     Fine(usize),
     Wrong,

@@ -1,2 +1,4 @@
 // The graphs of document 01's section "Word layout", as words.
+#![tactic(auto)]
+
 pub mod graph;

@@ -9,7 +9,7 @@ use crate::table::{put_alternative, put_four};
 const KIND: u32 = 65536;
 
 // "21 over 4 disjunctions nested in the text"; or the numbers of arcs, of atoms, of ties, and of alternatives with the whole.
-#[derive(Drop)]
+#[derive(Clone, Copy)]
 pub enum Laid {
     TooDeep,
     Rows(u32, u32, u32, u32),

@@ -16,7 +16,7 @@ const SPOT_UNIT: u32 = 2048;
 
 // The next spot and alternative; the conjunction's spot, its alternative, the first one beside that and how deep it is nested; the
 // present spot; where shared paths begin and end, and whether the first is still to end; the rows of atoms and ties; what stands open.
-#[derive(Drop)]
+#[derive(Clone, Copy)]
 pub struct At {
     pub spots: u32,
     pub alts: u32,
@@ -34,7 +34,7 @@ pub struct At {
 }
 
 // The state after a sign; or alternatives nested too deep.
-#[derive(Drop)]
+#[derive(Clone, Copy)]
 pub enum Stepped {
     On(At),
     TooDeep,

@@ -7,7 +7,7 @@ use graphs::graph::{Read, read_graph};
 use limits::DEPTH_LIMIT;
 
 // Whether words are the image of a description.
-#[derive(Drop)]
+#[derive(Clone, Copy)]
 pub enum Judgement {
     Accepted,
     Malformed,

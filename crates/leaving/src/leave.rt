@@ -10,7 +10,7 @@ use marks::marking::keep_lit;
 
 // There are too many choices; or none is consistent; or only alternatives in consistent choices are left, with so many entries in the
 // log and so many readings.
-#[derive(Drop)]
+#[derive(Clone, Copy)]
 pub enum Fully {
     Over,
     Nothing,

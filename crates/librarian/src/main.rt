@@ -1,4 +1,6 @@
 // The program `librarian`: a text that asks something of a test library from standard input, what comes of it to standard output.
+#![tactic(auto)]
+
 ghost use Rattle.std.specs.Prelude.{◌≡◌, ◌≤◌, length};
 ghost use Rattle.answer_text.specs.declared.line.Written.TheVariants.{Bytes};
 ghost use Rattle.answer_text.specs.Answer.{Wrote};

@@ -16,7 +16,7 @@ pub const WORDS: usize = 126;
 pub const LEAST: usize = 3;
 
 // How many entries the index has; or why there is none.
-#[derive(Drop)]
+#[derive(Clone, Copy)]
 pub enum Index {
     Good(usize),
     BadLength,
@@ -25,7 +25,7 @@ pub enum Index {
 }
 
 // Where a description stands; or there is none of that identifier.
-#[derive(Drop)]
+#[derive(Clone, Copy)]
 pub enum Found {
     At { first: usize, words: usize },
     Absent,

@@ -10,7 +10,7 @@ use crate::row::{Row, refused};
 use blocks::{BLOCK, read_pair};
 
 // So many words are listed, two an entry; or why none are: the numbers 46 (with the need), 42, 41, 40.
-#[derive(Drop)]
+#[derive(Clone, Copy)]
 pub enum Listed {
     Entries(usize),
     NoRoom(usize),

@@ -12,7 +12,7 @@ use layout::reading::{Judgement, judge};
 use limits::INPUT_LIMIT;
 
 // So many words are read; or why none are: the numbers 46 (with the need), 45, 44, 43, 42, 41, 40.
-#[derive(Drop)]
+#[derive(Clone, Copy)]
 pub enum Fetched {
     Words(usize),
     NoRoom(usize),

@@ -1,7 +1,7 @@
 // How an answer is told: its number, and the words or bytes that were written or are needed.
 ghost use Rattle.std.specs.Prelude.{◌≡◌};
 
-#[derive(Drop)]
+#[derive(Clone, Copy)]
 pub struct Row {
     pub number: u32,
     pub extent: usize,

@@ -7,7 +7,7 @@ use crate::index::{Index, WORDS, blocks_for, first_part, judge_index};
 use blocks::{BLOCK, is_damaged, read_pair};
 
 // The description that a block belongs to, and how many bytes of the block's content it uses; or there is none.
-#[derive(Drop)]
+#[derive(Clone, Copy)]
 pub enum Holder {
     Of { identifier: usize, used: usize },
     Nobody,
@@ -15,7 +15,7 @@ pub enum Holder {
 
 // The block is whole; it is damaged, which costs the description of that identifier; the library has no such block; or it has no good
 // index, and no block can be judged.
-#[derive(Drop)]
+#[derive(Clone, Copy)]
 pub enum Checked {
     Whole,
     Costs(usize),

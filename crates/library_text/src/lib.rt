@@ -1,4 +1,6 @@
 // From a text that asks something of a test library to what is printed for it.
+#![tactic(auto)]
+
 mod checking;
 mod lines;
 mod reading;

@@ -40,7 +40,7 @@ fn file_space() -> [u8; FILE_ROOM]
 }
 
 // Where the text goes on after a run of words; or there is no such run.
-#[derive(Drop)]
+#[derive(Clone, Copy)]
 pub(crate) enum Ran {
     At(usize),
     Wrong,

@@ -13,7 +13,7 @@ use library::row::{Row, refused};
 use limits::wide;
 
 // So many bytes are written; or why none are: the numbers 46 (with the need), 45, 47.
-#[derive(Drop)]
+#[derive(Clone, Copy)]
 pub enum Written {
     Bytes(usize),
     NoRoom(usize),

@@ -1,4 +1,6 @@
 // The limits of document 01 for the code, by the names that the definitions give them, and a word as a position or a length.
+#![tactic(auto)]
+
 ghost use Rattle.std.specs.Prelude.{◌≡◌};
 
 // Features, atoms and numbers of arcs are below it, and an atom's head is its number above it.

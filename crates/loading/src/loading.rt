@@ -7,14 +7,14 @@ use limits::{CODE_LIMIT, DEPTH_LIMIT};
 use packing::{graph_word, tail_word};
 
 // Where a graph ends, and the number of the next node.
-#[derive(Drop)]
+#[derive(Clone, Copy)]
 struct GraphReach {
     pub at: usize,
     pub number: u32,
 }
 
 // Where a thing ends, the number of the next node, and the first mark that is free.
-#[derive(Drop)]
+#[derive(Clone, Copy)]
 struct Reach {
     pub at: usize,
     pub number: u32,

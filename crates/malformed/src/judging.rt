@@ -10,7 +10,7 @@ use limits::INPUT_LIMIT;
 use roles::cause::{Cause, cause_data, cause_number};
 
 // An input is over 1,024 words; or the first is malformed, or only the second, with the cause and the place of the word that decides.
-#[derive(Drop)]
+#[derive(Clone, Copy)]
 pub enum Malformed {
     Neither,
     TooLong,
@@ -48,7 +48,7 @@ pub fn find_malformed(first: &[u32], second: &[u32]) -> Malformed
 }
 
 // A number of document 01's table, the cause and its own data, and the place of the word that decides, or else the length of the first.
-#[derive(Drop)]
+#[derive(Clone, Copy)]
 pub struct Report {
     pub number: u32,
     pub cause: u32,

@@ -7,7 +7,7 @@ use crate::marking::kept;
 use crate::positions::{after_at, mark_at};
 
 // None of the alternatives is left, or one, by its position, or several, by their number.
-#[derive(Drop)]
+#[derive(Clone, Copy)]
 pub enum Remnant {
     Nothing,
     One(usize),
@@ -15,7 +15,7 @@ pub enum Remnant {
 }
 
 // Of some alternatives: what is left of them, and where they end.
-#[derive(Drop)]
+#[derive(Clone, Copy)]
 pub struct Tally {
     pub remnant: Remnant,
     pub after: usize,

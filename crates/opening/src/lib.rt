@@ -1,4 +1,6 @@
 // Both inputs are put into the working area, and their definite graphs pushed: where every mode begins.
+#![tactic(auto)]
+
 ghost use Rattle.opening.specs.Opening.{Pairing, Paired, Opening, Opens};
 
 use area::map::{MARKS, SECOND, WORDS};
@@ -6,7 +8,7 @@ use classes::push::{Pushed, push, start};
 use loading::loading::load;
 
 // How it came out: the definite graphs join, there are so many nodes, and the log has so many entries; or they clash.
-#[derive(Drop)]
+#[derive(Clone, Copy)]
 pub enum Opened {
     Joined { nodes: usize, log: usize },
     Clashed,

@@ -1,4 +1,6 @@
 // The packed words of a loaded description: made here, and taken apart here.
+#![tactic(auto)]
+
 ghost use Rattle.std.specs.Prelude.{◌≡◌, ◌≤◌, ◌<◌};
 ghost use Rattle.packing.specs.Packed.{number_step, mark_step, end_limit, graph_word, word_nodes, word_number, word_extent};
 ghost use Rattle.packing.specs.Packed.{tail_word, word_disjunctions, word_mark, word_end};

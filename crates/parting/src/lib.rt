@@ -1,3 +1,5 @@
 // The graph of one definite part: its rows are gathered from the tables, and drawn.
+#![tactic(auto)]
+
 mod gather;
 pub mod part;

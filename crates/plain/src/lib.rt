@@ -1,4 +1,6 @@
 // The plain engine: every choice is joined by itself.
+#![tactic(auto)]
+
 pub mod expand;
 pub mod full;
 pub mod light;

@@ -1,4 +1,6 @@
 // The quick step.
+#![tactic(auto)]
+
 pub mod bare;
 pub mod narrow;
 pub mod pass;

@@ -4,6 +4,8 @@
 // Standard input has for each vector: 0 for a unification, 1 for a fit test or 2 for a join, mode, words of the result area, words of the
 // working area, number, length, readings, node, and the words of both inputs and of the result, each after their length; 4,294,967,295 ends
 // them. The node of a fit test is not looked at.
+#![tactic(auto)]
+
 mod areas;
 mod joining;
 
@@ -32,7 +34,7 @@ const ROW: usize = 7;
 const MOST_TURNS: u32 = 1000000;
 
 // What is stored of a vector, but for its words.
-#[derive(Drop)]
+#[derive(Clone, Copy)]
 struct Vector {
     kind: u32,
     mode: u32,

@@ -2,6 +2,8 @@
 // the result area.
 // Standard input has for each text: words of the result area, number, what is told (a length after 0 and 24, a byte after 20, else 0), and
 // the bytes of the text and the words of the result, each after their number; 4,294,967,295 ends them.
+#![tactic(auto)]
+
 ghost use Rattle.std.specs.Prelude.{◌≤◌};
 
 use translate::answer::{Row, told};
@@ -25,7 +27,7 @@ const MOST_TURNS: u32 = 1000000;
 const LAST: u32 = 4294967295;
 
 // What is stored of a vector, but for its text and its words.
-#[derive(Drop)]
+#[derive(Clone, Copy)]
 struct Vector {
     room: u32,
     number: u32,

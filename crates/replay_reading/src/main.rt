@@ -1,6 +1,8 @@
 // Judges stored inputs of the second program and compares what is told of each with what is stored: as the first of two inputs, as the
 // second, and by the part that starts at the word that decides.
 // Standard input has the vectors: length, words, cause, its own data and the place; 4,294,967,295 ends them.
+#![tactic(auto)]
+
 ghost use Rattle.std.specs.Prelude.{◌≡◌, ◌≤◌, length};
 
 use faults::hint::hint;
@@ -10,7 +12,7 @@ use malformed::part::part;
 use vectors::Run;
 
 // What is stored of an input; its cause is 0 where it is well formed.
-#[derive(Drop)]
+#[derive(Clone, Copy)]
 struct Stored {
     cause: u32,
     value: u32,

@@ -1,4 +1,6 @@
 // From the text that `meet` reads to the text that it prints.
+#![tactic(auto)]
+
 ghost use Rattle.std.specs.Prelude.{◌≡◌, length};
 ghost use Rattle.answer_text.specs.Answer.{Wrote};
 ghost use Rattle.reply.specs.Printed.{result_size, spoken, ReplyTold, printed};
@@ -29,7 +31,7 @@ fn working_space() -> [u32; WORKING_SIZE]
 }
 
 // What was written of an answer, and its number and node.
-#[derive(Drop)]
+#[derive(Clone, Copy)]
 pub struct Replied {
     pub written: Written,
     pub number: u32,

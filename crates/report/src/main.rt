@@ -1,4 +1,6 @@
 // The program `report`: the text of a suite from standard input, to standard output what came of it.
+#![tactic(auto)]
+
 ghost use Rattle.std.specs.Prelude.{◌≤◌, length};
 ghost use Rattle.answer_text.specs.Answer.{Wrote};
 ghost use Rattle.answer_text.specs.declared.line.Written.TheVariants.{Bytes};

@@ -4,7 +4,7 @@ ghost use Rattle.roles.specs.Coded.{cause_of};
 ghost use Rattle.roles.specs.Causes.{cause_number, cause_data};
 
 // The nine causes, in request Two's order; some have data of their own.
-#[derive(Drop)]
+#[derive(Clone, Copy)]
 pub enum Cause {
     WordsEnd,
     WordsLeftOver,

@@ -10,7 +10,7 @@ use limits::{CODE_LIMIT, DEPTH_LIMIT};
 const HEAD_LIMIT: u32 = 2 * CODE_LIMIT;
 
 // Of so many nodes one is read, and the nodes below `met` are met.
-#[derive(Drop)]
+#[derive(Clone, Copy)]
 pub struct Nodes {
     pub count: u32,
     pub node: u32,
@@ -18,7 +18,7 @@ pub struct Nodes {
 }
 
 // What a word has to be: of an arc, how many follow it, and the least feature that may come next; of a disjunction, how many follow it.
-#[derive(Drop)]
+#[derive(Clone, Copy)]
 pub enum Role {
     NodeCount,
     Head(Nodes),
@@ -30,7 +30,7 @@ pub enum Role {
 }
 
 // Whether a word breaks a rule, and by which cause.
-#[derive(Drop)]
+#[derive(Clone, Copy)]
 pub enum Rule {
     Kept,
     Broken(Cause),

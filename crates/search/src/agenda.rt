@@ -8,7 +8,7 @@ use marks::positions::{disjunctions_at, tail_at};
 
 // The first `frames` of five frames, the nearest first. Disjunctions stand at four depths, and those of the second input are behind
 // all of the first.
-#[derive(Drop)]
+#[derive(Clone, Copy)]
 pub struct Agenda {
     pub frames: usize,
     pub at0: usize,

@@ -8,14 +8,14 @@ use marks::positions::{after_at, alternatives_at, disjunctions_at, mark_at, tail
 use marks::tally::{Remnant, count_kept};
 
 // Where some disjunctions end in the result, and how many they are.
-#[derive(Drop)]
+#[derive(Clone, Copy)]
 pub struct Put {
     pub at: usize,
     pub count: usize,
 }
 
 // The same for one disjunction, and where it ends among the loaded words.
-#[derive(Drop)]
+#[derive(Clone, Copy)]
 struct One {
     at: usize,
     count: usize,

@@ -7,7 +7,7 @@ ghost use Rattle.signs.specs.Machine.{if_so, digit_byte, started, after_sign, nu
 const LARGEST: u32 = 65535;
 
 // Which sign may come next.
-#[derive(Drop)]
+#[derive(Clone, Copy)]
 pub enum Due {
     Operand,
     Colon,
@@ -18,7 +18,7 @@ pub enum Due {
 }
 
 // What of a sign stands there: of `NIL`, of `TOP`, or the letter before a number.
-#[derive(Drop)]
+#[derive(Clone, Copy)]
 pub enum Part {
     N,
     Ni,
@@ -30,7 +30,7 @@ pub enum Part {
 }
 
 // The text's start; after a sign; after a space; after a number, which may have more digits; within a sign.
-#[derive(Drop)]
+#[derive(Clone, Copy)]
 pub enum Place {
     Start,
     Clean(Due),
@@ -40,7 +40,7 @@ pub enum Place {
 }
 
 // The place after a byte with the number of open groups; or no formula can go on.
-#[derive(Drop)]
+#[derive(Clone, Copy)]
 pub enum Seen {
     On(Place, usize),
     Dead,

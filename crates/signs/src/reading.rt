@@ -19,7 +19,7 @@ const ATOM: u32 = 97 * KIND;
 const FEATURE: u32 = 102 * KIND;
 
 // The signs are the first so many words; or the first byte at which no formula can go on; or over 4,096 bytes.
-#[derive(Drop)]
+#[derive(Clone, Copy)]
 pub enum Answer {
     Fine(usize),
     Bad(usize),

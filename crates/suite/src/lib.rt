@@ -1,4 +1,6 @@
 // A night's suite: a table of tests lent by the caller is run in order, and the counts, a running record and both areas tell how it went.
+#![tactic(auto)]
+
 pub mod checks;
 pub mod counts;
 pub mod running;

@@ -7,7 +7,7 @@ use answering::answer::Row;
 
 // The tests run, those as expected, and the first that was not (64 if none).
 #[repr(C)]
-#[derive(Drop)]
+#[derive(Clone, Copy)]
 pub struct Running {
     pub run: u32,
     pub good: u32,

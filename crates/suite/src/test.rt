@@ -4,7 +4,7 @@ ghost use Rattle.suite.specs.Suite.{no_test};
 
 // A test: mode, expected number and readings, and where in the word area the two descriptions stand: start and number of words.
 #[repr(C)]
-#[derive(Drop)]
+#[derive(Clone, Copy)]
 pub struct Test {
     pub mode: u32,
     pub number: u32,

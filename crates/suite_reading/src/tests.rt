@@ -11,7 +11,7 @@ use suite::test::Test;
 
 // A test in a text: what is expected, where the text goes on after its mode, where the words of both descriptions stand and how many
 // there are, and where the text goes on after it.
-#[derive(Drop)]
+#[derive(Clone, Copy)]
 pub struct Place {
     pub mode: u32,
     pub number: u32,
@@ -25,7 +25,7 @@ pub struct Place {
 }
 
 // A test was found; or there is none.
-#[derive(Drop)]
+#[derive(Clone, Copy)]
 pub enum Found {
     Test(Place),
     Wrong,
@@ -116,7 +116,7 @@ pub fn expected(place: Place) -> Test
 }
 
 // The refusal of the tests, 0 for none; or the text has no such tests.
-#[derive(Drop)]
+#[derive(Clone, Copy)]
 pub enum Judgement {
     Fine(u32),
     BadInput,

@@ -87,7 +87,7 @@ pub fn after_spaces(run: &[u8], p: usize) -> usize
 }
 
 // From where to where the name in a run of bytes stands.
-#[derive(Drop)]
+#[derive(Clone, Copy)]
 pub struct Name {
     pub from: usize,
     pub to: usize,

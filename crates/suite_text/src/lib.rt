@@ -1,4 +1,6 @@
 // From the text of a suite to what is printed for it.
+#![tactic(auto)]
+
 ghost use Rattle.std.specs.Prelude.{◌≡◌, false, ◌≤◌, ◌<◌, length, drop};
 ghost use Rattle.theory.specs.Limits.{working_size};
 ghost use Rattle.reply.specs.Printed.{result_size};

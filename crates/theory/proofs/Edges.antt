@@ -93,6 +93,8 @@ module _ (g h : Graph) where
       let d : 0 + x.0 ≡ x.0 = omega arith in
       Memᴰ.append_right (inner_edges 0 (length g) 0 g)
       (rw d at (edges_in (length g) (length h) 0 h x.0 f y.0 x.1 u y.1))
+  edge_of (inr (inl x)) f (inr (inr x6)) u = elim x6 [ ]
+  edge_of (inr (inr x5)) f (inr y) u = elim x5 [ ]
 
   pub edge_from : (e : Edge) → Memᴰ e (two_edges g h) → (x : (beside gs).Spot) × (y : (beside gs).Spot) ×
       (node_number g h x ≡ e.0) × (node_number g h y ≡ e.2) × (beside gs).Arc x e.1 y

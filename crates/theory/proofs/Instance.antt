@@ -221,10 +221,12 @@ module _ (P : ℕ → Type 0) where
 abbrev pub code : ℕ → (gs : List Graph) → (beside gs).Spot → ℕ
 code o (g ∷ gs) (inl n) = o + n.0
 code o (g ∷ gs) (inr x) = code (o + length g) gs x
+code o [] x'' = elim x'' [ ]
 
 code_low : (o : ℕ) (gs : List Graph) (x : (beside gs).Spot) → o ≤ code o gs x
 code_low o (g ∷ gs) (inl n) = omega arith
 code_low o (g ∷ gs) (inr x) = omega (arith, code_low (o + length g) gs x)
+code_low o [] x = elim x [ ]
 
 pub code_one : (o : ℕ) (gs : List Graph) (x y : (beside gs).Spot) → code o gs x ≡ code o gs y → x ≡ y
 code_one o (g ∷ gs) (inl n) (inl m) e = let d : n.0 ≡ m.0 = omega arith in
@@ -232,6 +234,7 @@ code_one o (g ∷ gs) (inl n) (inl m) e = let d : n.0 ≡ m.0 = omega arith in
 code_one o (g ∷ gs) (inl n) (inr y) e = absurd (omega (arith, code_low (o + length g) gs y, n.1))
 code_one o (g ∷ gs) (inr x) (inl m) e = absurd (omega (arith, code_low (o + length g) gs x, m.1))
 code_one o (g ∷ gs) (inr x) (inr y) e = ap {B = (beside (g ∷ gs)).Spot} inr (code_one (o + length g) gs x y e)
+code_one o [] x y e = elim x [ ]
 
 abbrev pub AllCanonical : List Graph → Type 0
 AllCanonical = All Canonical
@@ -243,6 +246,7 @@ edge_of o (g ∷ gs) (inl n) f (inl m) u =
 edge_of o (g ∷ gs) (inl n) f (inr y) u = absurd u
 edge_of o (g ∷ gs) (inr x) f (inl m) u = absurd u
 edge_of o (g ∷ gs) (inr x) f (inr y) u = Memᴰ.append_right (edges_from o 0 g) (edge_of (o + length g) gs x f y u)
+edge_of o [] x f y u = elim x [ ]
 
 pub edge_from : (o : ℕ) (gs : List Graph) → AllCanonical gs → (e : Edge) → Memᴰ e (edges o gs) →
     (x : (beside gs).Spot) × (y : (beside gs).Spot) × (code o gs x ≡ e.0) × (code o gs y ≡ e.2) × (beside gs).Arc x e.1 y
@@ -263,6 +267,7 @@ pub atom_in : (o : ℕ) (gs : List Graph) (x : (beside gs).Spot) (a : ℕ) → (
 atom_in o (g ∷ gs) (inl n) a u =
     Memᴰ.append_left (atom_list (o + length g) gs) (let e : 0 + n.0 ≡ n.0 = omega arith in rw e at (atoms_in o 0 g n.0 a n.1 u))
 atom_in o (g ∷ gs) (inr x) a u = Memᴰ.append_right (atoms_from o 0 g) (atom_in (o + length g) gs x a u)
+atom_in o [] x a u = elim x [ ]
 
 pub atom_from : (o : ℕ) (gs : List Graph) (p : Arc) → Memᴰ p (atom_list o gs) →
     (x : (beside gs).Spot) × (code o gs x ≡ p.0) × (beside gs).Atom x p.1
@@ -280,6 +285,7 @@ atom_from o (g ∷ gs) p m = go (Memᴰ.append_cases (atoms_from o 0 g) m) (atom
 pub root_in : (o : ℕ) (gs : List Graph) (x : (beside gs).Spot) → (beside gs).Root x → Memᴰ {A = Arc} (0, code o gs x) (root_seeds o gs)
 root_in o (g ∷ gs) (inl n) r = Memᴰ.head (let e : o + n.0 ≡ o = omega arith in λ i. (0, e i))
 root_in o (g ∷ gs) (inr x) r = Memᴰ.tail (root_in (o + length g) gs x r)
+root_in o [] x r = elim x [ ]
 
 pub root_from : (o : ℕ) (gs : List Graph) → AllCanonical gs → (p : Arc) → Memᴰ p (root_seeds o gs) →
     (x : (beside gs).Spot) × (beside gs).Root x × (code o gs x ≡ p.1) × (0 ≡ p.0)
@@ -302,6 +308,7 @@ reach (g ∷ gs) c P r s (inl n) =
     P (inl (k, h)) = subst (λ (z : ℕ). (h : z < length g) → P (inl (z, h))) e q in q' l) i)
     (λ j l h. r (inl (j, h)) (omega arith)) n.0 (omega (arith, n.1)) n.1
 reach (g ∷ gs) c P r s (inr x) = reach gs c.1 (λ y. P (inr y)) (λ y. r (inr y)) (λ y f z. s (inr y) f (inr z)) x
+reach [] c P r s x = elim x [ ]
 
 module _ (g : Graph) (gs' : List Graph) (can : AllCanonical (g ∷ gs')) where
   abbrev gs : List Graph

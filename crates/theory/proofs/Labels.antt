@@ -90,6 +90,9 @@ module _ (g h : Graph) where
     root_label (inl x) (inr (inl y)) r s = roots_meet x y r s
     root_label (inr (inl x)) (inl y) r s = sym (roots_meet y x s r)
     root_label (inr (inl x)) (inr (inl y)) r s = ap (λ (i : ℕ). lab (length g + i)) (r ∙ sym s)
+    root_label (inl x) (inr (inr x7)) r s = elim x7 [ ]
+    root_label (inr (inl x)) (inr (inr x7)) r s = elim x7 [ ]
+    root_label (inr (inr x6)) y r s = elim x6 [ ]
 
   ruled : Ruled N (roots N) (two_rules g h)
   ruled = record {

@@ -19,6 +19,7 @@ module _ (g h : Graph) where
   pub number_code : (x : (beside gs).Spot) → code 0 gs x ≡ node_number g h x
   number_code (inl x) = omega arith
   number_code (inr (inl y)) = omega arith
+  number_code (inr (inr x'')) = elim x'' [ ]
 
   pub number_one : (x y : (beside gs).Spot) → node_number g h x ≡ node_number g h y → x ≡ y
   number_one x y e = code_one 0 gs x y (number_code x ∙ e ∙ sym (number_code y))
@@ -26,6 +27,7 @@ module _ (g h : Graph) where
   pub number_low : (x : (beside gs).Spot) → node_number g h x < length g + length h
   number_low (inl x) = let l = x.1 in omega arith
   number_low (inr (inl y)) = let l = y.1 in omega arith
+  number_low (inr (inr x'')) = elim x'' [ ]
 
   pub spot_at : (i : ℕ) → i < length g + length h → (x : (beside gs).Spot) × (node_number g h x ≡ i)
   spot_at i l = go (test_lt i (length g))

@@ -193,6 +193,7 @@ nodes_found (g ∷ gs) c (inl n) = go (ltb 0 n.0) (tells_lt 0 n.0)
 nodes_found (g ∷ gs) c (inr x) =
     ⊎_elim (λ r. inl r) (λ i. inr (mathlib.Core.List.Memᴰ.append_right (map (total g (λ y. c (inl y))) (range 1 (length g - 1))) i))
     (nodes_found gs (λ y. c (inr y)) x)
+nodes_found [] c x = elim x [ ]
 
 arcs_found : (gs : List Graph) (c : (beside gs).Spot → ℕ) (x : (beside gs).Spot) (f : ℕ) (y : (beside gs).Spot) → (beside gs).Arc x f y →
     Memᴰ (c x, f, c y) (arcs_under gs c)
@@ -210,6 +211,7 @@ arcs_found (g ∷ gs) c (inl n) f (inr y) u = absurd u
 arcs_found (g ∷ gs) c (inr x) f (inl m) u = absurd u
 arcs_found (g ∷ gs) c (inr x) f (inr y) u =
     mathlib.Core.List.Memᴰ.append_right (map (under (total g (λ z. c (inl z)))) (arcs_of 0 g)) (arcs_found gs (λ z. c (inr z)) x f y u)
+arcs_found [] c x f y u = elim x [ ]
 
 pub weights_append : (a b : List Graph) → weights (a ++ b) ≡ weights a + weights b
 weights_append [] b = omega arith

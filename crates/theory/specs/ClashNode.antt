@@ -16,6 +16,7 @@ pub data ClashAt (N : Net) (Seed : N.Spot → N.Spot → Type 0) (x : N.Spot) : 
 abbrev pub node_number : (g h : Graph) → (beside (g ∷ h ∷ [])).Spot → ℕ
 node_number g h (inl x) = x.0
 node_number g h (inr (inl y)) = length g + y.0
+node_number g h (inr (inr no_spot)) = elim no_spot [ ]
 
 -- the class of the node that has the number i holds a clash
 abbrev pub NodeClashes : Graph → Graph → ℕ → Type 0

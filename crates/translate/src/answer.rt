@@ -4,7 +4,7 @@ ghost use Rattle.translate.specs.Row.{number_in, length_in, byte_in};
 
 // Done in so many words; the first byte at which no formula can go on; disjunctions nested too deep; a clash; over 1,024 words; a
 // result area of fewer words than so many; a text of over 4,096 bytes.
-#[derive(Drop)]
+#[derive(Clone, Copy)]
 pub enum Answer {
     Done(usize),
     BadText(usize),
@@ -16,7 +16,7 @@ pub enum Answer {
 }
 
 // The row of the table: the number, the length and the byte.
-#[derive(Drop)]
+#[derive(Clone, Copy)]
 pub struct Row {
     pub number: u32,
     pub length: usize,

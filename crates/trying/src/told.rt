@@ -1,7 +1,7 @@
 // What is told of a graph that is not pushed.
 
 // It agrees with the graphs that are pushed, or it clashes with them; or nothing is said.
-#[derive(Drop)]
+#[derive(Clone, Copy)]
 pub enum Guess {
     Agrees,
     Clashes,

@@ -1,4 +1,6 @@
 // Unification of two descriptions: document 01's table of numbers, for every mode, every input and every room.
+#![tactic(auto)]
+
 pub mod making;
 
 ghost use Rattle.std.specs.Prelude.{◌≤◌};

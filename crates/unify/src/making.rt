@@ -16,7 +16,7 @@ use quick::step::Step;
 use showing::show::show;
 
 // Both inputs are opened, as `opening::open` tells it; or their definite graphs clash at a node.
-#[derive(Drop)]
+#[derive(Clone, Copy)]
 pub enum Beginning {
     Joined { nodes: usize, log: usize },
     Clashed { node: usize },
@@ -38,7 +38,7 @@ fn begin(w: &mut [u32], a: &[u32], b: &[u32]) -> Beginning
 }
 
 // What finds the consistent choices in mode 2: the search, or the plain expansion to every choice.
-#[derive(Drop)]
+#[derive(Clone, Copy)]
 pub enum Engine {
     Fast,
     Plain,

@@ -1,18 +1,20 @@
 // Stored vectors: runs of little-endian 32-bit words on a file descriptor.
 // No contract can say which bytes a read brings; what is proved is that each function is safe and ends, and that what is read had room.
+#![tactic(auto)]
+
 pub mod lent;
 
 ghost use Rattle.std.specs.Prelude.{◌≡◌, ℕ, ◌≤◌, ◌<◌, length};
 
 // A word of the run, or the end of it.
-#[derive(Drop)]
+#[derive(Clone, Copy)]
 pub enum Word {
     Is(u32),
     End,
 }
 
 // A run of so many words in the front of what is lent; or there is none, or it has no room.
-#[derive(Drop)]
+#[derive(Clone, Copy)]
 pub enum Run {
     Of(usize),
     Broken,

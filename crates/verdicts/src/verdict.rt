@@ -7,7 +7,7 @@ use suite::running::agreed;
 use suite::test::Test;
 
 // As expected; refused, as expected; otherwise than expected; not run.
-#[derive(Drop)]
+#[derive(Clone, Copy)]
 pub enum Verdict {
     Good,
     Refused,
@@ -50,7 +50,7 @@ pub fn verdict_of(test: Test, seen: Row) -> Verdict
 }
 
 // The tests as expected, those otherwise, and those not run.
-#[derive(Drop)]
+#[derive(Clone, Copy)]
 pub struct Totals {
     pub good: u32,
     pub other: u32,
