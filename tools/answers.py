@@ -57,7 +57,7 @@ class Function:
         chain = self.chain(place)
         if field in ("args", "ranges", "lifetimes", "well_formed", "well-formed", "type_inv", "type-inv"):
             return "c." + plain_back(field), 0
-        if field == "requires":
+        if field in ("requires", "pre"):
             return self.requires(rest)
         for k in chain:
             _, parent, (old, new), callee, _ = self.of["places"][k]
@@ -82,13 +82,12 @@ class Function:
                 params = self.of["params"][callee]
                 if k < len(rest) and rest[k] == "0" and k - 1 < len(params):
                     return f"c.{new}.{rest[0]}.{params[k - 1]}", k + 1
-            if plain(old) == "match" and rest[:1] and rest[0].startswith("keys"):
+            if plain(old).startswith("match") and rest[:1] and rest[0].startswith("keys"):
                 others = [
                     p[2][1].split("in-")[1].split("-")[0]
                     for p in self.of["places"]
                     if p[1] == parent and p[2][0] == old and p[2][1].startswith("in-")
                 ]
-                arm = next((self.of["arms"][j] for j in chain if self.of["arms"][j]), None)
                 if len(others) == 1 and "in_default" in new:
                     return f"c.{new}.not-{others[0]}", 1
             return "c." + new, 0
@@ -104,13 +103,107 @@ class Function:
             if last:
                 return f"c.requires.{name}", used
             if used >= len(rest):
-                return None
+                return nested([f"c.requires.{it}" for it in fields[n:]]), used
             if rest[used] == "0":
                 return f"c.requires.{name}", used + 1
             if rest[used] != "1":
                 return None
             used += 1
         return None
+
+
+def nested(terms):
+    """Clauses that had no names were a tuple in a tuple."""
+    return terms[0] if len(terms) == 1 else f"({terms[0]}, {nested(terms[1:])})"
+
+
+def tail_of(body):
+    """Where the term begins that stands after all `let .. in`."""
+    at = re.match(r"\s*", body).end()
+    while re.match(r"let\s", body[at:]):
+        depth, k, lets = 0, at, 0
+        for token in re.finditer(r"[(\[{]|[)\]}]|(?<![^\s(){};,])(?:let|in)(?![^\s(){};,])", body[at:]):
+            it = token.group(0)
+            if it in "([{":
+                depth += 1
+            elif it in ")]}":
+                depth -= 1
+            elif depth == 0:
+                lets += 1 if it == "let" else -1
+                if lets == 0:
+                    k = at + token.end()
+                    break
+        else:
+            return at
+        at = k + re.match(r"\s*", body[k:]).end()
+    return at
+
+
+def parts_of(term):
+    """The parts of a literal tuple, or None."""
+    term = term.strip()
+    if not (term.startswith("(") and term.endswith(")")):
+        return None
+    depth, cuts = 0, []
+    for k, ch in enumerate(term):
+        if ch in "([{":
+            depth += 1
+        elif ch in ")]}":
+            depth -= 1
+            if depth == 0 and k < len(term) - 1:
+                return None
+        elif ch == "," and depth == 1:
+            cuts.append(k)
+    if not cuts:
+        return parts_of(term[1:-1]) if parts_of(term[1:-1]) else None
+    ends = [0] + cuts + [len(term) - 1]
+    found = [term[a + 1 : b].strip() for a, b in zip(ends, ends[1:])]
+    return [it for it in found if it]
+
+
+def in_fields(term, fields):
+    """The terms of the fields, from a tuple in a tuple; None where it is not written out."""
+    if len(fields) == 1:
+        return [term.strip()]
+    parts = parts_of(term)
+    if not parts:
+        path = re.match(rf"^\s*({W}(?:\.{W})*)\s*$", term)
+        if not path:
+            return None
+        base = path.group(1)
+        out, at = [], base
+        for n in range(len(fields)):
+            last = n == len(fields) - 1
+            out.append(at if last else at + ".0")
+            at += ".1"
+        return out
+    if len(parts) == len(fields):
+        return parts
+    rest = parts[1] if len(parts) == 2 else "(" + ", ".join(parts[1:]) + ")"
+    others = in_fields(rest, fields[1:])
+    return others and [parts[0]] + others
+
+
+def as_record(body, fields):
+    at = tail_of(body)
+    head, tail = body[:at], body[at:]
+    terms = in_fields(tail, fields)
+    rewrite = re.match(rf"\s*((?:rw|simp|subst) (?:{W}(?:\.{W})*|\([^()]*\)) )(?=\()", tail)
+    if not terms and rewrite:
+        terms = in_fields(tail[rewrite.end() :], fields)
+        terms = terms and [rewrite.group(1).strip() + f" ({it})" for it in terms]
+    if terms:
+        return head + "record {\n    " + "\n    ".join(f"{a} = {b};" for a, b in zip(fields, terms)) + "\n  }"
+    out, base = [], "old"
+    for n, field in enumerate(fields):
+        out.append(f"{field} = {base}{'' if n == len(fields) - 1 else '.0'};")
+        base += ".1"
+    kind = nested_type(len(fields))
+    return head + f"let old : {kind} = {tail.strip()} in record {{ " + " ".join(out) + " }"
+
+
+def nested_type(n):
+    return "_" if n == 1 else f"_ × {nested_type(n - 1) if n == 2 else '(' + nested_type(n - 1) + ')'}"
 
 
 def plain_back(field):
@@ -279,6 +372,9 @@ class Converter:
             return
         args = [a for a in args if a not in ("κs", "κ", "_")]
         body = self.paths(file, f, place, body, old)
+        fields = next((v for k, v in f.of["asked"].items() if need_key(k) == key), None)
+        if fields:
+            body = as_record(body, fields)
         stem = f.of.get("stem") or ""
         answers.append((stem + new, args, body, opened.group(1) if opened else None))
 
@@ -371,8 +467,16 @@ class Converter:
         label = re.sub(r"^(?:μ|measure)-?_?", "", name)
         f = next((m for m in members if plain(m.prefix) == plain(label)), members[0])
         found = re.match(r"((?:\s+[^\s=]+)*)\s*=((?:.|\n)*)$", rest)
-        invariants.append((f"decreases-{f.prefix}", found.group(2) + "  -- LEFT"))
-        self.notes.append(f"{file.relative_to(TOP)}: measure of {f.prefix}: by hand")
+        params = next((v for m in members for k, v in m.of["params"].items() if k.split("::")[-1] == f.prefix), None)
+        names = found.group(1).split()
+        if not params or not names:
+            self.notes.append(f"{file.relative_to(TOP)}: measure of {f.prefix}: by hand")
+            return
+        a = re.escape(names[-1])
+        body = re.sub(
+            rf"(?<![^\s(){{}};,]){a}((?:\.1)*)\.0(?![0-9])", lambda m: "l." + params[len(m.group(1)) // 2], found.group(2)
+        )
+        invariants.append((f"decreases-{f.prefix}", body))
 
     def write(self, file, head, uses, helpers, answers, invariants, where):
         folder = file.parent

@@ -8,7 +8,6 @@ use native.Mathlib.Omega.{arith}
 use native.Mathlib.Decide.{ℕ_discrete, dec_lt}
 use lib.Dec.{ltb}
 use lib.ListN.{get_or}
-use denote.Enum.Declared.{tag_of}
 use borrow.Author.Tests.{lt-ltb, le-ltb}
 use Rattle.area.specs.Map.{HELD}
 use Rattle.area.proofs.Region.{held_at}
@@ -106,23 +105,21 @@ module _ (w : List ℕ) (c : ℕ) where
       go (Atom y) (Case.atom l) i = let z : ◌≡◌ {A = ℕ} 0 1 = cc in absurd (omega arith)
 
   -- the tag of an answer, as a match has it: 0 for nothing, 1 for arcs, 2 for an atom
-  pub told_chain : (r : Held) → r ≡ held_by w c → (tag_of the_type r ≡ 0) ⊎ (tag_of the_type r ≡ 1) → ChainCode (get_or w c 0)
-  told_chain r e tag = go r tag (subst (Case (get_or w c 0)) (sym e) (case_at w c))
+  pub told_chain : (r : Held) → r ≡ held_by w c → ((x : ℕ) → r ≡ Atom x → ⊥) → ChainCode (get_or w c 0)
+  told_chain r e other = go r other (subst (Case (get_or w c 0)) (sym e) (case_at w c))
     where
-      go : (r : Held) → (tag_of the_type r ≡ 0) ⊎ (tag_of the_type r ≡ 1) → Case (get_or w c 0) r → ChainCode (get_or w c 0)
+      go : (r : Held) → ((x : ℕ) → r ≡ Atom x → ⊥) → Case (get_or w c 0) r → ChainCode (get_or w c 0)
       go Nothing t (Case.empty e) = omega arith
       go (Arcs x) t (Case.chain some l) = l
-      go (Atom x) (inl t) (Case.atom l) = absurd (omega arith)
-      go (Atom x) (inr t) (Case.atom l) = absurd (omega arith)
+      go (Atom x) t (Case.atom l) = absurd (t x refl)
 
-  pub told_other : (r : Held) → r ≡ held_by w c → (tag_of the_type r ≡ 0) ⊎ (tag_of the_type r ≡ 2) → (get_or w c 0 ≡ 0) ⊎ AtomCode (get_or w c 0)
-  told_other r e tag = go r tag (subst (Case (get_or w c 0)) (sym e) (case_at w c))
+  pub told_other : (r : Held) → r ≡ held_by w c → ((x : ℕ) → r ≡ Arcs x → ⊥) → (get_or w c 0 ≡ 0) ⊎ AtomCode (get_or w c 0)
+  told_other r e other = go r other (subst (Case (get_or w c 0)) (sym e) (case_at w c))
     where
-      go : (r : Held) → (tag_of the_type r ≡ 0) ⊎ (tag_of the_type r ≡ 2) → Case (get_or w c 0) r → (get_or w c 0 ≡ 0) ⊎ AtomCode (get_or w c 0)
+      go : (r : Held) → ((x : ℕ) → r ≡ Arcs x → ⊥) → Case (get_or w c 0) r → (get_or w c 0 ≡ 0) ⊎ AtomCode (get_or w c 0)
       go Nothing t (Case.empty e) = inl e
       go (Atom x) t (Case.atom l) = inr l
-      go (Arcs x) (inl t) (Case.chain some l) = absurd (omega arith)
-      go (Arcs x) (inr t) (Case.chain some l) = absurd (omega arith)
+      go (Arcs x) t (Case.chain some l) = absurd (t x refl)
 
   -- the code x of a chain, which is 0 where nothing is held
   pub told_code : (r : Held) → r ≡ held_by w c → (x : ℕ) → ((r ≡ Nothing) × (x ≡ 0)) ⊎ ((y : ℕ) × ((r ≡ Arcs y) × (x ≡ y))) →

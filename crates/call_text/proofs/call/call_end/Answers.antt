@@ -11,7 +11,7 @@ use Rattle.call_text.proofs.call.call_end.Goals as goal
 pub returns-in_default : goal.returns-in_default
 returns-in_default c =
     leads_stops (drop c.args.p c.args.text.now) c.args.text.now c.read_token-start.result (said c.args.text.now c.args.p c.read_token-start.result c.read_token-start.ensures)
-    (λ v q y. neither (rw y at c.in_default.not-Is))
+    c.in_default.not-Is
 
 pub returns-in_default-one : goal.returns-in_default-one
 returns-in_default-one c =

@@ -4,13 +4,13 @@ use native.Mathlib.Omega.{arith}
 use mathlib.Core.Path.{sym, ap, ◌∙◌}
 use lib.ListN.{drop}
 use Rattle.call_text.proofs.Tokens.{meant, said}
-use Rattle.call_text.proofs.Runs.{neither, counted_stops, counted_many, counted_finds}
+use Rattle.call_text.proofs.Runs.{counted_stops, counted_many, counted_finds}
 use Rattle.call_text.proofs.call.find_counted.Goals as goal
 
 pub returns-in_default : goal.returns-in_default
 returns-in_default c =
     counted_stops (drop c.args.p c.args.text.now) c.args.text.now c.read_token-number.result (said c.args.text.now c.args.p c.read_token-number.result c.read_token-number.ensures)
-    (λ v q y. neither (rw y at c.in_default.not-Is))
+    c.in_default.not-Is
 
 pub returns-then-count-gt-COUNT_LIMIT : goal.returns-then-count-gt-COUNT_LIMIT
 returns-then-count-gt-COUNT_LIMIT c =

@@ -3,7 +3,7 @@
 use native.Mathlib.Omega.{arith}
 use mathlib.Core.Path.{sym, ap, ◌∙◌}
 use Rattle.call_text.proofs.Tokens.{meant, said}
-use Rattle.call_text.proofs.Runs.{neither, run_begins, run_ends, run_stops, run_goes}
+use Rattle.call_text.proofs.Runs.{run_begins, run_ends, run_stops, run_goes}
 use Rattle.call_text.proofs.call.read_words.Goals as goal
 
 pub loop-i-init : goal.loop-i-init
@@ -19,7 +19,7 @@ pub returns-in_default : goal.returns-in_default
 returns-in_default c =
     run_stops c.args.text.now c.args.p c.args.count c.args.dst.now c.loop-i.dst c.loop-i.at c.loop-i.i c.loop-i.invariant c.loop-i-test.true c.read_token-number.result
     (said c.args.text.now c.loop-i.at c.read_token-number.result c.read_token-number.ensures)
-    (λ v q y. neither (rw y at c.in_default.not-Is))
+    c.in_default.not-Is
 
 pub offset_bounds-dst-i : goal.offset_bounds-dst-i
 offset_bounds-dst-i c = omega arith

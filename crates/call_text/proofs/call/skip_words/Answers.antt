@@ -5,7 +5,7 @@ use mathlib.Core.Path.{refl, sym, ap, ◌∙◌}
 use lib.ListN.{drop}
 use Rattle.call_text.specs.Call.{words_in}
 use Rattle.call_text.proofs.Tokens.{meant, said}
-use Rattle.call_text.proofs.Runs.{neither, skip_ends, skip_stops, skip_goes}
+use Rattle.call_text.proofs.Runs.{skip_ends, skip_stops, skip_goes}
 use Rattle.call_text.proofs.call.skip_words.Goals as goal
 
 pub loop-left-init : goal.loop-left-init
@@ -18,7 +18,7 @@ pub returns-in_default : goal.returns-in_default
 returns-in_default c =
     skip_stops c.args.text.now (words_in c.args.count (drop c.args.p c.args.text.now)) c.loop-left.at c.loop-left.left c.loop-left.invariant c.loop-left-test.true c.read_token-number.result
     (said c.args.text.now c.loop-left.at c.read_token-number.result c.read_token-number.ensures)
-    (λ v q y. neither (rw y at c.in_default.not-Is))
+    c.in_default.not-Is
 
 pub overflow_sub-left : goal.overflow_sub-left
 overflow_sub-left c = omega arith

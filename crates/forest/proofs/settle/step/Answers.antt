@@ -1,0 +1,118 @@
+-- `forest::settle::step` meets its contract. Assumes nothing.
+use Prim.Native.Nat.{ℕ, suc, ◌-◌, ◌<◌}
+use mathlib.Core.Path.{◌≡◌, subst}
+use native.Mathlib.Omega.{arith}
+use lib.ListN.{get_or}
+use Rattle.area.specs.Region.{loaded_words}
+use Rattle.forest.specs.State.{targets, Looked}
+use Rattle.forest.proofs.Walks.{some}
+use Rattle.forest.proofs.Turns.{after_runs, arc_pos, arc_low, arc_target, match_target, turned_miss, turned_hit}
+use borrow.Author.Rules.{rules}
+use Rattle.forest.proofs.settle.step.Goals as goal
+
+pub overflow_sub-j : goal.overflow_sub-j
+overflow_sub-j c =
+    let F = loaded_words c.args.w.now in
+    let T = targets c.args.w.now in
+    let ps = arc_pos c.requires.working.G c.requires.working.H F T c.args.n c.args.k c.args.s c.args.x c.args.to c.requires.working.fs c.args.w.now c.requires.n_bound.0 c.requires.n_bound.1 c.requires.working.state
+    c.requires.fact in
+    let lw = arc_low c.requires.working.G c.requires.working.H F T c.args.n c.args.k c.args.s c.args.x c.args.to c.requires.working.fs c.args.w.now c.requires.n_bound.0 c.requires.n_bound.1 c.requires.working.state
+    c.requires.fact in
+    search rules
+
+pub loaded-f-requires : goal.loaded-f-requires
+loaded-f-requires c =
+    let F = loaded_words c.args.w.now in
+    let T = targets c.args.w.now in
+    let ps = arc_pos c.requires.working.G c.requires.working.H F T c.args.n c.args.k c.args.s c.args.x c.args.to c.requires.working.fs c.args.w.now c.requires.n_bound.0 c.requires.n_bound.1 c.requires.working.state
+    c.requires.fact in
+    let lw = arc_low c.requires.working.G c.requires.working.H F T c.args.n c.args.k c.args.s c.args.x c.args.to c.requires.working.fs c.args.w.now c.requires.n_bound.0 c.requires.n_bound.1 c.requires.working.state
+    c.requires.fact in
+    (omega arith, omega arith)
+
+pub look-r-requires : goal.look-r-requires
+look-r-requires c =
+    let F = loaded_words c.args.w.now in
+    let T = targets c.args.w.now in
+    record {
+      in_bounds = omega arith;
+      runs = after_runs c.requires.working.G c.requires.working.H F T c.args.n c.args.k c.args.s c.args.x c.args.to c.requires.working.fs c.args.w.now c.requires.n_bound.0 c.requires.n_bound.1 c.requires.working.state;
+    }
+
+pub returns-then-r-eq0 : goal.returns-then-r-eq0
+returns-then-r-eq0 c =
+    let F = loaded_words c.args.w.now in
+    let T = targets c.args.w.now in
+    let lk : Looked F c.args.w.now (get_or F (c.args.x - 1) 0) c.args.to c.look-r.result =
+    subst (λ (v : ℕ). Looked F c.args.w.now v c.args.to c.look-r.result) c.loaded-f.ensures c.look-r.ensures in
+    turned_miss F T c.args.n c.args.k c.args.s c.args.x c.args.to c.args.w.now c.requires.n_bound.0 c.requires.n_bound.1 c.requires.fact c.requires.working (rw c.if-r-eq0.true at lk)
+
+pub overflow_sub-i : goal.overflow_sub-i
+overflow_sub-i c =
+    let rp = some c.look-r.result c.if-r-eq0.false in
+    search rules
+
+pub target-p-requires : goal.target-p-requires
+target-p-requires c =
+    let F = loaded_words c.args.w.now in
+    let T = targets c.args.w.now in
+    let ps = arc_pos c.requires.working.G c.requires.working.H F T c.args.n c.args.k c.args.s c.args.x c.args.to c.requires.working.fs c.args.w.now c.requires.n_bound.0 c.requires.n_bound.1 c.requires.working.state
+    c.requires.fact in
+    let lw = arc_low c.requires.working.G c.requires.working.H F T c.args.n c.args.k c.args.s c.args.x c.args.to c.requires.working.fs c.args.w.now c.requires.n_bound.0 c.requires.n_bound.1 c.requires.working.state
+    c.requires.fact in
+    (omega arith, omega arith)
+
+pub target-q-requires : goal.target-q-requires
+target-q-requires c =
+    let F = loaded_words c.args.w.now in
+    let T = targets c.args.w.now in
+    let lk : Looked F c.args.w.now (get_or F (c.args.x - 1) 0) c.args.to c.look-r.result =
+    subst (λ (v : ℕ). Looked F c.args.w.now v c.args.to c.look-r.result) c.loaded-f.ensures
+    c.look-r.ensures in
+    let rp = some c.look-r.result c.if-r-eq0.false in
+    let ri : c.look-r.result ≡ suc (c.look-r.result - 1) = omega arith in
+    let mt = match_target c.requires.working.G c.requires.working.H F T c.args.n c.args.k c.args.s c.args.x c.args.to c.requires.working.fs c.args.w.now c.requires.n_bound.0 c.requires.n_bound.1 c.requires.working.state
+    c.requires.fact c.look-r.result (c.look-r.result - 1) lk ri in
+    let mi : c.look-r.result - 1 < 2047 = mt.1 in
+    (omega arith, omega arith)
+
+pub join-requires : goal.join-requires
+join-requires c =
+    let F = loaded_words c.args.w.now in
+    let T = targets c.args.w.now in
+    let lk : Looked F c.args.w.now (get_or F (c.args.x - 1) 0) c.args.to c.look-r.result =
+    subst (λ (v : ℕ). Looked F c.args.w.now v c.args.to c.look-r.result)
+    c.loaded-f.ensures c.look-r.ensures in
+    let rp = some c.look-r.result c.if-r-eq0.false in
+    let ri : c.look-r.result ≡ suc (c.look-r.result - 1) = omega arith in
+    let mt = match_target c.requires.working.G c.requires.working.H F T c.args.n c.args.k c.args.s c.args.x c.args.to c.requires.working.fs c.args.w.now c.requires.n_bound.0 c.requires.n_bound.1 c.requires.working.state
+    c.requires.fact c.look-r.result (c.look-r.result - 1) lk ri in
+    let mi : c.look-r.result - 1 < 2047 = mt.1 in record {
+      x_lt_n = (
+        omega (
+          arith,
+          c.target-p.ensures,
+          arc_target c.requires.working.G c.requires.working.H F T c.args.n c.args.k c.args.s c.args.x c.args.to c.requires.working.fs c.args.w.now c.requires.n_bound.0 c.requires.n_bound.1 c.requires.working.state
+              c.requires.fact,
+        ),
+        (omega (arith, c.target-q.ensures, mt.0), (omega arith, omega arith)),
+      );
+      some_state = record { G = c.requires.working.G; H = c.requires.working.H; F = F; T = T; fs = _; state = c.requires.working.state };
+    }
+
+pub returns : goal.returns
+returns c =
+    let F = loaded_words c.args.w.now in
+    let T = targets c.args.w.now in
+    let lk : Looked F c.args.w.now (get_or F (c.args.x - 1) 0) c.args.to c.look-r.result =
+    subst (λ (v : ℕ). Looked F c.args.w.now v c.args.to c.look-r.result)
+    c.loaded-f.ensures c.look-r.ensures in
+    let rp = some c.look-r.result c.if-r-eq0.false in
+    let ri : c.look-r.result ≡ suc (c.look-r.result - 1) = omega arith in
+    let mt = match_target c.requires.working.G c.requires.working.H F T c.args.n c.args.k c.args.s c.args.x c.args.to c.requires.working.fs c.args.w.now c.requires.n_bound.0 c.requires.n_bound.1 c.requires.working.state
+    c.requires.fact c.look-r.result (c.look-r.result - 1) lk ri in
+    let mi : c.look-r.result - 1 < 2047 = mt.1 in
+    turned_hit F T c.args.n c.args.k c.args.s c.args.x c.args.to c.args.w.now c.requires.n_bound.0 c.requires.n_bound.1 c.requires.fact c.requires.working c.look-r.result (c.look-r.result - 1) c.join.result.k
+    c.join.result.s c.join.result.bad c.join.new.w lk ri
+    (rw (c.target-p.ensures, c.target-q.ensures) at
+    c.join.ensures)
