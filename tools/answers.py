@@ -441,6 +441,8 @@ class Converter:
                 more[0] = "invariant"
             if more and re.match(r"if\d|loop\d*-test", plain(fields[0])):
                 more[0] = {"taken": "true", "left": "false"}.get(more[0], more[0])
+            if more and re.match(r"(if|match)\d*$", plain(fields[0])) and more[0] in ("branch", "came"):
+                more[0] = "branch-raw"
             return ".".join([new] + more)
 
         # aliases first
@@ -485,6 +487,9 @@ class Converter:
             return new
 
         text = PATH.sub(one, text)
+        if "branch-raw" in text:
+            text = re.sub(r"(?<=\.\d)\.taken(?![\w-])", ".true", text)
+            text = re.sub(r"(?<=\.\d)\.left(?![\w-])", ".false", text)
         return text
 
     def invariant(self, file, f, which, rest, invariants):

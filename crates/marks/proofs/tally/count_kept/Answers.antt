@@ -7,6 +7,7 @@ use Rattle.area.specs.Map.{SIZE, LOADED}
 use Rattle.marks.specs.Positions.{tail_at}
 use Rattle.marks.proofs.Tallying.{one, none, more, tally_none, tally_read, tally_step, tally_all}
 use Rattle.marks.proofs.tally.count_kept.Goals as goal
+use Rattle.marks.proofs.tally.count_kept.Goals.{then-here, else-here+then-found-eq0, else-here+else-found-eq0}
 
 pub loop-left-init : goal.loop-left-init
 loop-left-init c = (λ s. tally_none _ _ _ s, omega arith)
@@ -43,9 +44,16 @@ pub loop-left-preserved : goal.loop-left-preserved
 loop-left-preserved c = (
   λ s. tally_step _ _ _ s _ _ _ _ _ _ _ (c.loop-left.invariant.0 s) (omega arith)
       c.after_at-at.ensures
-      (⊎_elim (λ u. one (cc) u.1 u.2)
-      (λ v. ⊎_elim (λ u. none (cc) u.1.taken u.2 u.3) (λ u. more (cc) u.1.left u.2 u.3) v) c.if-here.branch),
-  ⊎_elim (λ u. omega arith) (λ v. ⊎_elim (λ u. omega arith) (λ u. omega arith) v) c.if-here.branch,
+      (elim c.if-here.branch [
+        | then-here w ↦ one (cc) w.first-is w.found-is
+        | else-here+then-found-eq0 w ↦ none (cc) w.if-found-eq0.true w.first-is w.found-is
+        | else-here+else-found-eq0 w ↦ more (cc) w.if-found-eq0.false w.first-is w.found-is
+      ]),
+  elim c.if-here.branch [
+    | then-here w ↦ omega arith
+    | else-here+then-found-eq0 w ↦ omega arith
+    | else-here+else-found-eq0 w ↦ omega arith
+  ],
 )
 
 pub returns : goal.returns
