@@ -36,6 +36,10 @@ def need_key(name):
     return it
 
 
+# fields of a step, by their older names
+LATER = {"inv": "invariant", "kept": "auto", "last": "new", "taken": "true", "left": "false"}
+
+
 class Function:
     def __init__(self, path, of, crate, prefix=""):
         self.path, self.of, self.crate, self.prefix = path, of, crate, prefix
@@ -55,6 +59,8 @@ class Function:
     def step(self, place, field, rest):
         """The new path of `c.FIELD.rest` at the place, and how many of rest it uses up; None where it is not known."""
         chain = self.chain(place)
+        if rest and rest[0] in LATER:
+            rest[0] = LATER[rest[0]]
         if field in ("args", "ranges", "lifetimes", "well_formed", "well-formed", "type_inv", "type-inv"):
             return "c." + plain_back(field), 0
         if field in ("requires", "pre"):
@@ -393,16 +399,22 @@ class Converter:
                 fields = fields[1:]
             if not fields:
                 return "c"
-            got = f.step(place, fields[0], fields[1:])
+            rest = fields[1:]
+            got = f.step(place, fields[0], rest)
             if not got:
                 return None
             new, used = got
-            return ".".join([new] + fields[1 + used :])
+            return ".".join([new] + rest[used:])
 
         # aliases first
         out, at = "", 0
         lets = re.compile(rf"let ({W}) =\s*(c(?:\.{W})*|{W}(?:\.{W})+) in(?=\s)\s?")
-        text = body
+        text = re.sub(rf"\.«({W})»", r".\1", body)
+        while True:
+            plainer = re.sub(rf"(?<![^\s(,])\(({W}(?:\.{W})*)\)(?=\.{W})", r"\1", text)
+            if plainer == text:
+                break
+            text = plainer
         while True:
             found = None
             for m in lets.finditer(text):
