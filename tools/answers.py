@@ -30,7 +30,10 @@ def need_key(name):
         (r"^overflow-(add|sub|mul|shl|shr|cast|step|neg)-", r"\1-"),
         (r"^slice-bounds-(.*)-(start|end)(-\d+)?$", r"part-\1-\2\3"),
         (r"^nonzero-(div|rem)-", r"\1-"),
-        (r"^enum-known-", "enum-known-"),
+        (r"-loop(\d*)-holds$", r"-loop\1-init"),
+        (r"^loop(\d*)-holds$", r"loop\1-init"),
+        (r"^loop(\d*)-less$", r"loop\1-smaller"),
+        (r"^loop(\d*)-again$", r"loop\1-preserved"),
     ):
         it = re.sub(a, b, it)
     return it
@@ -59,11 +62,17 @@ class Function:
     def step(self, place, field, rest):
         """The new path of `c.FIELD.rest` at the place, and how many of rest it uses up; None where it is not known."""
         chain = self.chain(place)
-        if rest and rest[0] in LATER:
+        if rest and rest[0] in LATER and (rest[0] not in ("taken", "left") or re.match(r"if\d*$|.*-test$", plain(field))):
             rest[0] = LATER[rest[0]]
         if field in ("args", "ranges", "lifetimes", "well_formed", "well-formed", "type_inv", "type-inv"):
             return "c." + plain_back(field), 0
         if field in ("requires", "pre"):
+            if self.prefix and rest[:1] == ["1"]:
+                # the measure's fact stood before the clauses
+                new = self.requires(rest[1:])
+                return new and (new[0], new[1] + 1)
+            if self.prefix and rest[:1] == ["0"]:
+                return "c.measured", 1
             return self.requires(rest)
         for k in chain:
             _, parent, (old, new), callee, _ = self.of["places"][k]
@@ -321,6 +330,7 @@ class Converter:
                 merged.append([name, lines, comments_of(chunk), False])
         if merged and merged[0][2]:
             head = head or merged[0][2]
+        self.aliases = {m.group(2): m.group(1) for m in re.finditer(r"^use (\S+) as (\S+)$", text, re.M)}
         for name, lines, notes, _ in merged:
             first = lines[0]
             joined = "\n".join(lines)
@@ -345,7 +355,7 @@ class Converter:
                 member = self.member(members, loop.group(1), name, is_cycle)
                 self.invariant(file, member, loop.group(2), rest, invariants)
             elif measure:
-                self.measure(file, members, name, rest, invariants)
+                self.measure(file, members, name, typ, rest, invariants)
             elif re.search(r"\bIn \d|Claims|\.Kinds|-kinds", typ):
                 continue
             else:
@@ -356,6 +366,11 @@ class Converter:
         if not is_cycle:
             return members[0]
         prefix = prefix.lstrip("(")
+        label = re.search(r"\.Lts-([^.]+)$", self.aliases.get(prefix, ""))
+        if label:
+            for m in members:
+                if plain(m.prefix) == plain(label.group(1)):
+                    return m
         for m in members:
             if plain(prefix) in (plain(m.prefix) + "-lts", plain(m.prefix)) or plain(name).startswith(plain(m.prefix) + "-"):
                 return m
@@ -453,6 +468,7 @@ class Converter:
             return new
 
         text = PATH.sub(one, text)
+        text = re.sub(rf"let {W} = c\.measured in\s*", "", text)
         return text
 
     def invariant(self, file, f, which, rest, invariants):
@@ -475,8 +491,12 @@ class Converter:
         body = PATH.sub(lambda m: table.get(m.group(1), m.group(1)) + m.group(2), body)
         invariants.append((f"{kind}-{(f.of.get('stem') or '')}{new}", body))
 
-    def measure(self, file, members, name, rest, invariants):
+    def measure(self, file, members, name, typ, rest, invariants):
         label = re.sub(r"^(?:μ|measure)-?_?", "", name)
+        kinds = re.search(r"Measures \d+ (\S+?)\.ps", typ)
+        of = kinds and re.search(r"([^.]+)\.Kinds$", self.aliases.get(kinds.group(1), ""))
+        if of:
+            label = of.group(1)
         f = next((m for m in members if plain(m.prefix) == plain(label)), members[0])
         found = re.match(r"((?:\s+[^\s=]+)*)\s*=((?:.|\n)*)$", rest)
         params = next((v for m in members for k, v in m.of["params"].items() if k.split("::")[-1] == f.prefix), None)
@@ -488,7 +508,7 @@ class Converter:
         body = re.sub(
             rf"(?<![^\s(){{}};,]){a}((?:\.1)*)\.0(?![0-9])", lambda m: "l." + params[len(m.group(1)) // 2], found.group(2)
         )
-        invariants.append((f"decreases-{f.prefix}", body))
+        invariants.append((f"decreases-{f.prefix}", re.sub(r"^\s*\n", "\n", body)))
 
     def write(self, file, head, uses, helpers, answers, invariants, where):
         folder = file.parent
@@ -533,7 +553,7 @@ def marks_of(alias):
 def is_used(name, text):
     if "◌" in name:
         parts = [p for p in name.split("◌") if p]
-        return all(re.search(rf"(?<![^\s(){{}};,]){re.escape(p)}(?![^\s(){{}};,])", text) for p in parts)
+        return name in text or all(re.search(rf"(?<![^\s(){{}};,]){re.escape(p)}(?![^\s(){{}};,])", text) for p in parts)
     return bool(re.search(rf"(?<![^\s(){{}};,.\[\]@]){re.escape(name)}(?![^\s(){{}};,.\[\]@])", text))
 
 

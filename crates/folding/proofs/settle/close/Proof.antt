@@ -71,7 +71,7 @@ same_length c = search rules
 -- src/settle.rt:55:1
 returns-3 : tie.Need-returns-3
 returns-3 c =
-    let second = c.before.before.put_all_lem.ensures in
+    let second = c.before.before.put_all.ensures in
     let first = c.before.before.before.before.before.before.before.put.ensures in
     let told = c.before.before.before.before.before.before.before.before.before.before in
     record {
