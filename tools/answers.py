@@ -337,7 +337,7 @@ class Converter:
             if first.startswith("use "):
                 uses.append(joined)
                 continue
-            if re.search(r"(spec|closed)\b.*: .*statement", first) or "tie.close" in joined or re.search(r"\bclose\b", first):
+            if re.search(r"(spec|closed)\b.*: .*statement", first) or "tie.close" in joined or re.search(r"(?<![\w.-])close(?![\w-])", first):
                 continue
             sig = re.match(rf"(?:abbrev |pub )*({W})((?:.|\n)*?)\n({re.escape(name)})(?=\s)((?:.|\n)*)$", joined)
             opened = re.search(r"\n(unfolding [^\n]*)\n", joined)
