@@ -21,7 +21,7 @@ LAST = re.compile(r"^\d+ passed, \d+ failed$", re.M)
 
 def crates():
     lines = (TOP / "crates.txt").read_text(encoding="utf-8").splitlines()
-    return [line.partition(":")[0] for line in lines if line.strip() and not line.startswith("#")]
+    return [line.partition(":")[0].split()[0] for line in lines if line.strip() and not line.startswith("#")]
 
 
 def told(number):
