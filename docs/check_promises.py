@@ -8,7 +8,7 @@ A citation stands between backquotes and has one of these forms:
   unify:proof of unify   the crate's code declares this function, whose proof the check has; several names as above. What is written of
                          it, where anything is, stands under proofs/
   unify!nothing_written  the edit nothing_written.edit of the crate, under must-fail/ or edits/
-Every citation of every document has to be found, and every path that is named has to be there; in a path NAME stands
+Every citation of every document has to be found, and every path that is named has to be there, but for what is built; in a path NAME stands
 for a crate and NN for a number.
 - PROMISES has a block a promise: the promise, then `stated:`, `proved:` and two times `rules out: … (shown by …)`. The
   statement cites a definition or a function, the proof anything, and what shows a wrong answer is an edit, a theorem in
@@ -138,7 +138,7 @@ def check_citations(path):
         elif not found(each):
             says(doc, f"not found: {written(each)}")
     for name in sorted(set(PATH.findall(text))):
-        if not STANDS_FOR.search(name) and not (TOP / name).exists():
+        if not STANDS_FOR.search(name) and "/out/" not in name and not (TOP / name).exists():
             says(doc, f"no file {name}")
     return len(cited)
 
