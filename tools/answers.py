@@ -76,6 +76,7 @@ class Function:
                                 best = (f"c.{arm[0]}.{name}", len(path))
                     if best:
                         return best
+            rest = ["new"] + rest[1:] if rest[:1] == ["last"] and callee else rest
             if rest[:1] in (["new"], ["auto"]) and callee in self.of["params"]:
                 # once a tuple by the place of the parameter, now by its name
                 k = 1
