@@ -30,10 +30,9 @@ def need_key(name):
         (r"^overflow-(add|sub|mul|shl|shr|cast|step|neg)-", r"\1-"),
         (r"^slice-bounds-(.*)-(start|end)(-\d+)?$", r"part-\1-\2\3"),
         (r"^nonzero-(div|rem)-", r"\1-"),
-        (r"-loop(\d*)-holds$", r"-loop\1-init"),
-        (r"^loop(\d*)-holds$", r"loop\1-init"),
-        (r"^loop(\d*)-less$", r"loop\1-smaller"),
-        (r"^loop(\d*)-again$", r"loop\1-preserved"),
+        (r"^(.*?)loop(\d*)-holds", r"\1loop\2-init"),
+        (r"^(.*?)loop(\d*)-less", r"\1loop\2-smaller"),
+        (r"^(.*?)loop(\d*)-again", r"\1loop\2-preserved"),
     ):
         it = re.sub(a, b, it)
     return it
@@ -67,12 +66,6 @@ class Function:
         if field in ("args", "ranges", "lifetimes", "well_formed", "well-formed", "type_inv", "type-inv"):
             return "c." + plain_back(field), 0
         if field in ("requires", "pre"):
-            if self.prefix and rest[:1] == ["1"]:
-                # the measure's fact stood before the clauses
-                new = self.requires(rest[1:])
-                return new and (new[0], new[1] + 1)
-            if self.prefix and rest[:1] == ["0"]:
-                return "c.measured", 1
             return self.requires(rest)
         for k in chain:
             _, parent, (old, new), callee, _ = self.of["places"][k]
@@ -89,6 +82,7 @@ class Function:
                                 best = (f"c.{arm[0]}.{name}", len(path))
                     if best:
                         return best
+            rest = ["new"] + rest[1:] if rest[:1] == ["last"] and callee else rest
             if rest[:1] in (["new"], ["auto"]) and callee in self.of["params"]:
                 # once a tuple by the place of the parameter, now by its name
                 k = 1
@@ -109,6 +103,18 @@ class Function:
         return None
 
     def requires(self, rest):
+        """In a cycle of calls the measure stood before the clauses."""
+        skip = 0
+        if self.prefix:
+            if rest[:1] == ["0"]:
+                return "c.decreases", 1
+            if rest[:1] != ["1"]:
+                return None
+            skip, rest = 1, rest[1:]
+        found = self.clauses(rest)
+        return found and (found[0], found[1] + skip)
+
+    def clauses(self, rest):
         pre = self.of.get("pre")
         if not pre:
             return "c.requires", 0
@@ -276,7 +282,7 @@ class Converter:
             r = subprocess.run(["rt", "check", "--generated", d, "--old-names"], cwd=self.crate, capture_output=True, text=True)
             file = Path(d) / "names.json"
             if not file.is_file():
-                print(r.stdout[-3000:], r.stderr[-2000:])
+                print(*re.findall(r"(?m)^.*(?:error|did not build).*$", r.stdout + r.stderr)[:4], sep="\n")
                 raise SystemExit(f"{self.name}: no names")
             return json.loads(file.read_text())
 
@@ -314,6 +320,9 @@ class Converter:
             return
         where = str(file.relative_to(self.crate / "proofs").parent)
         head, uses, helpers, answers, invariants = [], [], [], [], []
+        self.inside, self.alias = {}, {}
+        for found in re.finditer(rf"\.Lts-({W}) as ({W})", text):
+            self.alias[plain(found.group(2))] = found.group(1)
         chunks = split_items(text)
         merged = []
         for chunk in chunks:
@@ -345,6 +354,12 @@ class Converter:
                 helpers.append(joined)
                 continue
             typ, rest = sig.group(2), sig.group(4)
+            inner = re.match(rf"\s*:\s*((?:\(\w+ : ℕ\)(?: → | ))*)\((\w+) : \S+\.(?:In|At|After|Then|Else|Arm|Start)[^()]*(?:\([^()]*\)[^()]*)*\) →((?:.|\n)*)$", typ)
+            if inner and not re.search(r"\.Need-", typ):
+                found = re.match(r"((?:\s+[^\s=]+)*)\s*=((?:.|\n)*)$", rest)
+                if found:
+                    self.inside[name] = (inner.group(2), inner.group(3).strip(), found.group(1).split(), found.group(2).strip())
+                    continue
             need = re.search(rf"(\S*)\.Need-({W})", typ)
             loop = re.search(rf"(\S+)\.((?:invariant|decreases)-{W}|(?:invariant|decreases))", typ)
             measure = is_cycle and re.search(r"Measures ", typ)
@@ -372,6 +387,9 @@ class Converter:
                 if plain(m.prefix) == plain(label.group(1)):
                     return m
         for m in members:
+            if self.alias.get(plain(prefix)) == m.prefix or self.alias.get(plain(name).split("-")[0]) == m.prefix:
+                return m
+        for m in members:
             if plain(prefix) in (plain(m.prefix) + "-lts", plain(m.prefix)) or plain(name).startswith(plain(m.prefix) + "-"):
                 return m
         return members[0]
@@ -392,12 +410,25 @@ class Converter:
         if AUTO.match(body) and not opened:
             return
         args = [a for a in args if a not in ("κs", "κ", "_")]
+        body = re.sub(rf"let \(({W}), ({W})\) =\s*((?:c|{W})(?:\.{W})*) in", r"let \1 = \3.0 in let \2 = \3.1 in", body)
+        body = self.with_insides(body)
         body = self.paths(file, f, place, body, old)
         fields = next((v for k, v in f.of["asked"].items() if need_key(k) == key), None)
         if fields:
             body = as_record(body, fields)
         stem = f.of.get("stem") or ""
         answers.append((stem + new, args, body, opened.group(1) if opened else None))
+
+    def with_insides(self, body):
+        """A lemma over a step of the code becomes a `let` in each answer that cites it."""
+        for name, (var, kind, args, term) in reversed(list(self.inside.items())):
+            call = re.compile(rf"(?<![^\s(){{}};,@]){re.escape(name)}((?: [A-Za-z]\w*)*?) ((?:c)(?:\.before)*)(?![^\s(){{}};,])")
+            if not call.search(body):
+                continue
+            own = lambda it: re.sub(rf"(?<![^\s(){{}};,@]){re.escape(var)}(?=[\s.(){{}};,]|$)", "c", it)
+            other = re.sub(rf"(?<![^\s(){{}};,@]){re.escape(args[-1])}(?=[\s.(){{}};,]|$)", "c", term) if args else term
+            body = f"\n    let {name} : {own(kind)} = {other} in" + call.sub(name, body)
+        return body
 
     def paths(self, file, f, place, body, what):
         alias = {"c": None}
@@ -419,7 +450,14 @@ class Converter:
             if not got:
                 return None
             new, used = got
-            return ".".join([new] + rest[used:])
+            more = rest[used:]
+            if more and re.match(r"loop", plain(fields[0])) and more[0] == "inv":
+                more[0] = "invariant"
+            if more and re.match(r"if\d|loop\d*-test", plain(fields[0])):
+                more[0] = {"taken": "true", "left": "false"}.get(more[0], more[0])
+            if more and re.match(r"(if|match)\d*$", plain(fields[0])) and more[0] in ("branch", "came"):
+                more[0] = "branch-raw"
+            return ".".join([new] + more)
 
         # aliases first
         out, at = "", 0
@@ -468,7 +506,10 @@ class Converter:
             return new
 
         text = PATH.sub(one, text)
-        text = re.sub(rf"let {W} = c\.measured in\s*", "", text)
+        if "branch-raw" in text:
+            text = re.sub(r"(?<=\.\d)\.taken(?![\w-])", ".true", text)
+            text = re.sub(r"(?<=\.\d)\.left(?![\w-])", ".false", text)
+        text = re.sub(rf"let {W} = c\.decreases in\s*", "", text)
         return text
 
     def invariant(self, file, f, which, rest, invariants):
@@ -497,7 +538,7 @@ class Converter:
         of = kinds and re.search(r"([^.]+)\.Kinds$", self.aliases.get(kinds.group(1), ""))
         if of:
             label = of.group(1)
-        f = next((m for m in members if plain(m.prefix) == plain(label)), members[0])
+        f = next((m for m in members if plain(m.prefix) == plain(label) or self.alias.get(plain(label)) == m.prefix), members[0])
         found = re.match(r"((?:\s+[^\s=]+)*)\s*=((?:.|\n)*)$", rest)
         params = next((v for m in members for k, v in m.of["params"].items() if k.split("::")[-1] == f.prefix), None)
         names = found.group(1).split()
