@@ -94,7 +94,7 @@ returns-3 c =
     let (short, good) = subst (SignsJudged a.text.now read.new.1.0) arm.read2.given.1 read.ensures in
     let tree = read_of a.text.now read.new.1.0 arm.read2.given.0.0 good short (omega (arith, room, same)) in
     let reads : Reads a.text.now good.tree = record { signs = good.signs; spelt = good.spelt; formula = good.formula } in
-    told_translated a.text.now a.result.now good.tree told.mark-tree.result told.mark-tree.new.1.1.0 short reads
+    told_translated a.text.now a.res.now good.tree told.mark-tree.result told.mark-tree.new.1.1.0 short reads
     (told.mark-tree.ensures good.tree tree)
 
 pub formula-spec : {M : Type 1} → statement M

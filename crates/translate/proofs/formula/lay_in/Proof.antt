@@ -92,7 +92,7 @@ returns c =
     } in
     let a = start.args in
     λ φ marked. deep_told φ a.signs.now a.n a.flagged marked T call.lay.result call.lay.ensures c.enum_told.given.1
-    a.result.now
+    a.res.now
 
 -- src/formula.rt:111:1
 same-length-6 : tie.Need-same-length-6
@@ -148,7 +148,7 @@ returns-2 c =
     let laid = laid_of φ a.signs.now a.n a.flagged marked T call.lay.result call.lay.ensures rows.0.0 rows.0.1.0
     rows.0.1.1.0 rows.0.1.1.1.0 rows.1 room in
     rows_told φ a.signs.now a.n a.flagged marked T call.lay.result call.lay.ensures rows.0.0 rows.0.1.0
-    rows.0.1.1.0 rows.0.1.1.1.0 rows.1 a.result.now settled.result settled.new.1.1.1.1.1.1.1.1.0
+    rows.0.1.1.0 rows.0.1.1.1.0 rows.1 a.res.now settled.result settled.new.1.1.1.1.1.1.1.1.0
     (settled.ensures φ laid)
 
 pub lay-in-spec : {M : Type 1} → statement M

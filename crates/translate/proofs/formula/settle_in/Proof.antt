@@ -75,7 +75,7 @@ returns c =
     let start = filling.before.before.before.before.before.before.before.before.before in
     let a = start.args in
     λ φ k. settled_clash φ a.arcs.now a.atoms.now a.ties.now a.alts.now a.homes.now own.new.0 k own.ensures a.words.now
-    settled.result settled.new.1.1.1.1.0 settled.new.1.1.1.1.1.0 settled.ensures c.enum_told.given.1 a.result.now
+    settled.result settled.new.1.1.1.1.0 settled.new.1.1.1.1.1.0 settled.ensures c.enum_told.given.1 a.res.now
 
 -- src/formula.rt:28:1
 same-length-3 : tie.Need-same-length-3
@@ -102,7 +102,7 @@ returns-2 c =
     let handed = c.before.before.hand-over in
     λ φ k. settled_fine φ a.arcs.now a.atoms.now a.ties.now a.alts.now a.homes.now own.new.0 k own.ensures
     a.words.now settled.result settled.new.1.1.1.1.0 settled.new.1.1.1.1.1.0 settled.ensures fine.0.0 fine.0.1.0 fine.0.1.1.0 fine.1
-    a.result.now handed.result handed.new.1.1.0 handed.ensures
+    a.res.now handed.result handed.new.1.1.0 handed.ensures
 
 pub settle-in-spec : {M : Type 1} → statement M
 settle-in-spec =

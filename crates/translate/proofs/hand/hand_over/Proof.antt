@@ -14,14 +14,14 @@ returns : tie.Need-returns
 returns c =
     let start = c.before.before.before in
     let a = start.args in
-    hand_long a.words.now a.len a.result.now start.requires.0 (omega arith)
+    hand_long a.words.now a.len a.res.now start.requires.0 (omega arith)
 
 -- src/hand.rt:20:9
 returns-2 : tie.Need-returns-2
 returns-2 c =
     let start = c.before.before.before.before in
     let a = start.args in
-    hand_short a.words.now a.len a.result.now start.requires.0 (omega arith) (omega arith)
+    hand_short a.words.now a.len a.res.now start.requires.0 (omega arith) (omega arith)
 
 -- src/hand.rt:22:5
 copy-out-requires : tie.Need-copy-out-requires
@@ -37,7 +37,7 @@ returns-3 c =
     let start = c.before.before.before.before.before.before.before.before in
     let a = start.args in
     let copied = c.before.before.copy-out in
-    hand_done a.words.now a.len a.result.now start.requires.0 copied.new.1.1.0 (omega arith) (omega arith) copied.ensures
+    hand_done a.words.now a.len a.res.now start.requires.0 copied.new.1.1.0 (omega arith) (omega arith) copied.ensures
 
 pub hand-over-spec : {M : Type 1} → statement M
 hand-over-spec = tie.close (tie.spec returns returns-2 copy-out-requires same_length returns-3)
