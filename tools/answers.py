@@ -512,7 +512,7 @@ class Converter:
             key = f"\x01{alias_name}\x01{len(alias)}"
             alias[key] = stripped
             after = re.sub(
-                rf"(?<![^\s(){{}};,@«»\[\]\\λ]){re.escape(alias_name)}(?=(?:\.{W})*(?:[\s(){{}};,\[\]]|$))",
+                rf"(?<![^\s(){{}};,@«»\[\]\\λ]){re.escape(alias_name)}(?!\s+=\s)(?=(?:\.{W})*(?:[\s(){{}};,\[\]]|$))",
                 lambda it: key,
                 after,
             )
