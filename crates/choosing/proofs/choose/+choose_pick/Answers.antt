@@ -14,7 +14,7 @@ use Rattle.choosing.proofs.Picked.{goes_asks_in, goes_beyond, goes_writes}
 use Rattle.choosing.proofs.Going.{going_starts, going_all, going_none, going_here, going_deep, going_told, going_sums}
 use Rattle.choosing.proofs.Going.{going_some, going_rest, going_asks, going_beyond, going_on}
 use Rattle.choosing.proofs.choose.+choose_pick.Goals as goal
-use Rattle.choosing.proofs.choose.+choose_pick.Goals.{then-kept+else-index-total, else-kept}
+use Rattle.choosing.proofs.choose.+choose_pick.Goals.{pick-then-kept+else-index-total, pick-else-kept}
 
 still-asks : {w w₀ : List ℕ} {p count left at : ℕ} → w ≡ w₀ → Picking w₀ p count left at → Picking w p count left at
 still-asks {w} {w₀} {p} {count} {left} {at} e k = subst (λ (z : List ℕ). Picking z p count left at) (sym e) k
@@ -183,8 +183,8 @@ pick-loop-more-preserved t c = (
   c.loop-more.invariant.0,
   λ k. goes_on k _ _ _ (c.loop-more.invariant.1 k) (omega arith) _ c.mark_at.ensures _
       (elim c.if-kept.branch [
-        | then-kept+else-index-total u ↦ passed _ (cc) u.count_choices-total.ensures (let test = u.if-index-total in omega arith) u.index-is
-        | else-kept u ↦ skipped (cc) u.index-is
+        | pick-then-kept+else-index-total u ↦ passed _ (cc) u.count_choices-total.ensures (let test = u.if-index-total in omega arith) u.index-is
+        | pick-else-kept u ↦ skipped (cc) u.index-is
       ]) _ c.after_at-g.ensures,
 )
 

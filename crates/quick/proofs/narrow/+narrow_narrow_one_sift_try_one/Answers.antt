@@ -17,7 +17,7 @@ use Rattle.quick.proofs.Narrowing.{narrow_starts, narrow_rooted, moved_start, na
 use Rattle.quick.proofs.Narrowing.{narrow_deep, asks_one, moved_on, rooted_after, sieved_after, narrow_on, moved_back, fewer_back}
 use Rattle.quick.proofs.Narrowing.{narrow_fails, narrows_stands, narrows_fails, narrows_len}
 use Rattle.quick.proofs.narrow.+narrow_narrow_one_sift_try_one.Goals as goal
-use Rattle.quick.proofs.narrow.+narrow_narrow_one_sift_try_one.Goals.{then-kept+in-Stands, then-kept+in_default, else-kept}
+use Rattle.quick.proofs.narrow.+narrow_narrow_one_sift_try_one.Goals.{sift-then-kept+in-Stands, sift-then-kept+in_default, sift-else-kept}
 
 pub narrow-tail_at-e-requires : goal.narrow-tail_at-e-requires
 narrow-tail_at-e-requires t c = ((narrow_starts _ _ _ _ _ c.requires).0, c.requires.s.holds.long)
@@ -264,9 +264,9 @@ sift-after_at-at-requires t c =
     c.loop-rest.w c.loop-rest.at
     c.mark_at-x.result c.args.left
     c.loop-rest.drops c.if-kept.drops c.if-kept.w = elim c.if-kept.branch [
-      | then-kept+in-Stands u ↦ stood _ _ _ _ (cc) u.try_one-step.ensures u.in-Stands.is u.w-is u.drops-is
-      | then-kept+in_default u ↦ failed _ _ _ (cc) u.try_one-step.ensures u.in_default.is u.drop.ensures u.w-is u.drops-is
-      | else-kept u ↦ skipped (cc) u.w-is u.drops-is
+      | sift-then-kept+in-Stands u ↦ stood _ _ _ _ (cc) u.try_one-step.ensures u.in-Stands.is u.w-is u.drops-is
+      | sift-then-kept+in_default u ↦ failed _ _ _ (cc) u.try_one-step.ensures u.in_default.is u.drop.ensures u.w-is u.drops-is
+      | sift-else-kept u ↦ skipped (cc) u.w-is u.drops-is
     ] in let old : _ × _ = turn_inside _ _ _ _ _ _ c.requires.alternating _ _ _ c.loop-rest.invariant.0 (c.loop-rest.invariant.2 c.requires.alternating) (omega arith) _ c.mark_at-x.ensures _ _ _
     (turned) in record { p_bound = old.0; p_bound_2 = old.1 }
 
@@ -283,9 +283,9 @@ sift-loop-rest-preserved t c =
     c.loop-rest.w c.loop-rest.at
     c.mark_at-x.result c.args.left
     c.loop-rest.drops c.if-kept.drops c.if-kept.w = elim c.if-kept.branch [
-      | then-kept+in-Stands u ↦ stood _ _ _ _ (cc) u.try_one-step.ensures u.in-Stands.is u.w-is u.drops-is
-      | then-kept+in_default u ↦ failed _ _ _ (cc) u.try_one-step.ensures u.in_default.is u.drop.ensures u.w-is u.drops-is
-      | else-kept u ↦ skipped (cc) u.w-is u.drops-is
+      | sift-then-kept+in-Stands u ↦ stood _ _ _ _ (cc) u.try_one-step.ensures u.in-Stands.is u.w-is u.drops-is
+      | sift-then-kept+in_default u ↦ failed _ _ _ (cc) u.try_one-step.ensures u.in_default.is u.drop.ensures u.w-is u.drops-is
+      | sift-else-kept u ↦ skipped (cc) u.w-is u.drops-is
     ] in (
       turn_moved _ _ _ _ _ _ c.requires.alternating _ _ _ c.loop-rest.invariant.0 (c.loop-rest.invariant.2 c.requires.alternating) (omega arith) _ c.mark_at-x.ensures _ _ _
           (turned),

@@ -15,7 +15,7 @@ use Rattle.showing.proofs.Offering.{Turn, skipped, taken, offer_start, offer_don
 use Rattle.showing.proofs.Offering.{turn_inside, turn_on}
 use Rattle.showing.proofs.put.+put_alternatives_put_description_put_disjunctions_put_one.{}
 use Rattle.showing.proofs.put.+put_alternatives_put_description_put_disjunctions_put_one.Goals as goal
-use Rattle.showing.proofs.put.+put_alternatives_put_description_put_disjunctions_put_one.Goals.{then-kept, else-kept, in-Nothing, in-Several}
+use Rattle.showing.proofs.put.+put_alternatives_put_description_put_disjunctions_put_one.Goals.{put_alternatives-then-kept, put_alternatives-else-kept, put_one-in-Nothing, put_one-in-Several}
 
 pub put_alternatives-loop-rest-init : goal.put_alternatives-loop-rest-init
 put_alternatives-loop-rest-init t c = λ d. offer_start _ _ _ _ _ _ d
@@ -39,8 +39,8 @@ put_alternatives-after_at-at-requires t c =
     c.loop-rest.w c.loop-rest.at
     c.mark_at-x.result c.args.left
     c.loop-rest.out c.if-kept.out c.if-kept.w = elim c.if-kept.branch [
-      | then-kept u ↦ taken _ _ (cc) u.put_description-out.ensures u.w-is u.out-is
-      | else-kept u ↦ skipped (cc) u.w-is u.out-is
+      | put_alternatives-then-kept u ↦ taken _ _ (cc) u.put_description-out.ensures u.w-is u.out-is
+      | put_alternatives-else-kept u ↦ skipped (cc) u.w-is u.out-is
     ] in let v = c.loop-rest.invariant c.requires in
     let old : _ × _ = turn_inside _ _ _ _ _ _ c.requires _ _ _ _ v (omega arith) _ c.mark_at-x.ensures _ _ (turned) in record { p_bound = old.0; p_bound_2 = old.1 }
 
@@ -56,8 +56,8 @@ put_alternatives-loop-rest-preserved t c =
     c.loop-rest.w c.loop-rest.at
     c.mark_at-x.result c.args.left
     c.loop-rest.out c.if-kept.out c.if-kept.w = elim c.if-kept.branch [
-      | then-kept u ↦ taken _ _ (cc) u.put_description-out.ensures u.w-is u.out-is
-      | else-kept u ↦ skipped (cc) u.w-is u.out-is
+      | put_alternatives-then-kept u ↦ taken _ _ (cc) u.put_description-out.ensures u.w-is u.out-is
+      | put_alternatives-else-kept u ↦ skipped (cc) u.w-is u.out-is
     ] in λ d. turn_on _ _ _ _ _ _ d _ _ _ _ (c.loop-rest.invariant d) (omega arith) _
     c.mark_at-x.ensures _ _ (turned) _ c.after_at-at.ensures
 
@@ -189,8 +189,8 @@ pub put_one-overflow_cast-w : goal.put_one-overflow_cast-w
 put_one-overflow_cast-w t c =
     let many : ((c.count_kept-tally.result.remnant ≡ Nothing) × (c.match-which.many ≡ 0))
     ⊎ ((x : ℕ) × (c.count_kept-tally.result.remnant ≡ Several x) × (c.match-which.many ≡ x)) = elim c.match-which.branch [
-      | in-Nothing u ↦ inl (u.in-Nothing.is, u.many-is)
-      | in-Several u ↦ inr (u.in-Several.several, u.in-Several.is, u.many-is)
+      | put_one-in-Nothing u ↦ inl (u.in-Nothing.is, u.many-is)
+      | put_one-in-Several u ↦ inr (u.in-Several.several, u.in-Several.is, u.many-is)
     ] in let h = vary_small _ _ _ _ _ _ c.requires _ _
     c.count_kept-tally.ensures _ (many) in
     omega arith
@@ -199,8 +199,8 @@ pub put_one-overflow_add-w : goal.put_one-overflow_add-w
 put_one-overflow_add-w t c =
     let many : ((c.count_kept-tally.result.remnant ≡ Nothing) × (c.match-which.many ≡ 0))
     ⊎ ((x : ℕ) × (c.count_kept-tally.result.remnant ≡ Several x) × (c.match-which.many ≡ x)) = elim c.match-which.branch [
-      | in-Nothing u ↦ inl (u.in-Nothing.is, u.many-is)
-      | in-Several u ↦ inr (u.in-Several.several, u.in-Several.is, u.many-is)
+      | put_one-in-Nothing u ↦ inl (u.in-Nothing.is, u.many-is)
+      | put_one-in-Several u ↦ inr (u.in-Several.several, u.in-Several.is, u.many-is)
     ] in let h = (vary_room _ _ _ _ _ _ c.requires _ _
     c.count_kept-tally.ensures _ (many)).0 in omega arith
 
@@ -208,8 +208,8 @@ pub put_one-offset_bounds-w-o : goal.put_one-offset_bounds-w-o
 put_one-offset_bounds-w-o t c =
     let many : ((c.count_kept-tally.result.remnant ≡ Nothing) × (c.match-which.many ≡ 0))
     ⊎ ((x : ℕ) × (c.count_kept-tally.result.remnant ≡ Several x) × (c.match-which.many ≡ x)) = elim c.match-which.branch [
-      | in-Nothing u ↦ inl (u.in-Nothing.is, u.many-is)
-      | in-Several u ↦ inr (u.in-Several.several, u.in-Several.is, u.many-is)
+      | put_one-in-Nothing u ↦ inl (u.in-Nothing.is, u.many-is)
+      | put_one-in-Several u ↦ inr (u.in-Several.several, u.in-Several.is, u.many-is)
     ] in let h = (vary_room _ _ _ _ _ _ c.requires _ _
     c.count_kept-tally.ensures _ (many)).0 in omega arith
 
@@ -217,8 +217,8 @@ pub put_one-bounds-w-o : goal.put_one-bounds-w-o
 put_one-bounds-w-o t c =
     let many : ((c.count_kept-tally.result.remnant ≡ Nothing) × (c.match-which.many ≡ 0))
     ⊎ ((x : ℕ) × (c.count_kept-tally.result.remnant ≡ Several x) × (c.match-which.many ≡ x)) = elim c.match-which.branch [
-      | in-Nothing u ↦ inl (u.in-Nothing.is, u.many-is)
-      | in-Several u ↦ inr (u.in-Several.several, u.in-Several.is, u.many-is)
+      | put_one-in-Nothing u ↦ inl (u.in-Nothing.is, u.many-is)
+      | put_one-in-Several u ↦ inr (u.in-Several.several, u.in-Several.is, u.many-is)
     ] in let h =
     (vary_room _ _ _ _ _ _ c.requires _ _ c.count_kept-tally.ensures _
     (many)).1 in
@@ -228,8 +228,8 @@ pub put_one-overflow_add-o : goal.put_one-overflow_add-o
 put_one-overflow_add-o t c =
     let many : ((c.count_kept-tally.result.remnant ≡ Nothing) × (c.match-which.many ≡ 0))
     ⊎ ((x : ℕ) × (c.count_kept-tally.result.remnant ≡ Several x) × (c.match-which.many ≡ x)) = elim c.match-which.branch [
-      | in-Nothing u ↦ inl (u.in-Nothing.is, u.many-is)
-      | in-Several u ↦ inr (u.in-Several.several, u.in-Several.is, u.many-is)
+      | put_one-in-Nothing u ↦ inl (u.in-Nothing.is, u.many-is)
+      | put_one-in-Several u ↦ inr (u.in-Several.several, u.in-Several.is, u.many-is)
     ] in let h =
     (vary_room _ _ _ _ _ _ c.requires _ _ c.count_kept-tally.ensures _
     (many)).0 in omega arith
@@ -238,8 +238,8 @@ pub put_one-put_alternatives-at-requires : goal.put_one-put_alternatives-at-requ
 put_one-put_alternatives-at-requires t c =
     let many : ((c.count_kept-tally.result.remnant ≡ Nothing) × (c.match-which.many ≡ 0))
     ⊎ ((x : ℕ) × (c.count_kept-tally.result.remnant ≡ Several x) × (c.match-which.many ≡ x)) = elim c.match-which.branch [
-      | in-Nothing u ↦ inl (u.in-Nothing.is, u.many-is)
-      | in-Several u ↦ inr (u.in-Several.several, u.in-Several.is, u.many-is)
+      | put_one-in-Nothing u ↦ inl (u.in-Nothing.is, u.many-is)
+      | put_one-in-Several u ↦ inr (u.in-Several.several, u.in-Several.is, u.many-is)
     ] in (
       omega (arith, c.decreases),
       vary_offers _ _ _ _ _ _ c.requires _ _ c.count_kept-tally.ensures
@@ -250,8 +250,8 @@ pub put_one-shape_of-w : goal.put_one-shape_of-w
 put_one-shape_of-w t c =
     let many : ((c.count_kept-tally.result.remnant ≡ Nothing) × (c.match-which.many ≡ 0))
     ⊎ ((x : ℕ) × (c.count_kept-tally.result.remnant ≡ Several x) × (c.match-which.many ≡ x)) = elim c.match-which.branch [
-      | in-Nothing u ↦ inl (u.in-Nothing.is, u.many-is)
-      | in-Several u ↦ inr (u.in-Several.several, u.in-Several.is, u.many-is)
+      | put_one-in-Nothing u ↦ inl (u.in-Nothing.is, u.many-is)
+      | put_one-in-Several u ↦ inr (u.in-Several.several, u.in-Several.is, u.many-is)
     ] in (vary_several _ _ _ _ _ _ c.requires _ _
     c.count_kept-tally.ensures _ (many)
     _ _ c.put_alternatives-at.ensures).0.len
@@ -260,7 +260,7 @@ pub put_one-returns : goal.put_one-returns
 put_one-returns t c =
     let many : ((c.count_kept-tally.result.remnant ≡ Nothing) × (c.match-which.many ≡ 0))
     ⊎ ((x : ℕ) × (c.count_kept-tally.result.remnant ≡ Several x) × (c.match-which.many ≡ x)) = elim c.match-which.branch [
-      | in-Nothing u ↦ inl (u.in-Nothing.is, u.many-is)
-      | in-Several u ↦ inr (u.in-Several.several, u.in-Several.is, u.many-is)
+      | put_one-in-Nothing u ↦ inl (u.in-Nothing.is, u.many-is)
+      | put_one-in-Several u ↦ inr (u.in-Several.several, u.in-Several.is, u.many-is)
     ] in λ d. vary_several _ _ _ _ _ _ d _ _ c.count_kept-tally.ensures _
     (many) _ _ c.put_alternatives-at.ensures
