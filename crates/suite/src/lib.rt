@@ -53,7 +53,8 @@ fn each(
         let seen = one(test, words, res, working);
         held = noted(held, test, seen);
         note(running, held);
-        counts = raised(counts, test, seen);
+        let next = raised(counts, test, seen);
+        counts = next;
         i += 1;
     }
     counts
