@@ -10,7 +10,10 @@ fail() {
 # The crates that $1 stands on, itself among them, as crates.txt has them.
 needed() {
     awk -v want="$1" '
-        /^[a-z]/ { crate = $1; sub(/:$/, "", crate); listed[crate] = 1; for (i = 2; i <= NF; i++) on[crate] = on[crate] " " $i }
+        /^[a-z]/ {
+            crate = $1; sub(/:$/, "", crate); listed[crate] = 1
+            for (i = 2; i <= NF; i++) if ($i !~ /:$/) on[crate] = on[crate] " " $i
+        }
         END {
             count = 1; queue[1] = want; seen[want] = 1
             for (at = 1; at <= count; at++) {
@@ -36,44 +39,44 @@ progress() {
     local total=$1 begun=$SECONDS ready=0 elapsed left line
     while IFS= read -r line; do
         case "$line" in
-            "rt: "*" proved ("*) ready=$((ready + 1)) ;;
+            "logic=proved "*) ready=$((ready + 1)) ;;
             *) continue ;;
         esac
         [ -t 2 ] || continue
         elapsed=$((SECONDS - begun))
         left=""
-        [ "$ready" -lt 3 ] || [ "$elapsed" -lt 5 ] || left=", about $(spoken_time $((elapsed * (total - ready) / ready))) left"
-        printf '\r\033[K%s: proving what it runs: crate %d of %d, %s%s' \
+        [ "$ready" -lt 3 ] || [ "$elapsed" -lt 5 ] || left=", at most about $(spoken_time $((elapsed * (total - ready) / ready))) left"
+        printf '\r\033[K%s: proving what it runs: crate %d of at most %d, %s%s' \
             "$name" "$ready" "$total" "$(spoken_time "$elapsed")" "$left" >&2
     done
     [ ! -t 2 ] || printf '\r\033[K' >&2
 }
 
+# Whether the file $1 is there, and no crate has changed since it was built.
+is_new() {
+    [ -e "$1" ] && [ -z "$(find "$top/crates.txt" "$top"/crates/*/{src,specs,proofs} -newer "$1" -print -quit 2>/dev/null)" ]
+}
+
 # Proves and builds the program $1, if something has changed since it was built. What the prover says goes to a file; a
-# crate that is proved stays so, and a run that was interrupted goes on where it was.
+# crate that is proved stays so, and a run that was interrupted goes on where it was. `rt run` also runs the program once, on no input.
 build() {
-    local built=$top/target/bin/$1 log=$top/target/$1.log total
+    local built=$top/crates/$1/out/$1 log=$top/out/$1.log total
     command -v rt >/dev/null || fail "rt, the command of the Rattle kit, is not in the path"
-    if [ -x "$built" ] && [ -z "$(find "$top/crates" "$top/crates.txt" -newer "$built" -print -quit)" ]; then
+    if is_new "$built"; then
         return
     fi
-    mkdir -p "$top/target"
+    mkdir -p "$top/out"
     total=$(needed "$1" | wc -l)
     echo "$name: proving and building what it runs, $total crates; the first time takes some minutes" >&2
-    if ! (cd "$top" && rt check "$1" && touch "target/bin/$1") </dev/null 2>&1 | tee "$log" | progress "$total" \
+    if ! (cd "$top/crates/$1" && rt run && touch "out/$1") </dev/null 2>&1 >/dev/null | tee "$log" | progress "$total" \
         || [ ! -x "$built" ]; then
-        fail "the program could not be built; what the prover said is in target/$1.log"
+        fail "the program could not be built; what the prover said is in out/$1.log"
     fi
 }
 
-# How a program that was built is run: programs are for x86-64, and run under the kit's own loader and C library; on Arm the
-# kit has an emulator. Sets $run.
+# How a program that was built is run. Sets $run.
 runner() {
-    local kit tools
-    kit=$(dirname "$(dirname "$(readlink -f "$(command -v rt)")")")
-    tools=$kit/on/$(uname -m)/toolchain
-    run=("$tools/lib/ld-linux-x86-64.so.2" --library-path "$tools/lib" "$top/target/bin/$1")
-    [ "$(uname -m)" = x86_64 ] || run=("$tools/bin/qemu-x86_64" "${run[@]}")
+    run=("$top/crates/$1/out/$1")
 }
 
 # Takes the file $1 for standard input, if one is given.

@@ -20,9 +20,9 @@ SUITES_LIMIT = 340
 LIBRARIES_LIMIT = 350
 ROOTS = [
     ("theory", "Outcome", "Outcome"),
-    ("answering", "Number", "row-of"),
+    ("answering", "Number", "row_of"),
     ("theory", "FitTest", "FitGiven"),
-    ("fit", "Number", "number-of"),
+    ("fit", "Number", "number_of"),
     ("theory", "Demands", "Demand2"),
     ("theory", "Demands", "Demand3"),
 ]
@@ -34,18 +34,18 @@ FORMULAS = [("translate", "Translated", "Translated"), ("translate", "Answered",
 MALFORMED = [("answering", "Caused", "Caused"), ("malformed", "Malformed", "Reported"), ("malformed", "Part", "Part")]
 # what a suite leaves, when it is refused, and what is printed for its text
 SUITES = [("suite", "Suite", "Suited"), ("suite", "Refusals", "Refuses"), ("suite", "Expected", "FirstUnexpected"),
-    ("suite_text", "Report", "suite-printed")]
+    ("suite_text", "Report", "suite_printed")]
 # what a library's file is, what is read of one, listed and written, when it is refused, and what is printed for a text
 LIBRARIES = [("library", "File", "file"), ("library", "Rules", "Why"), ("library", "Rules", "WhyListed"), ("library", "Told", "FetchTold"),
-    ("library", "Told", "ListTold"), ("library", "Check", "block-checked"), ("library_writing", "Reasons", "WhyWritten"),
+    ("library", "Told", "ListTold"), ("library", "Check", "block_checked"), ("library_writing", "Reasons", "WhyWritten"),
     ("library_writing", "Told", "WriteTold"), ("library_text", "Serves", "serves")]
 # the program, the definitions that it is shown to agree with, and the theorem's file
 MADE_ONE = {
     ("theory", "Join", "join"): [("theory", "Net", "Joined"), ("theory", "Net", "Clash")],
-    ("theory", "Located", "clash-node?"): [("theory", "ClashNode", "ClashNode")],
+    ("theory", "Located", "clash_node?"): [("theory", "ClashNode", "ClashNode")],
     ("theory", "Reading", "decode"): [("theory", "LayoutOne", "Image")],
     ("descriptions", "Unified", "unified"): [("descriptions", "Rules", "Given")],
-    ("formulas", "Part", "part-graph"): [("formulas", "Part", "Definite"), ("formulas", "Part", "PartClashes")],
+    ("formulas", "Part", "part_graph"): [("formulas", "Part", "Definite"), ("formulas", "Part", "PartClashes")],
 }
 WORD = re.compile(r"[^\s(){}.;,@]+")
 DECLARED = re.compile(r"^( *)(?:abbrev |unfoldable )?(?:pub )?(?:(record|data) )?([^\s(){}:]+)(?: [^:]*)? :(?: |$)")
@@ -60,7 +60,7 @@ class File:
         self.lines = text.splitlines()
         self.brought = {}
         for crate_of, stem_of, items in re.findall(
-            r"^(?:unfoldable )?(?:pub )?use Rattle·(\w+?)(?:·specs)?\.specs\.(\w+)\.\{([^}]*)\}", text, re.M
+            r"^(?:unfoldable )?(?:pub )?use Rattle\.(\w+)\.specs\.(\w+)\.\{([^}]*)\}", text, re.M
         ):
             for item in items.split(","):
                 names = item.strip().split(" as ")
@@ -110,7 +110,7 @@ def file_of(crate, stem):
 
 def parts(word):
     """The names that a word may be an occurrence of: itself, or an operator whose part it is."""
-    return [word, f"_{word}_"]
+    return [word, f"◌{word}◌"]
 
 
 def reached(roots):
@@ -135,7 +135,7 @@ def reached(roots):
         block = file.blocks[at[2]]
         counted[at] = len(block)
         text = "\n".join(block)
-        for crate, stem, name in re.findall(r"Rattle·(\w+?)(?:·specs)?\.specs\.(\w+)\.([^\s(){}.;,@]+)", text):
+        for crate, stem, name in re.findall(r"Rattle\.(\w+)\.specs\.(\w+)\.([^\s(){}.;,@]+)", text):
             todo.append((crate, stem, name))
         for word in set(WORD.findall(text)):
             for name in parts(word):

@@ -5,9 +5,10 @@ A citation stands between backquotes and has one of these forms:
   theory:Rules.Given     the name is declared in specs/Rules.antt of the crate, or else in proofs/Rules.antt
   theory:Rules           the file is there, in specs/ or else in proofs/
   unify:fn unify, told   the crate's code declares these functions
-  unify:proof of unify   a file Proof.antt of the crate is of this function; several names as above
+  unify:proof of unify   the crate's code declares this function, whose proof the check has; several names as above. What is written of
+                         it, where anything is, stands under proofs/
   unify!nothing_written  the edit nothing_written.edit of the crate, under must-fail/ or edits/
-Every citation of every document has to be found, and every path that is named has to be there; in a path NAME stands
+Every citation of every document has to be found, and every path that is named has to be there, but for what is built; in a path NAME stands
 for a crate and NN for a number.
 - PROMISES has a block a promise: the promise, then `stated:`, `proved:` and two times `rules out: … (shown by …)`. The
   statement cites a definition or a function, the proof anything, and what shows a wrong answer is an edit, a theorem in
@@ -33,7 +34,7 @@ READ_FILES = {"formulas": ["Formula", "Part", "Draft", "Describe", "Known"], "si
               "translate": ["Translated", "Row", "Answered"], "roles": ["Faults", "Causes"], "faults": ["Hints"]}
 DOCS = sorted(TOP.glob("*.md")) + sorted(TOP.glob("docs/**/*.md"))
 CITED = re.compile(r"`(\w+)(?:(!)(\w+)|:(fn|proof of) ([\w, ]+)|:([A-Z]\w*)(?:\.([^`\s]+))?)`")
-PATH = re.compile(r"`((?:crates|second|docs|include|examples|bench|fuzz|mutation)/[^` ]+)`")
+PATH = re.compile(r"`((?:crates|commands|second|docs|include|examples|bench|fuzz|mutation|parked|tools)/[^` ]+)`")
 STANDS_FOR = re.compile(r"\b(?:NAME|NN)\b|\*")
 HEAD = re.compile(r"\*\*([^*]+)\*\* \(`(\w+)`\)")
 ALONE = "the contract alone"
@@ -64,13 +65,6 @@ def code(crate):
     return "\n".join(body(path) for path in sorted((TOP / "crates" / crate / "src").glob("*.rt")))
 
 
-@functools.cache
-def proved(crate):
-    """The functions of a crate that have a proof file; functions that call each other share one."""
-    files = (TOP / "crates" / crate / "proofs").rglob("Proof.antt")
-    return {name for file in files for name in file.parent.name.split("+")}
-
-
 def place(crate, stem, name=None):
     """The file that is meant: in specs/ or else in proofs/, and with a name the first of the two that declares it."""
     for part in ("specs", "proofs"):
@@ -85,10 +79,8 @@ def found(cited):
     crate, edit, edited, kind, names, stem, name = cited
     if edit:
         return any((TOP / "crates" / crate / folder / f"{edited}.edit").is_file() for folder in EDITS)
-    if kind == "fn":
-        return all(re.search(rf"\bfn {each}\b", code(crate)) for each in names.split(", "))
     if kind:
-        return all(each in proved(crate) for each in names.split(", "))
+        return all(re.search(rf"\bfn {each}\b", code(crate)) for each in names.split(", "))
     return place(crate, stem, name or None) is not None
 
 
@@ -146,7 +138,7 @@ def check_citations(path):
         elif not found(each):
             says(doc, f"not found: {written(each)}")
     for name in sorted(set(PATH.findall(text))):
-        if not STANDS_FOR.search(name) and not (TOP / name).exists():
+        if not STANDS_FOR.search(name) and "/out/" not in name and not (TOP / name).exists():
             says(doc, f"no file {name}")
     return len(cited)
 
@@ -229,7 +221,7 @@ def public(file):
 
 def instances(file):
     """The names that a file gives to the definition of the same file and name in another crate, made one for layout one."""
-    return set(re.findall(rf"^(\S+) = Rattle·\w+\.specs\.{file.stem}\.\1(?: [\w-]+)*$", body(file), re.M))
+    return set(re.findall(rf"^(\S+) = Rattle\.\w+\.specs\.{file.stem}\.\1(?: \w+)*$", body(file), re.M))
 
 
 def check_complete(path):

@@ -22,7 +22,7 @@ def read():
     for line in (TOP / "crates.txt").read_text(encoding="utf-8").splitlines():
         if line.strip() and not line.startswith("#"):
             name, _, others = line.partition(":")
-            below[name] = others.split()
+            below[name.split()[0]] = others.split()
     return {name: [other for other in others if other in below] for name, others in below.items()}
 
 

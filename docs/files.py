@@ -17,7 +17,7 @@ BEGIN, END = "<!-- files, by docs/files.py -->", "<!-- end of files -->"
 
 def crates():
     lines = (TOP / "crates.txt").read_text(encoding="utf-8").splitlines()
-    return [line.partition(":")[0] for line in lines if line.strip() and not line.startswith("#")]
+    return [line.partition(":")[0].split()[0] for line in lines if line.strip() and not line.startswith("#")]
 
 
 def opening(path):

@@ -36,33 +36,31 @@ repeated() {
 kit=$work/kit
 copy=$work/copy
 copy_commands() {
-    local tools=$kit/on/$(uname -m)/toolchain
-    mkdir -p "$kit/bin" "$tools/bin" "$tools/lib" "$copy/crates"
+    mkdir -p "$kit/bin" "$copy/crates"
     cp -r meet bublastyr commands "$copy/"
     touch "$copy/crates.txt"
     printf '#!/bin/sh\nexit 1\n' >"$kit/bin/rt"
-    printf '#!/usr/bin/env bash\nexec "${@: -1}"\n' | tee "$tools/bin/qemu-x86_64" >"$tools/lib/ld-linux-x86-64.so.2"
-    chmod +x "$kit/bin/rt" "$tools/bin/qemu-x86_64" "$tools/lib/ld-linux-x86-64.so.2"
+    chmod +x "$kit/bin/rt"
 }
 over_the_kit() { PATH=$kit/bin:$PATH "$copy/$1" "${@:2}"; }
 
 # In the copy, a program $1 that reads its input, prints $SAYS and ends as $ENDS says.
 copy_program() {
-    mkdir -p "$copy/target/bin"
-    printf '#!/bin/sh\ncat >/dev/null\nprintf "$SAYS"\neval "$ENDS"\n' >"$copy/target/bin/$1"
-    chmod +x "$copy/target/bin/$1"
+    mkdir -p "$copy/crates/$1/out"
+    printf '#!/bin/sh\ncat >/dev/null\nprintf "$SAYS"\neval "$ENDS"\n' >"$copy/crates/$1/out/$1"
+    chmod +x "$copy/crates/$1/out/$1"
     export SAYS ENDS
 }
 
 # In the copy, the command from $2 on for the program $1.
 stand_in() {
-    mkdir -p "$copy/target/bin"
-    printf '#!/bin/sh\nexec %s\n' "$(printf '%q ' "${@:2}")" >"$copy/target/bin/$1"
-    chmod +x "$copy/target/bin/$1"
+    mkdir -p "$copy/crates/$1/out"
+    printf '#!/bin/sh\nexec %s\n' "$(printf '%q ' "${@:2}")" >"$copy/crates/$1/out/$1"
+    chmod +x "$copy/crates/$1/out/$1"
 }
 
 # What a command says where the program $1 cannot be built.
 not_built() {
     printf '%s' "proving and building what it runs, 1 crates; the first time takes some minutes\n$name: the program could not be" \
-        " built; what the prover said is in target/$1.log"
+        " built; what the prover said is in out/$1.log"
 }

@@ -2,7 +2,7 @@
 
 The second program exits with 0 whatever it prints; `meet` has to exit as README says of what is printed.
 
-Usage: second/compare.py SEED COUNT, from anywhere; target/second/second must be built. The same
+Usage: second/compare.py SEED COUNT, from anywhere; out/second/second must be built. The same
 seed gives the same texts.
 """
 
@@ -75,7 +75,7 @@ def main():
         bad += ours[1] == b"bad input\n"
         if theirs[0] != 0 or ours != (status(number_of(theirs[1])), theirs[1]):
             DIFFERS.write_bytes(text)
-            sys.exit(f"compare: seed {seed}, text {index} (target/differs.txt): meet {ours}, second {theirs}")
+            sys.exit(f"compare: seed {seed}, text {index} (out/differs.txt): meet {ours}, second {theirs}")
     print(f"compare: {count} texts of seed {seed} answered alike, {bad} of them bad input")
 
 

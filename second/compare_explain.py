@@ -4,7 +4,7 @@ most are malformed.
 The program reads a call as `meet` does and prints the sentences of docs/EXPLAIN.md; it has to exit
 with 0 after number 0, with 1 after 6, 10 and 11, and with 2 after anything else.
 
-Usage: second/compare_explain.py SEED COUNT PROGRAM [ARGUMENT ..], from anywhere; target/second/second
+Usage: second/compare_explain.py SEED COUNT PROGRAM [ARGUMENT ..], from anywhere; out/second/second
 must be built. The same seed gives the same inputs.
 """
 

@@ -3,7 +3,7 @@
 The program reads one text from standard input, every byte of it, and prints as `second formula`
 does; its exit status is not looked at.
 
-Usage: second/compare_formula.py SEED COUNT PROGRAM [ARGUMENT ..], from anywhere; target/second/second
+Usage: second/compare_formula.py SEED COUNT PROGRAM [ARGUMENT ..], from anywhere; out/second/second
 must be built. The same seed gives the same texts.
 """
 

@@ -3,7 +3,7 @@ them wrote to the other.
 
 The program reads one text from standard input and prints as `second library` does; its exit status is not looked at.
 
-Usage: second/compare_library.py SEED COUNT PROGRAM [ARGUMENT ..], from anywhere; target/second/second must be built. The same seed
+Usage: second/compare_library.py SEED COUNT PROGRAM [ARGUMENT ..], from anywhere; out/second/second must be built. The same seed
 gives the same texts.
 """
 
@@ -71,7 +71,7 @@ def exchange(texts):
                 files += 1
                 if not reads_back(reader, file, text):
                     DIFFERS.write_bytes(text)
-                    sys.exit(f"compare: {reader[0]} does not read what {writer[0]} wrote (target/differs.txt)")
+                    sys.exit(f"compare: {reader[0]} does not read what {writer[0]} wrote (out/differs.txt)")
     print(f"compare: {files} files written by one are read by the other")
 
 

@@ -1,7 +1,7 @@
 """What the comparisons of a program with the second program share: running both on seeded random texts,
 one after another, up to the first that is answered differently.
 
-target/second/second must be built. The same seed gives the same texts.
+out/second/second must be built. The same seed gives the same texts.
 """
 
 import collections
@@ -10,8 +10,8 @@ import subprocess
 import sys
 
 TOP = pathlib.Path(__file__).resolve().parent.parent
-SECOND = TOP / "target" / "second" / "second"
-DIFFERS = TOP / "target" / "differs.txt"
+SECOND = TOP / "out" / "second" / "second"
+DIFFERS = TOP / "out" / "differs.txt"
 
 
 def second(*arguments, text=b""):
@@ -47,7 +47,7 @@ def compare(texts_of, answers_of, kind_of):
         found = answer(program, text)
         if found[1] != expected[1] or expected[0] not in (None, found[0]):
             DIFFERS.write_bytes(text)
-            sys.exit(f"compare: seed {seed}, text {index} (target/differs.txt): {program[0]} {found}, second {expected}")
+            sys.exit(f"compare: seed {seed}, text {index} (out/differs.txt): {program[0]} {found}, second {expected}")
         kinds[kind_of(expected[1])] += 1
     counts = ", ".join(f"{kind}: {kinds[kind]}" for kind in sorted(kinds))
     print(f"compare: {count} texts of seed {seed} answered alike; {counts}")

@@ -1,7 +1,7 @@
 """Runs both engines on seeded random calls of the second program's generator, all in one text, and holds what is printed to
 as many calls as there are, all alike.
 
-Usage: second/cross.py SEED COUNT COMMAND.., from anywhere, where COMMAND reads calls as `./bublastyr cross` does; target/second/second
+Usage: second/cross.py SEED COUNT COMMAND.., from anywhere, where COMMAND reads calls as `./bublastyr cross` does; out/second/second
 must be built. The same seed gives the same calls.
 """
 

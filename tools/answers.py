@@ -30,10 +30,16 @@ def need_key(name):
         (r"^overflow-(add|sub|mul|shl|shr|cast|step|neg)-", r"\1-"),
         (r"^slice-bounds-(.*)-(start|end)(-\d+)?$", r"part-\1-\2\3"),
         (r"^nonzero-(div|rem)-", r"\1-"),
-        (r"^enum-known-", "enum-known-"),
+        (r"^(.*?)loop(\d*)-holds", r"\1loop\2-init"),
+        (r"^(.*?)loop(\d*)-less", r"\1loop\2-smaller"),
+        (r"^(.*?)loop(\d*)-again", r"\1loop\2-preserved"),
     ):
         it = re.sub(a, b, it)
     return it
+
+
+# fields of a step, by their older names
+LATER = {"inv": "invariant", "kept": "auto", "last": "new", "taken": "true", "left": "false"}
 
 
 class Function:
@@ -55,13 +61,15 @@ class Function:
     def step(self, place, field, rest):
         """The new path of `c.FIELD.rest` at the place, and how many of rest it uses up; None where it is not known."""
         chain = self.chain(place)
+        if rest and rest[0] in LATER and (rest[0] not in ("taken", "left") or re.match(r"if\d*$|.*-test$", plain(field))):
+            rest[0] = LATER[rest[0]]
         if field in ("args", "ranges", "lifetimes", "well_formed", "well-formed", "type_inv", "type-inv"):
             return "c." + plain_back(field), 0
         if field in ("requires", "pre"):
             return self.requires(rest)
         for k in chain:
             _, parent, (old, new), callee, _ = self.of["places"][k]
-            if plain(old) != plain(field):
+            if plain(old) != plain(field) and plain(old) != plain(field)[:1].lower() + plain(field)[1:]:
                 continue
             # an arm of a match may have taken the step in
             for j in chain:
@@ -74,6 +82,7 @@ class Function:
                                 best = (f"c.{arm[0]}.{name}", len(path))
                     if best:
                         return best
+            rest = ["new"] + rest[1:] if rest[:1] == ["last"] and callee else rest
             if rest[:1] in (["new"], ["auto"]) and callee in self.of["params"]:
                 # once a tuple by the place of the parameter, now by its name
                 k = 1
@@ -82,6 +91,17 @@ class Function:
                 params = self.of["params"][callee]
                 if k < len(rest) and rest[k] == "0" and k - 1 < len(params):
                     return f"c.{new}.{rest[0]}.{params[k - 1]}", k + 1
+            told = self.of["clauses"][k]
+            if told and rest[:1] == ["ensures"]:
+                used, fields = 1, told["fields"]
+                for n, name in enumerate(fields):
+                    if n == len(fields) - 1:
+                        return f"c.{new}.ensures.{name}", used
+                    if used >= len(rest):
+                        return nested([f"c.{new}.ensures.{it}" for it in fields[n:]]), used
+                    if rest[used] == "0":
+                        return f"c.{new}.ensures.{name}", used + 1
+                    used += 1
             if plain(old).startswith("match") and rest[:1] and rest[0].startswith("keys"):
                 others = [
                     p[2][1].split("in-")[1].split("-")[0]
@@ -94,6 +114,18 @@ class Function:
         return None
 
     def requires(self, rest):
+        """In a cycle of calls the measure stood before the clauses."""
+        skip = 0
+        if self.prefix:
+            if rest[:1] == ["0"]:
+                return "c.decreases", 1
+            if rest[:1] != ["1"]:
+                return None
+            skip, rest = 1, rest[1:]
+        found = self.clauses(rest)
+        return found and (found[0], found[1] + skip)
+
+    def clauses(self, rest):
         pre = self.of.get("pre")
         if not pre:
             return "c.requires", 0
@@ -261,7 +293,7 @@ class Converter:
             r = subprocess.run(["rt", "check", "--generated", d, "--old-names"], cwd=self.crate, capture_output=True, text=True)
             file = Path(d) / "names.json"
             if not file.is_file():
-                print(r.stdout[-3000:], r.stderr[-2000:])
+                print(*re.findall(r"(?m)^.*(?:error|did not build).*$", r.stdout + r.stderr)[:4], sep="\n")
                 raise SystemExit(f"{self.name}: no names")
             return json.loads(file.read_text())
 
@@ -299,6 +331,9 @@ class Converter:
             return
         where = str(file.relative_to(self.crate / "proofs").parent)
         head, uses, helpers, answers, invariants = [], [], [], [], []
+        self.inside, self.alias = {}, {}
+        for found in re.finditer(rf"\.Lts-({W}) as ({W})", text):
+            self.alias[plain(found.group(2))] = found.group(1)
         chunks = split_items(text)
         merged = []
         for chunk in chunks:
@@ -315,13 +350,14 @@ class Converter:
                 merged.append([name, lines, comments_of(chunk), False])
         if merged and merged[0][2]:
             head = head or merged[0][2]
+        self.aliases = {m.group(2): m.group(1) for m in re.finditer(r"^use (\S+) as (\S+)$", text, re.M)}
         for name, lines, notes, _ in merged:
             first = lines[0]
             joined = "\n".join(lines)
             if first.startswith("use "):
                 uses.append(joined)
                 continue
-            if re.search(r"(spec|closed)\b.*: .*statement", first) or "tie.close" in joined or re.search(r"\bclose\b", first):
+            if re.search(r"(spec|closed)\b.*: .*statement", first) or "tie.close" in joined or re.search(r"(?<![\w.-])close(?![\w-])", first):
                 continue
             sig = re.match(rf"(?:abbrev |pub )*({W})((?:.|\n)*?)\n({re.escape(name)})(?=\s)((?:.|\n)*)$", joined)
             opened = re.search(r"\n(unfolding [^\n]*)\n", joined)
@@ -329,6 +365,12 @@ class Converter:
                 helpers.append(joined)
                 continue
             typ, rest = sig.group(2), sig.group(4)
+            inner = re.match(rf"\s*:\s*((?:\(\w+ : ℕ\)(?: → | ))*)\((\w+) : \S+\.(?:In|At|After|Then|Else|Arm|Start|Joined)[^()]*(?:\([^()]*\)[^()]*)*\) →((?:.|\n)*)$", typ)
+            if inner and not re.search(r"\.Need-", typ):
+                found = re.match(r"((?:\s+[^\s=]+)*)\s*=((?:.|\n)*)$", rest)
+                if found:
+                    self.inside[name] = (inner.group(2), inner.group(3).strip(), found.group(1).split(), found.group(2).strip())
+                    continue
             need = re.search(rf"(\S*)\.Need-({W})", typ)
             loop = re.search(rf"(\S+)\.((?:invariant|decreases)-{W}|(?:invariant|decreases))", typ)
             measure = is_cycle and re.search(r"Measures ", typ)
@@ -339,7 +381,7 @@ class Converter:
                 member = self.member(members, loop.group(1), name, is_cycle)
                 self.invariant(file, member, loop.group(2), rest, invariants)
             elif measure:
-                self.measure(file, members, name, rest, invariants)
+                self.measure(file, members, name, typ, rest, invariants)
             elif re.search(r"\bIn \d|Claims|\.Kinds|-kinds", typ):
                 continue
             else:
@@ -350,6 +392,14 @@ class Converter:
         if not is_cycle:
             return members[0]
         prefix = prefix.lstrip("(")
+        label = re.search(r"\.Lts-([^.]+)$", self.aliases.get(prefix, ""))
+        if label:
+            for m in members:
+                if plain(m.prefix) == plain(label.group(1)):
+                    return m
+        for m in members:
+            if self.alias.get(plain(prefix)) == m.prefix or self.alias.get(plain(name).split("-")[0]) == m.prefix:
+                return m
         for m in members:
             if plain(prefix) in (plain(m.prefix) + "-lts", plain(m.prefix)) or plain(name).startswith(plain(m.prefix) + "-"):
                 return m
@@ -371,12 +421,37 @@ class Converter:
         if AUTO.match(body) and not opened:
             return
         args = [a for a in args if a not in ("κs", "κ", "_")]
+        body = re.sub(rf"let \(({W}), ({W})\) =\s*((?:c|{W})(?:\.{W})*) in", r"let \1 = \3.0 in let \2 = \3.1 in", body)
+        body = self.with_insides(body)
         body = self.paths(file, f, place, body, old)
         fields = next((v for k, v in f.of["asked"].items() if need_key(k) == key), None)
+        if not fields and key.startswith("returns"):
+            fields = self.own_ensures(f)
         if fields:
             body = as_record(body, fields)
         stem = f.of.get("stem") or ""
         answers.append((stem + new, args, body, opened.group(1) if opened else None))
+
+    def own_ensures(self, f):
+        """The names of the function's own clauses, where it has several."""
+        name = f.prefix or f.path.split(".")[-1].lstrip("+")
+        for file in sorted(self.crate.glob("src/**/*.rt")):
+            found = re.search(rf"\bfn {name}\b[^{{]*?\n((?:    (?:requires|ensures)(?:.|\n)*?)?)\n\{{", file.read_text())
+            if found:
+                names = re.findall(r"(?m)^    ensures (\w+) \{", found.group(1))
+                return names if len(names) > 1 else None
+        return None
+
+    def with_insides(self, body):
+        """A lemma over a step of the code becomes a `let` in each answer that cites it."""
+        for name, (var, kind, args, term) in reversed(list(self.inside.items())):
+            call = re.compile(rf"(?<![^\s(){{}};,@]){re.escape(name)}((?: [A-Za-z]\w*)*?) ((?:c)(?:\.before)*)(?![^\s(){{}};,])")
+            if not call.search(body):
+                continue
+            own = lambda it: re.sub(rf"(?<![^\s(){{}};,@]){re.escape(var)}(?=[\s.(){{}};,]|$)", "c", it)
+            other = re.sub(rf"(?<![^\s(){{}};,@]){re.escape(args[-1])}(?=[\s.(){{}};,]|$)", "c", term) if args else term
+            body = f"\n    let {name} : {own(kind)} = {other} in" + call.sub(name, body)
+        return body
 
     def paths(self, file, f, place, body, what):
         alias = {"c": None}
@@ -393,16 +468,29 @@ class Converter:
                 fields = fields[1:]
             if not fields:
                 return "c"
-            got = f.step(place, fields[0], fields[1:])
+            rest = fields[1:]
+            got = f.step(place, fields[0], rest)
             if not got:
                 return None
             new, used = got
-            return ".".join([new] + fields[1 + used :])
+            more = rest[used:]
+            if more and re.match(r"loop", plain(fields[0])) and more[0] == "inv":
+                more[0] = "invariant"
+            if more and re.match(r"if\d|loop\d*-test", plain(fields[0])):
+                more[0] = {"taken": "true", "left": "false"}.get(more[0], more[0])
+            if more and re.match(r"(if|match)\d*$", plain(fields[0])) and more[0] in ("branch", "came"):
+                more[0] = "branch-raw"
+            return ".".join([new] + more)
 
         # aliases first
         out, at = "", 0
         lets = re.compile(rf"let ({W}) =\s*(c(?:\.{W})*|{W}(?:\.{W})+) in(?=\s)\s?")
-        text = body
+        text = re.sub(rf"\.«({W})»", r".\1", body)
+        while True:
+            plainer = re.sub(rf"(?<![^\s(,])\(({W}(?:\.{W})*)\)(?=\.{W})", r"\1", text)
+            if plainer == text:
+                break
+            text = plainer
         while True:
             found = None
             for m in lets.finditer(text):
@@ -424,7 +512,7 @@ class Converter:
             key = f"\x01{alias_name}\x01{len(alias)}"
             alias[key] = stripped
             after = re.sub(
-                rf"(?<![^\s(){{}};,@«»\[\]\\λ]){re.escape(alias_name)}(?=(?:\.{W})*(?:[\s(){{}};,\[\]]|$))",
+                rf"(?<![^\s(){{}};,@«»\[\]\\λ]){re.escape(alias_name)}(?!\s+=\s)(?=(?:\.{W})*(?:[\s(){{}};,\[\]]|$))",
                 lambda it: key,
                 after,
             )
@@ -441,6 +529,10 @@ class Converter:
             return new
 
         text = PATH.sub(one, text)
+        if "branch-raw" in text:
+            text = re.sub(r"(?<=\.\d)\.taken(?![\w-])", ".true", text)
+            text = re.sub(r"(?<=\.\d)\.left(?![\w-])", ".false", text)
+        text = re.sub(rf"let {W} = c\.decreases in\s*", "", text)
         return text
 
     def invariant(self, file, f, which, rest, invariants):
@@ -463,9 +555,13 @@ class Converter:
         body = PATH.sub(lambda m: table.get(m.group(1), m.group(1)) + m.group(2), body)
         invariants.append((f"{kind}-{(f.of.get('stem') or '')}{new}", body))
 
-    def measure(self, file, members, name, rest, invariants):
+    def measure(self, file, members, name, typ, rest, invariants):
         label = re.sub(r"^(?:μ|measure)-?_?", "", name)
-        f = next((m for m in members if plain(m.prefix) == plain(label)), members[0])
+        kinds = re.search(r"Measures \d+ (\S+?)\.ps", typ)
+        of = kinds and re.search(r"([^.]+)\.Kinds$", self.aliases.get(kinds.group(1), ""))
+        if of:
+            label = of.group(1)
+        f = next((m for m in members if plain(m.prefix) == plain(label) or self.alias.get(plain(label)) == m.prefix), members[0])
         found = re.match(r"((?:\s+[^\s=]+)*)\s*=((?:.|\n)*)$", rest)
         params = next((v for m in members for k, v in m.of["params"].items() if k.split("::")[-1] == f.prefix), None)
         names = found.group(1).split()
@@ -476,7 +572,7 @@ class Converter:
         body = re.sub(
             rf"(?<![^\s(){{}};,]){a}((?:\.1)*)\.0(?![0-9])", lambda m: "l." + params[len(m.group(1)) // 2], found.group(2)
         )
-        invariants.append((f"decreases-{f.prefix}", body))
+        invariants.append((f"decreases-{f.prefix}", re.sub(r"^\s*\n", "\n", body)))
 
     def write(self, file, head, uses, helpers, answers, invariants, where):
         folder = file.parent
@@ -521,7 +617,7 @@ def marks_of(alias):
 def is_used(name, text):
     if "◌" in name:
         parts = [p for p in name.split("◌") if p]
-        return all(re.search(rf"(?<![^\s(){{}};,]){re.escape(p)}(?![^\s(){{}};,])", text) for p in parts)
+        return name in text or all(re.search(rf"(?<![^\s(){{}};,]){re.escape(p)}(?![^\s(){{}};,])", text) for p in parts)
     return bool(re.search(rf"(?<![^\s(){{}};,.\[\]@]){re.escape(name)}(?![^\s(){{}};,.\[\]@])", text))
 
 

@@ -21,6 +21,7 @@ pub spot_node : (es : List Entry) (s : Spots es) → NodeIn es (spot_number es s
 spot_node (e ∷ es) (inl x) = record { e = e; one = Memᴰ.head refl; j = x.0; below = x.1; is = refl }
 spot_node (e ∷ es) (inr y) = let r = spot_node es y in
     record { e = r.e; one = Memᴰ.tail r.one; j = r.j; below = r.below; is = r.is }
+spot_node [] s = elim s [ ]
 
 -- graphs that share no number have no two spots of one number
 pub spot_one : (es : List Entry) → EntriesApart es → (s t : Spots es) → spot_number es s ≡ spot_number es t → s ≡ t
@@ -34,6 +35,7 @@ spot_one (e ∷ es) a (inr x) (inl y) q =
     let b = y.1 in let c = r.below in let d = r.is in
     absurd (⊎_elim (λ o. omega arith) (λ o. omega arith) (a.0 r.e r.one).0)
 spot_one (e ∷ es) a (inr x) (inr y) q = ap {B = Spots (e ∷ es)} inr (spot_one es a.1 x y q)
+spot_one [] a s t q = elim s [ ]
 
 -- the spot of a node
 pub record Spotted (es : List Entry) (e : Entry) (j : ℕ) : Type 0 where
@@ -80,11 +82,13 @@ module _ (F T : List ℕ) (all : List Entry) (G : Pile) (tied : Tied F T all G) 
       Memᴰ (spot_number es s) G.R
   root_down (e ∷ es) i (inl x) r = let z : e.number + x.0 ≡ e.number = omega arith in rw z (tied.root e (i e (Memᴰ.head refl)))
   root_down (e ∷ es) i (inr y) r = root_down es (λ o m. i o (Memᴰ.tail m)) y r
+  root_down [] i s r = elim s [ ]
 
   pub atom_down : (es : List Entry) → ((e : Entry) → Memᴰ e es → Memᴰ e all) → (s : Spots es) (a : ℕ) →
       (beside (graphs es)).Atom s a → Memᴰ (spot_number es s) G.N × (G.A (spot_number es s) ≡ code_limit + a)
   atom_down (e ∷ es) i (inl x) a q = let r = tied.node e (i e (Memᴰ.head refl)) x.0 x.1 in (r.0, r.1 ∙ ap code q)
   atom_down (e ∷ es) i (inr y) a q = atom_down es (λ o m. i o (Memᴰ.tail m)) y a q
+  atom_down [] i s a q = elim s [ ]
 
   pub arc_down : (es : List Entry) → ((e : Entry) → Memᴰ e es → Memᴰ e all) → (s : Spots es) (f : ℕ) (t : Spots es) →
       (beside (graphs es)).Arc s f t
@@ -93,6 +97,7 @@ module _ (F T : List ℕ) (all : List Entry) (G : Pile) (tied : Tied F T all G) 
   arc_down (e ∷ es) i (inl x) f (inr y) a = absurd a
   arc_down (e ∷ es) i (inr x) f (inl y) a = absurd a
   arc_down (e ∷ es) i (inr x) f (inr y) a = arc_down es (λ o m. i o (Memᴰ.tail m)) x f y a
+  arc_down [] i s f t a = elim s [ ]
 
   abbrev num : Spots all → ℕ
   num = spot_number all
@@ -157,6 +162,7 @@ module _ (F T : List ℕ) (all : List Entry) (G : Pile) (tied : Tied F T all G) 
     root_zero : (es : List Entry) (s : Spots es) → spot_number es s ≡ 0 → (beside (graphs es)).Root s
     root_zero (e ∷ es) (inl x) q = omega arith
     root_zero (e ∷ es) (inr y) q = root_zero es y q
+    root_zero [] s q = elim s [ ]
 
     root_up : (x : ℕ) (s : Spots all) → Memᴰ x G.R → Stands x s → (beside (graphs all)).Root s
     root_up x s m (inr q) = q.1

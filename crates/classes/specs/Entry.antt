@@ -17,6 +17,7 @@ Spots es = (beside (graphs es)).Spot
 abbrev pub spot_number : (es : List Entry) → Spots es → ℕ
 spot_number (e ∷ es) (inl x) = e.number + x.0
 spot_number (e ∷ es) (inr y) = spot_number es y
+spot_number [] x' = elim x' [ ]
 
 -- the graph K lies in the words of w: at g its header, after it its nodes, the first of which has the number n
 pub record Lies (w : List ℕ) (g n : ℕ) (K : Graph) : Type 0 where

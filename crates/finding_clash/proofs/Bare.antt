@@ -72,6 +72,7 @@ module _ (g h : Graph) where
   bears_none : (x : (beside (bared g ∷ bared h ∷ [])).Spot) (a : ℕ) → (beside (bared g ∷ bared h ∷ [])).Atom x a → ⊥
   bears_none (inl x) a u = no_atom g x.0 a u
   bears_none (inr (inl y)) a u = no_atom h y.0 a u
+  bears_none (inr (inr x3)) a u = elim x3 [ ]
 
   pub bare_agrees : Agree (bared g ∷ bared h ∷ [])
   bare_agrees (atoms {x} s a b u v ne) = bears_none x a u
@@ -98,38 +99,48 @@ module _ (g h : Graph) where
   abbrev pub to_bare : Full.Spot → Bare.Spot
   to_bare (inl x) = inl (x.0, subst (λ (n : ℕ). x.0 < n) (sym (length_bare g)) x.1)
   to_bare (inr (inl y)) = inr (inl (y.0, subst (λ (n : ℕ). y.0 < n) (sym (length_bare h)) y.1))
+  to_bare (inr (inr x'')) = elim x'' [ ]
 
   abbrev pub from_bare : Bare.Spot → Full.Spot
   from_bare (inl x) = inl (x.0, subst (λ (n : ℕ). x.0 < n) (length_bare g) x.1)
   from_bare (inr (inl y)) = inr (inl (y.0, subst (λ (n : ℕ). y.0 < n) (length_bare h) y.1))
+  from_bare (inr (inr x'')) = elim x'' [ ]
 
   pub number_to : (x : Full.Spot) → node_number (bared g) (bared h) (to_bare x) ≡ node_number g h x
   number_to (inl x) = refl
   number_to (inr (inl y)) = ap (λ (n : ℕ). n + y.0) (length_bare g)
+  number_to (inr (inr x'')) = elim x'' [ ]
 
   pub number_from : (x : Bare.Spot) → node_number g h (from_bare x) ≡ node_number (bared g) (bared h) x
   number_from (inl x) = refl
   number_from (inr (inl y)) = ap (λ (n : ℕ). n + y.0) (sym (length_bare g))
+  number_from (inr (inr x'')) = elim x'' [ ]
 
   root_to : (x : Full.Spot) → Full.Root x → Bare.Root (to_bare x)
   root_to (inl x) r = r
   root_to (inr (inl y)) r = r
+  root_to (inr (inr x3)) r = elim x3 [ ]
 
   root_from : (x : Bare.Spot) → Bare.Root x → Full.Root (from_bare x)
   root_from (inl x) r = r
   root_from (inr (inl y)) r = r
+  root_from (inr (inr x3)) r = elim x3 [ ]
 
   arc_to : (x : Full.Spot) (f : ℕ) (y : Full.Spot) → Full.Arc x f y → Bare.Arc (to_bare x) f (to_bare y)
   arc_to (inl x) f (inl y) u = subst (Memᴰ (f, y.0)) (sym (arcs_bare g x.0)) u
   arc_to (inl x) f (inr y) u = absurd u
   arc_to (inr x) f (inl y) u = absurd u
   arc_to (inr (inl x)) f (inr (inl y)) u = subst (Memᴰ (f, y.0)) (sym (arcs_bare h x.0)) u
+  arc_to (inr (inl x)) f (inr (inr x6)) u = elim x6 [ ]
+  arc_to (inr (inr x5)) f (inr y) u = elim x5 [ ]
 
   arc_from : (x : Bare.Spot) (f : ℕ) (y : Bare.Spot) → Bare.Arc x f y → Full.Arc (from_bare x) f (from_bare y)
   arc_from (inl x) f (inl y) u = subst (Memᴰ (f, y.0)) (arcs_bare g x.0) u
   arc_from (inl x) f (inr y) u = absurd u
   arc_from (inr x) f (inl y) u = absurd u
   arc_from (inr (inl x)) f (inr (inl y)) u = subst (Memᴰ (f, y.0)) (arcs_bare h x.0) u
+  arc_from (inr (inl x)) f (inr (inr x6)) u = elim x6 [ ]
+  arc_from (inr (inr x5)) f (inr y) u = elim x5 [ ]
 
   -- "once all classes are complete": the classes of the graphs without their atoms are those of the graphs, number by number
   pub same_bare : (x y : Full.Spot) (x' y' : Bare.Spot) → node_number g h x ≡ node_number (bared g) (bared h) x' →

@@ -65,10 +65,12 @@ module _ (g h : Graph) (cg : Canonical g) (ch : Canonical h) (fg : GraphFits g) 
   spot_atom : (x : N.Spot) → code_limit ≤ spot_head g h x → (a : ℕ) × N.Atom x a
   spot_atom (inl x) l = head_atom (nodeAt g x.0) (fits_at g x.0 fg) l
   spot_atom (inr (inl y)) l = head_atom (nodeAt h y.0) (fits_at h y.0 fh) l
+  spot_atom (inr (inr x3)) l = elim x3 [ ]
 
   atom_spot : (x : N.Spot) (a : ℕ) → N.Atom x a → spot_head g h x ≡ code_limit + a
   atom_spot (inl x) a u = ap head_of u
   atom_spot (inr (inl y)) a u = ap head_of u
+  atom_spot (inr (inr x3)) a u = elim x3 [ ]
 
   spot_arc : (x : N.Spot) → 0 < spot_head g h x → spot_head g h x < code_limit → (f : ℕ) × (z : N.Spot) × N.Arc x f z
   spot_arc (inl x) p l =
@@ -77,12 +79,15 @@ module _ (g h : Graph) (cg : Canonical g) (ch : Canonical h) (fg : GraphFits g) 
   spot_arc (inr (inl y)) p l =
       let (f, t, m) = head_arc (nodeAt h y.0) p l in
       (f, inr (inl (t, omega (arith, numbered_target 0 1 h ch y.0 f t m))), m)
+  spot_arc (inr (inr x4)) p l = elim x4 [ ]
 
   arc_spot : (x : N.Spot) (f : ℕ) (z : N.Spot) → N.Arc x f z → (0 < spot_head g h x) × (spot_head g h x < code_limit)
   arc_spot (inl x) f (inl z) u = arc_head (nodeAt g x.0) f z.0 (fits_at g x.0 fg) u
   arc_spot (inl x) f (inr z) u = absurd u
   arc_spot (inr x) f (inl z) u = absurd u
   arc_spot (inr (inl x)) f (inr (inl z)) u = arc_head (nodeAt h x.0) f z.0 (fits_at h x.0 fh) u
+  arc_spot (inr (inl x)) f (inr (inr x6)) u = elim x6 [ ]
+  arc_spot (inr (inr x5)) f (inr z) u = elim x5 [ ]
 
   -- ---- labels that are the classes, and the heads
   module _ (L H : ℕ → ℕ) (together : (x y : N.Spot) → Same N (roots N) x y → L (node_number g h x) ≡ L (node_number g h y))

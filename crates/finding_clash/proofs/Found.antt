@@ -94,6 +94,7 @@ module _ (w : List ℕ) (c d b : ℕ) (w₁ w₂ : List ℕ) (stripped : Strips 
           let e = length_bare g in
           let n = number_second c b (length (bared g) + y.0) (omega arith) in
           ap (class holds) (sym n ∙ omega arith)
+      by_number (inr (inr x'')) = elim x'' [ ]
 
       together : (x y : Bare.Spot) → Same Bare (roots Bare) x y →
           L (node_number (bared g) (bared h) x) ≡ L (node_number (bared g) (bared h) y)

@@ -205,6 +205,7 @@ module _ (w : List ℕ) (long : SIZE ≤ length w) (g h : Graph) (b : ℕ) (lie 
           let l = y.1 in
           let p = moved_length b h in
           ap (λ (k : ℕ). get_or w₂ (MARKS + (k + y.0)) 0) e ∙ bared_two.heads y.0 (omega arith) ∙ moved_head b h y.0
+      strip_heads (inr (inr x'')) = elim x'' [ ]
 
 -- what `strip` promises
 pub strips : (w : List ℕ) (c d : ℕ) → Stripping w c d → (w₁ w₂ : List ℕ) → Bares w (WORDS + 1) c 0 w₁ →

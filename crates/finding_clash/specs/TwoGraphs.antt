@@ -29,6 +29,7 @@ pub record TwoLie (w : List ℕ) (g h : Graph) (b : ℕ) : Type 0 where
 abbrev pub spot_head : (g h : Graph) → (beside (g ∷ h ∷ [])).Spot → ℕ
 spot_head g h (inl x) = head_of (nodeAt g x.0)
 spot_head g h (inr (inl y)) = head_of (nodeAt h y.0)
+spot_head g h (inr (inr x'')) = elim x'' [ ]
 
 -- what taking the atoms out of both asks: they lie there, and have c and d nodes
 pub record Stripping (w : List ℕ) (c d : ℕ) : Type 0 where

@@ -10,57 +10,92 @@ use Rattle.loading.proofs.Sequels.{arcs_step, arcs_end}
 use Rattle.loading.proofs.Parts.{arc_there, arc_loads}
 use Rattle.loading.proofs.loading.load_arcs.Goals as goal
 
-there : (c : tie.In-loop invariant-loop decreases-loop) →
-    (c.before.loop.at + 1 < length c.before.before.args.ws.now)
-    × (get_or c.before.before.args.ws.now (c.before.loop.at + 1) 0 < input_limit) × (c.before.before.args.number ≤ input_limit)
-there c =
-    arc_there _ _ _ (asks_first _ _ _ _ _ _ (arcs_step _ (omega arith))
-    (asks _ _ _ _ _ _ _ _ _ _ c.before.loop.invariant.1 c.before.before.requires.1))
-
 pub loop-left-init : goal.loop-left-init
 loop-left-init c = (refl, begin _ _ _ _ _ _)
 
 pub offset_bounds-ws-at : goal.offset_bounds-ws-at
-offset_bounds-ws-at c = omega (arith, there c)
+offset_bounds-ws-at c =
+    let there : (c.loop-left.at + 1 < length c.args.ws.now)
+    × (get_or c.args.ws.now (c.loop-left.at + 1) 0 < input_limit) × (c.args.number ≤ input_limit) = arc_there _ _ _ (asks_first _ _ _ _ _ _ (arcs_step _ (omega arith))
+    (asks _ _ _ _ _ _ _ _ _ _ c.loop-left.invariant.1 c.requires.asked)) in omega (arith, there)
 
 pub bounds-ws-at : goal.bounds-ws-at
-bounds-ws-at c = omega (arith, there c)
+bounds-ws-at c =
+    let there : (c.loop-left.at + 1 < length c.args.ws.now)
+    × (get_or c.args.ws.now (c.loop-left.at + 1) 0 < input_limit) × (c.args.number ≤ input_limit) = arc_there _ _ _ (asks_first _ _ _ _ _ _ (arcs_step _ (omega arith))
+    (asks _ _ _ _ _ _ _ _ _ _ c.loop-left.invariant.1 c.requires.asked)) in omega (arith, there)
 
 pub overflow_add-t : goal.overflow_add-t
-overflow_add-t c = omega (arith, there c)
+overflow_add-t c =
+    let there : (c.loop-left.at + 1 < length c.args.ws.now)
+    × (get_or c.args.ws.now (c.loop-left.at + 1) 0 < input_limit) × (c.args.number ≤ input_limit) = arc_there _ _ _ (asks_first _ _ _ _ _ _ (arcs_step _ (omega arith))
+    (asks _ _ _ _ _ _ _ _ _ _ c.loop-left.invariant.1 c.requires.asked)) in omega (arith, there)
 
 pub offset_bounds-t-shift : goal.offset_bounds-t-shift
-offset_bounds-t-shift c = omega (arith, there c)
+offset_bounds-t-shift c =
+    let there : (c.loop-left.at + 1 < length c.args.ws.now)
+    × (get_or c.args.ws.now (c.loop-left.at + 1) 0 < input_limit) × (c.args.number ≤ input_limit) = arc_there _ _ _ (asks_first _ _ _ _ _ _ (arcs_step _ (omega arith))
+    (asks _ _ _ _ _ _ _ _ _ _ c.loop-left.invariant.1 c.requires.asked)) in omega (arith, there)
 
 pub bounds-t-shift : goal.bounds-t-shift
-bounds-t-shift c = omega (arith, there c)
+bounds-t-shift c =
+    let there : (c.loop-left.at + 1 < length c.args.ws.now)
+    × (get_or c.args.ws.now (c.loop-left.at + 1) 0 < input_limit) × (c.args.number ≤ input_limit) = arc_there _ _ _ (asks_first _ _ _ _ _ _ (arcs_step _ (omega arith))
+    (asks _ _ _ _ _ _ _ _ _ _ c.loop-left.invariant.1 c.requires.asked)) in omega (arith, there)
 
 pub overflow_add-t-in-loop-left : goal.overflow_add-t-in-loop-left
-overflow_add-t-in-loop-left c = omega (arith, there c)
+overflow_add-t-in-loop-left c =
+    let there : (c.loop-left.at + 1 < length c.args.ws.now)
+    × (get_or c.args.ws.now (c.loop-left.at + 1) 0 < input_limit) × (c.args.number ≤ input_limit) = arc_there _ _ _ (asks_first _ _ _ _ _ _ (arcs_step _ (omega arith))
+    (asks _ _ _ _ _ _ _ _ _ _ c.loop-left.invariant.1 c.requires.asked)) in omega (arith, there)
 
 pub offset_bounds-ws-at-in-loop-left : goal.offset_bounds-ws-at-in-loop-left
-offset_bounds-ws-at-in-loop-left c = omega (arith, there c)
+offset_bounds-ws-at-in-loop-left c =
+    let there : (c.loop-left.at + 1 < length c.args.ws.now)
+    × (get_or c.args.ws.now (c.loop-left.at + 1) 0 < input_limit) × (c.args.number ≤ input_limit) = arc_there _ _ _ (asks_first _ _ _ _ _ _ (arcs_step _ (omega arith))
+    (asks _ _ _ _ _ _ _ _ _ _ c.loop-left.invariant.1 c.requires.asked)) in omega (arith, there)
 
 pub bounds-ws-at-in-loop-left : goal.bounds-ws-at-in-loop-left
-bounds-ws-at-in-loop-left c = omega (arith, there c)
+bounds-ws-at-in-loop-left c =
+    let there : (c.loop-left.at + 1 < length c.args.ws.now)
+    × (get_or c.args.ws.now (c.loop-left.at + 1) 0 < input_limit) × (c.args.number ≤ input_limit) = arc_there _ _ _ (asks_first _ _ _ _ _ _ (arcs_step _ (omega arith))
+    (asks _ _ _ _ _ _ _ _ _ _ c.loop-left.invariant.1 c.requires.asked)) in omega (arith, there)
 
 pub overflow_add-t-in-loop-left-2 : goal.overflow_add-t-in-loop-left-2
-overflow_add-t-in-loop-left-2 c = omega (arith, there c)
+overflow_add-t-in-loop-left-2 c =
+    let there : (c.loop-left.at + 1 < length c.args.ws.now)
+    × (get_or c.args.ws.now (c.loop-left.at + 1) 0 < input_limit) × (c.args.number ≤ input_limit) = arc_there _ _ _ (asks_first _ _ _ _ _ _ (arcs_step _ (omega arith))
+    (asks _ _ _ _ _ _ _ _ _ _ c.loop-left.invariant.1 c.requires.asked)) in omega (arith, there)
 
 pub overflow_add-t-in-loop-left-3 : goal.overflow_add-t-in-loop-left-3
-overflow_add-t-in-loop-left-3 c = omega (arith, there c)
+overflow_add-t-in-loop-left-3 c =
+    let there : (c.loop-left.at + 1 < length c.args.ws.now)
+    × (get_or c.args.ws.now (c.loop-left.at + 1) 0 < input_limit) × (c.args.number ≤ input_limit) = arc_there _ _ _ (asks_first _ _ _ _ _ _ (arcs_step _ (omega arith))
+    (asks _ _ _ _ _ _ _ _ _ _ c.loop-left.invariant.1 c.requires.asked)) in omega (arith, there)
 
 pub overflow_add-t-in-loop-left-4 : goal.overflow_add-t-in-loop-left-4
-overflow_add-t-in-loop-left-4 c = omega (arith, there c)
+overflow_add-t-in-loop-left-4 c =
+    let there : (c.loop-left.at + 1 < length c.args.ws.now)
+    × (get_or c.args.ws.now (c.loop-left.at + 1) 0 < input_limit) × (c.args.number ≤ input_limit) = arc_there _ _ _ (asks_first _ _ _ _ _ _ (arcs_step _ (omega arith))
+    (asks _ _ _ _ _ _ _ _ _ _ c.loop-left.invariant.1 c.requires.asked)) in omega (arith, there)
 
 pub offset_bounds-t-shift-in-loop-left : goal.offset_bounds-t-shift-in-loop-left
-offset_bounds-t-shift-in-loop-left c = omega (arith, there c)
+offset_bounds-t-shift-in-loop-left c =
+    let there : (c.loop-left.at + 1 < length c.args.ws.now)
+    × (get_or c.args.ws.now (c.loop-left.at + 1) 0 < input_limit) × (c.args.number ≤ input_limit) = arc_there _ _ _ (asks_first _ _ _ _ _ _ (arcs_step _ (omega arith))
+    (asks _ _ _ _ _ _ _ _ _ _ c.loop-left.invariant.1 c.requires.asked)) in omega (arith, there)
 
 pub bounds-t-shift-in-loop-left : goal.bounds-t-shift-in-loop-left
-bounds-t-shift-in-loop-left c = simp length-set (omega (arith, there c))
+bounds-t-shift-in-loop-left c =
+    let there : (c.loop-left.at + 1 < length c.args.ws.now)
+    × (get_or c.args.ws.now (c.loop-left.at + 1) 0 < input_limit) × (c.args.number ≤ input_limit) = arc_there _ _ _ (asks_first _ _ _ _ _ _ (arcs_step _ (omega arith))
+    (asks _ _ _ _ _ _ _ _ _ _ c.loop-left.invariant.1 c.requires.asked)) in simp length-set (omega (arith, there))
 
 pub overflow_add-at : goal.overflow_add-at
-overflow_add-at c = omega (arith, there c)
+overflow_add-at c =
+    let there : (c.loop-left.at + 1 < length c.args.ws.now)
+    × (get_or c.args.ws.now (c.loop-left.at + 1) 0 < input_limit) × (c.args.number ≤ input_limit) = arc_there _ _ _ (asks_first _ _ _ _ _ _ (arcs_step _ (omega arith))
+    (asks _ _ _ _ _ _ _ _ _ _ c.loop-left.invariant.1 c.requires.asked)) in omega (arith, there)
 
 pub loop-left-preserved : goal.loop-left-preserved
 loop-left-preserved c = (

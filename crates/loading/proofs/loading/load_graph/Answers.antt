@@ -8,21 +8,6 @@ use Rattle.loading.specs.Loading.{its_nodes}
 use Rattle.loading.proofs.Parts.{loads_reach, loads_keeps, graph_there, graph_asks, graph_loads}
 use Rattle.loading.proofs.loading.load_graph.Goals as goal
 
-reach : (c : tie.After-slice-known2) →
-    (c.before.before.before.before.before.before.before.args.p + 1 ≤ c.before.before.load-nodes.result)
-    × (c.before.before.load-nodes.result ≤ length c.before.before.before.before.before.before.before.args.ws.now)
-reach c = loads_reach (its_nodes _) _ _ _ _ _ _ _ _
-    (omega (arith, graph_there _ _ _ c.before.before.before.before.before.before.before.requires.1))
-    (graph_asks _ _ _ c.before.before.before.before.before.before.before.requires.1) c.before.before.load-nodes.ensures
-
-there : (c : tie.After-slice-known2) →
-    (c.before.before.before.before.before.before.before.args.p
-    < length c.before.before.before.before.before.before.before.args.ws.now)
-    × (c.before.before.before.before.before.before.before.args.number
-    + get_or c.before.before.before.before.before.before.before.args.ws.now
-    c.before.before.before.before.before.before.before.args.p 0 ≤ input_limit)
-there c = graph_there _ _ _ c.before.before.before.before.before.before.before.requires.1
-
 pub offset_bounds-ws-p : goal.offset_bounds-ws-p
 offset_bounds-ws-p c = omega (arith, graph_there _ _ _ c.requires.asked)
 
@@ -39,31 +24,68 @@ load_nodes-at-requires c = record {
 }
 
 pub overflow_sub-extent : goal.overflow_sub-extent
-overflow_sub-extent c = omega (arith, reach c)
+overflow_sub-extent c =
+    let reach : (c.args.p + 1 ≤ c.load_nodes-at.result)
+    × (c.load_nodes-at.result ≤ length c.args.ws.now) = loads_reach (its_nodes _) _ _ _ _ _ _ _ _
+    (omega (arith, graph_there _ _ _ c.requires.asked))
+    (graph_asks _ _ _ c.requires.asked) c.load_nodes-at.ensures in omega (arith, reach)
 
 pub overflow_cast-extent : goal.overflow_cast-extent
-overflow_cast-extent c = omega (arith, reach c)
+overflow_cast-extent c =
+    let reach : (c.args.p + 1 ≤ c.load_nodes-at.result)
+    × (c.load_nodes-at.result ≤ length c.args.ws.now) = loads_reach (its_nodes _) _ _ _ _ _ _ _ _
+    (omega (arith, graph_there _ _ _ c.requires.asked))
+    (graph_asks _ _ _ c.requires.asked) c.load_nodes-at.ensures in omega (arith, reach)
 
 pub graph_word-requires : goal.graph_word-requires
 graph_word-requires c =
-    (omega (arith, there c), (omega (arith, there c), omega (arith, reach c, c.requires.room.few)))
+    let reach : (c.args.p + 1 ≤ c.load_nodes-at.result)
+    × (c.load_nodes-at.result ≤ length c.args.ws.now) = loads_reach (its_nodes _) _ _ _ _ _ _ _ _
+    (omega (arith, graph_there _ _ _ c.requires.asked))
+    (graph_asks _ _ _ c.requires.asked) c.load_nodes-at.ensures in
+    let there : (c.args.p
+    < length c.args.ws.now)
+    × (c.args.number
+    + get_or c.args.ws.now
+    c.args.p 0 ≤ input_limit) = graph_there _ _ _ c.requires.asked in
+    (omega (arith, there), (omega (arith, there), omega (arith, reach, c.requires.room.few)))
 
 pub offset_bounds-t-shift : goal.offset_bounds-t-shift
-offset_bounds-t-shift c = omega (arith, there c)
+offset_bounds-t-shift c =
+    let there : (c.args.p
+    < length c.args.ws.now)
+    × (c.args.number
+    + get_or c.args.ws.now
+    c.args.p 0 ≤ input_limit) = graph_there _ _ _ c.requires.asked in omega (arith, there)
 
 pub overflow_add-t : goal.overflow_add-t
-overflow_add-t c = omega (arith, there c)
+overflow_add-t c =
+    let there : (c.args.p
+    < length c.args.ws.now)
+    × (c.args.number
+    + get_or c.args.ws.now
+    c.args.p 0 ≤ input_limit) = graph_there _ _ _ c.requires.asked in omega (arith, there)
 
 pub bounds-t-shift : goal.bounds-t-shift
-bounds-t-shift c = omega (
-  arith,
-  there c,
-  loads_keeps (its_nodes _) _ _ _ _ _ _ _ _ (graph_asks _ _ _ c.requires.asked)
-      c.load_nodes-at.ensures,
-)
+bounds-t-shift c =
+    let there : (c.args.p
+    < length c.args.ws.now)
+    × (c.args.number
+    + get_or c.args.ws.now
+    c.args.p 0 ≤ input_limit) = graph_there _ _ _ c.requires.asked in omega (
+      arith,
+      there,
+      loads_keeps (its_nodes _) _ _ _ _ _ _ _ _ (graph_asks _ _ _ c.requires.asked)
+          c.load_nodes-at.ensures,
+    )
 
 pub overflow_add-result : goal.overflow_add-result
-overflow_add-result c = omega (arith, there c)
+overflow_add-result c =
+    let there : (c.args.p
+    < length c.args.ws.now)
+    × (c.args.number
+    + get_or c.args.ws.now
+    c.args.p 0 ≤ input_limit) = graph_there _ _ _ c.requires.asked in omega (arith, there)
 
 pub returns : goal.returns
 returns d =

@@ -1,0 +1,10 @@
+use Rattle.area.specs.Region.{loaded_words}
+use Rattle.forest.specs.State.{targets}
+use Rattle.classes.proofs.Runs.{Marching}
+use Rattle.classes.proofs.visit.nodes.Given as goal
+
+abbrev pub invariant-loop-left : goal.invariant-loop-left
+invariant-loop-left l = Marching (loaded_words l.initial.w) (targets l.initial.w) l.n l.k l.initial.w l.x l.p l.c l.e l.y l.at l.left l.w
+
+abbrev pub decreases-loop-left : goal.decreases-loop-left
+decreases-loop-left l = l.left

@@ -1,0 +1,12 @@
+-- `classes::visit::one_node` meets its contract. Assumes nothing.
+use Rattle.classes.proofs.Runs.{listing_one, noded_one}
+use Rattle.classes.proofs.visit.one_node.Goals as goal
+
+pub nodes-requires : goal.nodes-requires
+nodes-requires c = record {
+  n_bound = c.requires.n_bound;
+  listing = listing_one _ _ _ _ _ _ _ c.requires.noding;
+}
+
+pub returns : goal.returns
+returns c = noded_one _ _ _ _ _ _ _ _ _ _ c.nodes.ensures
