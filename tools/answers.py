@@ -38,6 +38,10 @@ def need_key(name):
     return it
 
 
+# fields of a step, by their older names
+LATER = {"inv": "invariant", "kept": "auto", "last": "new", "taken": "true", "left": "false"}
+
+
 class Function:
     def __init__(self, path, of, crate, prefix=""):
         self.path, self.of, self.crate, self.prefix = path, of, crate, prefix
@@ -57,6 +61,8 @@ class Function:
     def step(self, place, field, rest):
         """The new path of `c.FIELD.rest` at the place, and how many of rest it uses up; None where it is not known."""
         chain = self.chain(place)
+        if rest and rest[0] in LATER and (rest[0] not in ("taken", "left") or re.match(r"if\d*$|.*-test$", plain(field))):
+            rest[0] = LATER[rest[0]]
         if field in ("args", "ranges", "lifetimes", "well_formed", "well-formed", "type_inv", "type-inv"):
             return "c." + plain_back(field), 0
         if field in ("requires", "pre"):
@@ -333,13 +339,14 @@ class Converter:
                 merged.append([name, lines, comments_of(chunk), False])
         if merged and merged[0][2]:
             head = head or merged[0][2]
+        self.aliases = {m.group(2): m.group(1) for m in re.finditer(r"^use (\S+) as (\S+)$", text, re.M)}
         for name, lines, notes, _ in merged:
             first = lines[0]
             joined = "\n".join(lines)
             if first.startswith("use "):
                 uses.append(joined)
                 continue
-            if re.search(r"(spec|closed)\b.*: .*statement", first) or "tie.close" in joined or re.search(r"\bclose\b", first):
+            if re.search(r"(spec|closed)\b.*: .*statement", first) or "tie.close" in joined or re.search(r"(?<![\w.-])close(?![\w-])", first):
                 continue
             sig = re.match(rf"(?:abbrev |pub )*({W})((?:.|\n)*?)\n({re.escape(name)})(?=\s)((?:.|\n)*)$", joined)
             opened = re.search(r"\n(unfolding [^\n]*)\n", joined)
@@ -363,7 +370,7 @@ class Converter:
                 member = self.member(members, loop.group(1), name, is_cycle)
                 self.invariant(file, member, loop.group(2), rest, invariants)
             elif measure:
-                self.measure(file, members, name, rest, invariants)
+                self.measure(file, members, name, typ, rest, invariants)
             elif re.search(r"\bIn \d|Claims|\.Kinds|-kinds", typ):
                 continue
             else:
@@ -374,6 +381,11 @@ class Converter:
         if not is_cycle:
             return members[0]
         prefix = prefix.lstrip("(")
+        label = re.search(r"\.Lts-([^.]+)$", self.aliases.get(prefix, ""))
+        if label:
+            for m in members:
+                if plain(m.prefix) == plain(label.group(1)):
+                    return m
         for m in members:
             if self.alias.get(plain(prefix)) == m.prefix or self.alias.get(plain(name).split("-")[0]) == m.prefix:
                 return m
@@ -433,11 +445,12 @@ class Converter:
                 fields = fields[1:]
             if not fields:
                 return "c"
-            got = f.step(place, fields[0], fields[1:])
+            rest = fields[1:]
+            got = f.step(place, fields[0], rest)
             if not got:
                 return None
             new, used = got
-            more = fields[1 + used :]
+            more = rest[used:]
             if more and re.match(r"loop", plain(fields[0])) and more[0] == "inv":
                 more[0] = "invariant"
             if more and re.match(r"if\d|loop\d*-test", plain(fields[0])):
@@ -449,7 +462,12 @@ class Converter:
         # aliases first
         out, at = "", 0
         lets = re.compile(rf"let ({W}) =\s*(c(?:\.{W})*|{W}(?:\.{W})+) in(?=\s)\s?")
-        text = body
+        text = re.sub(rf"\.«({W})»", r".\1", body)
+        while True:
+            plainer = re.sub(rf"(?<![^\s(,])\(({W}(?:\.{W})*)\)(?=\.{W})", r"\1", text)
+            if plainer == text:
+                break
+            text = plainer
         while True:
             found = None
             for m in lets.finditer(text):
@@ -491,6 +509,7 @@ class Converter:
         if "branch-raw" in text:
             text = re.sub(r"(?<=\.\d)\.taken(?![\w-])", ".true", text)
             text = re.sub(r"(?<=\.\d)\.left(?![\w-])", ".false", text)
+        text = re.sub(rf"let {W} = c\.decreases in\s*", "", text)
         return text
 
     def invariant(self, file, f, which, rest, invariants):
@@ -513,8 +532,12 @@ class Converter:
         body = PATH.sub(lambda m: table.get(m.group(1), m.group(1)) + m.group(2), body)
         invariants.append((f"{kind}-{(f.of.get('stem') or '')}{new}", body))
 
-    def measure(self, file, members, name, rest, invariants):
+    def measure(self, file, members, name, typ, rest, invariants):
         label = re.sub(r"^(?:μ|measure)-?_?", "", name)
+        kinds = re.search(r"Measures \d+ (\S+?)\.ps", typ)
+        of = kinds and re.search(r"([^.]+)\.Kinds$", self.aliases.get(kinds.group(1), ""))
+        if of:
+            label = of.group(1)
         f = next((m for m in members if plain(m.prefix) == plain(label) or self.alias.get(plain(label)) == m.prefix), members[0])
         found = re.match(r"((?:\s+[^\s=]+)*)\s*=((?:.|\n)*)$", rest)
         params = next((v for m in members for k, v in m.of["params"].items() if k.split("::")[-1] == f.prefix), None)
@@ -526,7 +549,7 @@ class Converter:
         body = re.sub(
             rf"(?<![^\s(){{}};,]){a}((?:\.1)*)\.0(?![0-9])", lambda m: "l." + params[len(m.group(1)) // 2], found.group(2)
         )
-        invariants.append((f"decreases-{f.prefix}", body))
+        invariants.append((f"decreases-{f.prefix}", re.sub(r"^\s*\n", "\n", body)))
 
     def write(self, file, head, uses, helpers, answers, invariants, where):
         folder = file.parent
@@ -571,7 +594,7 @@ def marks_of(alias):
 def is_used(name, text):
     if "◌" in name:
         parts = [p for p in name.split("◌") if p]
-        return all(re.search(rf"(?<![^\s(){{}};,]){re.escape(p)}(?![^\s(){{}};,])", text) for p in parts)
+        return name in text or all(re.search(rf"(?<![^\s(){{}};,]){re.escape(p)}(?![^\s(){{}};,])", text) for p in parts)
     return bool(re.search(rf"(?<![^\s(){{}};,.\[\]@]){re.escape(name)}(?![^\s(){{}};,.\[\]@])", text))
 
 

@@ -1,13 +1,17 @@
 // The program `explain`: one call from standard input, to standard output what comes of it and, of a malformed input, why.
 #![tactic(auto)]
 
-ghost use Rattle.std.specs.Prelude.{◌≡◌, ◌≤◌, length};
+ghost use Rattle.std.specs.Prelude.{◌≡◌, ◌≤◌, length, take, List, ℕ, IfSome, OnOk};
+ghost use Rattle.std.specs.Io.KnownBytes.{Appends};
 ghost use Rattle.answer_text.specs.declared.line.Written.TheVariants.{Bytes};
 ghost use Rattle.call_text.specs.Call.{heard};
-ghost use Rattle.explaining.specs.Explained.{ExplainWrote};
+ghost use Rattle.explaining.specs.Explained.{ExplainWrote, ExplainedText};
 
 use answer_text::line::Written;
 use explaining::explain_text;
+use std::io;
+use std::io::{Read, Write};
+use streams::read_full;
 
 // "input over 65,536 bytes" is bad input: room for one byte more is enough to tell.
 const TEXT_ROOM: usize = 65537;
@@ -38,23 +42,33 @@ fn answer(text: &[u8], out: &mut [u8]) -> usize
 }
 
 // Prints what comes of the text.
-fn print(text: &[u8], out: &mut [u8])
+fn print<W: Write>(to: &mut W, text: &[u8], out: &mut [u8]) -> io::Result<()>
     requires { 32768 ≤ length out.old }
+    ensures { OnOk result ((said : List ℕ) × ExplainedText (heard text.now) said
+        × Appends (W.contents to.old) (W.contents to.new) said) }
 {
     let n = answer(text, out);
-    io::write_all(1, &out[..n]);
+    to.write_all(&out[..n])
 }
 
 // Reads the text, and prints what comes of it.
-fn run(text: &mut [u8], out: &mut [u8])
+fn run<R: Read, W: Write>(
+    from: &mut R,
+    to: &mut W,
+    text: &mut [u8],
+    out: &mut [u8],
+) -> io::Result<()>
     requires { 32768 ≤ length out.old }
+    ensures { OnOk result (IfSome (R.remaining from.old) (λ all. (said : List ℕ)
+        × ExplainedText (heard (take (length text.old) all)) said
+        × Appends (W.contents to.old) (W.contents to.new) said)) }
 {
-    let n = io::read_full(0, text);
-    print(&text[..n], out);
+    let n = read_full(from, text)?;
+    print(to, &text[..n], out)
 }
 
-fn main() {
+fn main(rt: HostRuntime) -> io::Result<()> {
     let mut text = text_space();
     let mut out = out_space();
-    run(&mut text, &mut out);
+    run(&mut rt.stdin(), &mut rt.stdout(), &mut text, &mut out)
 }

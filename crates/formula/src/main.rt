@@ -1,12 +1,16 @@
 // The program `formula`: the text of a formula from standard input, what comes of it to standard output.
 #![tactic(auto)]
 
-ghost use Rattle.std.specs.Prelude.{◌≡◌, ◌≤◌, length};
+ghost use Rattle.std.specs.Prelude.{◌≡◌, ◌≤◌, length, take, List, ℕ, IfSome, OnOk};
+ghost use Rattle.std.specs.Io.KnownBytes.{Appends};
 ghost use Rattle.answer_text.specs.declared.line.Written.TheVariants.{Bytes};
-ghost use Rattle.formula_text.specs.Printed.{Replied};
+ghost use Rattle.formula_text.specs.Printed.{Prints, Replied};
 
 use answer_text::line::Written;
 use formula_text::reply;
+use std::io;
+use std::io::{Read, Write};
+use streams::read_full;
 
 // "25 text over 4,096 bytes": room for one byte more is enough to tell.
 const TEXT_ROOM: usize = 4097;
@@ -37,23 +41,31 @@ fn answer(text: &[u8], out: &mut [u8]) -> usize
 }
 
 // Prints what comes of the text.
-fn print(text: &[u8], out: &mut [u8])
+fn print<W: Write>(to: &mut W, text: &[u8], out: &mut [u8]) -> io::Result<()>
     requires { 16384 ≤ length out.old }
+    ensures { OnOk result ((said : List ℕ) × Prints text.now said × Appends (W.contents to.old) (W.contents to.new) said) }
 {
     let n = answer(text, out);
-    io::write_all(1, &out[..n]);
+    to.write_all(&out[..n])
 }
 
 // Reads the text, and prints what comes of it.
-fn run(text: &mut [u8], out: &mut [u8])
+fn run<R: Read, W: Write>(
+    from: &mut R,
+    to: &mut W,
+    text: &mut [u8],
+    out: &mut [u8],
+) -> io::Result<()>
     requires { 16384 ≤ length out.old }
+    ensures { OnOk result (IfSome (R.remaining from.old) (λ all. (said : List ℕ)
+        × Prints (take (length text.old) all) said × Appends (W.contents to.old) (W.contents to.new) said)) }
 {
-    let n = io::read_full(0, text);
-    print(&text[..n], out);
+    let n = read_full(from, text)?;
+    print(to, &text[..n], out)
 }
 
-fn main() {
+fn main(rt: HostRuntime) -> io::Result<()> {
     let mut text = text_space();
     let mut out = out_space();
-    run(&mut text, &mut out);
+    run(&mut rt.stdin(), &mut rt.stdout(), &mut text, &mut out)
 }

@@ -1,26 +1,26 @@
 -- Along the signs: what was given, and what is still to come.
 -- Assumes nothing.
-use Prim.Native.Nat.{ℕ, zero, suc, ◌+◌, ◌*◌, ◌-◌, ◌/◌, ◌%◌, ◌<◌, ◌≤◌}
+use Prim.Native.Nat.{ℕ, suc, ◌+◌, ◌*◌, ◌-◌, ◌/◌, ◌%◌, ◌<◌, ◌≤◌}
 use mathlib.Core.Path.{◌≡◌, refl, sym, ap, ap₂, subst, ◌∙◌}
 use mathlib.Core.Bool.{Bool, true, false}
-use mathlib.Core.List.{List, [], ◌∷◌, ◌++◌}
+use mathlib.Core.List.{List, [], ◌∷◌}
 use native.Mathlib.Omega.{arith}
 use lib.ListN.{length, length-append}
 use lib.Dec.{eqb}
 use Rattle.theory.specs.Limits.{depth_limit}
 use Rattle.signs.specs.Limits.{kind_unit}
 use Rattle.signs.specs.Machine.{if_so}
-use Rattle.rows.specs.Tokens.{Token, token_word, token_words, AllSmall}
+use Rattle.rows.specs.Tokens.{Token, token_words, AllSmall}
 use Rattle.rows.specs.Flagged.{word_of}
 use Rattle.rows.specs.Machine.{ShallowAlts, Out, no_rows, ◌then◌, OpenFrame, Core, Pen, sign_gives, sign_moves, sign_turns, emit}
-use Rattle.rows.specs.Machine.{first_given, first_core, first_pen, begins, further_out}
-use Rattle.rows.specs.Memory.{row_limit, Memory, stored, ListedFrom}
+use Rattle.rows.specs.Machine.{first_given, first_core, first_pen, further_out}
+use Rattle.rows.specs.Memory.{row_limit, stored, ListedFrom}
 use Rattle.rows.specs.Held.{Held, with_alternative}
 use Rattle.rows.proofs.Depth.{shallow_left}
 use Rattle.rows.proofs.Given.{then_nothing, then_assoc}
 use Rattle.rows.proofs.Steps.{stand_first, stand_flagged}
 use Rattle.laying.specs.Table.{FourPut, AlternativePut}
-use Rattle.laying.specs.Laying.{Tabs, Hold, Roomy, FewRows, Views, LaidSoFar, SignComing, SignPassed, begun_at, WholeBegins, all_given}
+use Rattle.laying.specs.Laying.{Tabs, Roomy, FewRows, LaidSoFar, SignComing, SignPassed, begun_at, WholeBegins, all_given}
 use Rattle.laying.specs.Laying.{LaysOut, LaidAs}
 use Rattle.laying.specs.declared.sign.At.{At}
 use Rattle.laying.specs.declared.sign.Stepped.{Stepped}

@@ -1,12 +1,12 @@
 -- What was stored is what the memory holds.
 -- Assumes nothing.
-use Prim.Native.Nat.{ℕ, suc, ◌+◌, ◌*◌}
-use mathlib.Core.Path.{◌≡◌, refl, sym, ap, ap₂, subst, ◌∙◌}
+use Prim.Native.Nat.{ℕ, ◌+◌, ◌*◌}
+use mathlib.Core.Path.{◌≡◌, refl, ap, ap₂, subst, ◌∙◌}
 use mathlib.Core.List.{List}
 use lib.Dec.{eqb}
 use lib.ListN.{get_or}
 use Rattle.signs.specs.Machine.{if_so}
-use Rattle.rows.specs.Machine.{OpenFrame, framed}
+use Rattle.rows.specs.Machine.{OpenFrame}
 use Rattle.rows.specs.Memory.{Memory, stored}
 use Rattle.rows.specs.Held.{with_row, with_alternative, with_frame}
 use Rattle.laying.specs.Table.{RowPut, FourPut, AlternativePut}

@@ -1,10 +1,10 @@
 -- A sign comes, there is room for what it gives, and it is gone through.
 -- Assumes nothing.
-use Prim.Native.Nat.{ℕ, zero, suc, ◌+◌, ◌*◌, ◌-◌, ◌<◌, ◌≤◌}
-use mathlib.Core.Path.{◌≡◌, refl, sym, ap, ap₂, subst, ◌∙◌}
+use Prim.Native.Nat.{ℕ, suc, ◌+◌, ◌*◌, ◌-◌, ◌<◌, ◌≤◌}
+use mathlib.Core.Path.{◌≡◌, refl, sym, ap, subst, ◌∙◌}
 use mathlib.Core.Logic.{◌≢◌}
 use mathlib.Core.Bool.{Bool, true, false}
-use mathlib.Core.List.{List, [], ◌∷◌, ◌++◌}
+use mathlib.Core.List.{List, [], ◌∷◌}
 use native.Mathlib.Omega.{arith}
 use lib.ListN.{length, length-append}
 use lib.Dec.{eqb, ltb}
@@ -14,7 +14,7 @@ use Rattle.formulas.specs.Sheet.{of_atom, of_tie}
 use Rattle.signs.specs.Limits.{kind_unit}
 use Rattle.signs.specs.Machine.{if_so}
 use Rattle.rows.specs.Tokens.{Token}
-use Rattle.rows.specs.Machine.{Alt, ShallowAlts, Out, no_rows, ◌then◌, homed, begins, OpenFrame, framed, Core, cored, Pen, penned, outer, further_out}
+use Rattle.rows.specs.Machine.{ShallowAlts, Out, no_rows, ◌then◌, homed, begins, OpenFrame, framed, Core, cored, Pen, penned, outer, further_out}
 use Rattle.rows.specs.Machine.{sign_gives, sign_moves, sign_turns}
 use Rattle.rows.specs.Memory.{row_limit}
 use Rattle.rows.specs.Laid.{spot_unit}

@@ -1,26 +1,23 @@
 -- Each sign is gone through: what it gives is added to what the tables hold.
 -- Assumes nothing.
-use Prim.Native.Nat.{ℕ, zero, suc, ◌+◌, ◌*◌, ◌-◌, ◌<◌, ◌≤◌}
+use Prim.Native.Nat.{ℕ, suc, ◌+◌, ◌*◌, ◌-◌, ◌<◌, ◌≤◌}
 use mathlib.Core.Path.{◌≡◌, refl, sym, ap, ap₂, subst, ◌∙◌}
-use mathlib.Core.Bool.{Bool, true, false}
+use mathlib.Core.Bool.{Bool, false}
 use mathlib.Core.List.{List, [], ◌∷◌, ◌++◌, append-nil}
 use native.Mathlib.Omega.{arith}
-use lib.ListN.{length, get_or, length-append}
+use lib.ListN.{length, length-append}
 use Rattle.theory.specs.Limits.{depth_limit}
-use Rattle.formulas.specs.Sheet.{of_edges, of_atom, of_tie, ◌plus◌}
-use Rattle.rows.specs.Machine.{Alt, ShallowAlts, Out, no_rows, ◌then◌, homed, begins, OpenFrame, framed, Core, cored, Pen, penned, outer}
+use Rattle.formulas.specs.Sheet.{of_atom, of_tie}
+use Rattle.rows.specs.Machine.{Alt, ShallowAlts, Out, ◌then◌, homed, begins, OpenFrame, framed, Core, cored, Pen, penned, outer}
 use Rattle.rows.specs.Machine.{further_out, sign_gives, sign_moves, sign_turns}
 use Rattle.rows.specs.Memory.{Memory}
 use Rattle.rows.specs.Laid.{spot_unit}
 use Rattle.rows.specs.Held.{FramesStand, with_row, with_alternative, with_frame}
-use Rattle.rows.specs.Standing.{Standing}
 use Rattle.rows.proofs.Depth.{shallow_both}
-use Rattle.rows.proofs.Given.{then_nothing, then_assoc}
 use Rattle.rows.proofs.Steps.{stand_arc, stand_atom, stand_tie, stand_moved, stand_open, stand_close, stand_begun}
 use Rattle.laying.specs.Table.{RowPut, FourPut, AlternativePut}
-use Rattle.laying.specs.Step.{after_arc, after_atom, after_pen, after_frame, after_opening, after_deeper, closed_to, after_close, owner_of}
-use Rattle.laying.specs.Step.{after_beside}
-use Rattle.laying.specs.Laying.{Tabs, Hold, Views, ShallowFrames, LaidSoFar}
+use Rattle.laying.specs.Step.{after_arc, after_atom, after_pen, after_frame, after_opening, closed_to, after_close, owner_of}
+use Rattle.laying.specs.Laying.{Tabs, Hold, ShallowFrames, LaidSoFar}
 use Rattle.laying.specs.declared.sign.At.{At}
 use Rattle.laying.proofs.Held.{with_arcs, with_atoms, with_ties, with_alts, with_frames, row_as, hold_arc, hold_atom, hold_tie}
 use Rattle.laying.proofs.Held.{hold_alternative, hold_frame}

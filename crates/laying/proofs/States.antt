@@ -1,6 +1,6 @@
 -- The state after a sign, case by case.
 -- Assumes nothing.
-use Prim.Native.Nat.{ℕ, zero, suc, ◌+◌, ◌*◌, ◌-◌, ◌<◌, ◌≤◌}
+use Prim.Native.Nat.{ℕ, suc, ◌+◌, ◌*◌, ◌-◌, ◌<◌, ◌≤◌}
 use mathlib.Core.Path.{◌≡◌, refl, sym, ap, subst, ◌∙◌}
 use mathlib.Core.Logic.{◌≢◌}
 use mathlib.Core.Bool.{Bool, true, false}
@@ -17,7 +17,6 @@ use Rattle.laying.specs.Step.{after_pen, Shares, after_frame, after_opening, aft
 use Rattle.laying.specs.Step.{GroupOpening, GroupOpens, after_moving}
 use Rattle.laying.specs.Laying.{begun_at, WholeBegins}
 use Rattle.laying.specs.declared.sign.At.{At}
-use Rattle.laying.specs.declared.sign.Stepped.{Stepped}
 use Rattle.laying.specs.declared.sign.Stepped.TheVariants.{On, TooDeep}
 
 -- a test that is known

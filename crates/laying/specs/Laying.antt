@@ -1,6 +1,6 @@
 -- What laying out a formula's signs asks and promises, sign by sign and over all of them.
 -- Assumes nothing: these are definitions.
-use Rattle.std.specs.Prelude.{ℕ, suc, ◌+◌, ◌*◌, ◌<◌, ◌≤◌, ◌≡◌, Bool, true, false, List, [], ◌∷◌, length}
+use Rattle.std.specs.Prelude.{ℕ, suc, ◌*◌, ◌<◌, ◌≤◌, ◌≡◌, Bool, true, false, List, [], ◌∷◌, length}
 use Rattle.theory.specs.Limits.{depth_limit}
 use Rattle.signs.specs.Limits.{kind_unit}
 use Rattle.rows.specs.Tokens.{Token, token_words, AllSmall}

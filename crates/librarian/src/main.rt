@@ -1,13 +1,18 @@
 // The program `librarian`: a text that asks something of a test library from standard input, what comes of it to standard output.
 #![tactic(auto)]
 
-ghost use Rattle.std.specs.Prelude.{◌≡◌, ◌≤◌, length};
+ghost use Rattle.std.specs.Prelude.{◌≡◌, ◌≤◌, length, take, ◌<◌, IfSome, OnOk};
+ghost use Rattle.std.specs.Io.KnownBytes.{Appends};
+ghost use Rattle.answer_text.specs.Answer.{bad_text};
 ghost use Rattle.answer_text.specs.declared.line.Written.TheVariants.{Bytes};
 ghost use Rattle.answer_text.specs.Answer.{Wrote};
 ghost use Rattle.library_text.specs.Serves.{serves};
 
 use answer_text::line::Written;
 use library_text::serve;
+use std::io;
+use std::io::{Read, Write};
+use streams::read_full;
 
 // More bytes than any library needs: a text that fills it may be cut off, and is bad input.
 const TEXT_ROOM: usize = 720896;
@@ -38,27 +43,37 @@ fn answer(text: &[u8], out: &mut [u8]) -> usize
 }
 
 // Prints what comes of the text.
-fn print(text: &[u8], out: &mut [u8])
+fn print<W: Write>(to: &mut W, text: &[u8], out: &mut [u8]) -> io::Result<()>
     requires { 280000 ≤ length out.old }
+    ensures { OnOk result (Appends (W.contents to.old) (W.contents to.new) (serves text.now)) }
 {
     let n = answer(text, out);
-    io::write_all(1, &out[..n]);
+    to.write_all(&out[..n])
 }
 
-// Reads the text, and prints what comes of it.
-fn run(text: &mut [u8], out: &mut [u8])
+// Reads the text, and prints what comes of it; a text that fills the room for it may be cut off, and is bad input.
+fn run<R: Read, W: Write>(
+    from: &mut R,
+    to: &mut W,
+    text: &mut [u8],
+    out: &mut [u8],
+) -> io::Result<()>
     requires { 280000 ≤ length out.old }
+    ensures whole { OnOk result (IfSome (R.remaining from.old) (λ all. length all < length text.old
+        → Appends (W.contents to.old) (W.contents to.new) (serves all))) }
+    ensures cut { OnOk result (IfSome (R.remaining from.old) (λ all. length text.old ≤ length all
+        → Appends (W.contents to.old) (W.contents to.new) bad_text)) }
 {
-    let n = io::read_full(0, text);
+    let n = read_full(from, text)?;
     if n == text.len() {
-        io::write_all(1, b"bad input\n");
+        to.write_all(b"bad input\n")
     } else {
-        print(&text[..n], out);
+        print(to, &text[..n], out)
     }
 }
 
-fn main() {
+fn main(rt: HostRuntime) -> io::Result<()> {
     let mut text = text_space();
     let mut out = out_space();
-    run(&mut text, &mut out);
+    run(&mut rt.stdin(), &mut rt.stdout(), &mut text, &mut out)
 }

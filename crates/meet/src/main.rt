@@ -1,13 +1,17 @@
 // The program `meet`: one call from standard input, what comes of it to standard output.
 #![tactic(auto)]
 
-ghost use Rattle.std.specs.Prelude.{◌≡◌, ◌≤◌, length};
+ghost use Rattle.std.specs.Prelude.{◌≡◌, ◌≤◌, length, take, IfSome, OnOk};
+ghost use Rattle.std.specs.Io.KnownBytes.{Appends};
 ghost use Rattle.answer_text.specs.Answer.{Wrote};
 ghost use Rattle.answer_text.specs.declared.line.Written.TheVariants.{Bytes};
 ghost use Rattle.reply.specs.Printed.{printed};
 
 use answer_text::line::Written;
 use reply::reply;
+use std::io;
+use std::io::{Read, Write};
+use streams::read_full;
 
 // "input over 65,536 bytes" is bad input: room for one byte more is enough to tell.
 const TEXT_ROOM: usize = 65537;
@@ -38,23 +42,31 @@ fn answer(text: &[u8], out: &mut [u8]) -> usize
 }
 
 // Prints what comes of the text.
-fn print(text: &[u8], out: &mut [u8])
+fn print<W: Write>(to: &mut W, text: &[u8], out: &mut [u8]) -> io::Result<()>
     requires { 32768 ≤ length out.old }
+    ensures { OnOk result (Appends (W.contents to.old) (W.contents to.new) (printed text.now)) }
 {
     let n = answer(text, out);
-    io::write_all(1, &out[..n]);
+    to.write_all(&out[..n])
 }
 
 // Reads the text, and prints what comes of it.
-fn run(text: &mut [u8], out: &mut [u8])
+fn run<R: Read, W: Write>(
+    from: &mut R,
+    to: &mut W,
+    text: &mut [u8],
+    out: &mut [u8],
+) -> io::Result<()>
     requires { 32768 ≤ length out.old }
+    ensures { OnOk result (IfSome (R.remaining from.old)
+        (λ all. Appends (W.contents to.old) (W.contents to.new) (printed (take (length text.old) all)))) }
 {
-    let n = io::read_full(0, text);
-    print(&text[..n], out);
+    let n = read_full(from, text)?;
+    print(to, &text[..n], out)
 }
 
-fn main() {
+fn main(rt: HostRuntime) -> io::Result<()> {
     let mut text = text_space();
     let mut out = out_space();
-    run(&mut text, &mut out);
+    run(&mut rt.stdin(), &mut rt.stdout(), &mut text, &mut out)
 }

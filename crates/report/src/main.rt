@@ -1,12 +1,16 @@
 // The program `report`: the text of a suite from standard input, to standard output what came of it.
 #![tactic(auto)]
 
-ghost use Rattle.std.specs.Prelude.{◌≤◌, length};
+ghost use Rattle.std.specs.Prelude.{◌≤◌, length, take, IfSome, OnOk};
+ghost use Rattle.std.specs.Io.KnownBytes.{Appends};
 ghost use Rattle.answer_text.specs.Answer.{Wrote};
 ghost use Rattle.answer_text.specs.declared.line.Written.TheVariants.{Bytes};
 ghost use Rattle.suite_text.specs.Report.{suite_printed};
 
 use answer_text::line::Written;
+use std::io;
+use std::io::{Read, Write};
+use streams::read_full;
 use suite_text::report;
 
 // A text of over 1,048,576 bytes is bad input: room for one byte more is enough to tell.
@@ -36,20 +40,32 @@ fn answer(text: &[u8], out: &mut [u8]) -> usize
     }
 }
 
-// Prints what came of the text.
-fn print(text: &[u8], out: &mut [u8]) {
+// Prints what came of the text, where out has room for it.
+fn print<W: Write>(to: &mut W, text: &[u8], out: &mut [u8]) -> io::Result<()>
+    ensures { OnOk result (length (suite_printed text.now) ≤ length out.old
+        → Appends (W.contents to.old) (W.contents to.new) (suite_printed text.now)) }
+{
     let n = answer(text, out);
-    io::write_all(1, &out[..n]);
+    to.write_all(&out[..n])
 }
 
 // Reads the text, and prints what came of it.
-fn run(text: &mut [u8], out: &mut [u8]) {
-    let n = io::read_full(0, text);
-    print(&text[..n], out);
+fn run<R: Read, W: Write>(
+    from: &mut R,
+    to: &mut W,
+    text: &mut [u8],
+    out: &mut [u8],
+) -> io::Result<()>
+    ensures { OnOk result (IfSome (R.remaining from.old) (λ all.
+        length (suite_printed (take (length text.old) all)) ≤ length out.old
+        → Appends (W.contents to.old) (W.contents to.new) (suite_printed (take (length text.old) all)))) }
+{
+    let n = read_full(from, text)?;
+    print(to, &text[..n], out)
 }
 
-fn main() {
+fn main(rt: HostRuntime) -> io::Result<()> {
     let mut text = text_space();
     let mut out = out_space();
-    run(&mut text, &mut out);
+    run(&mut rt.stdin(), &mut rt.stdout(), &mut text, &mut out)
 }

@@ -4,8 +4,8 @@ use mathlib.Core.Path.{◌≡◌, refl}
 use mathlib.Core.Bool.{true, false}
 use mathlib.Core.List.{[], ◌∷◌}
 use Prim.Native.Nat.{ℕ}
-use Rattle.rows.specs.Tokens.{Token, MarkedSigns, flagging, unmarked}
-use Rattle.rows.specs.Machine.{Alt, Out, ◌then◌, emit, first_given, first_core, first_pen}
+use Rattle.rows.specs.Tokens.{flagging, unmarked}
+use Rattle.rows.specs.Machine.{Alt, ◌then◌, emit, first_given, first_core, first_pen}
 
 abbrev alternative : ℕ → ℕ → ℕ → ℕ → Alt
 alternative o g s d = record { owner = o; group = g; spot = s; depth = d }

@@ -44,9 +44,9 @@ numbers_in (y ∷ l) zero x p = Memᴰ.head p
 numbers_in (y ∷ l) (suc i) x p = Memᴰ.tail (numbers_in l i x p)
 
 -- and what is in the list has a number
-pub in_numbers : {X : Type 0} (l : List X) (x : X) → Memᴰ x l → (i : ℕ) × Numbers l i x
-in_numbers l x (Memᴰ.head e) = (0, e)
-in_numbers l x (Memᴰ.tail {xs = m} p) = let r = in_numbers m x p in (suc r.0, r.1)
+pub in_numbers : {X : Type 0} (x : X) (l : List X) → Memᴰ x l → (i : ℕ) × Numbers l i x
+in_numbers x l (Memᴰ.head e) = (0, e)
+in_numbers x l (Memᴰ.tail {xs = m} p) = let r = in_numbers x m p in (suc r.0, r.1)
 
 -- a column that lists a list has its words by number
 pub listed_at : {X : Type 0} (g : ℕ → ℕ) (f : X → ℕ) (m : ℕ) (l : List X) (i : ℕ) (x : X) → ListedFrom g m (mapped f l) → Numbers l i x →
@@ -71,9 +71,9 @@ numbered_at n (d ∷ l) (suc i) e p q =
 
 -- ---- rows with their homes
 -- what is in a list is there with its home
-home_in : {X : Type 0} (h : ℕ) (l : List X) (x : X) → Memᴰ x l → Memᴰ (h, x) (in_home h l)
-home_in h l x (Memᴰ.head e) = Memᴰ.head (λ i. (h, e i))
-home_in h l x (Memᴰ.tail {xs = m} p) = Memᴰ.tail (home_in h m x p)
+home_in : {X : Type 0} (h : ℕ) (x : X) (l : List X) → Memᴰ x l → Memᴰ (h, x) (in_home h l)
+home_in h x l (Memᴰ.head e) = Memᴰ.head (λ i. (h, e i))
+home_in h x l (Memᴰ.tail {xs = m} p) = Memᴰ.tail (home_in h x m p)
 
 -- and what has a home there has that one
 in_home_of : {X : Type 0} (h : ℕ) (l : List X) (p : ℕ × X) → Memᴰ p (in_home h l) → (p.0 ≡ h) × Memᴰ p.1 l
@@ -137,21 +137,21 @@ module _ {X : Type 0} (kind : Sheet → List X) (rows : List Item → List (ℕ 
     go false z q f = sourced_later y L (j, e) (f q)
 
   -- a row of an item is one of the list
-  source_row : (L : List Item) (x : Item) (e : X) → Memᴰ x L → Memᴰ e (kind x.1) → Memᴰ (x.0, e) (rows L)
-  source_row L x e (Memᴰ.head {x = y} {xs = l} z) q =
+  source_row : (x : Item) (e : X) (L : List Item) → Memᴰ x L → Memᴰ e (kind x.1) → Memᴰ (x.0, e) (rows L)
+  source_row x e L (Memᴰ.head {x = y} {xs = l} z) q =
       subst (Memᴰ (x.0, e)) (sym (column.more y l)) (Memᴰ.append_left (rows l)
-      (subst (λ (v : Item). Memᴰ (x.0, e) (in_home v.0 (kind v.1))) z (home_in x.0 (kind x.1) e q)))
-  source_row L x e (Memᴰ.tail {x = y} {xs = l} m) q =
-      subst (Memᴰ (x.0, e)) (sym (column.more y l)) (Memᴰ.append_right (in_home y.0 (kind y.1)) (source_row l x e m q))
+      (subst (λ (v : Item). Memᴰ (x.0, e) (in_home v.0 (kind v.1))) z (home_in x.0 e (kind x.1) q)))
+  source_row x e L (Memᴰ.tail {x = y} {xs = l} m) q =
+      subst (Memᴰ (x.0, e)) (sym (column.more y l)) (Memᴰ.append_right (in_home y.0 (kind y.1)) (source_row x e l m q))
 
   -- and is given to the item's home
-  source_given : (L : List Item) (x : Item) (e : X) → Memᴰ x L → Memᴰ e (kind x.1) → Memᴰ e (kind (given_to x.0 L))
-  source_given L x e (Memᴰ.head {x = y} {xs = l} z) q = go (eqb x.0 y.0) (eq-eqb x.0 y.0 (ap (λ (v : Item). v.0) z)) where
+  source_given : (x : Item) (e : X) (L : List Item) → Memᴰ x L → Memᴰ e (kind x.1) → Memᴰ e (kind (given_to x.0 L))
+  source_given x e L (Memᴰ.head {x = y} {xs = l} z) q = go (eqb x.0 y.0) (eq-eqb x.0 y.0 (ap (λ (v : Item). v.0) z)) where
     go : (t : Bool) → t ≡ true → Memᴰ e (kind (elim t [ true ↦ y.1 plus given_to x.0 l | false ↦ given_to x.0 l ]))
     go true w = subst (Memᴰ e) (sym (column.both y.1 (given_to x.0 l)))
         (Memᴰ.append_left (kind (given_to x.0 l)) (subst (λ (v : Item). Memᴰ e (kind v.1)) z q))
     go false w = let u : ◌≡◌ {A = ℕ} 0 1 = ap (λ (t : Bool). elim t [ true ↦ 1 | false ↦ 0 ]) w in absurd (omega arith)
-  source_given L x e (Memᴰ.tail {x = y} {xs = l} m) q = go (eqb x.0 y.0) (source_given l x e m q) where
+  source_given x e L (Memᴰ.tail {x = y} {xs = l} m) q = go (eqb x.0 y.0) (source_given x e l m q) where
     go : (t : Bool) → Memᴰ e (kind (given_to x.0 l)) →
         Memᴰ e (kind (elim t [ true ↦ y.1 plus given_to x.0 l | false ↦ given_to x.0 l ]))
     go true r = subst (Memᴰ e) (sym (column.both y.1 (given_to x.0 l))) (Memᴰ.append_right (kind y.1) r)
@@ -161,13 +161,13 @@ module _ {X : Type 0} (kind : Sheet → List X) (rows : List Item → List (ℕ 
   pub row_given : (L : List Item) (p : ℕ × X) → Memᴰ p (rows L) → Memᴰ p.1 (kind (given_to p.0 L))
   row_given L p m =
       let r = row_sourced L p m in
-      subst (λ (j : ℕ). Memᴰ p.1 (kind (given_to j L))) (sym r.2) (source_given L r.0 p.1 r.1 r.3)
+      subst (λ (j : ℕ). Memᴰ p.1 (kind (given_to j L))) (sym r.2) (source_given r.0 p.1 L r.1 r.3)
 
   -- and what is given is a row
   pub given_row : (L : List Item) (j : ℕ) (e : X) → Memᴰ e (kind (given_to j L)) → Memᴰ (j, e) (rows L)
   given_row L j e m =
       let r = given_sourced L j e m in
-      subst (λ (h : ℕ). Memᴰ (h, e) (rows L)) (sym r.2) (source_row L r.0 e r.1 r.3)
+      subst (λ (h : ℕ). Memᴰ (h, e) (rows L)) (sym r.2) (source_row r.0 e L r.1 r.3)
 
 -- ---- homes and spots are low
 -- an item's home is low, and the first spot of each of its pairs

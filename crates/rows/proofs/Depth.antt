@@ -1,15 +1,12 @@
 -- How deep the alternatives of a formula are nested, and how many rows it gives.
 -- Assumes nothing.
-use Prim.Native.Nat.{ℕ, suc, ◌+◌, ◌*◌, ◌≤◌, max}
-use mathlib.Core.Path.{◌≡◌, refl, sym, ap, ap₂, subst, ◌∙◌}
-use mathlib.Core.Bool.{Bool, true, false}
+use Prim.Native.Nat.{ℕ, suc, ◌+◌, ◌≤◌}
 use mathlib.Core.List.{List, [], ◌∷◌, ◌++◌}
 use native.Mathlib.Omega.{arith}
-use lib.ListN.{length, length-append}
-use Rattle.formulas.specs.Formula.{Path, Formula, nil, top, atom, at, same, all, any, Formulas, one, ◌also◌, depth, depths}
-use Rattle.formulas.specs.Sheet.{count, counts, lengths, way, way_end, tied}
+use Rattle.formulas.specs.Formula.{Formula, nil, top, atom, at, same, all, any, Formulas, one, ◌also◌, depth, depths}
+use Rattle.formulas.specs.Sheet.{count}
 use Rattle.formulas.specs.Flat.{width}
-use Rattle.rows.specs.Machine.{Alt, ShallowAlts, Out, ◌then◌, begins, in_home}
+use Rattle.rows.specs.Machine.{Alt, ShallowAlts}
 use Rattle.rows.specs.Given.{given, given_all, given_any}
 
 pub shallow_both : (m : ℕ) (A B : List Alt) → ShallowAlts m A → ShallowAlts m B → ShallowAlts m (A ++ B)

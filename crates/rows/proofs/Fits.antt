@@ -1,22 +1,21 @@
 -- The numbers of a formula's text are below 65,536, and so are those of its rows.
 -- Assumes nothing.
-use Prim.Native.Nat.{ℕ, suc, ◌+◌, ◌<◌, ◌≤◌}
-use mathlib.Core.Path.{◌≡◌, refl, sym, ap, subst, ◌∙◌}
+use Prim.Native.Nat.{ℕ, suc, ◌+◌}
+use mathlib.Core.Path.{◌≡◌, sym, subst}
 use mathlib.Core.List.{List, [], ◌∷◌, ◌++◌}
 use native.Mathlib.Omega.{arith}
 use lib.ListN.{length}
-use Rattle.theory.specs.Limits.{code_limit}
 use Rattle.theory.specs.Join.{Edge}
 use Rattle.formulas.specs.Formula.{Path, Formula, nil, top, atom, at, same, all, any, Formulas, one, ◌also◌, PathFits, PathsFit}
 use Rattle.formulas.specs.Formula.{FormulaFits, FitAll}
 use Rattle.formulas.specs.Sheet.{way, way_end, tied, count}
 use Rattle.formulas.specs.Flat.{width}
-use Rattle.signs.specs.Signs.{Sign, greater, comma, less, and, or, right, Spelt}
-use Rattle.signs.specs.Grammar.{conjunction, disjunction, features, path_rest, path_list, Unit_is, is_nil, is_top, is_atom, is_at, is_same}
+use Rattle.signs.specs.Signs.{Sign, greater, and, or, right, Spelt}
+use Rattle.signs.specs.Grammar.{conjunction, disjunction, features, path_rest, Unit_is, is_nil, is_top, is_atom, is_at, is_same}
 use Rattle.signs.specs.Grammar.{is_group, Units, one_unit, more_units, Parts, one_part, more_parts, Whole, whole}
 use Rattle.signs.proofs.Words.{Each, spelt_small}
 use Rattle.signs.proofs.Words as words
-use Rattle.rows.specs.Machine.{Out, ◌then◌, in_home}
+use Rattle.rows.specs.Machine.{in_home}
 use Rattle.rows.specs.Given.{given, given_all, given_any}
 use Rattle.rows.specs.Laid.{LowArcs, LowAtoms}
 

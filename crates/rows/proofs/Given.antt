@@ -8,7 +8,7 @@ use native.Mathlib.Omega.{arith}
 use lib.ListN.{length}
 use Rattle.theory.specs.Join.{Edge}
 use Rattle.formulas.specs.Formula.{Path, Formula, nil, top, atom, at, same, all, any, Formulas, one, ◌also◌}
-use Rattle.formulas.specs.Sheet.{Sheet, blank_sheet, ◌plus◌, of_edges, of_atom, of_tie, way, way_end, tied, count, counts, lengths}
+use Rattle.formulas.specs.Sheet.{Sheet, ◌plus◌, of_edges, of_atom, of_tie, way, way_end, tied, count, counts, lengths}
 use Rattle.formulas.specs.Flat.{Item, width, widths, ranks, flat_items, flat_all, flat_any}
 use Rattle.signs.specs.Machine.{if_so}
 use Rattle.signs.specs.Signs.{Sign, nil_sign, top_sign, atom_sign, feature_sign, colon, bracket, greater, and, or, left, right}

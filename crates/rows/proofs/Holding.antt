@@ -1,29 +1,29 @@
 -- A memory that holds all that a formula gives lies as its draft says.
 -- Assumes nothing.
-use Prim.Native.Nat.{ℕ, zero, suc, ◌+◌, ◌*◌, ◌/◌, ◌%◌, ◌<◌, ◌≤◌}
-use mathlib.Core.Path.{◌≡◌, refl, sym, ap, subst, ◌∙◌}
+use Prim.Native.Nat.{ℕ, suc, ◌+◌, ◌*◌, ◌/◌, ◌%◌, ◌<◌, ◌≤◌}
+use mathlib.Core.Path.{◌≡◌, refl, ap, subst, ◌∙◌}
 use mathlib.Core.Bool.{Bool, true, false}
 use mathlib.Core.List.{List, [], ◌∷◌}
 use native.Mathlib.Omega.{arith}
-use lib.ListN.{length, get_or}
+use lib.ListN.{length}
 use lib.Dec.{eqb}
 use borrow.Author.Tests.{eqb-true, eqb-false}
 use Rattle.theory.specs.Join.{Edge}
 use Rattle.formulas.specs.Formula.{Formula}
-use Rattle.formulas.specs.Sheet.{count, laid_out}
-use Rattle.formulas.specs.Flat.{width, flattened}
+use Rattle.formulas.specs.Sheet.{count}
+use Rattle.formulas.specs.Flat.{width}
 use Rattle.signs.specs.Limits.{formula_limit}
 use Rattle.signs.specs.Signs.{Sign, Spelt}
 use Rattle.signs.specs.Grammar.{Whole}
-use Rattle.rows.specs.Machine.{Alt, Out, rows_of}
+use Rattle.rows.specs.Machine.{Alt, Out}
 use Rattle.rows.specs.Given.{given}
-use Rattle.rows.specs.Plan.{Plan, PlanLies, renewed, lasts, none_yet, AltsStand, ArcsLead}
+use Rattle.rows.specs.Plan.{renewed, none_yet, AltsStand, ArcsLead}
 use Rattle.rows.specs.Memory.{row_limit, Memory, ListedFrom}
 use Rattle.rows.specs.Laid.{spot_unit, mapped, arc_word, home_of_arc, pair_word, pair_home, ArcsNumbered, LowArcs, LowAtoms}
 use Rattle.rows.specs.Laid.{row_before, memory_plan, LaidIn}
 use Rattle.rows.specs.Held.{alt_group, alt_spot, befores, Held}
-use Rattle.rows.proofs.Given.{bare, given_rows}
-use Rattle.rows.proofs.Lies.{alts_width, whole_lies}
+use Rattle.rows.proofs.Given.{given_rows}
+use Rattle.rows.proofs.Lies.{whole_lies}
 use Rattle.rows.proofs.Bounds.{spelt_weight, whole_few}
 use Rattle.rows.proofs.Fits.{whole_fits, arcs_low, atoms_low}
 use Rattle.rows.proofs.Numbered.{arcs_count, arcs_numbered, bears_count, shares_count}

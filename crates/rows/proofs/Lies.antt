@@ -2,16 +2,15 @@
 -- Assumes nothing.
 use Prim.Native.Nat.{ℕ, zero, suc, ◌+◌, ◌<◌, ◌≤◌}
 use mathlib.Core.Path.{◌≡◌, refl, sym, ap, ap₂, subst, ◌∙◌}
-use mathlib.Core.Logic.{◌⊎◌, inl, inr, ⊎_elim, ◌≢◌}
+use mathlib.Core.Logic.{◌⊎◌, inl, inr, ◌≢◌}
 use mathlib.Core.Bool.{Bool}
 use mathlib.Core.List.{List, [], ◌∷◌, ◌++◌}
 use native.Mathlib.Omega.{arith}
 use lib.ListN.{length, length-append}
-use lib.Dec.{eqb}
 use Rattle.theory.specs.Join.{Edge}
 use borrow.Author.Tests.{eq-eqb, ne_eqb}
 use Rattle.formulas.specs.Formula.{Formula, nil, top, atom, at, same, all, any, Formulas, one, ◌also◌}
-use Rattle.formulas.specs.Sheet.{Sheet, ◌plus◌, of_edges, count, sheet, laid, Rows, over, ◌besides◌, gone, ◌against◌, ◌next◌, lay, lay_all}
+use Rattle.formulas.specs.Sheet.{◌plus◌, of_edges, count, sheet, laid, Rows, over, ◌besides◌, ◌against◌, ◌next◌, lay, lay_all}
 use Rattle.formulas.specs.Sheet.{cells, laid_out}
 use Rattle.formulas.specs.Flat.{Item, width, widths, ranks, flat_items, flat_all, flat_any, flattened, given_to, wide_rows, wide_cells}
 use Rattle.formulas.proofs.Flat.{Holds, Side, flat_own, lay_wide, first_part_of, other_parts_of, past, first_side, other_sides, side_in}

@@ -1,7 +1,7 @@
 -- The arcs of a formula lead to its spots in order, and how many rows it gives.
 -- Assumes nothing.
-use Prim.Native.Nat.{ℕ, suc, ◌+◌, ◌<◌, ◌≤◌}
-use mathlib.Core.Path.{◌≡◌, refl, sym, ap, ap₂, subst, ◌∙◌}
+use Prim.Native.Nat.{ℕ, suc, ◌+◌, ◌<◌}
+use mathlib.Core.Path.{◌≡◌, refl, sym, ap₂, subst, ◌∙◌}
 use mathlib.Core.List.{List, [], ◌∷◌, ◌++◌}
 use native.Mathlib.Omega.{arith}
 use lib.ListN.{length, length-append}
@@ -9,7 +9,7 @@ use Rattle.theory.specs.Join.{Edge}
 use Rattle.formulas.specs.Formula.{Path, Formula, nil, top, atom, at, same, all, any, Formulas, one, ◌also◌}
 use Rattle.formulas.specs.Sheet.{way, way_end, tied, count, counts, lengths}
 use Rattle.formulas.specs.Flat.{width}
-use Rattle.rows.specs.Machine.{Out, ◌then◌, in_home}
+use Rattle.rows.specs.Machine.{in_home}
 use Rattle.rows.specs.Given.{given, given_all, given_any}
 use Rattle.rows.specs.Laid.{ArcsNumbered}
 use Rattle.rows.proofs.Given.{in_both}

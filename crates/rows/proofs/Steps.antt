@@ -2,20 +2,19 @@
 -- Assumes nothing.
 use Prim.Native.Nat.{ℕ, zero, suc, ◌+◌, ◌*◌, ◌<◌, ◌≤◌}
 use mathlib.Core.Path.{◌≡◌, refl, sym, ap, subst, ◌∙◌}
-use mathlib.Core.Bool.{Bool, true, false}
-use mathlib.Core.List.{List, [], ◌∷◌, ◌++◌, append-nil}
+use mathlib.Core.Bool.{true, false}
+use mathlib.Core.List.{List, [], ◌∷◌, append-nil}
 use native.Mathlib.Omega.{arith}
 use lib.ListN.{length, length-append}
 use Rattle.theory.specs.Join.{Edge}
-use Rattle.formulas.specs.Sheet.{Sheet, ◌plus◌, of_edges, of_atom, of_tie}
+use Rattle.formulas.specs.Sheet.{Sheet, of_edges, of_atom, of_tie}
 use Rattle.rows.specs.Machine.{Alt, Out, no_rows, ◌then◌, homed, begins, OpenFrame, framed, Core, cored, Pen, penned, outer}
 use Rattle.rows.specs.Machine.{further_out, sign_gives, sign_moves, sign_turns, first_given, first_core, first_pen}
-use Rattle.rows.specs.Plan.{renewed, lasts, none_yet}
+use Rattle.rows.specs.Plan.{lasts, none_yet}
 use Rattle.rows.specs.Memory.{Memory, stored}
 use Rattle.rows.specs.Laid.{arc_word, pair_word}
 use Rattle.rows.specs.Held.{FramesStand, with_row, with_alternative, with_frame, Held}
 use Rattle.rows.specs.Standing.{FramesInside, Standing}
-use Rattle.rows.proofs.Given.{then_nothing, then_assoc}
 use Rattle.rows.proofs.Lies.{lasts_both, renewed_else}
 use Rattle.rows.proofs.Adding.{held_arc, held_atom, held_tie, held_begun, frames_more}
 

@@ -43,7 +43,7 @@ module _ {X : Type 0} (kind : Sheet → List X) (rows : List Item → List (ℕ 
   -- and all that is given to an alternative is one
   pub cell_of : (j : ℕ) (x : X) → Memᴰ x (kind (given_to j L)) → (i : ℕ) × (i < size) × (home i ≡ j) × (x ≡ cell i)
   cell_of j x m =
-      let r = in_numbers (rows L) (j, x) (given_row kind rows column L j x m) in
+      let r = in_numbers (j, x) (rows L) (given_row kind rows column L j x m) in
       let z = reads.long in
       let b = numbers_below (rows L) r.0 (j, x) r.1 in
       let e = reads.row r.0 (j, x) r.1 in

@@ -4,18 +4,17 @@ use Prim.Native.Nat.{ℕ, zero, suc, ◌+◌, ◌*◌, ◌-◌, ◌/◌, ◌<◌
 use mathlib.Core.Path.{◌≡◌, refl, sym, ap, subst, ◌∙◌}
 use mathlib.Core.Logic.{◌≢◌}
 use mathlib.Core.Bool.{Bool, true, false}
-use mathlib.Core.List.{List, [], ◌∷◌, ◌++◌}
+use mathlib.Core.List.{List, [], ◌∷◌}
 use native.Mathlib.Omega.{arith}
 use lib.ListN.{length, get_or, set}
 use lib.Seq.{get_or-set_same, get_or-set_other}
 use lib.Dec.{eqb}
 use borrow.Author.Tests.{ne_eqb}
 use Rattle.signs.specs.Limits.{kind_unit}
-use Rattle.signs.specs.Machine.{if_so}
 use Rattle.rows.specs.Tokens.{Token, token_word, token_words, AllSmall, MarkedSigns, flag_bit, top_flag, under_top, flag, flagging}
 use Rattle.rows.specs.Tokens.{unmarked}
 use Rattle.rows.specs.Memory.{ListedFrom}
-use Rattle.rows.specs.Flagged.{under_count, flag_word, word_of, Piled, SignTurning, SignTurned, Flagging, Flags}
+use Rattle.rows.specs.Flagged.{under_count, flag_word, word_of, Piled, SignTurning, SignTurned, Flagging}
 
 pub under_none : (t : ℕ) → t ≡ 0 → 0 ≡ under_count t
 under_none t e = sym (ap under_count e)

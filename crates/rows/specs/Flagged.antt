@@ -1,6 +1,6 @@
 -- What marking the groups asks and promises.
 -- Assumes nothing: these are definitions.
-use Rattle.std.specs.Prelude.{ℕ, zero, suc, ◌<◌, ◌≤◌, ◌≡◌, Bool, true, false, List, [], ◌∷◌, length, get_or}
+use Rattle.std.specs.Prelude.{ℕ, zero, suc, ◌<◌, ◌≤◌, ◌≡◌, Bool, List, [], ◌∷◌, length, get_or}
 use Rattle.signs.specs.Limits.{kind_unit}
 use Rattle.rows.specs.Tokens.{Token, token_word, token_words, AllSmall, MarkedSigns, flag_bit, top_flag, flag, flagging, unmarked}
 use Rattle.rows.specs.Memory.{ListedFrom}

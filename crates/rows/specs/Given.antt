@@ -1,6 +1,6 @@
 -- What the signs of a formula give, by the formula: its rows as `flat` has them, and its alternatives beside them.
 -- Assumes nothing: these are definitions.
-use Rattle.std.specs.Prelude.{ℕ, suc, ◌+◌, Bool, true, false, List, [], ◌∷◌, length}
+use Rattle.std.specs.Prelude.{ℕ, suc, ◌+◌, Bool, true, false, [], ◌∷◌, length}
 use Rattle.formulas.specs.Formula.{Formula, nil, top, atom, at, same, all, any, Formulas, one, ◌also◌}
 use Rattle.formulas.specs.Sheet.{◌plus◌, of_edges, of_atom, way, way_end, tied, count}
 use Rattle.formulas.specs.Flat.{width}

@@ -1,6 +1,6 @@
 -- What stands in the memory while signs are gone through.
 -- Assumes nothing: these are definitions.
-use Rattle.std.specs.Prelude.{ℕ, suc, ◌+◌, ◌<◌, ◌≤◌, ◌≡◌, List, [], ◌∷◌, length}
+use Rattle.std.specs.Prelude.{ℕ, suc, ◌+◌, ◌<◌, ◌≡◌, List, [], ◌∷◌, length}
 use Rattle.rows.specs.Machine.{Alt, Out, OpenFrame}
 use Rattle.rows.specs.Plan.{renewed, lasts, none_yet}
 use Rattle.rows.specs.Memory.{Memory, stored, ListedFrom}

@@ -6,8 +6,8 @@ use Rattle.theory.specs.Join.{Edge}
 use Rattle.formulas.specs.Formula.{Formula}
 use Rattle.formulas.specs.Sheet.{count, laid_out}
 use Rattle.formulas.specs.Flat.{width, flattened}
-use Rattle.rows.specs.Machine.{Alt, Out, rows_of}
-use Rattle.rows.specs.Plan.{Plan, PlanLies, renewed}
+use Rattle.rows.specs.Machine.{rows_of}
+use Rattle.rows.specs.Plan.{Plan, PlanLies}
 use Rattle.rows.specs.Memory.{row_limit, Memory, ListedFrom}
 
 -- spots and alternatives are below it; a row's word is a spot and this times a feature, an atom or a spot

@@ -1,6 +1,6 @@
 -- The machine that goes over the signs from the first to the last: what each gives, and what stands open.
 -- Assumes nothing: these are definitions.
-use Rattle.std.specs.Prelude.{ℕ, suc, ◌+◌, ◌≤◌, Bool, true, false, List, [], ◌∷◌, ◌++◌, eqb}
+use Rattle.std.specs.Prelude.{ℕ, suc, ◌≤◌, Bool, true, false, List, [], ◌∷◌, ◌++◌, eqb}
 use Rattle.theory.specs.Join.{Edge}
 use Rattle.formulas.specs.Sheet.{Sheet, ◌plus◌, of_edges, of_atom, of_tie}
 use Rattle.formulas.specs.Flat.{Item}

@@ -1,10 +1,14 @@
-// Stored vectors: runs of little-endian 32-bit words on a file descriptor.
-// No contract can say which bytes a read brings; what is proved is that each function is safe and ends, and that what is read had room.
+// Stored vectors: runs of little-endian 32-bit words that a reader gives.
+// What is proved is that each function is safe and ends, and that what is read had room. Each may fail as a read does.
 #![tactic(auto)]
 
 pub mod lent;
 
-ghost use Rattle.std.specs.Prelude.{◌≡◌, ℕ, ◌≤◌, ◌<◌, length};
+ghost use Rattle.std.specs.Prelude.{◌≡◌, ℕ, ◌≤◌, ◌<◌, length, IfOk};
+
+use std::io;
+use std::io::Read;
+use streams::read_full;
 
 // A word of the run, or the end of it.
 #[derive(Clone, Copy)]
@@ -41,13 +45,13 @@ fn joined(a: u8, b: u8, c: u8, d: u8) -> u32 {
 }
 
 // The next word.
-pub fn next(fd: i32) -> Word {
+pub fn next<R: Read>(from: &mut R) -> io::Result<Word> {
     let mut bytes: [u8; WORD_BYTES] = [0; WORD_BYTES];
-    let got = io::read_full(fd, &mut bytes);
+    let got = read_full(from, &mut bytes)?;
     if got < WORD_BYTES {
-        return Word::End;
+        return Ok(Word::End);
     }
-    Word::Is(joined(bytes[0], bytes[1], bytes[2], bytes[3]))
+    Ok(Word::Is(joined(bytes[0], bytes[1], bytes[2], bytes[3])))
 }
 
 // The word whose bytes stand from p on, or 0 where they do not.
@@ -81,55 +85,55 @@ fn byte_space() -> [u8; MOST_BYTES]
 }
 
 // Fills dst, which has at most 4,096 words, with the next words: false where the run ends before or dst is longer.
-pub fn fill(fd: i32, dst: &mut [u32]) -> bool {
+pub fn fill<R: Read>(from: &mut R, dst: &mut [u32]) -> io::Result<bool> {
     if MOST_WORDS < dst.len() {
-        return false;
+        return Ok(false);
     }
     let n = dst.len() * WORD_BYTES;
     let mut space = byte_space();
     let bytes: &mut [u8] = &mut space;
-    let got = io::read_full(fd, &mut bytes[..n]);
+    let got = read_full(from, &mut bytes[..n])?;
     decode(bytes, dst);
-    got == n
+    Ok(got == n)
 }
 
 // Fills the front of dst with the next words, as many as the word before them says.
-pub fn counted(fd: i32, dst: &mut [u32]) -> Run
-    ensures { (n : ℕ) → result ≡ Run.Of n → n ≤ length dst.old }
+pub fn counted<R: Read>(from: &mut R, dst: &mut [u32]) -> io::Result<Run>
+    ensures { IfOk result (λ run. (n : ℕ) → run ≡ Run.Of n → n ≤ length dst.old) }
 {
-    let first = next(fd);
+    let first = next(from)?;
     let Word::Is(len) = first else {
-        return Run::Broken;
+        return Ok(Run::Broken);
     };
     let n = len as usize;
     if dst.len() < n {
-        return Run::Broken;
+        return Ok(Run::Broken);
     }
-    let filled = fill(fd, &mut dst[..n]);
+    let filled = fill(from, &mut dst[..n])?;
     if !filled {
-        return Run::Broken;
+        return Ok(Run::Broken);
     }
-    Run::Of(n)
+    Ok(Run::Of(n))
 }
 
 // Fills the front of dst with the next bytes, as many as the word before them says; zeros fill the last word.
-pub fn counted_bytes(fd: i32, dst: &mut [u8]) -> Run
-    ensures { (n : ℕ) → result ≡ Run.Of n → n ≤ length dst.old }
+pub fn counted_bytes<R: Read>(from: &mut R, dst: &mut [u8]) -> io::Result<Run>
+    ensures { IfOk result (λ run. (n : ℕ) → run ≡ Run.Of n → n ≤ length dst.old) }
 {
-    let first = next(fd);
+    let first = next(from)?;
     let Word::Is(len) = first else {
-        return Run::Broken;
+        return Ok(Run::Broken);
     };
     let n = len as usize;
     let whole = (n + 3) / WORD_BYTES * WORD_BYTES;
     if dst.len() < whole {
-        return Run::Broken;
+        return Ok(Run::Broken);
     }
-    let got = io::read_full(fd, &mut dst[..whole]);
+    let got = read_full(from, &mut dst[..whole])?;
     if got < whole {
-        return Run::Broken;
+        return Ok(Run::Broken);
     }
-    Run::Of(n)
+    Ok(Run::Of(n))
 }
 
 // Counts one more at i.

@@ -1,6 +1,6 @@
 -- The proof of the cycle of calls {put_decimal}. The measure is the number: without its last digit it is smaller.
 -- Assumes nothing.
-use Prim.Native.Nat.{ℕ, ◌+◌, ◌/◌, ◌%◌, ◌≤◌, ◌<◌}
+use Prim.Native.Nat.{ℕ, ◌+◌, ◌/◌, ◌%◌}
 use native.Mathlib.Omega.{arith}
 use mathlib.Core.Path.{◌≡◌, ap, ◌∙◌}
 use mathlib.Core.List.{List, [], ◌∷◌, ◌++◌}
@@ -23,13 +23,6 @@ pub returns-then-value-lt10 : goal.returns-then-value-lt10
 returns-then-value-lt10 t c =
     named (c.digit_byte.result ∷ []) (decimal c.args.value) c.args.dst.now c.args.at c.put.new.dst c.put.result (ap (λ (n : ℕ). n ∷ []) c.digit_byte.ensures
     ∙ decimal_one c.args.value c.if-value-lt10.true) c.put.ensures
-
-pub put_decimal-front-requires : goal.put_decimal-front-requires
-put_decimal-front-requires t c =
-    let e : c.args.value ≡ t = c.requires.0 in
-    let b : 10 ≤ c.args.value = c.if-value-lt10.false in
-    let h : c.args.value / 10 < t = omega arith in
-    (h, tt)
 
 pub shape_of-dst-in_default : goal.shape_of-dst-in_default
 shape_of-dst-in_default t c = c.put_decimal-front.auto.dst

@@ -34,7 +34,7 @@ pub overflow_add-given : goal.overflow_add-given
 overflow_add-given c = omega (
   arith,
   c.mark-given.ensures,
-  c.shared_slice_known-1.given
+  c.type_inv.atoms
       (c.loop-left.left - 1),
 )
 
@@ -104,6 +104,16 @@ offset_bounds-holds-label-in-loop-left c = omega (
       c.wide-label.ensures),
 )
 
+pub bounds-holds-label-in-loop-left : goal.bounds-holds-label-in-loop-left
+bounds-holds-label-in-loop-left c = omega (
+  arith,
+  bear_low _ _ _ _ _ _ c.requires c.loop-left.invariant (omega arith) _ (bear_label _ _ _ _ _ _
+      c.requires
+      c.loop-left.invariant (omega arith) _ _
+      c.spot.ensures
+      c.wide-label.ensures),
+)
+
 pub loop-left-smaller : goal.loop-left-smaller
 loop-left-smaller c = omega arith
 
@@ -115,7 +125,7 @@ loop-left-preserved c = bear_step _ _ _ _ _ _ c.requires c.loop-left.invariant
     c.if-heads-label-ne0.false c.if-against.false (omega (
       arith,
       c.mark-given.ensures,
-      c.shared_slice_known-1.given
+      c.type_inv.atoms
           (c.loop-left.left - 1),
     ))
 

@@ -7,6 +7,7 @@ use Rattle.forest.proofs.Walks.{some}
 use Rattle.sieving.specs.Sieved.{Sieves}
 use Rattle.trying.proofs.Guessing.{guesses_unsure, guess_low, guess_room, guess_anchored, guesses_root, guesses_arcs}
 use Rattle.trying.proofs.guess.guess_through.Goals as goal
+use Rattle.trying.proofs.guess.guess_through.Goals.{in-Nothing, in-Arcs}
 
 pub loaded-requires : goal.loaded-requires
 loaded-requires c =
@@ -41,7 +42,7 @@ returns-in-Atom c =
 pub lead_all-requires : goal.lead_all-requires
 lead_all-requires c =
     let code = told_code _ _ _ c.held_by-held.ensures _
-    (⊎_elim (λ u. inl (u.1.given.1, u.2)) (λ u. inr (_, (u.1.given.1, u.3))) c.match-held.branch-raw) in record {
+    (elim c.match-held.branch [ in-Nothing u ↦ inl (u.in-Nothing.is, u.x-is) | in-Arcs u ↦ inr (_, (u.in-Arcs.is, u.x-is)) ]) in record {
       anchored = guess_anchored c.args.n c.args.k c.args.w.now c.args.g c.loaded-head.result c.number_of-base.result c.nodes_of-c.result c.wide-d.result c.loaded-head.ensures c.number_of-base.ensures c.nodes_of-c.ensures
           (c.wide-d.ensures ∙ c.loaded.ensures) c.if-d-c.false c.find-a.result c.find-a.ensures c.requires.pushing c.match-held.x
           code.0 (omega arith);
@@ -56,7 +57,7 @@ lead_all-requires c =
 pub returns : goal.returns
 returns c =
     let code = told_code _ _ _ c.held_by-held.ensures _
-    (⊎_elim (λ u. inl (u.1.given.1, u.2)) (λ u. inr (_, (u.1.given.1, u.3))) c.match-held.branch-raw) in
+    (elim c.match-held.branch [ in-Nothing u ↦ inl (u.in-Nothing.is, u.x-is) | in-Arcs u ↦ inr (_, (u.in-Arcs.is, u.x-is)) ]) in
     guesses_arcs c.args.n c.args.k c.args.w.now c.args.g c.loaded-head.result c.number_of-base.result c.nodes_of-c.result c.wide-d.result c.loaded-head.ensures c.number_of-base.ensures c.nodes_of-c.ensures
     (c.wide-d.ensures ∙ c.loaded.ensures) c.if-d-c.false c.find-a.result c.find-a.ensures (omega arith)
     c.lead_all.result c.lead_all.ensures

@@ -14,8 +14,7 @@ loop-i-init c = (omega arith, leaves_none _ _ _ _ _)
 pub returns-in_default : goal.returns-in_default
 returns-in_default c =
     all_stop c.args.n c.args.w.now c.args.g c.args.base c.args.d c.loop-i.i c.lead-one.result (omega arith) c.loop-i.invariant.1
-    c.lead-one.ensures (λ y. ⊎_elim (λ i. let z : ◌≡◌ {A = ℕ} 0 1 = (rw y at i) in
-    omega arith) (λ i. let z : ◌≡◌ {A = ℕ} 0 2 = (rw y at i) in omega arith) c.in_default.not-Agrees)
+    c.lead-one.ensures c.in_default.not-Agrees
 
 pub loop-i-preserved : goal.loop-i-preserved
 loop-i-preserved c = (

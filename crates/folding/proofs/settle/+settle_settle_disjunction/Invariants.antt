@@ -1,0 +1,26 @@
+use Prim.Native.Nat.{◌+◌, ◌*◌}
+use Rattle.formulas.specs.Tables.{tables}
+use Rattle.folding.proofs.Branches.{Going}
+use Rattle.folding.proofs.Settles.{Rising}
+use Rattle.folding.proofs.settle.+settle_settle_disjunction.Given as goal
+
+abbrev pub decreases-settle : goal.decreases-settle
+decreases-settle l = 2 * l.left
+
+abbrev pub decreases-settle_disjunction : goal.decreases-settle_disjunction
+decreases-settle_disjunction l = 2 * l.left + 1
+
+abbrev pub invariant-settle-loop-last : goal.invariant-settle-loop-last
+invariant-settle-loop-last l =
+    Rising (tables l.arcs l.atoms l.ties l.alts) l.initial.homes l.initial.words l.len l.k l.left l.homes l.words l.at l.last l.count
+
+abbrev pub decreases-settle-loop-last : goal.decreases-settle-loop-last
+decreases-settle-loop-last l = l.last
+
+abbrev pub invariant-settle_disjunction-loop-homes : goal.invariant-settle_disjunction-loop-homes
+invariant-settle_disjunction-loop-homes l =
+    Going (tables l.arcs l.atoms l.ties l.alts) l.initial.homes l.initial.words l.len l.k l.last l.left l.homes l.words l.at l.c l.kept l.sole l.count l.inner
+
+abbrev pub decreases-settle_disjunction-loop-homes : goal.decreases-settle_disjunction-loop-homes
+decreases-settle_disjunction-loop-homes l =
+    l.c

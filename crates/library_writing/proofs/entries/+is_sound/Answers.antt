@@ -1,0 +1,34 @@
+-- The proof of the cycle of calls {is_sound}. The measure is the number of words that the entries have.
+-- Assumes nothing.
+use native.Mathlib.Omega.{arith}
+use mathlib.Core.Path.{sym, ◌∙◌}
+use lib.ListN.{take}
+use lib.Seq.{length-take-le}
+use Rattle.library.proofs.Reading.{imaged_yes, imaged_not}
+use Rattle.library_writing.proofs.Asked.{tail_length, none_sound, sound_short, sound_stop, sound_step}
+use Rattle.library_writing.proofs.entries.+is_sound.Goals as goal
+
+pub returns-then-entries-lt2 : goal.returns-then-entries-lt2
+returns-then-entries-lt2 t c = none_sound c.args.entries.now c.args.words.now c.if-entries-lt2.true
+
+pub returns-then-words-count : goal.returns-then-words-count
+returns-then-words-count t c =
+    sound_short c.args.entries.now c.args.words.now c.if-entries-lt2.false (omega arith)
+
+pub slice_bounds-judge-end : goal.slice_bounds-judge-end
+slice_bounds-judge-end t c = sym (length-take-le c.wide-count.result c.args.words.now c.if-words-count.false)
+
+pub is_sound-requires : goal.is_sound-requires
+is_sound-requires t c =
+    let n = tail_length 2 c.args.entries.now in
+    (omega arith, tt)
+
+pub returns-in-Accepted : goal.returns-in-Accepted
+returns-in-Accepted t c =
+    let good = imaged_yes (take c.wide-count.result c.args.words.now) c.judge-judgement.result c.judge-judgement.ensures c.in-Accepted.is in
+    c.is_sound.ensures ∙ rw c.wide-count.ensures (sound_step c.args.entries.now c.args.words.now c.if-entries-lt2.false (omega arith) (rw c.wide-count.ensures at good))
+
+pub returns-in-Malformed : goal.returns-in-Malformed
+returns-in-Malformed t c =
+    let bad = imaged_not (take c.wide-count.result c.args.words.now) c.judge-judgement.result c.judge-judgement.ensures c.in-Malformed.is in
+    sound_stop c.args.entries.now c.args.words.now c.if-entries-lt2.false (omega arith) (rw c.wide-count.ensures at bad)
