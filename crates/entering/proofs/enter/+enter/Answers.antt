@@ -2,38 +2,14 @@
 -- Assumes nothing.
 use Prim.Native.Nat.{ℕ, ◌+◌}
 use native.Mathlib.Omega.{arith}
-use mathlib.Core.Path.{◌∙◌}
+use mathlib.Core.Path.{◌≡◌, ◌∙◌}
 use mathlib.Core.Logic.{⊎_elim}
 use Rattle.classes.proofs.Laws.{since_trans}
-use Rattle.marks.proofs.Remnant.{not_one}
 use Rattle.entering.specs.Entered.{Entering}
 use Rattle.entering.proofs.Entering.{Reached, Walking, one, none, asks_own, starts, walk_start, walk_done, walk_here}
 use Rattle.entering.proofs.Entering.{walk_asks, walk_deep, walk_inner, walk_clash, walk_on, reach_own, enters_own, enters_all}
 use Rattle.entering.proofs.enter.+enter.Goals as goal
-
-abbrev Begun : ℕ → Type 0
-Begun t = enter-lts.After-disjunctions-at (claims t) (enter-at t) enter.Post enter-Inv-loop enter-μ-loop
-
-reached : (t : ℕ) (c : Begun t) →
-    Reached c.before.before.before.before.before.before.before.before.before.before.before.before.args.k
-    c.before.before.before.before.before.before.before.before.before.before.before.before.args.w.now
-    c.before.before.before.before.before.own.given.0.0
-    c.before.before.before.before.before.before.before.before.before.push.new.0
-reached t c = reach_own _ _ _ _ _ _ _ c.before.before.before.before.before.before.before.before.before.push.ensures
-    c.before.before.before.before.before.own.given.1
-
-begun : (t : ℕ) (c : Begun t) (e : Entering
-    c.before.before.before.before.before.before.before.before.before.before.before.before.args.n
-    c.before.before.before.before.before.before.before.before.before.before.before.before.args.k
-    c.before.before.before.before.before.before.before.before.before.before.before.before.args.w.now
-    c.before.before.before.before.before.before.before.before.before.before.before.before.args.g
-    c.before.before.before.before.before.before.before.before.before.before.before.before.args.left) →
-    Walking _ _ _ _ _ e c.disjunctions_at.result (c.before.before.tail_at.result + 1)
-    c.before.before.before.before.before.own.given.0.0
-    c.before.before.before.before.before.before.before.before.before.push.new.0
-begun t c e = walk_start _ _ _ _ _ e _ _ (reached t c) _
-    c.before.before.before.before.before.before.before.before.before.push.ensures
-    c.before.before.before.before.before.own.given.1 _ _ c.before.before.tail_at.ensures c.disjunctions_at.ensures
+use Rattle.entering.proofs.enter.+enter.Goals.{in-One+in-In-inner, in_default-which}
 
 pub push-own-requires : goal.push-own-requires
 push-own-requires t c = asks_own _ _ _ _ _ c.requires
@@ -64,35 +40,35 @@ disjunctions_at-more-requires t c = let r =
 
 pub overflow_add-at : goal.overflow_add-at
 overflow_add-at t c = let h = (starts _ _ _ _ _ c.requires _ _
-    (reached t c)).1 in omega arith
+    (reach_own _ _ _ _ _ _ _ c.push-own.ensures c.in-In.is)).1 in omega arith
 
 pub loop-more-init : goal.loop-more-init
 loop-more-init t c = λ v e r u. (r, u)
 
 pub alternatives_at-count-requires : goal.alternatives_at-count-requires
-alternatives_at-count-requires t c = let v = c.loop-more.invariant _ c.requires (reached t c) (begun t c c.requires) in
+alternatives_at-count-requires t c = let v = c.loop-more.invariant _ c.requires (reach_own _ _ _ _ _ _ _ c.push-own.ensures c.in-In.is) (walk_start _ _ _ _ _ c.requires _ _ (reach_own _ _ _ _ _ _ _ c.push-own.ensures c.in-In.is) _ c.push-own.ensures c.in-In.is _ _ c.tail_at-e.ensures c.disjunctions_at-more.ensures) in
     (walk_here _ _ _ _ _ c.requires _ _ v.0 _ _ v.1 (omega arith), omega (arith, v.1.holds.long))
 
 pub overflow_add-at-in-loop-more : goal.overflow_add-at-in-loop-more
-overflow_add-at-in-loop-more t c = let v = c.loop-more.invariant _ c.requires (reached t c)
-    (begun t c c.requires) in let h = walk_here _ _ _ _ _ c.requires _ _ v.0 _ _ v.1 (omega arith) in
+overflow_add-at-in-loop-more t c = let v = c.loop-more.invariant _ c.requires (reach_own _ _ _ _ _ _ _ c.push-own.ensures c.in-In.is)
+    (walk_start _ _ _ _ _ c.requires _ _ (reach_own _ _ _ _ _ _ _ c.push-own.ensures c.in-In.is) _ c.push-own.ensures c.in-In.is _ _ c.tail_at-e.ensures c.disjunctions_at-more.ensures) in let h = walk_here _ _ _ _ _ c.requires _ _ v.0 _ _ v.1 (omega arith) in
     omega arith
 
 pub count_kept-tally-requires : goal.count_kept-tally-requires
-count_kept-tally-requires t c = let v = c.loop-more.invariant _ c.requires (reached t c)
-    (begun t c c.requires) in
+count_kept-tally-requires t c = let v = c.loop-more.invariant _ c.requires (reach_own _ _ _ _ _ _ _ c.push-own.ensures c.in-In.is)
+    (walk_start _ _ _ _ _ c.requires _ _ (reach_own _ _ _ _ _ _ _ c.push-own.ensures c.in-In.is) _ c.push-own.ensures c.in-In.is _ _ c.tail_at-e.ensures c.disjunctions_at-more.ensures) in
     walk_asks _ _ _ _ _ c.requires _ _ v.0 _ _ v.1 (omega arith) _ c.alternatives_at-count.ensures
 
 pub overflow_sub-left : goal.overflow_sub-left
 overflow_sub-left t c = let v = c.loop-more.invariant _ c.requires
-    (reached t c)
-    (begun t c c.requires) in
+    (reach_own _ _ _ _ _ _ _ c.push-own.ensures c.in-In.is)
+    (walk_start _ _ _ _ _ c.requires _ _ (reach_own _ _ _ _ _ _ _ c.push-own.ensures c.in-In.is) _ c.push-own.ensures c.in-In.is _ _ c.tail_at-e.ensures c.disjunctions_at-more.ensures) in
     let h = walk_deep _ _ _ _ _ c.requires _ _ v.0 _ _ v.1 (omega arith) in omega arith
 
 pub enter-inner-requires : goal.enter-inner-requires
 enter-inner-requires t c = let v = c.loop-more.invariant _ c.requires
-    (reached t c)
-    (begun t c c.requires) in (
+    (reach_own _ _ _ _ _ _ _ c.push-own.ensures c.in-In.is)
+    (walk_start _ _ _ _ _ c.requires _ _ (reach_own _ _ _ _ _ _ _ c.push-own.ensures c.in-In.is) _ c.push-own.ensures c.in-In.is _ _ c.tail_at-e.ensures c.disjunctions_at-more.ensures) in (
       omega (arith, c.decreases, walk_deep _ _ _ _ _ c.requires _ _ v.0 _ _ v.1 (omega arith)),
       walk_inner _ _ _ _ _ c.requires _ _ v.0 _ _ v.1 (omega arith) _
           c.alternatives_at-count.ensures _ _
@@ -100,22 +76,22 @@ enter-inner-requires t c = let v = c.loop-more.invariant _ c.requires
     )
 
 pub back-requires : goal.back-requires
-back-requires t c = let v = c.loop-more.invariant _ c.requires (reached t c) (begun t c c.requires) in record {
+back-requires t c = let v = c.loop-more.invariant _ c.requires (reach_own _ _ _ _ _ _ _ c.push-own.ensures c.in-In.is) (walk_start _ _ _ _ _ c.requires _ _ (reach_own _ _ _ _ _ _ _ c.push-own.ensures c.in-In.is) _ c.push-own.ensures c.in-In.is _ _ c.tail_at-e.ensures c.disjunctions_at-more.ensures) in record {
   w₀ = c.args.w.now;
   since =
       since_trans _ _ _ _ _ _ v.0.since (c.enter-inner.ensures.clashed c.in_default-inner.is).0;
 }
 
 pub shape_of-w-in_default-inner : goal.shape_of-w-in_default-inner
-shape_of-w-in_default-inner t c = let v = c.loop-more.invariant _ c.requires (reached t c)
-    (begun t c c.requires) in c.back.ensures.len
+shape_of-w-in_default-inner t c = let v = c.loop-more.invariant _ c.requires (reach_own _ _ _ _ _ _ _ c.push-own.ensures c.in-In.is)
+    (walk_start _ _ _ _ _ c.requires _ _ (reach_own _ _ _ _ _ _ _ c.push-own.ensures c.in-In.is) _ c.push-own.ensures c.in-In.is _ _ c.tail_at-e.ensures c.disjunctions_at-more.ensures) in c.back.ensures.len
     ∙ c.enter-inner.ensures.len ∙ v.0.len
 
 pub returns-in_default-inner : goal.returns-in_default-inner
 returns-in_default-inner t c = let p = c.requires
     in
-    let v = c.loop-more.invariant _ p (reached t c)
-    (begun t c p) in let s = since_trans _ _ _ _ _ _ v.0.since (c.enter-inner.ensures.clashed c.in_default-inner.is).0 in
+    let v = c.loop-more.invariant _ p (reach_own _ _ _ _ _ _ _ c.push-own.ensures c.in-In.is)
+    (walk_start _ _ _ _ _ p _ _ (reach_own _ _ _ _ _ _ _ c.push-own.ensures c.in-In.is) _ c.push-own.ensures c.in-In.is _ _ c.tail_at-e.ensures c.disjunctions_at-more.ensures) in let s = since_trans _ _ _ _ _ _ v.0.since (c.enter-inner.ensures.clashed c.in_default-inner.is).0 in
     record {
       len = c.back.ensures.len ∙ c.enter-inner.ensures.len ∙ v.0.len;
       rest = λ j h. c.back.ensures.rest j h ∙ c.enter-inner.ensures.rest j h
@@ -126,8 +102,8 @@ returns-in_default-inner t c = let p = c.requires
           λ y. (
             c.back.ensures.since _ s,
             λ e. let z =
-                c.loop-more.invariant _ e (reached t c)
-                (begun t c e) in (
+                c.loop-more.invariant _ e (reach_own _ _ _ _ _ _ _ c.push-own.ensures c.in-In.is)
+                (walk_start _ _ _ _ _ e _ _ (reach_own _ _ _ _ _ _ _ c.push-own.ensures c.in-In.is) _ c.push-own.ensures c.in-In.is _ _ c.tail_at-e.ensures c.disjunctions_at-more.ensures) in (
                   walk_clash _ _ _ _ _ e _ _ z.0 _ _ z.1 (omega arith) _
                       c.alternatives_at-count.ensures _ _ c.count_kept-tally.ensures _
                       c.in-One.is _ _ c.enter-inner.ensures
@@ -146,14 +122,16 @@ loop-more-smaller t c = omega arith
 pub loop-more-preserved : goal.loop-more-preserved
 loop-more-preserved t c = λ w e r u. let v = c.loop-more.invariant w e r u in
     walk_on _ _ _ _ _ e _ _ v.0 _ _ v.1 (omega arith) _ c.alternatives_at-count.ensures _ _
-    c.count_kept-tally.ensures _ _ (⊎_elim (λ x. one _ _ _ _ x.1.given.1 x.4.ensures x.8.given.1 x.10 x.11)
-    (λ x. none (not_one _ x.0.keys2) x.1 x.2) c.match-which.branch-raw)
+    c.count_kept-tally.ensures _ _ (elim c.match-which.branch [
+      | in-One+in-In-inner x ↦ one _ _ _ _ x.in-One.is x.enter-inner.ensures x.in-In-inner.is x.w-is x.log-is
+      | in_default-which x ↦ none x.in_default-which.not-One x.w-is x.log-is
+    ])
 
 pub shape_of-w : goal.shape_of-w
-shape_of-w t c = let v = c.loop-more.invariant _ c.requires (reached t c) (begun t c c.requires) in v.0.len
+shape_of-w t c = let v = c.loop-more.invariant _ c.requires (reach_own _ _ _ _ _ _ _ c.push-own.ensures c.in-In.is) (walk_start _ _ _ _ _ c.requires _ _ (reach_own _ _ _ _ _ _ _ c.push-own.ensures c.in-In.is) _ c.push-own.ensures c.in-In.is _ _ c.tail_at-e.ensures c.disjunctions_at-more.ensures) in v.0.len
 
 pub returns : goal.returns
-returns t c = let v = c.loop-more.invariant _ c.requires (reached t c) (begun t c c.requires) in
+returns t c = let v = c.loop-more.invariant _ c.requires (reach_own _ _ _ _ _ _ _ c.push-own.ensures c.in-In.is) (walk_start _ _ _ _ _ c.requires _ _ (reach_own _ _ _ _ _ _ _ c.push-own.ensures c.in-In.is) _ c.push-own.ensures c.in-In.is _ _ c.tail_at-e.ensures c.disjunctions_at-more.ensures) in
     enters_all _ _ _ _ _ _ _ v.0 (λ e. let z =
-    c.loop-more.invariant _ e (reached t c) (begun t c e) in
+    c.loop-more.invariant _ e (reach_own _ _ _ _ _ _ _ c.push-own.ensures c.in-In.is) (walk_start _ _ _ _ _ e _ _ (reach_own _ _ _ _ _ _ _ c.push-own.ensures c.in-In.is) _ c.push-own.ensures c.in-In.is _ _ c.tail_at-e.ensures c.disjunctions_at-more.ensures) in
     walk_done _ _ _ _ _ e _ _ z.0 _ _ z.1 (omega arith))
