@@ -69,7 +69,7 @@ class Function:
             return self.requires(rest)
         for k in chain:
             _, parent, (old, new), callee, _ = self.of["places"][k]
-            if plain(old) != plain(field):
+            if plain(old) != plain(field) and plain(old) != plain(field)[:1].lower() + plain(field)[1:]:
                 continue
             # an arm of a match may have taken the step in
             for j in chain:
@@ -91,6 +91,17 @@ class Function:
                 params = self.of["params"][callee]
                 if k < len(rest) and rest[k] == "0" and k - 1 < len(params):
                     return f"c.{new}.{rest[0]}.{params[k - 1]}", k + 1
+            told = self.of["clauses"][k]
+            if told and rest[:1] == ["ensures"]:
+                used, fields = 1, told["fields"]
+                for n, name in enumerate(fields):
+                    if n == len(fields) - 1:
+                        return f"c.{new}.ensures.{name}", used
+                    if used >= len(rest):
+                        return nested([f"c.{new}.ensures.{it}" for it in fields[n:]]), used
+                    if rest[used] == "0":
+                        return f"c.{new}.ensures.{name}", used + 1
+                    used += 1
             if plain(old).startswith("match") and rest[:1] and rest[0].startswith("keys"):
                 others = [
                     p[2][1].split("in-")[1].split("-")[0]
@@ -354,7 +365,7 @@ class Converter:
                 helpers.append(joined)
                 continue
             typ, rest = sig.group(2), sig.group(4)
-            inner = re.match(rf"\s*:\s*((?:\(\w+ : ℕ\)(?: → | ))*)\((\w+) : \S+\.(?:In|At|After|Then|Else|Arm|Start)[^()]*(?:\([^()]*\)[^()]*)*\) →((?:.|\n)*)$", typ)
+            inner = re.match(rf"\s*:\s*((?:\(\w+ : ℕ\)(?: → | ))*)\((\w+) : \S+\.(?:In|At|After|Then|Else|Arm|Start|Joined)[^()]*(?:\([^()]*\)[^()]*)*\) →((?:.|\n)*)$", typ)
             if inner and not re.search(r"\.Need-", typ):
                 found = re.match(r"((?:\s+[^\s=]+)*)\s*=((?:.|\n)*)$", rest)
                 if found:
@@ -414,10 +425,22 @@ class Converter:
         body = self.with_insides(body)
         body = self.paths(file, f, place, body, old)
         fields = next((v for k, v in f.of["asked"].items() if need_key(k) == key), None)
+        if not fields and key.startswith("returns"):
+            fields = self.own_ensures(f)
         if fields:
             body = as_record(body, fields)
         stem = f.of.get("stem") or ""
         answers.append((stem + new, args, body, opened.group(1) if opened else None))
+
+    def own_ensures(self, f):
+        """The names of the function's own clauses, where it has several."""
+        name = f.prefix or f.path.split(".")[-1].lstrip("+")
+        for file in sorted(self.crate.glob("src/**/*.rt")):
+            found = re.search(rf"\bfn {name}\b[^{{]*?\n((?:    (?:requires|ensures)(?:.|\n)*?)?)\n\{{", file.read_text())
+            if found:
+                names = re.findall(r"(?m)^    ensures (\w+) \{", found.group(1))
+                return names if len(names) > 1 else None
+        return None
 
     def with_insides(self, body):
         """A lemma over a step of the code becomes a `let` in each answer that cites it."""
@@ -489,7 +512,7 @@ class Converter:
             key = f"\x01{alias_name}\x01{len(alias)}"
             alias[key] = stripped
             after = re.sub(
-                rf"(?<![^\s(){{}};,@«»\[\]\\λ]){re.escape(alias_name)}(?=(?:\.{W})*(?:[\s(){{}};,\[\]]|$))",
+                rf"(?<![^\s(){{}};,@«»\[\]\\λ]){re.escape(alias_name)}(?!\s+=\s)(?=(?:\.{W})*(?:[\s(){{}};,\[\]]|$))",
                 lambda it: key,
                 after,
             )

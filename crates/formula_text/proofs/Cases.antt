@@ -1,8 +1,7 @@
 -- Texts of answers to formulas by computation.
 -- Assumes nothing.
 use mathlib.Core.Path.{◌≡◌, refl}
-use mathlib.Core.List.{List, [], ◌∷◌}
-use Prim.Native.Nat.{ℕ}
+use mathlib.Core.List.{[], ◌∷◌}
 use Rattle.translate.specs.declared.answer.Answer.TheVariants.{Done, BadText, Clash, NoRoom, LongText}
 use Rattle.answer_text.specs.Answer.{digits, decimal, after_spaces, spaced, labelled, second_line}
 use Rattle.formula_text.specs.Printed.{told_line, formula_text}

@@ -98,7 +98,8 @@ after_deeper at = after_frame at (at.alts + 1) at.base at.alts at.alts (at.depth
 -- `)`: what stood open last goes on
 abbrev pub closed_to : List ℕ → At → ℕ → At
 closed_to w at zero = after_frame at at.alts 0 0 0 0 0 0
-closed_to w at (suc i) = after_frame at at.alts (get_or w (4 * i) 0) (get_or w (4 * i + 1) 0) (get_or w (4 * i + 2) 0) (get_or w (4 * i + 3) 0)
+closed_to w at (suc i) =
+    after_frame at at.alts (get_or w (4 * i) 0) (get_or w (4 * i + 1) 0) (get_or w (4 * i + 2) 0) (get_or w (4 * i + 3) 0)
     (get_or w (4 * i) 0) i
 
 abbrev pub after_close : List ℕ → At → At

@@ -1,6 +1,6 @@
 -- The first rows of tables hold what was laid out in them.
 -- Assumes nothing.
-use Prim.Native.Nat.{ℕ, zero, suc, ◌+◌, ◌*◌, ◌<◌, ◌≤◌, min}
+use Prim.Native.Nat.{ℕ, suc, ◌+◌, ◌*◌, ◌<◌, ◌≤◌}
 use mathlib.Core.Path.{◌≡◌, refl, sym, ap, subst, ◌∙◌}
 use mathlib.Core.Bool.{Bool, true, false}
 use mathlib.Core.List.{List, [], ◌∷◌}
@@ -16,7 +16,7 @@ use Rattle.signs.specs.Machine.{if_so}
 use Rattle.rows.specs.Machine.{Out}
 use Rattle.rows.specs.Given.{given}
 use Rattle.rows.specs.Memory.{Memory, TablesHold, ListedFrom}
-use Rattle.rows.specs.Laid.{mapped, arc_word, home_of_arc, pair_word, pair_home, LaidIn}
+use Rattle.rows.specs.Laid.{mapped, arc_word, home_of_arc, pair_word, pair_home}
 use Rattle.rows.specs.Held.{Held}
 use Rattle.rows.proofs.Holding.{mapped_long, held_laid}
 use Rattle.rows.proofs.Lies.{alts_width}

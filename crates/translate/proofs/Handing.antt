@@ -1,14 +1,13 @@
 -- Words that end a buffer are handed over.
 -- Assumes nothing.
-use Prim.Native.Nat.{ℕ, suc, ◌+◌, ◌-◌, ◌<◌, ◌≤◌, min}
-use mathlib.Core.Path.{◌≡◌, refl, sym, ap, subst, ◌∙◌}
+use Prim.Native.Nat.{ℕ, ◌-◌, ◌<◌, ◌≤◌}
+use mathlib.Core.Path.{◌≡◌, refl, sym, ap, ◌∙◌}
 use mathlib.Core.List.{List, ◌++◌}
 use native.Mathlib.Omega.{arith}
 use lib.ListN.{length, drop}
 use Rattle.theory.specs.Limits.{input_limit}
 use Rattle.layout.proofs.Standing.{stands_taken}
 use Rattle.area.specs.Region.{region}
-use Rattle.folding.specs.Buffer.{WordsEnd}
 use Rattle.translate.specs.Stages.{HandsOver}
 use Rattle.translate.specs.declared.answer.Answer.TheVariants.{Done, TooLong, NoRoom}
 

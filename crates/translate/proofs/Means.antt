@@ -5,8 +5,8 @@ use Prim.Native.Nat.{ℕ}
 use native.Mathlib.Omega.{arith}
 use mathlib.Core.Path.{◌≡◌, sym}
 use mathlib.Core.Logic.{◌↔◌}
-use mathlib.Core.List.{List, ◌++◌}
-use lib.ListN.{length, take, drop}
+use mathlib.Core.List.{List}
+use lib.ListN.{take, drop}
 use lib.Seq.{take_at}
 use Rattle.theory.specs.Limits.{depth_limit}
 use Rattle.theory.specs.Structure.{Structure}
@@ -18,7 +18,7 @@ use Rattle.formulas.proofs.Settled.{describe_means, describe_clash}
 use Rattle.formulas.proofs.Well.{describe_well}
 use Rattle.signs.specs.Grammar.{Reads}
 use Rattle.rows.proofs.Fits.{whole_fits}
-use Rattle.translate.specs.Translated.{Translated, Described}
+use Rattle.translate.specs.Translated.{Translated}
 use Rattle.translate.specs.declared.answer.Answer.TheVariants.{Done, Clash}
 
 -- the numbers of a text are small, and so are those of its formula

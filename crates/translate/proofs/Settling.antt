@@ -1,19 +1,19 @@
 -- The whole formula is settled.
 -- Assumes nothing.
-use Prim.Native.Nat.{ℕ, zero, suc, ◌+◌, ◌-◌, ◌*◌, ◌<◌, ◌≤◌, min}
-use mathlib.Core.Path.{◌≡◌, refl, sym, ap, subst, ◌∙◌}
-use mathlib.Core.Logic.{◌⊎◌, inl, inr, ⊎_elim}
+use Prim.Native.Nat.{ℕ, suc, ◌+◌, ◌-◌, ◌<◌, ◌≤◌}
+use mathlib.Core.Path.{◌≡◌, refl, sym, subst}
+use mathlib.Core.Logic.{⊎_elim}
 use mathlib.Core.Option.{Option, none, some}
-use mathlib.Core.List.{List, [], ◌∷◌, ◌++◌, append-nil}
+use mathlib.Core.List.{List, [], append-nil}
 use native.Mathlib.Omega.{arith}
-use lib.ListN.{length, get_or}
-use Rattle.theory.specs.Limits.{code_limit, input_limit, depth_limit}
+use lib.ListN.{length}
+use Rattle.theory.specs.Limits.{input_limit, depth_limit}
 use Rattle.theory.specs.Descr.{Desc}
 use Rattle.theory.specs.Layout.{words}
 use Rattle.layout.proofs.Standing.{stands_nil}
 use Rattle.formulas.specs.Formula.{Formula}
-use Rattle.formulas.specs.Sheet.{blank_sheet, laid, sheet, lay, laid_out}
-use Rattle.formulas.specs.Flat.{width, flattened, wide_rows}
+use Rattle.formulas.specs.Sheet.{blank_sheet, sheet, lay, laid_out}
+use Rattle.formulas.specs.Flat.{flattened, wide_rows}
 use Rattle.formulas.specs.Homes.{Home, home_desc, as_home, house}
 use Rattle.formulas.specs.Tables.{tables, TablesFit}
 use Rattle.formulas.specs.Describe.{describe}

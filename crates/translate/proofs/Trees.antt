@@ -1,17 +1,17 @@
 -- From the signs of a formula to marked signs, and from these to tables.
 -- Assumes nothing.
-use Prim.Native.Nat.{ℕ, zero, suc, ◌+◌, ◌*◌, ◌<◌, ◌≤◌}
+use Prim.Native.Nat.{ℕ, suc, ◌+◌, ◌<◌, ◌≤◌}
 use mathlib.Core.Path.{◌≡◌, refl, sym, ap, ap₂, subst, ◌∙◌}
-use mathlib.Core.Logic.{◌⊎◌, inl, inr}
+use mathlib.Core.Logic.{inl, inr}
 use mathlib.Core.Bool.{Bool, true, false}
 use mathlib.Core.Option.{Option, none, some}
-use mathlib.Core.List.{List, [], ◌∷◌, ◌++◌}
+use mathlib.Core.List.{List, [], ◌∷◌}
 use native.Mathlib.Omega.{arith}
 use lib.ListN.{length, get_or, take, length-take}
 use lib.Seq.{get_or-take}
 use lib.Dec.{eqb, ltb}
 use borrow.Author.Tests.{ltb-true, ltb-false}
-use Rattle.theory.specs.Limits.{input_limit, depth_limit}
+use Rattle.theory.specs.Limits.{depth_limit}
 use Rattle.theory.specs.Descr.{Desc}
 use Rattle.formulas.specs.Formula.{Formula, depth}
 use Rattle.formulas.specs.Describe.{describe}
@@ -22,22 +22,21 @@ use Rattle.signs.specs.Grammar.{Reads}
 use Rattle.signs.specs.Judged.{Good}
 use Rattle.signs.proofs.Words.{Each, spelt_small}
 use Rattle.signs.proofs.Words as signs
-use Rattle.rows.specs.Tokens.{Token, sign_token, tokens, token_word, token_words, AllSmall, MarkedSigns, flag_bit, top_flag, under_top, flag}
+use Rattle.rows.specs.Tokens.{Token, sign_token, tokens, token_word, token_words, AllSmall, MarkedSigns, flag_bit, top_flag, flag}
 use Rattle.rows.specs.Tokens.{flagging, unmarked}
 use Rattle.rows.specs.Flagged.{word_of, Flagging, Flags}
-use Rattle.rows.specs.Machine.{Out, ShallowAlts}
+use Rattle.rows.specs.Machine.{Out}
 use Rattle.rows.specs.Given.{given}
 use Rattle.rows.specs.Memory.{row_limit, ListedFrom}
-use Rattle.rows.specs.Laid.{spot_unit}
 use Rattle.rows.proofs.Bounds.{spelt_weight, whole_few}
 use Rattle.rows.proofs.Depth.{depth_low, depth_high}
-use Rattle.rows.proofs.Given.{WholeGiven, whole_given}
+use Rattle.rows.proofs.Given.{whole_given}
 use Rattle.rows.proofs.Lies.{alts_width}
 use Rattle.rows.proofs.Numbered.{arcs_count, bears_count, shares_count}
 use Rattle.laying.specs.Laying.{Tabs, Roomy, FewRows, all_given, LaysOut, LaidAs, LaidOut}
 use Rattle.laying.specs.declared.laying.Laid.{Laid}
 use Rattle.laying.specs.declared.laying.Laid.TheVariants as laid
-use Rattle.translate.specs.Translated.{Translated, Shallow, Described}
+use Rattle.translate.specs.Translated.{Translated, Shallow}
 use Rattle.translate.specs.Stages.{DescribedTo, TreeLaid, TreeTold, TreeRead, TreeMarked}
 use Rattle.translate.specs.declared.answer.Answer.{Answer}
 use Rattle.translate.specs.declared.answer.Answer.TheVariants.{Done, BadText, TooDeep, Clash, TooLong, NoRoom, LongText}

@@ -1,0 +1,22 @@
+-- `library_text::reading::list_in` meets its contract.
+-- Assumes nothing.
+use native.Mathlib.Omega.{arith}
+use lib.ListN.{take}
+use Rattle.library_text.specs.Lines.{words_text}
+use Rattle.library_text.specs.Serves.{list_text}
+use Rattle.library_text.proofs.Parts.{wrote_as}
+use Rattle.library_text.proofs.Tellings.{list_within, list_printed}
+use Rattle.library_text.proofs.reading.list_in.Goals as goal
+
+pub write_words-requires : goal.write_words-requires
+write_words-requires c =
+    let h = list_within c.args.file.now c.args.area.now c.list-answer.new.area c.requires c.list-answer.result c.list-answer.ensures in
+    omega arith
+
+pub returns : goal.returns
+returns c =
+    wrote_as (words_text c.list_told-row.result.number c.list_told-row.result.extent (take c.list_told-row.result.extent c.list-answer.new.area)) (list_text c.args.file.now)
+    c.args.out.now c.write_words.new.dst c.write_words.result
+    (list_printed c.args.file.now c.args.area.now c.list-answer.new.area c.requires c.list-answer.result c.list-answer.ensures c.list-answer.auto.area
+    c.list_told-row.result.number c.list_told-row.result.extent c.list_told-row.ensures.0 c.list_told-row.ensures.1)
+    c.write_words.ensures
