@@ -21,14 +21,14 @@ pub extern "C" fn bublastyr_unify(
     told: &mut [u32; 3],
 ) -> u32
     ensures* { λ r. ⌜ Outcome (record { mode = mode; first = first.now; second = second.now })
-        (record { result = res.entry.now; working = working.old })
+        (record { result = res.old; working = working.old })
         (record {
           number = r;
           extent = get_or told.new 0 0;
           readings = get_or told.new 1 0;
           node = get_or told.new 2 0;
         })
-        (record { res = res.exit.now; working = working.new }) ⌝ }
+        (record { result = res.new; working = working.new }) ⌝ }
 {
     let answer = unify::unify(mode, first, second, res, working);
     let row = answering::answer::told(answer);
@@ -46,14 +46,14 @@ pub extern "C" fn bublastyr_plain(
     told: &mut [u32; 3],
 ) -> u32
     ensures* { λ r. ⌜ Outcome (record { mode = 2; first = first.now; second = second.now })
-        (record { result = res.entry.now; working = working.old })
+        (record { result = res.old; working = working.old })
         (record {
           number = r;
           extent = get_or told.new 0 0;
           readings = get_or told.new 1 0;
           node = get_or told.new 2 0;
         })
-        (record { res = res.exit.now; working = working.new }) ⌝ }
+        (record { result = res.new; working = working.new }) ⌝ }
 {
     let answer = unify::plain(first, second, res, working);
     let plain = answering::answer::told(answer);
@@ -106,15 +106,15 @@ pub extern "C" fn bublastyr_suite(
 ) -> u32
     ensures* { λ r. ⌜ Suited words.now tests.now
         (record {
-          counts = counts.entry.now;
+          counts = counts.old;
           running = running.old;
           result = res.old;
           working = working.old;
         }) r
         (record {
-          counts = counts.exit.now;
+          counts = counts.new;
           running = running.new;
-          res = res.new;
+          result = res.new;
           working = working.new;
         }) ⌝ }
 {

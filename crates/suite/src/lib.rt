@@ -41,8 +41,8 @@ fn each(
     running: &mut Running,
 ) -> [[u32; 12]; 3]
     requires { Runnable n (length words.now) tests.now }
-    ensures* { λ r. ⌜ record { counts = r; running = running.new; result = result.exit.now; working = working.new }
-        ≡ night_after words.now tests.now (begun_night result.entry.now working.old) n ⌝ }
+    ensures* { λ r. ⌜ record { counts = r; running = running.new; result = res.new; working = working.new }
+        ≡ night_after words.now tests.now (begun_night res.old working.old) n ⌝ }
 {
     let mut held = begun();
     note(running, held);
@@ -50,7 +50,7 @@ fn each(
     let mut i: usize = 0;
     while i < n {
         let test = row(tests, i);
-        let seen = one(test, words, result, working);
+        let seen = one(test, words, res, working);
         held = noted(held, test, seen);
         note(running, held);
         counts = raised(counts, test, seen);
@@ -71,15 +71,15 @@ pub fn suite(
 ) -> u32
     ensures* { λ r. ⌜ Suited words.now tests.now
         (record {
-          counts = counts.entry.now;
+          counts = counts.old;
           running = running.old;
           result = res.old;
           working = working.old;
         }) r
         (record {
-          counts = counts.exit.now;
+          counts = counts.new;
           running = running.new;
-          res = res.new;
+          result = res.new;
           working = working.new;
         }) ⌝ }
 {

@@ -32,8 +32,8 @@ fn conclude(
 ) -> Answer
     requires { (mode ≤ 2) × Opening working.old first.now second.now }
     ensures* fact { λ r. ⌜ Outcome (record { mode = mode; first = first.now; second = second.now })
-        (record { result = res.entry.now; working = working.old }) (row_of r)
-        (record { res = res.exit.now; working = working.new }) ⌝ }
+        (record { result = res.old; working = working.old }) (row_of r)
+        (record { result = res.new; working = working.new }) ⌝ }
     ensures caused { Caused first.now second.now result }
 {
     let made = make(mode, engine, working, first, second);
@@ -52,8 +52,8 @@ fn run(
     working: &mut [u32],
 ) -> Answer
     ensures* fact { λ r. ⌜ Outcome (record { mode = mode; first = first.now; second = second.now })
-        (record { result = res.entry.now; working = working.old }) (row_of r)
-        (record { res = res.exit.now; working = working.new }) ⌝ }
+        (record { result = res.old; working = working.old }) (row_of r)
+        (record { result = res.new; working = working.new }) ⌝ }
     ensures caused { Caused first.now second.now result }
 {
     if LAST_MODE < mode {
@@ -88,8 +88,8 @@ pub fn unify(
     working: &mut [u32],
 ) -> Answer
     ensures* fact { λ r. ⌜ Outcome (record { mode = mode; first = first.now; second = second.now })
-        (record { result = res.entry.now; working = working.old }) (row_of r)
-        (record { res = res.exit.now; working = working.new }) ⌝ }
+        (record { result = res.old; working = working.old }) (row_of r)
+        (record { result = res.new; working = working.new }) ⌝ }
     ensures caused { Caused first.now second.now result }
 {
     run(mode, Engine::Fast, first, second, res, working)
