@@ -20,15 +20,15 @@ pub extern "C" fn bublastyr_unify(
     working: &mut [u32],
     told: &mut [u32; 3],
 ) -> u32
-    ensures* { λ r. ⌜ Outcome (record { mode = mode; first = first.now; second = second.now })
+    ensures { Outcome (record { mode = mode; first = first.now; second = second.now })
         (record { result = res.old; working = working.old })
         (record {
-          number = r;
+          number = result;
           extent = get_or told.new 0 0;
           readings = get_or told.new 1 0;
           node = get_or told.new 2 0;
         })
-        (record { result = res.new; working = working.new }) ⌝ }
+        (record { result = res.new; working = working.new }) }
 {
     let answer = unify::unify(mode, first, second, res, working);
     let row = answering::answer::told(answer);
@@ -45,15 +45,15 @@ pub extern "C" fn bublastyr_plain(
     working: &mut [u32],
     told: &mut [u32; 3],
 ) -> u32
-    ensures* { λ r. ⌜ Outcome (record { mode = 2; first = first.now; second = second.now })
+    ensures { Outcome (record { mode = 2; first = first.now; second = second.now })
         (record { result = res.old; working = working.old })
         (record {
-          number = r;
+          number = result;
           extent = get_or told.new 0 0;
           readings = get_or told.new 1 0;
           node = get_or told.new 2 0;
         })
-        (record { result = res.new; working = working.new }) ⌝ }
+        (record { result = res.new; working = working.new }) }
 {
     let answer = unify::plain(first, second, res, working);
     let plain = answering::answer::told(answer);
@@ -104,19 +104,19 @@ pub extern "C" fn bublastyr_suite(
     running: &mut suite::running::Running,
     counts: &mut [[u32; 12]; 3],
 ) -> u32
-    ensures* { λ r. ⌜ Suited words.now tests.now
+    ensures { Suited words.now tests.now
         (record {
           counts = counts.old;
           running = running.old;
           result = res.old;
           working = working.old;
-        }) r
+        }) result
         (record {
           counts = counts.new;
           running = running.new;
           result = res.new;
           working = working.new;
-        }) ⌝ }
+        }) }
 {
     suite::suite(tests, words, res, working, running, counts)
 }

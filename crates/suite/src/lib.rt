@@ -20,8 +20,8 @@ use unify::unify;
 // One test: its call is made.
 fn one(test: Test, words: &[u32], res: &mut [u32], working: &mut [u32]) -> Row
     requires { Within (length words.now) test }
-    ensures* { λ r. ⌜ AsAnswered words.now test (record { result = res.old; working = working.old })
-        r.number r.readings (record { result = res.new; working = working.new }) ⌝ }
+    ensures { AsAnswered words.now test (record { result = res.old; working = working.old })
+        result.number result.readings (record { result = res.new; working = working.new }) }
 {
     let a = wide(test.first);
     let b = a + wide(test.firsts);
@@ -41,8 +41,8 @@ fn each(
     running: &mut Running,
 ) -> [[u32; 12]; 3]
     requires { Runnable n (length words.now) tests.now }
-    ensures* { λ r. ⌜ record { counts = r; running = running.new; result = res.new; working = working.new }
-        ≡ night_after words.now tests.now (begun_night res.old working.old) n ⌝ }
+    ensures { record { counts = result; running = running.new; result = res.new; working = working.new }
+        ≡ night_after words.now tests.now (begun_night res.old working.old) n }
 {
     let mut held = begun();
     note(running, held);
@@ -69,19 +69,19 @@ pub fn suite(
     running: &mut Running,
     counts: &mut [[u32; 12]; 3],
 ) -> u32
-    ensures* { λ r. ⌜ Suited words.now tests.now
+    ensures { Suited words.now tests.now
         (record {
           counts = counts.old;
           running = running.old;
           result = res.old;
           working = working.old;
-        }) r
+        }) result
         (record {
           counts = counts.new;
           running = running.new;
           result = res.new;
           working = working.new;
-        }) ⌝ }
+        }) }
 {
     let n = tests.len();
     let space = words.len();

@@ -31,9 +31,9 @@ fn conclude(
     working: &mut [u32],
 ) -> Answer
     requires { (mode ≤ 2) × Opening working.old first.now second.now }
-    ensures* fact { λ r. ⌜ Outcome (record { mode = mode; first = first.now; second = second.now })
-        (record { result = res.old; working = working.old }) (row_of r)
-        (record { result = res.new; working = working.new }) ⌝ }
+    ensures outcome { Outcome (record { mode = mode; first = first.now; second = second.now })
+        (record { result = res.old; working = working.old }) (row_of result)
+        (record { result = res.new; working = working.new }) }
     ensures caused { Caused first.now second.now result }
 {
     let made = make(mode, engine, working, first, second);
@@ -51,9 +51,9 @@ fn run(
     res: &mut [u32],
     working: &mut [u32],
 ) -> Answer
-    ensures* fact { λ r. ⌜ Outcome (record { mode = mode; first = first.now; second = second.now })
-        (record { result = res.old; working = working.old }) (row_of r)
-        (record { result = res.new; working = working.new }) ⌝ }
+    ensures outcome { Outcome (record { mode = mode; first = first.now; second = second.now })
+        (record { result = res.old; working = working.old }) (row_of result)
+        (record { result = res.new; working = working.new }) }
     ensures caused { Caused first.now second.now result }
 {
     if LAST_MODE < mode {
@@ -87,9 +87,9 @@ pub fn unify(
     res: &mut [u32],
     working: &mut [u32],
 ) -> Answer
-    ensures* fact { λ r. ⌜ Outcome (record { mode = mode; first = first.now; second = second.now })
-        (record { result = res.old; working = working.old }) (row_of r)
-        (record { result = res.new; working = working.new }) ⌝ }
+    ensures outcome { Outcome (record { mode = mode; first = first.now; second = second.now })
+        (record { result = res.old; working = working.old }) (row_of result)
+        (record { result = res.new; working = working.new }) }
     ensures caused { Caused first.now second.now result }
 {
     run(mode, Engine::Fast, first, second, res, working)
@@ -97,9 +97,9 @@ pub fn unify(
 
 // "It takes no mode and does mode 2's work": unifies two descriptions by expanding what the quick step leaves to every choice.
 pub fn plain(first: &[u32], second: &[u32], res: &mut [u32], working: &mut [u32]) -> Answer
-    ensures* fact { λ r. ⌜ Outcome (record { mode = 2; first = first.now; second = second.now })
-        (record { result = res.old; working = working.old }) (row_of r)
-        (record { result = res.new; working = working.new }) ⌝ }
+    ensures outcome { Outcome (record { mode = 2; first = first.now; second = second.now })
+        (record { result = res.old; working = working.old }) (row_of result)
+        (record { result = res.new; working = working.new }) }
     ensures caused { Caused first.now second.now result }
 {
     run(LAST_MODE, Engine::Plain, first, second, res, working)

@@ -1,0 +1,23 @@
+use Rattle.entering.specs.Moved.{Moved}
+use Rattle.search.specs.Frames.{slots}
+use Rattle.search.specs.Searched.{Branching}
+use Rattle.search.proofs.Planning.{reach}
+use Rattle.search.proofs.Choosing.{Going}
+use Prim.Native.Nat.{◌+◌, ◌-◌, ◌*◌}
+use Rattle.search.proofs.search.+choose_resume_take.Given as goal
+
+abbrev pub decreases-choose : goal.decreases-choose
+decreases-choose l = 3 * (2048 - l.p) + 2
+
+abbrev pub decreases-resume : goal.decreases-resume
+decreases-resume l = 3 * (2048 - reach (slots l.a))
+
+abbrev pub decreases-take : goal.decreases-take
+decreases-take l = 3 * (2048 - l.g) + 1
+
+abbrev pub invariant-choose-loop-left : goal.invariant-choose-loop-left
+invariant-choose-loop-left l =
+    Moved l.k l.initial.w l.k l.w × ((c : Branching l.n l.k l.initial.w l.p l.count l.a) → Going l.n l.k l.initial.w l.p l.count l.a c l.left l.at l.sum l.w)
+
+abbrev pub decreases-choose-loop-left : goal.decreases-choose-loop-left
+decreases-choose-loop-left l = l.left
