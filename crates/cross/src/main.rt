@@ -9,6 +9,8 @@ use crate::alike::{AREA, alike};
 use crate::window::{TEXT_ROOM, Window, refill};
 use call_text::call::{Counts, Ends, call_end, read_call};
 use call_text::number::{Token, read_token};
+use std::io;
+use std::io::{Read, Write};
 
 // At most so many calls are run.
 const MOST_TURNS: u32 = 4000000000;
@@ -142,7 +144,12 @@ fn after(window: Window, bytes: usize) -> Window {
 }
 
 // Runs all calls.
-fn all(text: &mut [u8], first: &mut [u32], second: &mut [u32]) -> Report {
+fn all<R: Read>(
+    input: &mut R,
+    text: &mut [u8],
+    first: &mut [u32],
+    second: &mut [u32],
+) -> io::Result<Report> {
     let mut window = Window {
         start: 0,
         end: 0,
@@ -156,7 +163,7 @@ fn all(text: &mut [u8], first: &mut [u32], second: &mut [u32]) -> Report {
     };
     let mut turns = MOST_TURNS;
     while 0 < turns {
-        window = refill(text, window);
+        window = refill(input, text, window)?;
         let step = run_between(text, window.start, window.end, first, second);
         match step {
             Turn::Ran { same, bytes } => {
@@ -164,15 +171,15 @@ fn all(text: &mut [u8], first: &mut [u32], second: &mut [u32]) -> Report {
                 window = after(window, bytes);
             }
             Turn::Over => {
-                return report;
+                return Ok(report);
             }
             Turn::Bad => {
-                return bad_next(report);
+                return Ok(bad_next(report));
             }
         }
         turns -= 1;
     }
-    report
+    Ok(report)
 }
 
 // The report where the next call is none.
@@ -186,17 +193,26 @@ fn bad_next(report: Report) -> Report {
     }
 }
 
-fn say(label: &[u8], n: u32) {
-    io::write_all(1, label);
-    io::print_decimal(1, n as u64);
+fn say<W: Write>(output: &mut W, label: &[u8], n: u32) -> io::Result<()> {
+    output.write_all(label)?;
+    write!(output, "{n}")
 }
 
 // Says a number of the report, where there is one.
-fn say_some(label: &[u8], n: u32) {
+fn say_some<W: Write>(output: &mut W, label: &[u8], n: u32) -> io::Result<()> {
     if n == 0 {
-        return;
+        return Ok(());
     }
-    say(label, n);
+    say(output, label, n)
+}
+
+// Says the report.
+fn say_all<W: Write>(output: &mut W, report: Report) -> io::Result<()> {
+    say(output, b"calls ", report.calls)?;
+    say(output, b" alike ", report.alike)?;
+    say_some(output, b" unlike ", report.unlike)?;
+    say_some(output, b" bad ", report.bad)?;
+    output.write_all(b"\n")
 }
 
 fn text_space() -> [u8; TEXT_ROOM] {
@@ -207,14 +223,10 @@ fn input_space() -> [u32; AREA] {
     [0; AREA]
 }
 
-fn main() {
+fn main(rt: HostRuntime) -> io::Result<()> {
     let mut text = text_space();
     let mut first = input_space();
     let mut second = input_space();
-    let report = all(&mut text, &mut first, &mut second);
-    say(b"calls ", report.calls);
-    say(b" alike ", report.alike);
-    say_some(b" unlike ", report.unlike);
-    say_some(b" bad ", report.bad);
-    io::write_all(1, b"\n");
+    let report = all(&mut rt.stdin(), &mut text, &mut first, &mut second)?;
+    say_all(&mut rt.stdout(), report)
 }

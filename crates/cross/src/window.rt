@@ -1,6 +1,10 @@
 // The bytes that are read from standard input and not used yet.
 ghost use Rattle.std.specs.Prelude.{◌≤◌, length};
 
+use std::io;
+use std::io::Read;
+use streams::read_full;
+
 // They stand from `start` up to `end`; `over` says that no more will come.
 #[derive(Clone, Copy)]
 pub struct Window {
@@ -35,21 +39,21 @@ fn to_front(text: &mut [u8], start: usize, end: usize) -> usize
 }
 
 // Reads on, where a whole call may not stand there.
-pub fn refill(text: &mut [u8], window: Window) -> Window {
+pub fn refill<R: Read>(input: &mut R, text: &mut [u8], window: Window) -> io::Result<Window> {
     if window.over {
-        return window;
+        return Ok(window);
     }
     if window.start <= window.end {
         if MOST_BYTES < window.end - window.start {
-            return window;
+            return Ok(window);
         }
     }
     let count = to_front(text, window.start, window.end);
     let room = text.len() - count;
-    let got = io::read_full(0, &mut text[count..]);
-    Window {
+    let got = read_full(input, &mut text[count..])?;
+    Ok(Window {
         start: 0,
         end: count + got,
         over: got < room,
-    }
+    })
 }

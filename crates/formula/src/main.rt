@@ -41,27 +41,27 @@ fn answer(text: &[u8], out: &mut [u8]) -> usize
 }
 
 // Prints what comes of the text.
-fn print<W: Write>(to: &mut W, text: &[u8], out: &mut [u8]) -> io::Result<()>
+fn print<W: Write>(output: &mut W, text: &[u8], out: &mut [u8]) -> io::Result<()>
     requires { 16384 ≤ length out.old }
-    ensures { OnOk result ((said : List ℕ) × Prints text.now said × Appends (W.contents to.old) (W.contents to.new) said) }
+    ensures { OnOk result ((said : List ℕ) × Prints text.now said × Appends (W.contents output.old) (W.contents output.new) said) }
 {
     let n = answer(text, out);
-    to.write_all(&out[..n])
+    output.write_all(&out[..n])
 }
 
 // Reads the text, and prints what comes of it.
 fn run<R: Read, W: Write>(
-    from: &mut R,
-    to: &mut W,
+    input: &mut R,
+    output: &mut W,
     text: &mut [u8],
     out: &mut [u8],
 ) -> io::Result<()>
     requires { 16384 ≤ length out.old }
-    ensures { OnOk result (IfSome (R.remaining from.old) (λ all. (said : List ℕ)
-        × Prints (take (length text.old) all) said × Appends (W.contents to.old) (W.contents to.new) said)) }
+    ensures { OnOk result (IfSome (R.remaining input.old) (λ all. (said : List ℕ)
+        × Prints (take (length text.old) all) said × Appends (W.contents output.old) (W.contents output.new) said)) }
 {
-    let n = read_full(from, text)?;
-    print(to, &text[..n], out)
+    let n = read_full(input, text)?;
+    print(output, &text[..n], out)
 }
 
 fn main(rt: HostRuntime) -> io::Result<()> {

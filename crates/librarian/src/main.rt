@@ -43,32 +43,32 @@ fn answer(text: &[u8], out: &mut [u8]) -> usize
 }
 
 // Prints what comes of the text.
-fn print<W: Write>(to: &mut W, text: &[u8], out: &mut [u8]) -> io::Result<()>
+fn print<W: Write>(output: &mut W, text: &[u8], out: &mut [u8]) -> io::Result<()>
     requires { 280000 ≤ length out.old }
-    ensures { OnOk result (Appends (W.contents to.old) (W.contents to.new) (serves text.now)) }
+    ensures { OnOk result (Appends (W.contents output.old) (W.contents output.new) (serves text.now)) }
 {
     let n = answer(text, out);
-    to.write_all(&out[..n])
+    output.write_all(&out[..n])
 }
 
 // Reads the text, and prints what comes of it; a text that fills the room for it may be cut off, and is bad input.
 fn run<R: Read, W: Write>(
-    from: &mut R,
-    to: &mut W,
+    input: &mut R,
+    output: &mut W,
     text: &mut [u8],
     out: &mut [u8],
 ) -> io::Result<()>
     requires { 280000 ≤ length out.old }
-    ensures whole { OnOk result (IfSome (R.remaining from.old) (λ all. length all < length text.old
-        → Appends (W.contents to.old) (W.contents to.new) (serves all))) }
-    ensures cut { OnOk result (IfSome (R.remaining from.old) (λ all. length text.old ≤ length all
-        → Appends (W.contents to.old) (W.contents to.new) bad_text)) }
+    ensures whole { OnOk result (IfSome (R.remaining input.old) (λ all. length all < length text.old
+        → Appends (W.contents output.old) (W.contents output.new) (serves all))) }
+    ensures cut { OnOk result (IfSome (R.remaining input.old) (λ all. length text.old ≤ length all
+        → Appends (W.contents output.old) (W.contents output.new) bad_text)) }
 {
-    let n = read_full(from, text)?;
+    let n = read_full(input, text)?;
     if n == text.len() {
-        to.write_all(b"bad input\n")
+        output.write_all(b"bad input\n")
     } else {
-        print(to, &text[..n], out)
+        print(output, &text[..n], out)
     }
 }
 

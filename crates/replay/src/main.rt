@@ -9,11 +9,13 @@
 mod areas;
 mod joining;
 
-ghost use Rattle.std.specs.Prelude.{◌≤◌};
+ghost use Rattle.std.specs.Prelude.{◌≤◌, IfOk};
 
 use crate::areas::{MOST_WORK, work_space, working_right};
 use crate::joining::joined;
 use answering::answer::{Answer, Row, told};
+use std::io;
+use std::io::{Read, Write};
 use unify::{plain, unify};
 use vectors::lent::{MOST_ROOM, prepare, result_right, space};
 use vectors::{Run, Word};
@@ -154,53 +156,59 @@ fn as_stored(v: Vector, a: &[u32], b: &[u32], words: &[u32]) -> bool {
 }
 
 // Reads the words of a vector into these: whether they are there and it comes out as stored.
-fn read_in(v: Vector, a: &mut [u32], b: &mut [u32], words: &mut [u32]) -> bool {
-    let first = vectors::counted(0, a);
+fn read_in<R: Read>(
+    input: &mut R,
+    v: Vector,
+    a: &mut [u32],
+    b: &mut [u32],
+    words: &mut [u32],
+) -> io::Result<bool> {
+    let first = vectors::counted(input, a)?;
     let Run::Of(n) = first else {
-        return false;
+        return Ok(false);
     };
-    let second = vectors::counted(0, b);
+    let second = vectors::counted(input, b)?;
     let Run::Of(m) = second else {
-        return false;
+        return Ok(false);
     };
-    let third = vectors::counted(0, words);
+    let third = vectors::counted(input, words)?;
     let Run::Of(k) = third else {
-        return false;
+        return Ok(false);
     };
-    as_stored(v, &a[..n], &b[..m], &words[..k])
+    Ok(as_stored(v, &a[..n], &b[..m], &words[..k]))
 }
 
 // Whether the words of a vector are there and it comes out as stored.
-fn read(v: Vector) -> bool {
+fn read<R: Read>(input: &mut R, v: Vector) -> io::Result<bool> {
     let mut a = space();
     let mut b = space();
     let mut words = space();
-    read_in(v, &mut a, &mut b, &mut words)
+    read_in(input, v, &mut a, &mut b, &mut words)
 }
 
 // Which of the counts of its kind a vector belongs to.
-fn column(v: Vector) -> usize
-    ensures { result ≤ 12 }
+fn column<R: Read>(input: &mut R, v: Vector) -> io::Result<usize>
+    ensures { IfOk result (λ n. n ≤ 12) }
 {
-    if read(v) {
+    if read(input, v)? {
         if v.number < 12 {
-            return v.number as usize;
+            return Ok(v.number as usize);
         }
     }
-    12
+    Ok(12)
 }
 
 // Runs the next vector and counts what came of it. Whether there was one.
-fn turn(counts: &mut [u32]) -> bool {
-    let word = vectors::next(0);
+fn turn<R: Read>(input: &mut R, counts: &mut [u32]) -> io::Result<bool> {
+    let word = vectors::next(input)?;
     let Word::Is(kind) = word else {
-        return false;
+        return Ok(false);
     };
     if KINDS <= kind {
-        return false;
+        return Ok(false);
     }
     let mut row: [u32; ROW] = [0; ROW];
-    let filled = vectors::fill(0, &mut row);
+    let filled = vectors::fill(input, &mut row)?;
     let v = Vector {
         kind,
         mode: row[0],
@@ -211,53 +219,71 @@ fn turn(counts: &mut [u32]) -> bool {
         readings: row[5],
         node: row[6],
     };
-    vectors::count(counts, kind as usize * COUNTS + column(v));
-    filled
+    vectors::count(counts, kind as usize * COUNTS + column(input, v)?);
+    Ok(filled)
 }
 
 // Runs all vectors.
-fn all(counts: &mut [u32]) {
+fn all<R: Read>(input: &mut R, counts: &mut [u32]) -> io::Result<()> {
     let mut turns = MOST_TURNS;
     while 0 < turns {
-        let more = turn(counts);
+        let more = turn(input, counts)?;
         if !more {
-            return;
+            return Ok(());
         }
         turns -= 1;
     }
+    Ok(())
 }
 
-fn say_count(label: &[u8], n: u32) {
-    io::write_all(1, label);
-    io::print_decimal(1, n as u64);
+fn say_count<W: Write>(output: &mut W, label: &[u8], n: u32) -> io::Result<()> {
+    output.write_all(label)?;
+    write!(output, "{n}")
 }
 
 // Says the counts of a kind, which stand from `from` on.
-fn say(label: &[u8], counts: &[u32; ALL_COUNTS], from: usize)
+fn say<W: Write>(
+    output: &mut W,
+    label: &[u8],
+    counts: &[u32; ALL_COUNTS],
+    from: usize,
+) -> io::Result<()>
     requires { from ≤ 26 }
 {
-    io::write_all(1, label);
+    output.write_all(label)?;
     let mut i: usize = 0;
     while i < 12 {
-        say_count(b" ", counts[from + i]);
+        say_count(output, b" ", counts[from + i])?;
         i += 1;
     }
-    say_count(b", otherwise: ", counts[from + 12]);
-    io::write_all(1, b"\n");
+    say_count(output, b", otherwise: ", counts[from + 12])?;
+    output.write_all(b"\n")
 }
 
-fn main() {
-    let mut counts: [u32; ALL_COUNTS] = [0; ALL_COUNTS];
-    all(&mut counts);
-    say(b"unified, as stored with numbers 0 to 11:", &counts, 0);
+// Says all counts.
+fn say_all<W: Write>(output: &mut W, counts: &[u32; ALL_COUNTS]) -> io::Result<()> {
     say(
+        output,
+        b"unified, as stored with numbers 0 to 11:",
+        counts,
+        0,
+    )?;
+    say(
+        output,
         b"tested for fit, as stored with numbers 0 to 11:",
-        &counts,
+        counts,
         COUNTS,
-    );
+    )?;
     say(
+        output,
         b"joined, as stored with numbers 0 to 11:",
-        &counts,
+        counts,
         COUNTS * 2,
-    );
+    )
+}
+
+fn main(rt: HostRuntime) -> io::Result<()> {
+    let mut counts: [u32; ALL_COUNTS] = [0; ALL_COUNTS];
+    all(&mut rt.stdin(), &mut counts)?;
+    say_all(&mut rt.stdout(), &counts)
 }

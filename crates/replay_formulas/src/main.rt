@@ -4,8 +4,10 @@
 // the bytes of the text and the words of the result, each after their number; 4,294,967,295 ends them.
 #![tactic(auto)]
 
-ghost use Rattle.std.specs.Prelude.{◌≤◌};
+ghost use Rattle.std.specs.Prelude.{◌≤◌, IfOk};
 
+use std::io;
+use std::io::{Read, Write};
 use translate::answer::{Row, told};
 use translate::formula::formula;
 use vectors::lent::{MOST_ROOM, prepare, result_right, space};
@@ -78,23 +80,28 @@ fn lent(v: Vector, text: &[u8], words: &[u32]) -> bool {
 }
 
 // Reads the text and the words of a vector into these: whether they are there and it comes out as stored.
-fn read_in(v: Vector, text: &mut [u8], words: &mut [u32]) -> bool {
-    let first = vectors::counted_bytes(0, text);
+fn read_in<R: Read>(
+    input: &mut R,
+    v: Vector,
+    text: &mut [u8],
+    words: &mut [u32],
+) -> io::Result<bool> {
+    let first = vectors::counted_bytes(input, text)?;
     let Run::Of(n) = first else {
-        return false;
+        return Ok(false);
     };
-    let second = vectors::counted(0, words);
+    let second = vectors::counted(input, words)?;
     let Run::Of(k) = second else {
-        return false;
+        return Ok(false);
     };
-    lent(v, &text[..n], &words[..k])
+    Ok(lent(v, &text[..n], &words[..k]))
 }
 
 // Whether the text and the words of a vector are there and it comes out as stored.
-fn read(v: Vector) -> bool {
+fn read<R: Read>(input: &mut R, v: Vector) -> io::Result<bool> {
     let mut text = text_space();
     let mut words = space();
-    read_in(v, &mut text, &mut words)
+    read_in(input, v, &mut text, &mut words)
 }
 
 // Which of the counts a number has.
@@ -113,62 +120,68 @@ fn place(number: u32) -> usize
 }
 
 // Which of the counts a vector belongs to.
-fn column(v: Vector) -> usize
-    ensures { result ≤ 7 }
+fn column<R: Read>(input: &mut R, v: Vector) -> io::Result<usize>
+    ensures { IfOk result (λ n. n ≤ 7) }
 {
-    if read(v) {
-        return place(v.number);
+    if read(input, v)? {
+        return Ok(place(v.number));
     }
-    7
+    Ok(7)
 }
 
 // Runs the next vector and counts what came of it. Whether there was one.
-fn turn(counts: &mut [u32]) -> bool {
-    let word = vectors::next(0);
+fn turn<R: Read>(input: &mut R, counts: &mut [u32]) -> io::Result<bool> {
+    let word = vectors::next(input)?;
     let Word::Is(room) = word else {
-        return false;
+        return Ok(false);
     };
     if room == LAST {
-        return false;
+        return Ok(false);
     }
     let mut row: [u32; ROW] = [0; ROW];
-    let filled = vectors::fill(0, &mut row);
+    let filled = vectors::fill(input, &mut row)?;
     let v = Vector {
         room,
         number: row[0],
         told: row[1],
     };
-    vectors::count(counts, column(v));
-    filled
+    vectors::count(counts, column(input, v)?);
+    Ok(filled)
 }
 
 // Runs all vectors.
-fn all(counts: &mut [u32]) {
+fn all<R: Read>(input: &mut R, counts: &mut [u32]) -> io::Result<()> {
     let mut turns = MOST_TURNS;
     while 0 < turns {
-        let more = turn(counts);
+        let more = turn(input, counts)?;
         if !more {
-            return;
+            return Ok(());
         }
         turns -= 1;
     }
+    Ok(())
 }
 
-fn say(label: &[u8], n: u32) {
-    io::write_all(1, label);
-    io::print_decimal(1, n as u64);
+fn say<W: Write>(output: &mut W, label: &[u8], n: u32) -> io::Result<()> {
+    output.write_all(label)?;
+    write!(output, "{n}")
 }
 
-fn main() {
+// Says all counts.
+fn say_all<W: Write>(output: &mut W, counts: &[u32; COUNTS]) -> io::Result<()> {
+    say(output, b"translated, as stored with number 0: ", counts[0])?;
+    say(output, b"\nrefused, as stored with number 20: ", counts[1])?;
+    say(output, b", 21: ", counts[2])?;
+    say(output, b", 22: ", counts[3])?;
+    say(output, b", 23: ", counts[4])?;
+    say(output, b", 24: ", counts[5])?;
+    say(output, b", 25: ", counts[6])?;
+    say(output, b"\notherwise: ", counts[7])?;
+    output.write_all(b"\n")
+}
+
+fn main(rt: HostRuntime) -> io::Result<()> {
     let mut counts: [u32; COUNTS] = [0; COUNTS];
-    all(&mut counts);
-    say(b"translated, as stored with number 0: ", counts[0]);
-    say(b"\nrefused, as stored with number 20: ", counts[1]);
-    say(b", 21: ", counts[2]);
-    say(b", 22: ", counts[3]);
-    say(b", 23: ", counts[4]);
-    say(b", 24: ", counts[5]);
-    say(b", 25: ", counts[6]);
-    say(b"\notherwise: ", counts[7]);
-    io::write_all(1, b"\n");
+    all(&mut rt.stdin(), &mut counts)?;
+    say_all(&mut rt.stdout(), &counts)
 }

@@ -9,6 +9,8 @@ use faults::hint::hint;
 use layout::reading::{Judgement, judge};
 use malformed::judging::{Report, find_malformed, told};
 use malformed::part::part;
+use std::io;
+use std::io::{Read, Write};
 use vectors::Run;
 
 // What is stored of an input; its cause is 0 where it is well formed.
@@ -152,68 +154,87 @@ fn tally(counts: &mut [u32], words: &[u32], stored: Stored) {
 }
 
 // Runs the next vector, whose words are read into these. Whether there was one.
-fn turn_in(counts: &mut [u32], words: &mut [u32]) -> bool {
-    let run = vectors::counted(0, words);
+fn turn_in<R: Read>(input: &mut R, counts: &mut [u32], words: &mut [u32]) -> io::Result<bool> {
+    let run = vectors::counted(input, words)?;
     let Run::Of(n) = run else {
-        return false;
+        return Ok(false);
     };
     let mut row: [u32; ROW] = [0; ROW];
-    let filled = vectors::fill(0, &mut row);
+    let filled = vectors::fill(input, &mut row)?;
     let stored = Stored {
         cause: row[0],
         value: row[1],
         place: row[2],
     };
     tally(counts, &words[..n], stored);
-    filled
+    Ok(filled)
 }
 
-fn turn(counts: &mut [u32]) -> bool {
+fn turn<R: Read>(input: &mut R, counts: &mut [u32]) -> io::Result<bool> {
     let mut words = space();
-    turn_in(counts, &mut words)
+    turn_in(input, counts, &mut words)
 }
 
 // Runs all vectors.
-fn all(counts: &mut [u32]) {
+fn all<R: Read>(input: &mut R, counts: &mut [u32]) -> io::Result<()> {
     let mut turns = MOST_TURNS;
     while 0 < turns {
-        let more = turn(counts);
+        let more = turn(input, counts)?;
         if !more {
-            return;
+            return Ok(());
         }
         turns -= 1;
     }
+    Ok(())
 }
 
-fn say_count(label: &[u8], n: u32) {
-    io::write_all(1, label);
-    io::print_decimal(1, n as u64);
+fn say_count<W: Write>(output: &mut W, label: &[u8], n: u32) -> io::Result<()> {
+    output.write_all(label)?;
+    write!(output, "{n}")
 }
 
 // Says the counts from one place to another.
-fn say(label: &[u8], counts: &[u32; COUNTS], from: usize, to: usize)
+fn say<W: Write>(
+    output: &mut W,
+    label: &[u8],
+    counts: &[u32; COUNTS],
+    from: usize,
+    to: usize,
+) -> io::Result<()>
     requires { to ≤ 18 }
 {
-    io::write_all(1, label);
+    output.write_all(label)?;
     let mut i = from;
     while i < to {
-        say_count(b" ", counts[i]);
+        say_count(output, b" ", counts[i])?;
         i += 1;
     }
-    io::write_all(1, b"\n");
+    output.write_all(b"\n")
 }
 
-fn main() {
-    let mut counts: [u32; COUNTS] = [0; COUNTS];
-    all(&mut counts);
-    say(b"well formed, as stored:", &counts, 0, 1);
-    say(b"malformed, as stored, by cause:", &counts, 1, OTHERWISE);
-    say(b"told otherwise:", &counts, OTHERWISE, 11);
+// Says all counts.
+fn say_all<W: Write>(output: &mut W, counts: &[u32; COUNTS]) -> io::Result<()> {
+    say(output, b"well formed, as stored:", counts, 0, 1)?;
     say(
+        output,
+        b"malformed, as stored, by cause:",
+        counts,
+        1,
+        OTHERWISE,
+    )?;
+    say(output, b"told otherwise:", counts, OTHERWISE, 11)?;
+    say(
+        output,
         b"words that end, by what was to come:",
-        &counts,
+        counts,
         11,
         LONGEST,
-    );
-    say(b"of 1,024 words:", &counts, LONGEST, COUNTS);
+    )?;
+    say(output, b"of 1,024 words:", counts, LONGEST, COUNTS)
+}
+
+fn main(rt: HostRuntime) -> io::Result<()> {
+    let mut counts: [u32; COUNTS] = [0; COUNTS];
+    all(&mut rt.stdin(), &mut counts)?;
+    say_all(&mut rt.stdout(), &counts)
 }

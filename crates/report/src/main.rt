@@ -41,27 +41,27 @@ fn answer(text: &[u8], out: &mut [u8]) -> usize
 }
 
 // Prints what came of the text, where out has room for it.
-fn print<W: Write>(to: &mut W, text: &[u8], out: &mut [u8]) -> io::Result<()>
+fn print<W: Write>(output: &mut W, text: &[u8], out: &mut [u8]) -> io::Result<()>
     ensures { OnOk result (length (suite_printed text.now) ≤ length out.old
-        → Appends (W.contents to.old) (W.contents to.new) (suite_printed text.now)) }
+        → Appends (W.contents output.old) (W.contents output.new) (suite_printed text.now)) }
 {
     let n = answer(text, out);
-    to.write_all(&out[..n])
+    output.write_all(&out[..n])
 }
 
 // Reads the text, and prints what came of it.
 fn run<R: Read, W: Write>(
-    from: &mut R,
-    to: &mut W,
+    input: &mut R,
+    output: &mut W,
     text: &mut [u8],
     out: &mut [u8],
 ) -> io::Result<()>
-    ensures { OnOk result (IfSome (R.remaining from.old) (λ all.
+    ensures { OnOk result (IfSome (R.remaining input.old) (λ all.
         length (suite_printed (take (length text.old) all)) ≤ length out.old
-        → Appends (W.contents to.old) (W.contents to.new) (suite_printed (take (length text.old) all)))) }
+        → Appends (W.contents output.old) (W.contents output.new) (suite_printed (take (length text.old) all)))) }
 {
-    let n = read_full(from, text)?;
-    print(to, &text[..n], out)
+    let n = read_full(input, text)?;
+    print(output, &text[..n], out)
 }
 
 fn main(rt: HostRuntime) -> io::Result<()> {

@@ -45,9 +45,9 @@ fn joined(a: u8, b: u8, c: u8, d: u8) -> u32 {
 }
 
 // The next word.
-pub fn next<R: Read>(from: &mut R) -> io::Result<Word> {
+pub fn next<R: Read>(input: &mut R) -> io::Result<Word> {
     let mut bytes: [u8; WORD_BYTES] = [0; WORD_BYTES];
-    let got = read_full(from, &mut bytes)?;
+    let got = read_full(input, &mut bytes)?;
     if got < WORD_BYTES {
         return Ok(Word::End);
     }
@@ -85,23 +85,23 @@ fn byte_space() -> [u8; MOST_BYTES]
 }
 
 // Fills dst, which has at most 4,096 words, with the next words: false where the run ends before or dst is longer.
-pub fn fill<R: Read>(from: &mut R, dst: &mut [u32]) -> io::Result<bool> {
+pub fn fill<R: Read>(input: &mut R, dst: &mut [u32]) -> io::Result<bool> {
     if MOST_WORDS < dst.len() {
         return Ok(false);
     }
     let n = dst.len() * WORD_BYTES;
     let mut space = byte_space();
     let bytes: &mut [u8] = &mut space;
-    let got = read_full(from, &mut bytes[..n])?;
+    let got = read_full(input, &mut bytes[..n])?;
     decode(bytes, dst);
     Ok(got == n)
 }
 
 // Fills the front of dst with the next words, as many as the word before them says.
-pub fn counted<R: Read>(from: &mut R, dst: &mut [u32]) -> io::Result<Run>
+pub fn counted<R: Read>(input: &mut R, dst: &mut [u32]) -> io::Result<Run>
     ensures { IfOk result (λ run. (n : ℕ) → run ≡ Run.Of n → n ≤ length dst.old) }
 {
-    let first = next(from)?;
+    let first = next(input)?;
     let Word::Is(len) = first else {
         return Ok(Run::Broken);
     };
@@ -109,7 +109,7 @@ pub fn counted<R: Read>(from: &mut R, dst: &mut [u32]) -> io::Result<Run>
     if dst.len() < n {
         return Ok(Run::Broken);
     }
-    let filled = fill(from, &mut dst[..n])?;
+    let filled = fill(input, &mut dst[..n])?;
     if !filled {
         return Ok(Run::Broken);
     }
@@ -117,10 +117,10 @@ pub fn counted<R: Read>(from: &mut R, dst: &mut [u32]) -> io::Result<Run>
 }
 
 // Fills the front of dst with the next bytes, as many as the word before them says; zeros fill the last word.
-pub fn counted_bytes<R: Read>(from: &mut R, dst: &mut [u8]) -> io::Result<Run>
+pub fn counted_bytes<R: Read>(input: &mut R, dst: &mut [u8]) -> io::Result<Run>
     ensures { IfOk result (λ run. (n : ℕ) → run ≡ Run.Of n → n ≤ length dst.old) }
 {
-    let first = next(from)?;
+    let first = next(input)?;
     let Word::Is(len) = first else {
         return Ok(Run::Broken);
     };
@@ -129,7 +129,7 @@ pub fn counted_bytes<R: Read>(from: &mut R, dst: &mut [u8]) -> io::Result<Run>
     if dst.len() < whole {
         return Ok(Run::Broken);
     }
-    let got = read_full(from, &mut dst[..whole])?;
+    let got = read_full(input, &mut dst[..whole])?;
     if got < whole {
         return Ok(Run::Broken);
     }
