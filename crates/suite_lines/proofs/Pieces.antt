@@ -2,11 +2,8 @@
 use Prim.Native.Nat.{ℕ, ◌+◌, ◌-◌, ◌≤◌}
 use native.Mathlib.Omega.{arith}
 use mathlib.Core.Path.{◌≡◌, refl, sym, ap, subst, ◌∙◌}
-use mathlib.Core.Logic.{inl, inr}
 use mathlib.Core.List.{List, [], ◌∷◌, ◌++◌}
 use lib.ListN.{length, take, drop, length-take, length-drop}
-use types.Run.{OneOf}
-use denote.Enum.Declared.{tag_of}
 use Rattle.answer_text.specs.Answer.{newline, readings_label, labelled, after_spaces}
 use Rattle.answer_text.specs.Going.{Appends}
 use Rattle.answer_text.specs.declared.line.Written.{Written}
@@ -20,7 +17,6 @@ use Rattle.suite_lines.specs.Lines.{line_of, row_text, mode_row, table_text, tot
 use Rattle.verdicts.specs.declared.verdict.Verdict.{Verdict}
 use Rattle.verdicts.specs.declared.verdict.Verdict.TheVariants.{Good, Refused, Other, NotRun}
 use Rattle.verdicts.specs.declared.verdict.Totals.{Totals}
-use Rattle.verdicts.specs.contracts.verdict.Verdict.{the_type}
 
 -- ---- piece after piece
 -- pieces as one text
@@ -118,12 +114,6 @@ module _ (run name : List ℕ) (from to i : ℕ) (f : FindsName run name from to
   so_named h = f.is ∙ own_name i name (λ z. let o = f.order in let s = name_size in h (omega arith))
 
 -- ---- the line of a test
--- the verdicts that have one
-high : (k : ℕ) → OneOf (1 ∷ 2 ∷ 3 ∷ []) k → 1 ≤ k
-high k (inl e) = omega arith
-high k (inr (inl e)) = omega arith
-high k (inr (inr e)) = omega arith
-
 module _ (t : Test) (n r : ℕ) (dst : List ℕ) (at : ℕ) where
   pub good_said : (w : Verdict) → w ≡ Good → Appends (verdict_text w t n r) dst at dst (Bytes at)
   unfolding verdict_text
@@ -138,10 +128,10 @@ module _ (t : Test) (n r : ℕ) (dst : List ℕ) (at : ℕ) where
     unfolding line_of
     good_line w e = subst (λ (v : Verdict). Appends (line_of i name v t n r) dst at dst (Bytes at)) (sym e) (nothing dst at)
 
-    pub line_begins : (w : Verdict) → OneOf (1 ∷ 2 ∷ 3 ∷ []) (tag_of the_type w) →
+    pub line_begins : (w : Verdict) → (w ≡ Good → ⊥) →
         Left dst at (line_of i name w t n r) dst at (shown_name i name ∷ verdict_text w t n r ∷ [])
     unfolding line_of joined
-    line_begins Good h = let k = high 0 h in absurd (omega arith)
+    line_begins Good h = absurd (h refl)
     line_begins Refused h = begins refl
     line_begins Other h = begins refl
     line_begins NotRun h = begins refl

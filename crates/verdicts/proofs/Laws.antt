@@ -2,11 +2,9 @@
 use mathlib.Core.Path.{◌≡◌, refl}
 use mathlib.Core.Bool.{true, false}
 use mathlib.Core.List.{List, [], ◌∷◌}
-use mathlib.Core.Logic.{inl, inr}
+use mathlib.Core.Logic.{◌⊎◌, inl, inr}
 use Prim.Native.Nat.{ℕ, ◌+◌, ◌*◌, ◌≤◌, ◌<◌}
 use native.Mathlib.Omega.{arith}
-use types.Run.{OneOf}
-use denote.Enum.Declared.{tag_of}
 use lib.ListN.{length, get_or, set, length-set}
 use lib.Dec.{eqb}
 use borrow.Author.Tests.{ne_eqb}
@@ -17,7 +15,6 @@ use Rattle.verdicts.specs.Verdicts.{decides, verdict_of, totals_after, numbers, 
 use Rattle.verdicts.specs.declared.verdict.Verdict.{Verdict}
 use Rattle.verdicts.specs.declared.verdict.Verdict.TheVariants.{Good, Refused, Other, NotRun}
 use Rattle.verdicts.specs.declared.verdict.Totals.{Totals}
-use Rattle.verdicts.specs.contracts.verdict.Verdict.{the_type}
 
 -- ---- whether a number decides
 pub zero_decides : (n : ℕ) → n ≡ 0 → true ≡ decides n
@@ -57,18 +54,12 @@ module _ (t : Test) (n r : ℕ) where
     is_not_run d = rw (e, d, verdict_of) refl
 
 -- ---- how often
-low : (k : ℕ) → OneOf (0 ∷ 1 ∷ []) k → k ≤ 1
-low k (inl e) = omega arith
-low k (inr e) = omega arith
-
 module _ (s : Totals) where
-  pub one_good : (w : Verdict) → OneOf (0 ∷ 1 ∷ []) (tag_of the_type w) →
+  pub one_good : (w : Verdict) → (w ≡ Good) ⊎ (w ≡ Refused) →
       record { good = s.good + 1; other = s.other; missed = s.missed } ≡ totals_after w s
   unfolding totals_after
-  one_good Good h = refl
-  one_good Refused h = refl
-  one_good Other h = let k = low 2 h in absurd (omega arith)
-  one_good NotRun h = let k = low 3 h in absurd (omega arith)
+  one_good w (inl e) = rw e refl
+  one_good w (inr e) = rw e refl
 
   pub one_other : (w : Verdict) → w ≡ Other → record { good = s.good; other = s.other + 1; missed = s.missed } ≡ totals_after w s
   unfolding totals_after
