@@ -7,15 +7,15 @@ use Prim.Native.Nat.{ℕ}
 use Rattle.theory.specs.Limits.{choice_stop}
 use Rattle.theory.specs.Net.{atom, arcs, Graph}
 use Rattle.theory.specs.Join.{join}
-use Rattle.theory.specs.Descr.{Desc, agree}
+use Rattle.theory.specs.Descr.{Desc}
 use Rattle.theory.specs.Modes.{size}
 use Rattle.theory.specs.Layout.{words}
 use Rattle.theory.proofs.Empty.{one_arc}
 use Rattle.engine.specs.Placed.{Placed, place, stop, ◌also◌, no_more, option}
 use Rattle.engine.specs.Marks.{all_kept, left_by}
-use Rattle.engine.specs.Quickly.{try_at, passes_at, quick_at}
+use Rattle.engine.specs.Quickly.{quick_at}
 use Rattle.engine.specs.Counting.{count_at}
-use Rattle.engine.specs.Search.{dive, search, full_left, full_readings_by}
+use Rattle.engine.specs.Search.{full_left, full_readings_by}
 use Rattle.engine.specs.Shown.{shown}
 
 abbrev leaf : Graph → Placed

@@ -8,7 +8,7 @@ use native.Mathlib.Omega.{arith}
 use lib.ListN.{length}
 use Rattle.theory.specs.Limits.{code_limit}
 use Rattle.theory.specs.Net.{Node, atom, arcs, Graph}
-use Rattle.theory.specs.Descr.{Desc, desc, ◌and◌, Alts, fail, ◌or◌}
+use Rattle.theory.specs.Descr.{Desc, desc, Alts, fail, ◌or◌}
 use Rattle.theory.specs.Layout.{words, WellFormed}
 use Rattle.theory.specs.Modes.{Round, after}
 use Rattle.theory.proofs.Instance.{AllCanonical}

@@ -12,8 +12,8 @@ Lent = Bor (List ℕ)
 -- the words of a lent input from a place on, where they stand: in its block, as many bytes on as four times the place
 pub record Tail (input : Lent) (p : ℕ) (part : Lent) : Type 0 where
   pub is : part.now ≡ drop p input.now
-  pub block : part.ptr.0 ≡ input.ptr.0
-  pub offset : part.ptr.1 ≡ input.ptr.1 + 4 * p
+  pub block : part.ref_ptr.0 ≡ input.ref_ptr.0
+  pub offset : part.ref_ptr.1 ≡ input.ref_ptr.1 + 4 * p
 
 -- "Where neither is malformed, or either is over 1,024 words, it is the empty end of the first."
 abbrev pub PartBy : Malformed → (first second part : Lent) → Type 0

@@ -4,14 +4,13 @@ use Prim.Native.Nat.{ℕ, zero, suc, ◌+◌, ◌*◌, ◌<◌, ◌≤◌, ◌-�
 use mathlib.Core.Path.{◌≡◌, refl, sym, ap, subst, ◌∙◌}
 use mathlib.Core.Bool.{Bool, true, false}
 use native.Mathlib.Omega.{arith}
-use lib.Dec.{eqb, ltb}
+use lib.Dec.{ltb}
 use borrow.Author.Tests.{eq-eqb, ne_eqb, ltb-true, ltb-false, lt-ltb, le-ltb}
 use Rattle.signs.specs.declared.machine.Due.{Due}
-use Rattle.signs.specs.declared.machine.Due.TheVariants.{Operand, Colon, Path, Steps, Listed, After}
+use Rattle.signs.specs.declared.machine.Due.TheVariants.{After}
 use Rattle.signs.specs.declared.machine.Part.{Part}
-use Rattle.signs.specs.declared.machine.Part.TheVariants.{N, Ni, T, To, Atom, Arc, Step}
 use Rattle.signs.specs.declared.machine.Place.{Place}
-use Rattle.signs.specs.declared.machine.Place.TheVariants.{Start, Clean, Spaced, Number, Within}
+use Rattle.signs.specs.declared.machine.Place.TheVariants.{Clean, Number}
 use Rattle.signs.specs.declared.machine.Seen.{Seen}
 use Rattle.signs.specs.declared.machine.Seen.TheVariants.{On, Dead}
 use Rattle.signs.specs.Limits.{largest_number}

@@ -15,13 +15,13 @@ use Rattle.descriptions.proofs.Programs.{blank_in_words, program_writes}
 use Rattle.theory.specs.Net.{atom, arcs, Graph}
 use Rattle.theory.specs.Join.{join}
 use Rattle.theory.specs.Structure.{Structure, Satisfies}
-use Rattle.theory.specs.Descr.{Desc, desc, end, ◌and◌, fail, ◌or◌, agree, agreeing, readings, number}
-use Rattle.theory.specs.Modes.{joined, quick, full, round, finish, tidy, size, some_agree, prune, fold, folded_in}
+use Rattle.theory.specs.Descr.{Desc, desc, end, ◌and◌, fail, ◌or◌, readings, number}
+use Rattle.theory.specs.Modes.{joined, quick, round, finish, size, folded_in}
 use Rattle.theory.specs.Satisfaction.{Sat}
 use Rattle.theory.specs.Layout.{words, WellFormed}
 use Rattle.theory.specs.Reading.{decode}
-use Rattle.theory.specs.Answer.{Answer, Call, clash_at, refuse, consistent}
-use Rattle.theory.specs.Unified.{unified, in_mode, complete, deliver, deliver_or}
+use Rattle.theory.specs.Answer.{Answer, Call, clash_at, refuse}
+use Rattle.theory.specs.Unified.{unified, deliver_or}
 use Rattle.theory.specs.Located.{clash_node?}
 use Rattle.theory.specs.Demands.{ClashNumber, Unifier, Demand2, ListCall, start, with_words, call, reached, ways, items, Demand3}
 use Rattle.theory.specs.Rules.{Given}
