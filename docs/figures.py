@@ -12,7 +12,7 @@ import sys
 TOP = pathlib.Path(__file__).resolve().parent.parent
 FIGURES = TOP / "docs" / "FIGURES.md"
 BEGIN, END = "<!-- refusals, by docs/figures.py -->", "<!-- end of refusals -->"
-EDIT = re.compile(r"^rt: must-fail (\w+)/(\S+)\.edit: refused, as it must be(?:[^:\n]*: (?:note: )?(?:\./)?(\S+?:\d+:\d+): )?", re.M)
+EDIT = re.compile(r"^rt: must-fail (\w+)/(\S+)\.edit: refused, as it must be(?:(?: \([^)\n]*\))?: (?:note: )?(?:\./)?(\S+?:\d+:\d+): )?", re.M)
 LAST = re.compile(r"^\d+ passed, \d+ failed\b.*$", re.M)
 
 
