@@ -5,12 +5,12 @@ use Rattle.bublastyr.proofs.bublastyr_formula.Goals as goal
 
 pub overflow_cast-told : goal.overflow_cast-told
 overflow_cast-told c =
-    let h = told_small c.args.text.now c.args.result.now c.formula-answer.result _ c.formula-answer.ensures in
+    let h = told_small c.args.text.now c.args.res.now c.formula-answer.result _ c.formula-answer.ensures in
     omega arith
 
 pub overflow_cast-told-2 : goal.overflow_cast-told-2
 overflow_cast-told-2 c =
-    let h = told_small c.args.text.now c.args.result.now c.formula-answer.result _ c.formula-answer.ensures in
+    let h = told_small c.args.text.now c.args.res.now c.formula-answer.result _ c.formula-answer.ensures in
     omega arith
 
 pub returns : goal.returns

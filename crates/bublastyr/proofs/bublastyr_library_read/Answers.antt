@@ -5,7 +5,7 @@ use Rattle.bublastyr.proofs.bublastyr_library_read.Goals as goal
 
 pub overflow_cast-told : goal.overflow_cast-told
 overflow_cast-told c =
-    let h = fetch_small c.args.file.now _ c.args.result.now _ c.fetch-answer.result c.fetch-answer.ensures in
+    let h = fetch_small c.args.file.now _ c.args.res.now _ c.fetch-answer.result c.fetch-answer.ensures in
     omega arith
 
 pub returns : goal.returns

@@ -1,6 +1,5 @@
 -- `suite_text::report_on` meets its contract. Assumes nothing.
 use mathlib.Core.Path.{◌≡◌}
-use Rattle.call_text.proofs.Runs.{neither}
 use Rattle.reply.proofs.Replies.{wrote_same}
 use Rattle.suite_reading.specs.declared.tests.Judgement.TheVariants.{BadInput}
 use Rattle.suite_text.proofs.Printed.{blanked_length, printed_no_number, printed_bad_tests, wrote_refused, may_run, wrote_run}
