@@ -103,7 +103,8 @@ static void spoil_identifier(Random *random, Library *library) {
 
 static void spoil_count(Random *random, Library *library) {
     static const uint32_t counts[] = {0, 1, 2, 1024, 1025, 1026, 65539, UINT32_MAX};
-    change_entry(library, random_entry(random, library) + 1, counts[random_below(random, 8)]);
+    size_t place = random_entry(random, library) + 1;
+    change_entry(library, place, counts[random_below(random, 8)]);
 }
 
 static void spoil_word(Random *random, Library *library) {

@@ -1,10 +1,9 @@
 -- There is always room.
+use mathlib.Core.Path.{refl}
 use Rattle.answer_text.specs.declared.line.Written.TheVariants.{NoRoom}
-use Rattle.formula_text.proofs.Printing.{always_printed}
+use Rattle.formula.proofs.Printing.{never_without}
 use Rattle.formula.proofs.answer.Goals as goal
 
 pub returns-in-NoRoom : goal.returns-in-NoRoom
 returns-in-NoRoom c =
-    let whole = always_printed c.args.text.now c.args.out.now c.reply-written.new.out NoRoom c.requires c.in-NoRoom.ensures in
-    let e = whole.0 in
-    absurd (cc)
+    absurd (never_without c.args.text.now c.args.out.now c.reply-written.new.out NoRoom c.in-NoRoom.ensures c.requires refl)
