@@ -16,14 +16,13 @@ pub fn enter(w: &mut [u32], k: usize, n: usize, g: usize, left: u32) -> Pushed
         return Pushed::Clashed;
     };
     let e = tail_at(w, g);
-    let mut more = disjunctions_at(w, e);
+    let more = disjunctions_at(w, e);
     let mut at = e + 1;
     let mut log = j;
-    while 0 < more {
+    for _ in 0..more {
         let count = alternatives_at(w, at);
         let tally = count_kept(w, at + 1, count);
-        let which = tally.remnant;
-        if let Remnant::One(first) = which {
+        if let Remnant::One(first) = tally.remnant {
             let inner = enter(w, log, n, first, left - 1);
             let Pushed::In(i) = inner else {
                 back(w, log, k);
@@ -32,7 +31,6 @@ pub fn enter(w: &mut [u32], k: usize, n: usize, g: usize, left: u32) -> Pushed
             log = i;
         }
         at = tally.after;
-        more -= 1;
     }
     Pushed::In(log)
 }

@@ -2,6 +2,7 @@
 -- Assumes nothing.
 use Prim.Native.Nat.{ℕ, ◌+◌}
 use native.Mathlib.Omega.{arith}
+use native.Mathlib.Nat.{sub-zero, sub-add-eq}
 use mathlib.Core.Path.{◌≡◌, ◌∙◌}
 use mathlib.Core.Logic.{⊎_elim}
 use Rattle.classes.proofs.Laws.{since_trans}
@@ -9,7 +10,7 @@ use Rattle.entering.specs.Entered.{Entering}
 use Rattle.entering.proofs.Entering.{Reached, Walking, one, none, asks_own, starts, walk_start, walk_done, walk_here}
 use Rattle.entering.proofs.Entering.{walk_asks, walk_deep, walk_inner, walk_clash, walk_on, reach_own, enters_own, enters_all}
 use Rattle.entering.proofs.enter.+enter.Goals as goal
-use Rattle.entering.proofs.enter.+enter.Goals.{in-One+in-In-inner, in_default-which}
+use Rattle.entering.proofs.enter.+enter.Goals.{in-One+in-In-inner, in_default-remnant}
 
 pub push-own-requires : goal.push-own-requires
 push-own-requires t c = asks_own _ _ _ _ _ c.requires
@@ -42,31 +43,31 @@ pub overflow_add-at : goal.overflow_add-at
 overflow_add-at t c = let h = (starts _ _ _ _ _ c.requires _ _
     (reach_own _ _ _ _ _ _ _ c.push-own.ensures c.in-In.is)).1 in omega arith
 
-pub loop-more-init : goal.loop-more-init
-loop-more-init t c = λ v e r u. (r, u)
+pub loop-init : goal.loop-init
+loop-init t c = λ v e r u. (r, rw sub-zero u)
 
 pub alternatives_at-count-requires : goal.alternatives_at-count-requires
-alternatives_at-count-requires t c = let v = c.loop-more.invariant _ c.requires (reach_own _ _ _ _ _ _ _ c.push-own.ensures c.in-In.is) (walk_start _ _ _ _ _ c.requires _ _ (reach_own _ _ _ _ _ _ _ c.push-own.ensures c.in-In.is) _ c.push-own.ensures c.in-In.is _ _ c.tail_at-e.ensures c.disjunctions_at-more.ensures) in
+alternatives_at-count-requires t c = let v = c.loop.invariant _ c.requires (reach_own _ _ _ _ _ _ _ c.push-own.ensures c.in-In.is) (walk_start _ _ _ _ _ c.requires _ _ (reach_own _ _ _ _ _ _ _ c.push-own.ensures c.in-In.is) _ c.push-own.ensures c.in-In.is _ _ c.tail_at-e.ensures c.disjunctions_at-more.ensures) in
     (walk_here _ _ _ _ _ c.requires _ _ v.0 _ _ v.1 (omega arith), omega (arith, v.1.holds.long))
 
-pub overflow_add-at-in-loop-more : goal.overflow_add-at-in-loop-more
-overflow_add-at-in-loop-more t c = let v = c.loop-more.invariant _ c.requires (reach_own _ _ _ _ _ _ _ c.push-own.ensures c.in-In.is)
+pub overflow_add-at-in-loop : goal.overflow_add-at-in-loop
+overflow_add-at-in-loop t c = let v = c.loop.invariant _ c.requires (reach_own _ _ _ _ _ _ _ c.push-own.ensures c.in-In.is)
     (walk_start _ _ _ _ _ c.requires _ _ (reach_own _ _ _ _ _ _ _ c.push-own.ensures c.in-In.is) _ c.push-own.ensures c.in-In.is _ _ c.tail_at-e.ensures c.disjunctions_at-more.ensures) in let h = walk_here _ _ _ _ _ c.requires _ _ v.0 _ _ v.1 (omega arith) in
     omega arith
 
 pub count_kept-tally-requires : goal.count_kept-tally-requires
-count_kept-tally-requires t c = let v = c.loop-more.invariant _ c.requires (reach_own _ _ _ _ _ _ _ c.push-own.ensures c.in-In.is)
+count_kept-tally-requires t c = let v = c.loop.invariant _ c.requires (reach_own _ _ _ _ _ _ _ c.push-own.ensures c.in-In.is)
     (walk_start _ _ _ _ _ c.requires _ _ (reach_own _ _ _ _ _ _ _ c.push-own.ensures c.in-In.is) _ c.push-own.ensures c.in-In.is _ _ c.tail_at-e.ensures c.disjunctions_at-more.ensures) in
     walk_asks _ _ _ _ _ c.requires _ _ v.0 _ _ v.1 (omega arith) _ c.alternatives_at-count.ensures
 
 pub overflow_sub-left : goal.overflow_sub-left
-overflow_sub-left t c = let v = c.loop-more.invariant _ c.requires
+overflow_sub-left t c = let v = c.loop.invariant _ c.requires
     (reach_own _ _ _ _ _ _ _ c.push-own.ensures c.in-In.is)
     (walk_start _ _ _ _ _ c.requires _ _ (reach_own _ _ _ _ _ _ _ c.push-own.ensures c.in-In.is) _ c.push-own.ensures c.in-In.is _ _ c.tail_at-e.ensures c.disjunctions_at-more.ensures) in
     let h = walk_deep _ _ _ _ _ c.requires _ _ v.0 _ _ v.1 (omega arith) in omega arith
 
 pub enter-inner-requires : goal.enter-inner-requires
-enter-inner-requires t c = let v = c.loop-more.invariant _ c.requires
+enter-inner-requires t c = let v = c.loop.invariant _ c.requires
     (reach_own _ _ _ _ _ _ _ c.push-own.ensures c.in-In.is)
     (walk_start _ _ _ _ _ c.requires _ _ (reach_own _ _ _ _ _ _ _ c.push-own.ensures c.in-In.is) _ c.push-own.ensures c.in-In.is _ _ c.tail_at-e.ensures c.disjunctions_at-more.ensures) in (
       omega (arith, c.decreases, walk_deep _ _ _ _ _ c.requires _ _ v.0 _ _ v.1 (omega arith)),
@@ -76,21 +77,21 @@ enter-inner-requires t c = let v = c.loop-more.invariant _ c.requires
     )
 
 pub back-requires : goal.back-requires
-back-requires t c = let v = c.loop-more.invariant _ c.requires (reach_own _ _ _ _ _ _ _ c.push-own.ensures c.in-In.is) (walk_start _ _ _ _ _ c.requires _ _ (reach_own _ _ _ _ _ _ _ c.push-own.ensures c.in-In.is) _ c.push-own.ensures c.in-In.is _ _ c.tail_at-e.ensures c.disjunctions_at-more.ensures) in record {
+back-requires t c = let v = c.loop.invariant _ c.requires (reach_own _ _ _ _ _ _ _ c.push-own.ensures c.in-In.is) (walk_start _ _ _ _ _ c.requires _ _ (reach_own _ _ _ _ _ _ _ c.push-own.ensures c.in-In.is) _ c.push-own.ensures c.in-In.is _ _ c.tail_at-e.ensures c.disjunctions_at-more.ensures) in record {
   w₀ = c.args.w.now;
   since =
       since_trans _ _ _ _ _ _ v.0.since (c.enter-inner.ensures.clashed c.in_default-inner.is).0;
 }
 
 pub shape_of-w-in_default-inner : goal.shape_of-w-in_default-inner
-shape_of-w-in_default-inner t c = let v = c.loop-more.invariant _ c.requires (reach_own _ _ _ _ _ _ _ c.push-own.ensures c.in-In.is)
+shape_of-w-in_default-inner t c = let v = c.loop.invariant _ c.requires (reach_own _ _ _ _ _ _ _ c.push-own.ensures c.in-In.is)
     (walk_start _ _ _ _ _ c.requires _ _ (reach_own _ _ _ _ _ _ _ c.push-own.ensures c.in-In.is) _ c.push-own.ensures c.in-In.is _ _ c.tail_at-e.ensures c.disjunctions_at-more.ensures) in c.back.ensures.len
     ∙ c.enter-inner.ensures.len ∙ v.0.len
 
 pub returns-in_default-inner : goal.returns-in_default-inner
 returns-in_default-inner t c = let p = c.requires
     in
-    let v = c.loop-more.invariant _ p (reach_own _ _ _ _ _ _ _ c.push-own.ensures c.in-In.is)
+    let v = c.loop.invariant _ p (reach_own _ _ _ _ _ _ _ c.push-own.ensures c.in-In.is)
     (walk_start _ _ _ _ _ p _ _ (reach_own _ _ _ _ _ _ _ c.push-own.ensures c.in-In.is) _ c.push-own.ensures c.in-In.is _ _ c.tail_at-e.ensures c.disjunctions_at-more.ensures) in let s = since_trans _ _ _ _ _ _ v.0.since (c.enter-inner.ensures.clashed c.in_default-inner.is).0 in
     record {
       len = c.back.ensures.len ∙ c.enter-inner.ensures.len ∙ v.0.len;
@@ -102,7 +103,7 @@ returns-in_default-inner t c = let p = c.requires
           λ y. (
             c.back.ensures.since _ s,
             λ e. let z =
-                c.loop-more.invariant _ e (reach_own _ _ _ _ _ _ _ c.push-own.ensures c.in-In.is)
+                c.loop.invariant _ e (reach_own _ _ _ _ _ _ _ c.push-own.ensures c.in-In.is)
                 (walk_start _ _ _ _ _ e _ _ (reach_own _ _ _ _ _ _ _ c.push-own.ensures c.in-In.is) _ c.push-own.ensures c.in-In.is _ _ c.tail_at-e.ensures c.disjunctions_at-more.ensures) in (
                   walk_clash _ _ _ _ _ e _ _ z.0 _ _ z.1 (omega arith) _
                       c.alternatives_at-count.ensures _ _ c.count_kept-tally.ensures _
@@ -113,25 +114,19 @@ returns-in_default-inner t c = let p = c.requires
           );
     }
 
-pub overflow_sub-more : goal.overflow_sub-more
-overflow_sub-more t c = omega arith
-
-pub loop-more-smaller : goal.loop-more-smaller
-loop-more-smaller t c = omega arith
-
-pub loop-more-preserved : goal.loop-more-preserved
-loop-more-preserved t c = λ w e r u. let v = c.loop-more.invariant w e r u in
-    walk_on _ _ _ _ _ e _ _ v.0 _ _ v.1 (omega arith) _ c.alternatives_at-count.ensures _ _
-    c.count_kept-tally.ensures _ _ (elim c.match-which.branch [
+pub loop-preserved : goal.loop-preserved
+loop-preserved t c = λ w e r u. let v = c.loop.invariant w e r u in
+    rw sub-add-eq (walk_on _ _ _ _ _ e _ _ v.0 _ _ v.1 (omega arith) _ c.alternatives_at-count.ensures _ _
+    c.count_kept-tally.ensures _ _ (elim c.match-tally.branch [
       | in-One+in-In-inner x ↦ one _ _ _ _ x.in-One.is x.enter-inner.ensures x.in-In-inner.is x.w-is x.log-is
-      | in_default-which x ↦ none x.in_default-which.not-One x.w-is x.log-is
-    ])
+      | in_default-remnant x ↦ none x.in_default-remnant.not-One x.w-is x.log-is
+    ]))
 
 pub shape_of-w : goal.shape_of-w
-shape_of-w t c = let v = c.loop-more.invariant _ c.requires (reach_own _ _ _ _ _ _ _ c.push-own.ensures c.in-In.is) (walk_start _ _ _ _ _ c.requires _ _ (reach_own _ _ _ _ _ _ _ c.push-own.ensures c.in-In.is) _ c.push-own.ensures c.in-In.is _ _ c.tail_at-e.ensures c.disjunctions_at-more.ensures) in v.0.len
+shape_of-w t c = let v = c.loop.invariant _ c.requires (reach_own _ _ _ _ _ _ _ c.push-own.ensures c.in-In.is) (walk_start _ _ _ _ _ c.requires _ _ (reach_own _ _ _ _ _ _ _ c.push-own.ensures c.in-In.is) _ c.push-own.ensures c.in-In.is _ _ c.tail_at-e.ensures c.disjunctions_at-more.ensures) in v.0.len
 
 pub returns : goal.returns
-returns t c = let v = c.loop-more.invariant _ c.requires (reach_own _ _ _ _ _ _ _ c.push-own.ensures c.in-In.is) (walk_start _ _ _ _ _ c.requires _ _ (reach_own _ _ _ _ _ _ _ c.push-own.ensures c.in-In.is) _ c.push-own.ensures c.in-In.is _ _ c.tail_at-e.ensures c.disjunctions_at-more.ensures) in
+returns t c = let v = c.loop.invariant _ c.requires (reach_own _ _ _ _ _ _ _ c.push-own.ensures c.in-In.is) (walk_start _ _ _ _ _ c.requires _ _ (reach_own _ _ _ _ _ _ _ c.push-own.ensures c.in-In.is) _ c.push-own.ensures c.in-In.is _ _ c.tail_at-e.ensures c.disjunctions_at-more.ensures) in
     enters_all _ _ _ _ _ _ _ v.0 (λ e. let z =
-    c.loop-more.invariant _ e (reach_own _ _ _ _ _ _ _ c.push-own.ensures c.in-In.is) (walk_start _ _ _ _ _ e _ _ (reach_own _ _ _ _ _ _ _ c.push-own.ensures c.in-In.is) _ c.push-own.ensures c.in-In.is _ _ c.tail_at-e.ensures c.disjunctions_at-more.ensures) in
+    c.loop.invariant _ e (reach_own _ _ _ _ _ _ _ c.push-own.ensures c.in-In.is) (walk_start _ _ _ _ _ e _ _ (reach_own _ _ _ _ _ _ _ c.push-own.ensures c.in-In.is) _ c.push-own.ensures c.in-In.is _ _ c.tail_at-e.ensures c.disjunctions_at-more.ensures) in
     walk_done _ _ _ _ _ e _ _ z.0 _ _ z.1 (omega arith))
