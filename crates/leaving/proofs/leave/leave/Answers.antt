@@ -6,16 +6,16 @@ use Rattle.leaving.proofs.leave.leave.Goals as goal
 pub returns-then-readings-eq0 : goal.returns-then-readings-eq0
 returns-then-readings-eq0 c = keeps_nothing _ _ _ _ (omega arith)
 
-pub restart-end-requires : goal.restart-end-requires
-restart-end-requires c =
+pub restart-requires : goal.restart-requires
+restart-requires c =
     keep_restarts _ _ _ _ (λ e. omega arith) _ c.keep_lit.ensures c.requires
 
 pub returns-in_default : goal.returns-in_default
 returns-in_default c =
-    keeps_never _ _ _ _ (λ e. omega arith) _ c.keep_lit.ensures _ _ c.restart-end.ensures
+    keeps_never _ _ _ _ (λ e. omega arith) _ c.keep_lit.ensures _ _ c.restart.ensures
     c.in_default.is c.requires
 
 pub returns : goal.returns
 returns c =
-    keeps_left _ _ _ _ (λ e. omega arith) _ c.keep_lit.ensures _ _ c.restart-end.ensures _
+    keeps_left _ _ _ _ (λ e. omega arith) _ c.keep_lit.ensures _ _ c.restart.ensures _
     c.in-In.is c.requires
