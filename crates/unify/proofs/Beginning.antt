@@ -25,8 +25,10 @@ use Rattle.opening.specs.declared.Opened.TheVariants as opened
 use Rattle.entering.proofs.Stages.{first_stage}
 use Rattle.finding_clash.specs.TwoGraphs.{Locating, Locates}
 use Rattle.finding_clash.proofs.Loaded.{opened_asks, opened_told}
-use Rattle.unify.specs.declared.making.Beginning.TheVariants.{Joined, Clashed}
-use Rattle.unify.specs.Making.{Begun, Begins, DefiniteClash}
+use Rattle.std.specs.Prelude.{Ok, Err}
+use Rattle.unify.specs.declared.making.Beginning.{Beginning}
+use Rattle.answering.specs.declared.hand.Failure.TheVariants.{Clash as NodeClash}
+use Rattle.unify.specs.Making.{begun, Begun, Begins, DefiniteClash}
 
 clash_none : (g h : Graph) (ds es : Disjs) → WellFormed (desc g ds) depth_limit → WellFormed (desc h es) depth_limit → Clash (g ∷ h ∷ []) →
     joined (desc g ds) (desc h es) ≡ none
@@ -46,11 +48,11 @@ module _ (w a b : List ℕ) (o : Opening w a b) (r : Opened) (w₁ : List ℕ) (
   pub asks_node : Locating w₁
   asks_node = opened_asks w a b o r w₁ p
 
-  pub begins_clash : r ≡ opened.Clashed → (i : ℕ) (w₂ : List ℕ) → Locates w₁ i w₂ → Begins w a b (Clashed i) w₂
+  pub begins_clash : r ≡ opened.Clashed → (i : ℕ) (w₂ : List ℕ) → Locates w₁ i w₂ → Begins w a b (Err (NodeClash i)) w₂
   begins_clash e i w₂ l = record {
     len = l.len ∙ p.len;
     rest = λ j h. l.rest j h ∙ p.rest j (omega arith);
-    told = λ d f q. told d f q (subst (OpenedAs w₁ d f) e (p.told d f q));
+    told = λ d f q. (i, refl, told d f q (subst (OpenedAs w₁ d f) e (p.told d f q)));
   }
     where
       told : (d f : Desc) → Read a b d f → OpenedAs w₁ d f opened.Clashed → DefiniteClash d f i
@@ -59,7 +61,7 @@ module _ (w a b : List ℕ) (o : Opening w a b) (r : Opened) (w₁ : List ℕ) (
 
   -- they join: all alternatives are kept
   module _ (n k : ℕ) (e : r ≡ opened.Joined n k) (w₂ : List ℕ) (c : Cleared w₁ w₂) where
-    pub begins_joined : Begins w a b (Joined n k) w₂
+    pub begins_joined : Begins w a b (Ok (begun n k)) w₂
     begins_joined = record {
       len = c.len ∙ p.len;
       rest = λ j h. c.rest j (inr h) ∙ p.rest j (omega arith);
@@ -69,7 +71,7 @@ module _ (w a b : List ℕ) (o : Opening w a b) (r : Opened) (w₁ : List ℕ) (
         few : (ws : List ℕ) (d : Desc) → ws ≡ layout.words d → length ws ≤ input_limit → length (layout.words d) ≤ input_limit
         few ws d e h = subst (λ (z : List ℕ). length z ≤ input_limit) e h
 
-        told : (d f : Desc) → Read a b d f → OpenedAs w₁ d f (opened.Joined n k) → Begun d f w₂ (Joined n k)
+        told : (d f : Desc) → Read a b d f → OpenedAs w₁ d f (opened.Joined n k) → Begun d f w₂ (Ok (begun n k))
         told d f q t =
             let l = c.len in let h = long in
             let s : Stand (loaded_words w₂) d f n = subst (λ (z : List ℕ). Stand z d f n) (loaded_again w₁ w₂ long c) t.0 in
