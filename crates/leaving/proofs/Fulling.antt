@@ -30,8 +30,7 @@ use Rattle.counting.specs.Counted.{CountedBoth}
 use Rattle.counting.proofs.Both.{counted_joined}
 use Rattle.classes.specs.Holds.{Undoable}
 use Rattle.classes.proofs.Laws.{undoable_on, undoable_frame}
-use Rattle.classes.specs.declared.push.Pushed.{Pushed}
-use Rattle.classes.specs.declared.push.Pushed.TheVariants.{In, Clashed}
+use Rattle.std.specs.Prelude.{Option, Some, None}
 use Rattle.leaving.specs.Found.{Finds, Searching, Searches}
 use Rattle.std.specs.Prelude.{Result, Ok, Err}
 use Rattle.leaving.specs.declared.leave.Left.{Left}
@@ -167,12 +166,12 @@ module _ (n k : ℕ) (w : List ℕ) where
             folds = subst (λ (d : Placed). Can (strip d) × Sane (strip d)) (sym keeps)
                 (pair_full n c.t c.p (marking w) c.left (one_more c).0 (one_more c).1)
 
-          module _ (o : Pushed) (w₃ : List ℕ) (q : Restarts n k w₂ o w₃) where
+          module _ (o : Option ℕ) (w₃ : List ℕ) (q : Restarts n k w₂ o w₃) where
             -- every consistent choice takes what is certain: there is no clash
-            never : o ≡ Clashed → Fulling n k w → ⊥
+            never : o ≡ None → Fulling n k w → ⊥
             never z c = both_agrees n c.t c.p (marking w₂) (folds c).0 (folds c).1 (q.clashed z (restarting c))
 
-            module _ (log : ℕ) (z : o ≡ In log) where
+            module _ (log : ℕ) (z : o ≡ Some log) where
               left : (c : Fulling n k w) → Leaving n c.t c.p (marking w) log r w₃
               unfolding Rattle.modes_by_marks.specs.Search.full_readings_by
               left c =
@@ -218,12 +217,11 @@ module _ (n k : ℕ) (w₁ : List ℕ) (r : ℕ) where
     keep_restarts c = let e = c.ended in
         full_restarts n k c.w e.count e.counted e.few r w₁ e.searches more w₂ l c.fulling
 
-    module _ (o : Pushed) (w₃ : List ℕ) (q : Restarts n k w₂ o w₃) where
-      pub keeps_never : o ≡ Clashed → Keeping n k w₁ r → Keeps n k w₁ r (Err NoChoice) w₃
-      keeps_never z c = let e = c.ended in
-          absurd (never n k c.w e.count e.counted e.few r w₁ e.searches more w₂ l o w₃ q z c.fulling)
+    module _ (o : Option ℕ) (w₃ : List ℕ) (q : Restarts n k w₂ o w₃) where
+      pub keep_never : o ≡ None → Keeping n k w₁ r → ⊥
+      keep_never z c = let e = c.ended in never n k c.w e.count e.counted e.few r w₁ e.searches more w₂ l o w₃ q z c.fulling
 
-      pub keeps_left : (log : ℕ) → o ≡ In log → Keeping n k w₁ r → Keeps n k w₁ r (Ok (remaining log r)) w₃
+      pub keeps_left : (log : ℕ) → o ≡ Some log → Keeping n k w₁ r → Keeps n k w₁ r (Ok (remaining log r)) w₃
       keeps_left log z c = record {
         len = q.len ∙ l.len;
         told = λ w e. fulls_left n k w e.count e.counted e.few r w₁ e.searches more w₂ l o w₃ q log z

@@ -3,7 +3,7 @@ ghost use Rattle.leaving.specs.Restarted.{Restarting, Restarts};
 ghost use Rattle.leaving.specs.Kept.{Keeping, Keeps};
 
 use area::map::SECOND;
-use classes::push::{Pushed, back};
+use classes::push::back;
 use entering::enter::enter;
 use limits::DEPTH_LIMIT;
 use marks::marking::keep_lit;
@@ -23,16 +23,13 @@ pub enum NoneLeft {
 }
 
 // Takes back all that is pushed, the k entries of the log, and pushes all that is certain in both inputs.
-fn restart(w: &mut [u32], k: usize, n: usize) -> Pushed
+fn restart(w: &mut [u32], k: usize, n: usize) -> Option<usize>
     requires { Restarting n k w.old }
     ensures { Restarts n k w.old result w.new }
 {
     back(w, k, 0);
-    let first = enter(w, 0, n, 0, DEPTH_LIMIT);
-    let Pushed::In(j) = first else {
-        return Pushed::Clashed;
-    };
-    enter(w, j, n, SECOND, DEPTH_LIMIT)
+    let first = enter(w, 0, n, 0, DEPTH_LIMIT)?;
+    enter(w, first, n, SECOND, DEPTH_LIMIT)
 }
 
 // Drops every alternative that was not found, where so many readings were; k entries in the log are what was certain before.
@@ -44,8 +41,6 @@ pub fn leave(w: &mut [u32], k: usize, n: usize, readings: u32) -> Result<Left, N
         return Err(NoneLeft::NoChoice);
     }
     keep_lit(w, n);
-    let Pushed::In(log) = restart(w, k, n) else {
-        return Err(NoneLeft::NoChoice);
-    };
+    let log = restart(w, k, n).ok_or(NoneLeft::NoChoice)?;
     Ok(Left { log, readings })
 }

@@ -20,8 +20,6 @@ use Rattle.marks.proofs.Reading.{alternatives}
 use Rattle.marks.proofs.Marks.{marking_frame}
 use Rattle.marks.proofs.Remnant.{kept_none, kept_alone, alone_at, kept_several}
 use Rattle.classes.specs.Holds.{Holds, Since}
-use Rattle.classes.specs.declared.push.Pushed.{Pushed}
-use Rattle.classes.specs.declared.push.Pushed.TheVariants.{In, Clashed}
 use Rattle.classes.proofs.Laws.{since_refl}
 use Rattle.quick.specs.declared.step.Step.{Step}
 use Rattle.std.specs.Prelude.{Option, Some, None}
@@ -174,14 +172,14 @@ module _ (n k : ℕ) (w : List ℕ) (p count left : ℕ) where
                       (ap (λ (m : Marking). kept_of m c.lies.a) marks₁ ∙ (more c).1);
                 }
 
-        module _ (r : Pushed) (w₂ : List ℕ) (u : Settles n k w₁ p count left r w₂) where
+        module _ (r : Option ℕ) (w₂ : List ℕ) (u : Settles n k w₁ p count left r w₂) where
           marks₂ : marking w₂ ≡ marking w₁
           marks₂ = marking_frame w₁ w₂ (omega (arith, s.moved.len, c₀.s.holds.long)) u.len (λ j a b. u.rest j (omega arith))
 
           moved₂ : (j : ℕ) → Since k w₁ j w₂ → Moved k w j w₂
           moved₂ j x = moved_trans k w k w₁ j w₂ s.moved (record { len = u.len; rest = λ i h. u.rest i (omega arith); since = x })
 
-          pub chooses_fails : r ≡ Clashed → Chooses n k w p count left None w₂
+          pub chooses_fails : r ≡ None → Chooses n k w p count left None w₂
           chooses_fails z =
               let f = u.clashed z in
               record {
@@ -194,7 +192,7 @@ module _ (n k : ℕ) (w : List ℕ) (p count left : ℕ) where
                 );
               }
 
-          pub chooses_stands : (j : ℕ) → r ≡ In j → Chooses n k w p count left (Some (stepped j drops)) w₂
+          pub chooses_stands : (j : ℕ) → r ≡ Some j → Chooses n k w p count left (Some (stepped j drops)) w₂
           chooses_stands j z = record {
             standing = λ a i y.
                 let x : j ≡ a = same_log _ _ _ _ y in

@@ -17,8 +17,6 @@ use Rattle.loading.specs.Entry.{graphs}
 use Rattle.marks.specs.Marked.{marking}
 use Rattle.marks.proofs.Marks.{marking_frame}
 use Rattle.classes.specs.Holds.{Since, Remembers, Backs}
-use Rattle.classes.specs.declared.push.Pushed.{Pushed}
-use Rattle.classes.specs.declared.push.Pushed.TheVariants.{In, Clashed}
 use Rattle.classes.proofs.Laws.{holds_agree, since_trans}
 use Rattle.quick.specs.declared.step.Step.{Step}
 use Rattle.std.specs.Prelude.{Option, Some, None}
@@ -37,14 +35,14 @@ unfolding Rattle.modes_by_marks.specs.Quickly.try_at
 try_by S m (place g ds) b e = ap (λ (b : Bool). elim b [ false ↦ fails m | true ↦ narrow_at (S ++ g ∷ certain m ds) m ds ]) e
 
 module _ (n k : ℕ) (w : List ℕ) (g left : ℕ) where
-  module _ (o : Pushed) (w₁ : List ℕ) (u : Enters n k w g left o w₁) (c₀ : Entering n k w g left) where
+  module _ (o : Option ℕ) (w₁ : List ℕ) (u : Enters n k w g left o w₁) (c₀ : Entering n k w g left) where
     marks₁ : marking w₁ ≡ marking w
     marks₁ = marking_frame w w₁ c₀.s.holds.long u.len (λ j a b. u.rest j (omega arith))
 
     loaded₁ : loaded_words w₁ ≡ loaded_words w
     loaded₁ = words_same w w₁ c₀.s.holds.long u.len (λ j a b. u.rest j a)
 
-    pub tries_clash : o ≡ Clashed → Tries n k w g left None w₁
+    pub tries_clash : o ≡ None → Tries n k w g left None w₁
     tries_clash z = record {
       moved = record { len = u.len; rest = λ j h. u.rest j (omega arith); since = (u.clashed z).0 };
       standing = λ j i y. let x : ◌≡◌ {A = ℕ} 0 1 = cc in absurd (omega arith);
@@ -60,7 +58,7 @@ module _ (n k : ℕ) (w : List ℕ) (g left : ℕ) where
       );
     }
 
-    module _ (e : ℕ) (z : o ≡ In e) where
+    module _ (e : ℕ) (z : o ≡ Some e) where
       abbrev goes : Entering n k w g left → Narrowing n e w₁ g left
       goes c = record {
         es = entered c;

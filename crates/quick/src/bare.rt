@@ -4,7 +4,7 @@ ghost use Rattle.sieving.specs.Sieved.{Sieved};
 ghost use Rattle.quick.specs.Stepped.{TriesBare};
 
 use crate::step::Step;
-use classes::push::{Pushed, back, push};
+use classes::push::{back, push};
 use trying::guess::guess_through;
 use trying::told::Guess;
 
@@ -13,11 +13,8 @@ fn push_bare(w: &mut [u32], k: usize, n: usize, g: usize) -> Option<Step>
     requires { Pushing n k w.old g }
     ensures { TriesBare n k w.old g result w.new }
 {
-    let own = push(w, k, n, g);
-    let Pushed::In(e) = own else {
-        return None;
-    };
-    back(w, e, k);
+    let log = push(w, k, n, g)?;
+    back(w, log, k);
     Some(Step { log: k, drops: 0 })
 }
 

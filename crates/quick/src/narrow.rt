@@ -9,7 +9,7 @@ ghost use Rattle.quick.specs.Stepped.{Narrowing, Narrows, Choosing, Chooses, Tri
 
 use crate::bare::try_bare;
 use crate::step::Step;
-use classes::push::{Pushed, back};
+use classes::push::back;
 use entering::enter::enter;
 use entering::settle::settle;
 use marks::marking::{drop, kept};
@@ -30,12 +30,9 @@ fn try_one(w: &mut [u32], k: usize, n: usize, g: usize, left: u32, t: &[u32]) ->
     if more == 0 {
         return try_bare(w, k, n, g, t);
     }
-    let pushed = enter(w, k, n, g, left);
-    let Pushed::In(m) = pushed else {
-        return None;
-    };
-    let Some(step) = narrow(w, m, n, g, left) else {
-        back(w, m, k);
+    let log = enter(w, k, n, g, left)?;
+    let Some(step) = narrow(w, log, n, g, left) else {
+        back(w, log, k);
         return None;
     };
     back(w, step.log, k);
@@ -106,11 +103,8 @@ fn narrow_one(
     if drops == 0 {
         return Some(Step { log: k, drops: 0 });
     }
-    let end = settle(w, k, n, p, count, left);
-    let Pushed::In(j) = end else {
-        return None;
-    };
-    Some(Step { log: j, drops })
+    let log = settle(w, k, n, p, count, left)?;
+    Some(Step { log, drops })
 }
 
 // Tries each kept one of the `count` alternatives from p on, and drops those that fail. How many alternatives were dropped, at every depth.

@@ -191,33 +191,29 @@ narrow_one-returns-then-drops-eq0 t c = chooses_still _ _ _ _ _ _ _ _
     c.requires.choosing _ _ c.sift-drops.ensures
     (omega arith)
 
-pub narrow_one-settle-end-requires : goal.narrow_one-settle-end-requires
-narrow_one-settle-end-requires t c =
+pub narrow_one-settle-requires : goal.narrow_one-settle-requires
+narrow_one-settle-requires t c =
     asks_settle _ _ _ _ _ _ _ _ c.requires.by_index.1 _
     c.in-Several.is
     c.requires.choosing _ _
     c.sift-drops.ensures
 
-pub narrow_one-shape_of-w-in_default : goal.narrow_one-shape_of-w-in_default
-narrow_one-shape_of-w-in_default t c = c.settle-end.ensures.len
-    ∙ c.sift-drops.ensures.moved.len
-
-pub narrow_one-returns-in_default : goal.narrow_one-returns-in_default
-narrow_one-returns-in_default t c = chooses_fails _ _ _ _ _ _ _ _
+pub narrow_one-returns-in_err-log : goal.narrow_one-returns-in_err-log
+narrow_one-returns-in_err-log t c = rw c.from_residual.ensures (chooses_fails _ _ _ _ _ _ _ _
     c.requires.by_index.1 _ c.in-Several.is
     c.requires.choosing _
     _ c.sift-drops.ensures _ _
-    c.settle-end.ensures c.in_default.is
+    c.settle.ensures c.in_err-log.was)
 
 pub narrow_one-shape_of-w : goal.narrow_one-shape_of-w
-narrow_one-shape_of-w t c = c.settle-end.ensures.len
+narrow_one-shape_of-w t c = c.settle.ensures.len
     ∙ c.sift-drops.ensures.moved.len
 
 pub narrow_one-returns : goal.narrow_one-returns
 narrow_one-returns t c = chooses_stands _ _ _ _ _ _ _ _
     c.requires.by_index.1 _ c.in-Several.is
     c.requires.choosing _ _ c.sift-drops.ensures _ _
-    c.settle-end.ensures _ c.in-In.is
+    c.settle.ensures _ c.in_ok-log.was
 
 pub sift-loop-init : goal.sift-loop-init
 sift-loop-init t c = (moved_none _ _ _ _ _ _ c.requires.alternating, fewer_none _, λ d. rw sub-zero (sift_start _ _ _ _ _ _ d))
@@ -314,13 +310,13 @@ try_one-returns-then-more-eq0 t c = c.try_bare.ensures.tries _
     (ap (disjunctions_at _) (sym c.tail_at-e.ensures)
     ∙ sym c.disjunctions_at-more.ensures ∙ c.if-more-eq0.true)
 
-pub try_one-enter-pushed-requires : goal.try_one-enter-pushed-requires
-try_one-enter-pushed-requires t c = c.requires.entering
+pub try_one-enter-requires : goal.try_one-enter-requires
+try_one-enter-requires t c = c.requires.entering
 
-pub try_one-returns-in_default : goal.try_one-returns-in_default
-try_one-returns-in_default t c = tries_clash _ _ _ _ _ _ _ c.enter-pushed.ensures
+pub try_one-returns-in_err-log : goal.try_one-returns-in_err-log
+try_one-returns-in_err-log t c = rw c.from_residual.ensures (tries_clash _ _ _ _ _ _ _ c.enter.ensures
     c.requires.entering
-    c.in_default.is
+    c.in_err-log.was)
 
 pub try_one-narrow-requires : goal.try_one-narrow-requires
 try_one-narrow-requires t c = (
@@ -328,49 +324,49 @@ try_one-narrow-requires t c = (
     arith,
     c.decreases,
   ),
-  asks_narrow _ _ _ _ _ _ _ c.enter-pushed.ensures
+  asks_narrow _ _ _ _ _ _ _ c.enter.ensures
       c.requires.entering
-      _ c.in-In.is,
+      _ c.in_ok-log.was,
 )
 
 pub try_one-back-requires : goal.try_one-back-requires
 try_one-back-requires t c =
-    asks_back _ _ _ _ _ _ _ c.enter-pushed.ensures c.requires.entering _
-    c.in-In.is _ _
+    asks_back _ _ _ _ _ _ _ c.enter.ensures c.requires.entering _
+    c.in_ok-log.was _ _
     c.narrow.ensures _
-    (c.narrow.ensures.failing c.in_default-narrow.is).0
+    (c.narrow.ensures.failing c.in_default.is).0
 
-pub try_one-shape_of-w-in_default-narrow : goal.try_one-shape_of-w-in_default-narrow
-try_one-shape_of-w-in_default-narrow t c = (tries_fails _ _ _ _ _ _ _
-    c.enter-pushed.ensures c.requires.entering _
-    c.in-In.is _ _
+pub try_one-shape_of-w-in_default : goal.try_one-shape_of-w-in_default
+try_one-shape_of-w-in_default t c = (tries_fails _ _ _ _ _ _ _
+    c.enter.ensures c.requires.entering _
+    c.in_ok-log.was _ _
     c.narrow.ensures
-    c.in_default-narrow.is _ c.back.ensures).moved.len
+    c.in_default.is _ c.back.ensures).moved.len
 
-pub try_one-returns-in_default-narrow : goal.try_one-returns-in_default-narrow
-try_one-returns-in_default-narrow t c = tries_fails _ _ _ _ _ _ _
-    c.enter-pushed.ensures c.requires.entering _
-    c.in-In.is _ _
+pub try_one-returns-in_default : goal.try_one-returns-in_default
+try_one-returns-in_default t c = tries_fails _ _ _ _ _ _ _
+    c.enter.ensures c.requires.entering _
+    c.in_ok-log.was _ _
     c.narrow.ensures
-    c.in_default-narrow.is _ c.back.ensures
+    c.in_default.is _ c.back.ensures
 
 pub try_one-back-requires-2 : goal.try_one-back-requires-2
 try_one-back-requires-2 t c =
-    asks_back _ _ _ _ _ _ _ c.enter-pushed.ensures c.requires.entering _
-    c.in-In.is _ _
+    asks_back _ _ _ _ _ _ _ c.enter.ensures c.requires.entering _
+    c.in_ok-log.was _ _
     c.narrow.ensures _
     (c.narrow.ensures.standing _ _ c.in-Some.is).0
 
 pub try_one-shape_of-w : goal.try_one-shape_of-w
 try_one-shape_of-w t c = (tries_stands _ _ _ _ _ _ _
-    c.enter-pushed.ensures c.requires.entering _
-    c.in-In.is _ _
+    c.enter.ensures c.requires.entering _
+    c.in_ok-log.was _ _
     c.narrow.ensures _ _
     c.in-Some.is _ c.back-2.ensures).moved.len
 
 pub try_one-returns : goal.try_one-returns
 try_one-returns t c = tries_stands _ _ _ _ _ _ _
-    c.enter-pushed.ensures c.requires.entering _
-    c.in-In.is _ _
+    c.enter.ensures c.requires.entering _
+    c.in_ok-log.was _ _
     c.narrow.ensures _ _
     c.in-Some.is _ c.back-2.ensures
