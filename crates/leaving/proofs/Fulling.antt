@@ -30,7 +30,7 @@ use Rattle.counting.specs.Counted.{CountedBoth}
 use Rattle.counting.proofs.Both.{counted_joined}
 use Rattle.classes.specs.Holds.{Undoable}
 use Rattle.classes.proofs.Laws.{undoable_on, undoable_frame}
-use Rattle.std.specs.Prelude.{Option, Some, None}
+use Rattle.std.specs.Prelude.{Some, None}
 use Rattle.leaving.specs.Found.{Finds, Searching, Searches}
 use Rattle.std.specs.Prelude.{Result, Ok, Err}
 use Rattle.leaving.specs.declared.leave.Left.{Left}
@@ -166,7 +166,7 @@ module _ (n k : ℕ) (w : List ℕ) where
             folds = subst (λ (d : Placed). Can (strip d) × Sane (strip d)) (sym keeps)
                 (pair_full n c.t c.p (marking w) c.left (one_more c).0 (one_more c).1)
 
-          module _ (o : Option ℕ) (w₃ : List ℕ) (q : Restarts n k w₂ o w₃) where
+          module _ (o : Rattle.std.specs.Prelude.Option ℕ) (w₃ : List ℕ) (q : Restarts n k w₂ o w₃) where
             -- every consistent choice takes what is certain: there is no clash
             never : o ≡ None → Fulling n k w → ⊥
             never z c = both_agrees n c.t c.p (marking w₂) (folds c).0 (folds c).1 (q.clashed z (restarting c))
@@ -217,7 +217,7 @@ module _ (n k : ℕ) (w₁ : List ℕ) (r : ℕ) where
     keep_restarts c = let e = c.ended in
         full_restarts n k c.w e.count e.counted e.few r w₁ e.searches more w₂ l c.fulling
 
-    module _ (o : Option ℕ) (w₃ : List ℕ) (q : Restarts n k w₂ o w₃) where
+    module _ (o : Rattle.std.specs.Prelude.Option ℕ) (w₃ : List ℕ) (q : Restarts n k w₂ o w₃) where
       pub keep_never : o ≡ None → Keeping n k w₁ r → ⊥
       keep_never z c = let e = c.ended in never n k c.w e.count e.counted e.few r w₁ e.searches more w₂ l o w₃ q z c.fulling
 

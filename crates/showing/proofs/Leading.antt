@@ -28,7 +28,7 @@ use Rattle.loading.specs.Entry.{graphs}
 use Rattle.layout.proofs.Standing.{stands_frame}
 use Rattle.marks.specs.Marked.{marking}
 use Rattle.classes.specs.Holds.{Backs, Remembers}
-use Rattle.std.specs.Prelude.{Option, Some, None}
+use Rattle.std.specs.Prelude.{Some, None}
 use Rattle.entering.specs.Entered.{Entering, entered, Enters}
 use Rattle.entering.proofs.Certain.{flat_of}
 use Rattle.writing.specs.Writing.{Writing, Writes}
@@ -77,7 +77,7 @@ module _ (n : ℕ) (w : List ℕ) (g left o : ℕ) (c : Describing n w g left o)
       (disjs (shown_all (left_all c.base.m c.lies.d)) ∷ disjs_words (shown_all (left_all c.base.m c.lies.d))) in
       omega arith
 
-  module _ (p : Option ℕ) (w₁ : List ℕ) (u : Enters n 0 w g left p w₁) where
+  module _ (p : Rattle.std.specs.Prelude.Option ℕ) (w₁ : List ℕ) (u : Enters n 0 w g left p w₁) where
     pub not_clashed : p ≡ None → ⊥
     not_clashed z = never ((u.clashed z).1 asks_enter).0
 
