@@ -2,13 +2,11 @@
 -- Assumes nothing.
 use Prim.Native.Nat.{ℕ, suc, ◌+◌, ◌*◌, ◌-◌, ◌/◌, ◌<◌, ◌≤◌}
 use mathlib.Core.Path.{◌≡◌, refl, sym, ap, subst, ◌∙◌}
-use mathlib.Core.Logic.{◌≢◌}
 use mathlib.Core.Bool.{Bool, true, false}
 use mathlib.Core.List.{List, [], ◌∷◌}
 use native.Mathlib.Omega.{arith}
 use lib.ListN.{length, get_or, set}
 use lib.Seq.{get_or-set_same, get_or-set_other}
-use borrow.Author.Tests.{ne_eqb}
 use mir.Val.{bool_byte}
 use Rattle.signs.specs.Limits.{kind_unit}
 use Rattle.rows.specs.Tokens.{Token, token_word, token_words, AllSmall, MarkedSigns, flag_bit, top_flag, under_top, flag, flagging}
@@ -55,9 +53,6 @@ module _ (w : List ℕ) (i : ℕ) (f : List Bool) (top : ℕ) (il : i < length w
   kind_of : (c : SignTurning w i f top) (k : ℕ) → word_of w i / kind_unit ≡ k → c.sign.0 ≡ k
   kind_of c k e = sym (kind_is (word_of w i) c.sign.0 c.sign.1 c.word c.small) ∙ e
 
-  kind_not : (c : SignTurning w i f top) (k : ℕ) → (word_of w i / kind_unit ≡ k → ⊥) → c.sign.0 ≢ k
-  kind_not c k d e = d (kind_is (word_of w i) c.sign.0 c.sign.1 c.word c.small ∙ e)
-
   -- a flagged sign by its kind
   by_close : (t : Token) (y : MarkedSigns) → t.0 ≡ 41 → flag t y ≡ record { done = t ∷ y.done; flags = false ∷ y.flags }
   by_close t y e =
@@ -72,9 +67,6 @@ module _ (w : List ℕ) (i : ℕ) (f : List Bool) (top : ℕ) (il : i < length w
   by_open t y e =
       subst (λ (k : ℕ). flag (k, t.1) y ≡ record { done = (40, flag_bit (top_flag y.flags)) ∷ y.done; flags = under_top y.flags })
       (sym e) refl
-
-  by_other : (t : Token) (y : MarkedSigns) → t.0 ≢ 41 → t.0 ≢ 124 → t.0 ≢ 40 → flag t y ≡ record { done = t ∷ y.done; flags = y.flags }
-  by_other t y a b c = simp (ne_eqb t.0 41 a, ne_eqb t.0 124 b, ne_eqb t.0 40 c) refl
 
   abbrev Flag : SignTurning w i f top → MarkedSigns
   Flag c = flag c.sign c.after
@@ -128,16 +120,6 @@ module _ (w : List ℕ) (i : ℕ) (f : List Bool) (top : ℕ) (il : i < length w
         piled_under f c.after.flags c.flags,
         (get_or-set_same w i x 0 il ∙ omega arith, listed_off w i x (suc i) (token_words c.after.done) (omega arith) c.done),
       ))
-
-  pub turned_other : (word_of w i / kind_unit ≡ 41 → ⊥) → (word_of w i / kind_unit ≡ 124 → ⊥) → (word_of w i / kind_unit ≡ 40 → ⊥) →
-      SignTurned w i f top top w f
-  turned_other a b d = turned_as top w f (λ j l. refl) (omega arith) (λ c. (
-    record { done = c.sign ∷ c.after.done; flags = c.after.flags },
-    by_other c.sign c.after (kind_not c 41 a) (kind_not c 124 b) (kind_not c 40 d),
-    c.high,
-    c.flags,
-    (c.word, c.done),
-  ))
 
 -- ---- all signs
 -- signs that are left, the last one first

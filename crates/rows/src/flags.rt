@@ -2,15 +2,7 @@
 ghost use Rattle.std.specs.Prelude.{◌≡◌, ◌<◌, ◌≤◌, length};
 ghost use Rattle.rows.specs.Flagged.{Flagging, Flags, SignTurning, SignTurned, last_of};
 
-// A word is a sign's kind times this, and its number.
-pub(crate) const KIND: u32 = 65536;
-
-// The kinds of `(`, `)` and `|`.
-const LEFT: u32 = 40;
-
-const RIGHT: u32 = 41;
-
-const OR: u32 = 124;
+use signs::word::{KIND, LEFT, OR, RIGHT};
 
 // The last of the first flags, if there is one.
 fn last(flags: &[bool], top: usize) -> bool

@@ -6,17 +6,10 @@ ghost use Rattle.signs.specs.Machine.{Small, NumberLast, slot_of, number_sign, n
 ghost use Rattle.signs.specs.Judged.{SignsJudged};
 
 use crate::machine::{Due, Place, step};
+use crate::word::{ATOM, FEATURE, KIND};
 
 // "25 text over 4,096 bytes"
 const TEXT_LIMIT: usize = 4096;
-
-// A word is a sign's kind times this, and its number.
-const KIND: u32 = 65536;
-
-// The words of `a0` and `f0`.
-const ATOM: u32 = 97 * KIND;
-
-const FEATURE: u32 = 102 * KIND;
 
 // The first byte at which no formula can go on; or a text of over 4,096 bytes.
 #[derive(Debug, Clone, Copy, PartialEq, Eq)]
@@ -31,8 +24,8 @@ fn letter(due: Due) -> u32
     ensures { result ≡ sign_word (number_sign due 0) }
 {
     match due {
-        Due::After => ATOM,
-        _ => FEATURE,
+        Due::After => ATOM * KIND,
+        _ => FEATURE * KIND,
     }
 }
 
