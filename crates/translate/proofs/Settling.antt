@@ -5,6 +5,7 @@ use mathlib.Core.Path.{◌≡◌, refl, sym, subst}
 use mathlib.Core.Logic.{⊎_elim}
 use mathlib.Core.Option.{Option, none, some}
 use mathlib.Core.List.{List, [], append-nil}
+use Rattle.std.specs.Prelude.{Err}
 use native.Mathlib.Omega.{arith}
 use lib.ListN.{length}
 use Rattle.theory.specs.Limits.{input_limit, depth_limit}
@@ -27,8 +28,8 @@ use Rattle.folding.specs.Settled.{SettlingRoom, Settling, SettledBy, Alternative
 use Rattle.folding.specs.declared.settle.Settled.{Settled}
 use Rattle.folding.specs.declared.settle.Settled.TheVariants as settled
 use Rattle.translate.specs.Stages.{HandsOver, OwnHomes, TreeTabled, DescribedTo}
-use Rattle.translate.specs.declared.answer.Answer.{Answer}
-use Rattle.translate.specs.declared.answer.Answer.TheVariants.{Clash}
+use Rattle.translate.specs.Answer.{Answer}
+use Rattle.translate.specs.declared.answer.Refusal.TheVariants.{Clash}
 
 module _ (φ : Formula) (rs bs ts ks hm hm' : List ℕ) (c : TreeTabled φ rs bs ts ks (length hm)) (own : OwnHomes hm hm') where
   size : suc 0 + wide_rows (lay 1 0 [] φ) ≡ length hm'
@@ -77,13 +78,13 @@ module _ (φ : Formula) (rs bs ts ks hm hm' : List ℕ) (c : TreeTabled φ rs bs
     answered = s.answer settling
 
     -- a clash
-    pub settled_clash : r ≡ settled.Clash → (room : List ℕ) → DescribedTo (describe φ) room Clash room
+    pub settled_clash : r ≡ settled.Clash → (room : List ℕ) → DescribedTo (describe φ) room (Err Clash) room
     settled_clash e room =
-        subst (λ (d : Option Desc). DescribedTo d room Clash room) (sym (describe_house φ))
+        subst (λ (d : Option Desc). DescribedTo d room (Err Clash) room) (sym (describe_house φ))
         (go (house (flattened φ) 0 (laid_out φ)) answered)
       where
         go : (h : Option Home) → SettledBy hm'' b b' 0 0 (suc 0 + wide_rows (lay 1 0 [] φ)) h r →
-            DescribedTo (as_home h) room Clash room
+            DescribedTo (as_home h) room (Err Clash) room
         go none q = (refl, refl)
         go (some x) (n, i, w, q, t) = let z : ◌≡◌ {A = ℕ} 0 1 = cc in absurd (omega arith)
 

@@ -6,6 +6,7 @@ use mathlib.Core.Logic.{inl, inr}
 use mathlib.Core.Bool.{Bool, true, false}
 use mathlib.Core.Option.{Option, none, some}
 use mathlib.Core.List.{List, [], ◌∷◌}
+use Rattle.std.specs.Prelude.{Ok, Err}
 use native.Mathlib.Omega.{arith}
 use lib.ListN.{length, get_or, take, length-take}
 use lib.Seq.{get_or-take}
@@ -38,8 +39,8 @@ use Rattle.laying.specs.declared.laying.Laid.{Laid}
 use Rattle.laying.specs.declared.laying.Laid.TheVariants as laid
 use Rattle.translate.specs.Translated.{Translated, Shallow}
 use Rattle.translate.specs.Stages.{DescribedTo, TreeLaid, TreeTold, TreeRead, TreeMarked}
-use Rattle.translate.specs.declared.answer.Answer.{Answer}
-use Rattle.translate.specs.declared.answer.Answer.TheVariants.{Done, BadText, TooDeep, Clash, TooLong, NoRoom, LongText}
+use Rattle.translate.specs.Answer.{Answer}
+use Rattle.translate.specs.declared.answer.Refusal.TheVariants.{BadText, TooDeep, Clash, TooLong, NoRoom, LongText}
 
 -- ---- marked signs
 -- a sign's word is its token's
@@ -204,9 +205,9 @@ module _ (φ : Formula) (w : List ℕ) (n : ℕ) (flagged : Bool) (c : TreeMarke
     laid_as = subst (λ (x : Out). LaidAs x r T) all_is (out lays_out)
 
     -- alternatives nested too deep
-    pub deep_told : r ≡ laid.TooDeep → (room : List ℕ) → TreeTold φ room TooDeep room
+    pub deep_told : r ≡ laid.TooDeep → (room : List ℕ) → TreeTold φ room (Err TooDeep) room
     deep_told e room = go (ltb depth_limit (depth φ)) refl where
-      go : (b : Bool) → ltb depth_limit (depth φ) ≡ b → TreeTold φ room TooDeep room
+      go : (b : Bool) → ltb depth_limit (depth φ) ≡ b → TreeTold φ room (Err TooDeep) room
       go true l = inl (ltb-true depth_limit (depth φ) l, refl, refl)
       go false l =
           let low = ltb-false depth_limit (depth φ) l in
@@ -279,13 +280,13 @@ described_to : (t room : List ℕ) (φ : Formula) (r : Answer) (out : List ℕ) 
     DescribedTo d room r out → Translated t room r out
 described_to t room φ r out s none e (q, o) =
     subst (λ (y : Answer). Translated t room y out) (sym q) ((φ, s, e), o)
-described_to t room φ TooLong out s (some d) e (l, o) = ((φ, d, record { shallow = s; is = e }, l), o)
-described_to t room φ (NoRoom n) out s (some d) e (l, q, m, o) = ((φ, d, record { shallow = s; is = e }, l, q, m), o)
-described_to t room φ (Done n) out s (some d) e (l, q, m, o) = (φ, d, record { shallow = s; is = e }, l, q, m, o)
-described_to t room φ LongText out s (some d) e h = absurd h
-described_to t room φ (BadText i) out s (some d) e h = absurd h
-described_to t room φ TooDeep out s (some d) e h = absurd h
-described_to t room φ Clash out s (some d) e h = absurd h
+described_to t room φ (Err TooLong) out s (some d) e (l, o) = ((φ, d, record { shallow = s; is = e }, l), o)
+described_to t room φ (Err (NoRoom n)) out s (some d) e (l, q, m, o) = ((φ, d, record { shallow = s; is = e }, l, q, m), o)
+described_to t room φ (Ok n) out s (some d) e (l, q, m, o) = (φ, d, record { shallow = s; is = e }, l, q, m, o)
+described_to t room φ (Err LongText) out s (some d) e h = absurd h
+described_to t room φ (Err (BadText i)) out s (some d) e h = absurd h
+described_to t room φ (Err TooDeep) out s (some d) e h = absurd h
+described_to t room φ (Err Clash) out s (some d) e h = absurd h
 
 pub told_translated : (t room : List ℕ) (φ : Formula) (r : Answer) (out : List ℕ) → length t ≤ formula_limit → Reads t φ →
     TreeTold φ room r out → Translated t room r out
