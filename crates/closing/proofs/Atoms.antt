@@ -24,12 +24,6 @@ use Rattle.closing.proofs.Chains.{by_cons}
 abbrev Pair : Type 0
 Pair = ℕ × ℕ
 
-pub against_none : (held given : ℕ) → (held ≡ 0) ⊎ (held ≡ given) → Against held given false
-against_none held given e = record { other = λ f. let z : ◌≡◌ {A = ℕ} 0 1 = cc in absurd (omega arith); fine = λ f. e }
-
-pub against_other : (held given : ℕ) → held ≢ 0 → held ≢ given → Against held given true
-against_other held given m n = record { other = λ f. (m, n); fine = λ f. let z : ◌≡◌ {A = ℕ} 0 1 = cc in absurd (omega arith) }
-
 -- the atom of a label
 atom_here : (lab : ℕ → ℕ) (l : ℕ) (p : Pair) (S : List Pair) → lab p.0 ≡ l → atom_of lab l (p ∷ S) ≡ some p.1
 atom_here lab l p S e = rw (eqb_yes (lab p.0) l e, atom_of)

@@ -18,9 +18,6 @@ use Rattle.parting.specs.Gathered.{AmongRows, row_in, RowCame, Gathers, arc_tabl
 
 -- ---- lists of what is among the first numbers
 module _ {A : Type 0} (P : ℕ → Type 0) (f : ℕ → A) where
-  among_none : AmongRows P f 0 []
-  among_none = record { in_list = λ i h p. absurd (omega arith); of_list = λ x m. absurd (Memᴰ.not-nil m) }
-
   among_more : (i : ℕ) (l : List A) → P i → AmongRows P f i l → AmongRows P f (i + 1) (l ++ f i ∷ [])
   among_more i l p a = record {
     in_list = below_more (λ j. P j → Memᴰ (f j) (l ++ f i ∷ [])) i (λ j h q. Memᴰ.append_left (f i ∷ []) (a.in_list j h q))
@@ -52,9 +49,6 @@ front out n x h = ap (λ (m : ℕ). take m (set out n x)) (add-one n) ∙ take-s
 
 -- ---- atoms and ties
 module _ (rows hm : List ℕ) (k : ℕ) (out₀ : List ℕ) where
-  pub gathers_none : Gathers rows hm k 0 out₀ 0 out₀
-  gathers_none = record { same = refl; few = omega arith; rows_are = among_none (RowCame rows hm k) (row_in rows) }
-
   module _ (i n n' : ℕ) (out out' : List ℕ) (g : Gathers rows hm k i out₀ n out) where
     pub gathers_more : n < length out → RowCame rows hm k i → out' ≡ set out n (get_or rows (2 * i) 0) → n' ≡ n + 1 →
         Gathers rows hm k (i + 1) out₀ n' out'
@@ -82,9 +76,6 @@ module _ (arcs hm : List ℕ) (on : List Bool) (k : ℕ) (out₀ ends₀ : List 
 
   abbrev Mine : ℕ → Type 0
   Mine = Belong arcs hm on k
-
-  pub arcs_none : GathersArcs arcs hm on k 0 out₀ ends₀ 0 out₀ ends₀
-  arcs_none = record { same = refl; same_ends = refl; few = omega arith; arcs_are = among_none Mine arc }
 
   module _ (i n n' : ℕ) (out out' ends ends' : List ℕ) (g : GathersArcs arcs hm on k i out₀ ends₀ n out ends) where
     abbrev old : List Edge

@@ -41,14 +41,6 @@ module _ (T : Tables) (s₀ : ℕ) (on₀ : List Bool) where
   }
 
   module _ (s : ℕ) (on : List Bool) where
-    -- the arc of the spot that is reached
-    pub halves_inside : TrailMarking T s₀ on₀ → Halves s on → s ≢ 0 → s - 1 < T.arcs
-    halves_inside c v n = let h = v.each c.trail c.trails in go h.ahead h.trails
-      where
-        go : (ds : List Edge) → Trail T s ds → s - 1 < T.arcs
-        go ds (at_root z e) = absurd (n z)
-        go ds (further i bs e l q t) = omega arith
-
     abbrev Told : List Bool → List Edge → ℕ → Type 0
     Told m es j = ((get_or m j false ≡ true) × Memᴰ (edge T j) es) ⊎ ((get_or m j false ≡ false) × (Memᴰ (edge T j) es → ⊥))
 

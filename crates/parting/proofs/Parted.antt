@@ -20,7 +20,7 @@ use Rattle.formulas.proofs.Order.{Within, sheet_order}
 use Rattle.formulas.proofs.Homes.{sound_same}
 use Rattle.closing.specs.Rows.{spot_limit, in_edges, in_pairs, in_sheet}
 use Rattle.closing.proofs.Lists.{edge_at, edge_in}
-use Rattle.sheets.specs.Draws.{Drawing, DrawnAs, Draws}
+use Rattle.sheets.specs.Draws.{DrawnAs, Draws}
 use Rattle.parting.specs.Gathered.{AmongRows, Members, row_in, home_in, Gathers, arc_table, TrailMarked, TrailMarking, TrailMarks}
 use Rattle.parting.specs.Gathered.{GathersArcs}
 use Rattle.parting.specs.Parted.{Part, Parting, Drawn_as, PartDrawn, Half_part, HalfParting, HalfParts}
@@ -78,9 +78,6 @@ module _ (arcs ends atoms ties hm : List ℕ) (k : ℕ) where
 
       same_graph : Sound A → sheet_graph drawn_from ≡ sheet_graph A
       same_graph u = sheet_order drawn_from A (sound_from u) u fro to
-
-    pub half_drawing : HalfParting arcs ends atoms ties hm k → Drawing arcs ends (take n bears') (take m shares')
-    half_drawing c = record { rows = c.rows; sound = sound_from c.A c.part c.sound }
 
     pub half_drawn : (out : List ℕ) (r : Result ℕ Undrawn) (out' : List ℕ) → Draws arcs ends (take n bears') (take m shares') out r out' →
         HalfParts arcs ends atoms ties hm k out r out'
