@@ -1,8 +1,16 @@
 -- The table of numbers, length and byte, over the answers.
 -- Assumes nothing: these are definitions.
 use Rattle.std.specs.Prelude.{Ok, Err, ℕ}
+use Rattle.signs.specs.declared.reading.ReadError.{ReadError}
+use Rattle.signs.specs.declared.reading.ReadError.TheVariants as read
 use Rattle.translate.specs.Answer.{Answer}
+use Rattle.translate.specs.declared.answer.Refusal.{Refusal}
 use Rattle.translate.specs.declared.answer.Refusal.TheVariants.{BadText, TooDeep, Clash, TooLong, NoRoom, LongText}
+
+-- why a text that could not be read is refused
+abbrev pub refusal_of : ReadError → Refusal
+refusal_of (read.Bad i) = BadText i
+refusal_of read.Long = LongText
 
 abbrev pub number_in : Answer → ℕ
 number_in (Ok n) = 0

@@ -1,5 +1,5 @@
 // The description of a formula, from its text: signs, rows and alternatives, words.
-ghost use Rattle.std.specs.Prelude.{◌×◌, ◌≡◌, length};
+ghost use Rattle.std.specs.Prelude.{◌≡◌, length};
 ghost use Rattle.theory.specs.Limits.{input_limit};
 ghost use Rattle.formulas.specs.Formula.{Formula};
 ghost use Rattle.laying.specs.Laying.{Roomy};
