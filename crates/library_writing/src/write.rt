@@ -1,5 +1,5 @@
 // Writing a library.
-ghost use Rattle.std.specs.Prelude.{◌≡◌, true, ◌++◌, ◌+◌, ◌*◌, ◌/◌, ◌<◌, ◌≤◌, length, take};
+ghost use Rattle.std.specs.Prelude.{◌≡◌, true, Err, ◌++◌, ◌+◌, ◌*◌, ◌/◌, ◌<◌, ◌≤◌, length, take};
 ghost use Rattle.blocks.specs.Block.{pair, block, filled};
 ghost use Rattle.library.specs.File.{bodies, file};
 ghost use Rattle.library_writing.specs.Write.{split, sound, InReach, blocks_asked, index_asked, WritesLibrary};
@@ -19,6 +19,19 @@ pub enum WriteError {
     BadEntries,
     Malformed,
     NoRoom { need: usize },
+}
+
+impl WriteError {
+    // The number that it is told by.
+    pub fn number(self) -> u32
+        ensures { result ≡ write_number (Err self) }
+    {
+        match self {
+            WriteError::BadEntries => 47,
+            WriteError::Malformed => 45,
+            WriteError::NoRoom { need: _ } => 46,
+        }
+    }
 }
 
 // Writes the four numbers of an index entry from `at` on.
@@ -113,7 +126,6 @@ pub fn write_told(answer: Result<usize, WriteError>) -> Row
     match answer {
         Ok(bytes) => done(bytes),
         Err(WriteError::NoRoom { need }) => no_room(need),
-        Err(WriteError::Malformed) => refused(45),
-        Err(WriteError::BadEntries) => refused(47),
+        Err(error) => refused(error.number()),
     }
 }
