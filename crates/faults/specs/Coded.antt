@@ -1,6 +1,6 @@
 -- What the values of the code stand for, and what is so of them between two words.
 -- Assumes nothing: these are definitions.
-use Rattle.std.specs.Prelude.{◌≡◌, List, [], ◌∷◌, ℕ, zero, suc, ◌<◌, ◌≤◌, length, get_or}
+use Rattle.std.specs.Prelude.{◌≡◌, List, [], ◌∷◌, ℕ, zero, suc, ◌<◌, ◌≤◌, length, get_or, Option, Some, None}
 use Rattle.theory.specs.Limits.{depth_limit}
 use Rattle.roles.specs.Faults as F
 use Rattle.roles.specs.Faults.{node_count, node_head, arc_feature, arc_target, disjunction_count, alternative_count, the_end, expect}
@@ -11,7 +11,6 @@ use Rattle.roles.specs.declared.role.Role.TheVariants.{NodeCount, Head, Feature,
 use Rattle.faults.specs.declared.nesting.Nesting.{Nesting}
 use Rattle.faults.specs.declared.nesting.Expected.{Expected}
 use Rattle.faults.specs.declared.verdict.Fault.{Fault}
-use Rattle.faults.specs.declared.verdict.Fault.TheVariants.{None, At}
 
 -- the first k of the open alternatives, the innermost first
 abbrev pub open_of : List ℕ → List ℕ → ℕ → F.Nesting
@@ -40,11 +39,14 @@ Bounded (expect (alternative_count d) s) = length s < depth_limit
 Bounded (expect the_end s) = length s ≤ depth_limit
 
 -- the words end here
-abbrev pub ended_of : Role → ℕ → Fault
-ended_of NodeCount p = At WordsEnd p
-ended_of (Head g) p = At WordsEnd p
-ended_of (Feature g k b) p = At WordsEnd p
-ended_of (Target g k b) p = At WordsEnd p
-ended_of DisjunctionCount p = At WordsEnd p
-ended_of (AlternativeCount d) p = At WordsEnd p
+abbrev pub cut : ℕ → Option Fault
+cut p = Some (record { cause = WordsEnd; at = p })
+
+abbrev pub ended_of : Role → ℕ → Option Fault
+ended_of NodeCount p = cut p
+ended_of (Head g) p = cut p
+ended_of (Feature g k b) p = cut p
+ended_of (Target g k b) p = cut p
+ended_of DisjunctionCount p = cut p
+ended_of (AlternativeCount d) p = cut p
 ended_of End p = None
