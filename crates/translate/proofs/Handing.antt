@@ -1,25 +1,18 @@
 -- Words that end a buffer are handed over.
 -- Assumes nothing.
-use Prim.Native.Nat.{ℕ, ◌-◌, ◌<◌, ◌≤◌}
-use mathlib.Core.Path.{◌≡◌, refl, sym, ap, ◌∙◌}
+use Prim.Native.Nat.{ℕ, ◌-◌, ◌≤◌}
+use mathlib.Core.Path.{◌≡◌, sym, ap, ◌∙◌}
 use mathlib.Core.List.{List, ◌++◌}
-use Rattle.std.specs.Prelude.{Ok, Err}
+use Rattle.std.specs.Prelude.{Ok}
 use native.Mathlib.Omega.{arith}
 use lib.ListN.{length, take, drop}
 use Rattle.theory.specs.Limits.{input_limit}
 use Rattle.layout.proofs.Standing.{stands_taken}
 use Rattle.area.specs.Region.{region}
 use Rattle.translate.specs.Stages.{HandsOver}
-use Rattle.translate.specs.declared.answer.Refusal.TheVariants.{TooLong, NoRoom}
 
 module _ (b : List ℕ) (len : ℕ) (room : List ℕ) (size : length b ≡ input_limit) where
   -- more words than fit
-  pub hand_long : input_limit < len → HandsOver b len room (Err TooLong) room
-  hand_long l ws e = let many = e.many in (omega (arith, many, size), refl)
-
-  pub hand_short : len ≤ input_limit → length room < len → HandsOver b len room (Err (NoRoom len)) room
-  hand_short l s ws e = let many = e.many in (omega (arith, many, size), omega (arith, many, size), s, refl)
-
   pub hand_done : (out : List ℕ) → len ≤ input_limit → len ≤ length room →
       out ≡ take (length b - (input_limit - len)) (drop (input_limit - len) b) ++ drop len room → HandsOver b len room (Ok len) out
   unfolding region
