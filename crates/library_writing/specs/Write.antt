@@ -1,6 +1,7 @@
 -- What writing a library gives: "the writer gives 47 (over 60, identifiers not rising or over 65,535, over 1,024 words), 45, 46".
 -- Assumes nothing: these are definitions.
-use Rattle.std.specs.Prelude.{ℕ, zero, suc, ◌+◌, ◌≤◌, ◌≡◌, Bool, true, false, List, [], ◌∷◌, ◌++◌, Result, Ok, Err, length, take, drop, leb, ltb}
+use Rattle.std.specs.Prelude.{ℕ, zero, suc, ◌+◌, ◌≤◌, ◌≡◌, Bool, true, false, List, [], ◌∷◌, ◌++◌, length, take, drop, leb, ltb}
+use Rattle.std.specs.Prelude.{Result, Ok, Err}
 use Rattle.theory.specs.Limits.{input_limit}
 use Rattle.blocks.specs.Block.{whichever, pair}
 use Rattle.library.specs.Index.{room_of, entry_limit, identifier_limit}
