@@ -79,7 +79,11 @@ fn put_one(w: &mut [u32], n: usize, p: usize, of: usize, left: u32, o: usize) ->
     };
     w[RESULT + o] = many as u32;
     let at = put_alternatives(w, n, p, of, left, o + 1);
-    One { at, count: 1, after }
+    One {
+        at,
+        count: 1,
+        after,
+    }
 }
 
 // Writes each kept one of the `of` alternatives from p on.

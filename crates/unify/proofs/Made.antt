@@ -10,7 +10,7 @@ use Rattle.engine.specs.Quickly.{quick_at, Leaves}
 use Rattle.area.specs.Region.{loaded_words}
 use Rattle.marks.specs.Marked.{marking}
 use Rattle.opening.specs.Opening.{Read, Opening}
-use Rattle.unify.specs.declared.making.Beginning.{Beginning}
+use Rattle.opening.specs.declared.Opened.{Opened}
 use Rattle.std.specs.Prelude.{Result, Option, Ok, Err, Some, None}
 use Rattle.std.specs.Option.{ok_or}
 use Rattle.entering.specs.Stage.{Pair, Stage}
@@ -45,7 +45,7 @@ pub quick_failed : (o : Option ℕ) (f : Failure) → o ≡ None → ◌≡◌ {
 quick_failed None f e v = cc
 quick_failed (Some k) f e v = let z : ◌≡◌ {A = ℕ} 0 1 = cc in absurd (omega arith)
 
-module _ (mode : ℕ) (a b w : List ℕ) (r : Result Beginning Failure) (w₁ : List ℕ) (g : Begins w a b r w₁) where
+module _ (mode : ℕ) (a b w : List ℕ) (r : Result Opened Failure) (w₁ : List ℕ) (g : Begins w a b r w₁) where
   pub makes_clash : (f : Failure) → r ≡ Err f → Makes mode w a b (Err f) w₁
   makes_clash f e = record {
     len = g.len;

@@ -16,7 +16,7 @@ use Rattle.area.specs.Map.{RESULT, SIZE}
 use Rattle.area.specs.Region as area
 use Rattle.marks.specs.Marked.{marking}
 use Rattle.opening.specs.Opening.{Read}
-use Rattle.unify.specs.declared.making.Beginning.{Beginning}
+use Rattle.opening.specs.declared.Opened.{Opened}
 use Rattle.entering.specs.Stage.{Pair, Stage}
 use Rattle.answering.specs.declared.hand.Failure.{Failure}
 use Rattle.answering.specs.declared.hand.Failure.TheVariants.{Clash, QuickFails, TooMany, NoChoice}
@@ -27,17 +27,17 @@ abbrev pub DefiniteClash : Desc → Desc → ℕ → Type 0
 DefiniteClash d e i = (joined d e ≡ none) × ClashNode (definite_graph d) (definite_graph e) i
 
 -- both inputs are opened, with n nodes and k entries in the log
-abbrev pub begun : ℕ → ℕ → Beginning
+abbrev pub begun : ℕ → ℕ → Opened
 begun n k = record { nodes = n; log = k }
 
 -- "0, join. The graph is the join of both definite graphs (a clash there is a clash in all modes).": both stand loaded with all
 -- alternatives kept, or they clash, at a node: "Joining two graphs shall tell the smallest node …. Unification passes it on"
-abbrev pub Begun : Desc → Desc → List ℕ → Result Beginning Failure → Type 0
+abbrev pub Begun : Desc → Desc → List ℕ → Result Opened Failure → Type 0
 Begun d e w (Ok o) = (p : Pair o.nodes (area.loaded_words w)) × (p.d ≡ d) × (p.e ≡ e)
     × Stage o.nodes (area.loaded_words w) p o.log w × (marking w ≡ all_kept)
 Begun d e w (Err f) = (i : ℕ) × (f ≡ Clash i) × DefiniteClash d e i
 
-pub record Begins (w a b : List ℕ) (r : Result Beginning Failure) (w' : List ℕ) : Type 0 where
+pub record Begins (w a b : List ℕ) (r : Result Opened Failure) (w' : List ℕ) : Type 0 where
   pub len : length w' ≡ length w
   pub rest : (j : ℕ) → RESULT ≤ j → get_or w' j 0 ≡ get_or w j 0
   pub told : (d e : Desc) → Read a b d e → Begun d e w' r

@@ -15,26 +15,18 @@ use plain::full::full_by_choices;
 use quick::quick::quick;
 use showing::show::show;
 
-// Both inputs are opened, with so many nodes and so many entries in the log.
-#[derive(Clone, Copy)]
-pub struct Beginning {
-    pub nodes: usize,
-    pub log: usize,
-}
-
 // Opens both inputs, and keeps all alternatives. Where they clash, the node is looked for only then, so that other calls cost nothing
 // more.
-fn begin(w: &mut [u32], a: &[u32], b: &[u32]) -> Result<Beginning, Failure>
+fn begin(w: &mut [u32], a: &[u32], b: &[u32]) -> Result<Opened, Failure>
     requires { Opening w.old a.now b.now }
     ensures { Begins w.old a.now b.now result w.new }
 {
-    let opened = open(w, a, b);
-    let Opened::Joined { nodes, log } = opened else {
+    let Some(opened) = open(w, a, b) else {
         let node = clash_node(w);
         return Err(Failure::Clash { node });
     };
     clear_marks(w);
-    Ok(Beginning { nodes, log })
+    Ok(opened)
 }
 
 // What finds the consistent choices in mode 2: the search, or the plain expansion to every choice.
