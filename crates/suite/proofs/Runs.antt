@@ -197,7 +197,7 @@ pub found_none : (space : ℕ) (ts : List Test) (n : ℕ) → n ≡ length ts �
 unfolding table_fault
 found_none space ts n e = ap length_fault e
 
-found_more : (space : ℕ) (ts : List Test) (i : ℕ)
+pub found_more : (space : ℕ) (ts : List Test) (i : ℕ)
     → fault_after (table_fault space ts i) space (get_or ts i no_test) ≡ table_fault space ts (suc i)
 unfolding table_fault
 found_more space ts i = refl
