@@ -1,3 +1,2 @@
--- `Fronts` has words put to the front of an area, `Handing` handing over.
-pub mod Fronts
+-- `Handing` has handing over.
 pub mod Handing

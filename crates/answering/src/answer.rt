@@ -4,10 +4,16 @@ ghost use Rattle.answering.specs.Number.{row_of};
 
 use roles::cause::Cause;
 
-// What comes of a call, of a malformed input with its cause; `row_of` gives number, length, readings and node of each.
+// A result: so many words, with so many readings.
 #[derive(Clone, Copy)]
-pub enum Answer {
-    Done { length: usize, readings: u32 },
+pub struct Unified {
+    pub length: usize,
+    pub readings: u32,
+}
+
+// Why a call gives no result, of a malformed input with its cause.
+#[derive(Clone, Copy)]
+pub enum Refusal {
     BadMode,
     SmallArea,
     TooLong,
@@ -19,6 +25,9 @@ pub enum Answer {
     QuickFails,
     NoChoice,
 }
+
+// What comes of a call; `row_of` gives number, length, readings and node of each.
+pub type Answer = Result<Unified, Refusal>;
 
 // A row of document 01's table: number, length and readings; and the node where definite graphs clash.
 #[derive(Clone, Copy)]
@@ -35,37 +44,30 @@ pub fn told(answer: Answer) -> Row
         × ((result.readings ≡ (row_of answer).readings) × (result.node ≡ (row_of answer).node))) }
 {
     match answer {
-        Answer::Done { length, readings } => Row {
+        Ok(Unified { length, readings }) => Row {
             number: 0,
             length,
             readings,
             node: 0,
         },
-        Answer::BadMode => refusal(1),
-        Answer::SmallArea => refusal(2),
-        Answer::TooLong => refusal(3),
-        Answer::BadFirst(_) => refusal(4),
-        Answer::BadSecond(_) => refusal(5),
-        Answer::Clash { node } => Row {
-            number: 6,
-            length: 0,
-            readings: 0,
-            node,
-        },
-        Answer::TooMany => refusal(7),
-        Answer::NoRoom { length } => Row {
-            number: 8,
+        Err(Refusal::BadMode) => refused(1),
+        Err(Refusal::SmallArea) => refused(2),
+        Err(Refusal::TooLong) => refused(3),
+        Err(Refusal::BadFirst(_)) => refused(4),
+        Err(Refusal::BadSecond(_)) => refused(5),
+        Err(Refusal::Clash { node }) => Row { node, ..refused(6) },
+        Err(Refusal::TooMany) => refused(7),
+        Err(Refusal::NoRoom { length }) => Row {
             length,
-            readings: 0,
-            node: 0,
+            ..refused(8)
         },
-        Answer::QuickFails => refusal(10),
-        Answer::NoChoice => refusal(11),
+        Err(Refusal::QuickFails) => refused(10),
+        Err(Refusal::NoChoice) => refused(11),
     }
 }
 
-// A refusal with this number.
-fn refusal(number: u32) -> Row
+// A refusal with this number, and no more to tell.
+fn refused(number: u32) -> Row
     ensures { (result.number ≡ number) × ((result.length ≡ 0) × ((result.readings ≡ 0) × (result.node ≡ 0))) }
 {
     Row {

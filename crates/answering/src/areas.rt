@@ -11,11 +11,7 @@ pub fn wipe(w: &mut [u32])
     requires { working_size ≤ length w.old }
     ensures { w.new ≡ wiped working_size w.old }
 {
-    let mut i: usize = 0;
-    while i < SIZE {
-        w[i] = 0;
-        i += 1;
-    }
+    w[..SIZE].fill(0);
 }
 
 // Copies the n words that stand from `from` on to the start of the result area.
@@ -23,9 +19,5 @@ pub fn copy_out(w: &[u32], from: usize, res: &mut [u32], n: usize)
     requires { (from + n ≤ length w.now) × (n ≤ length res.old) }
     ensures { res.new ≡ region from n w.now ++ drop n res.old }
 {
-    let mut i: usize = 0;
-    while i < n {
-        res[i] = w[from + i];
-        i += 1;
-    }
+    res[..n].copy_from_slice(&w[from..from + n]);
 }

@@ -4,15 +4,21 @@ use Prim.Native.Nat.{ℕ, zero, suc, ◌+◌, ◌*◌, ◌-◌, ◌/◌, ◌%◌
 use native.Mathlib.Omega.{arith}
 use native.Mathlib.Numerals.{add-one}
 use mathlib.Core.Path.{◌≡◌, refl, sym, ap, ◌∙◌}
-use mathlib.Core.Bool.{true, false}
+use mathlib.Core.Bool.{Bool, true, false, ◌&&◌}
 use mathlib.Core.List.{List, [], ◌∷◌, ◌++◌, append_assoc, append-nil}
-use lib.ListN.{length, get_or, take, drop, set, replicate, length-replicate, drop_of_length-le, length-append, length-take, length-drop}
-use lib.Seq.{drop-cons, sets, sets-eq, take_at, take_all, take-suc-set, length-take-le, length-sets}
+use lib.ListN.{length, get_or, take, drop, replicate, length-replicate, drop_of_length-le, length-append, length-take, length-drop}
+use lib.Seq.{drop-cons, sets, sets-eq, take_at, length-take-le, length-sets}
 use borrow.Author.Tests.{eq-eqb, ne_eqb}
-use Rattle.blocks.specs.Block.{sum_limit, block_size, content_size, checked_size, pair, pair_at, sums, check, block, filled, zeros, intact, block_of, sealed}
+use Rattle.std.specs.Prelude.{eqb}
+use Rattle.std.specs.List.{list_all}
+use Rattle.blocks.specs.Block.{sum_limit, block_size, content_size, checked_size, whichever, pair, pair_at, sums, check, block, filled, zeros, intact, block_of, sealed}
 
 pub next : (l : List ℕ) (i : ℕ) → i < length l → drop i l ≡ get_or l i 0 ∷ drop (i + 1) l
 next l i h = drop-cons l i 0 h ∙ ap (λ (k : ℕ). get_or l i 0 ∷ drop k l) (sym (add-one i))
+
+by_test : (b s t : Bool) → s ≡ t → (b && s) ≡ whichever b t false
+by_test true s t e = e
+by_test false s t e = refl
 
 module _ (l : List ℕ) (a b i : ℕ) where
   pub sums_step : i < length l → sums a b (drop i l) ≡ sums ((a + get_or l i 0) % sum_limit) ((b + (a + get_or l i 0) % sum_limit) % sum_limit) (drop (i + 1) l)
@@ -23,18 +29,10 @@ module _ (l : List ℕ) (a b i : ℕ) where
   unfolding sums
   sums_done h = ap (sums a b) (drop_of_length-le l {i = i} h)
 
-module _ (l : List ℕ) (i : ℕ) where
-  pub zeros_step : i < length l → get_or l i 0 ≡ 0 → zeros (drop i l) ≡ zeros (drop (i + 1) l)
-  unfolding zeros
-  zeros_step h e = ap zeros (next l i h) ∙ simp (eq-eqb _ _ e)
-
-  pub zeros_stop : i < length l → (get_or l i 0 ≡ 0 → ⊥) → false ≡ zeros (drop i l)
-  unfolding zeros
-  zeros_stop h e = sym (ap zeros (next l i h) ∙ simp (ne_eqb _ _ e))
-
-  pub zeros_done : length l ≤ i → true ≡ zeros (drop i l)
-  unfolding zeros
-  zeros_done h = sym (ap zeros (drop_of_length-le l {i = i} h))
+pub zeros_each : (l : List ℕ) → list_all (λ x. eqb x 0) l ≡ zeros l
+unfolding zeros
+zeros_each [] = refl
+zeros_each (x ∷ xs) = by_test (eqb x 0) _ _ (zeros_each xs)
 
 module _ (used number : ℕ) (b : List ℕ) where
   pub intact_size : (length b ≡ block_size → ⊥) → false ≡ intact used number b
@@ -101,20 +99,6 @@ intact_short used k file h =
     let e = length-take block_size (drop (block_size * k) file) in
     let d = length-drop (block_size * k) file in
     sym (intact_size used k (block_of k file) (λ z. omega arith))
-
--- zeros
-replicate_more : (i : ℕ) → ◌++◌ {A = ℕ} (replicate i 0) (0 ∷ []) ≡ replicate (suc i) 0
-replicate_more zero = refl
-replicate_more (suc i) = ap (λ (l : List ℕ). 0 ∷ l) (replicate_more i)
-
-module _ (b : List ℕ) where
-  pub clear_step : (i : ℕ) → i < length b → take i b ≡ replicate i 0 → take (i + 1) (set b i 0) ≡ replicate (i + 1) 0
-  clear_step i h e =
-      rw (add-one i) (take-suc-set b i 0 h ∙ ap (λ (l : List ℕ). l ++ (0 ∷ [])) e ∙ replicate_more i)
-
-  pub clear_done : (b₀ : List ℕ) (i : ℕ) → length b ≤ i → i ≤ length b₀ → length b ≡ length b₀ → take i b ≡ replicate i 0
-      → b ≡ replicate (length b₀) 0
-  clear_done b₀ i h k n e = let m : i ≡ length b₀ = omega arith in sym (take_all i b h) ∙ e ∙ ap (λ (j : ℕ). replicate j 0) m
 
 -- content that was filled with zeros, and sealed
 module _ (b c out : List ℕ) (used number : ℕ) (whole : length b ≡ block_size) (fits : used ≤ content_size) where

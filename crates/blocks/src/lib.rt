@@ -21,23 +21,15 @@ struct Sums {
     pub second: usize,
 }
 
-fn wide(x: u8) -> usize
-    ensures { (result ≡ x) × (result < 256) }
-{
-    x as usize
-}
-
 // Both sums over some bytes.
 fn sums_over(bytes: &[u8]) -> Sums
     ensures { sums 0 0 bytes.now ≡ (result.first, result.second) }
 {
     let mut first: usize = 0;
     let mut second: usize = 0;
-    let mut i: usize = 0;
-    while i < bytes.len() {
-        first = (first + wide(bytes[i])) % LIMIT;
+    for byte in bytes {
+        first = (first + usize::from(*byte)) % LIMIT;
         second = (second + first) % LIMIT;
-        i += 1;
     }
     Sums { first, second }
 }
@@ -47,7 +39,7 @@ pub fn read_pair(bytes: &[u8], at: usize) -> usize
     requires { at + 1 < length bytes.now }
     ensures { (result ≡ pair_at bytes.now at) × (result < 65536) }
 {
-    wide(bytes[at]) + 256 * wide(bytes[at + 1])
+    usize::from(u16::from_le_bytes([bytes[at], bytes[at + 1]]))
 }
 
 // Writes a number in 16 bits from `at` on.
@@ -55,21 +47,13 @@ pub fn put_pair(bytes: &mut [u8], at: usize, value: usize)
     requires { at + 1 < length bytes.old }
     ensures { bytes.new ≡ sets bytes.old at (pair value) }
 {
-    bytes[at] = (value % 256) as u8;
-    bytes[at + 1] = (value / 256 % 256) as u8;
+    bytes[at..at + 2].copy_from_slice(&((value % 65536) as u16).to_le_bytes());
 }
 
 fn all_zero(bytes: &[u8]) -> bool
     ensures { result ≡ zeros bytes.now }
 {
-    let mut i: usize = 0;
-    while i < bytes.len() {
-        if bytes[i] != 0 {
-            return false;
-        }
-        i += 1;
-    }
-    true
+    bytes.iter().all(|byte| *byte == 0)
 }
 
 // Whether some bytes are the block of that number, of whose content the first `used` bytes are used.
@@ -124,23 +108,11 @@ fn seal(block: &mut [u8], number: usize)
     put_pair(block, 510, sums.second);
 }
 
-// Writes zeros over some bytes.
-fn clear(bytes: &mut [u8])
-    ensures { bytes.new ≡ replicate (length bytes.old) 0 }
-{
-    let mut i: usize = 0;
-    while i < bytes.len() {
-        bytes[i] = 0;
-        i += 1;
-    }
-}
-
 // Makes a block of 512 bytes whose first `used` bytes are its used content: zeros behind them, number and check.
 pub fn finish(bytes: &mut [u8], used: usize, number: usize)
     requires { (length bytes.old ≡ 512) × (used ≤ 506) }
     ensures { bytes.new ≡ block (filled (take used bytes.old)) number }
 {
-    let stop = CONTENT;
-    clear(&mut bytes[used..stop]);
+    bytes[used..CONTENT].fill(0);
     seal(bytes, number);
 }

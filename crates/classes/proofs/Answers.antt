@@ -10,12 +10,12 @@ use Rattle.area.specs.Region.{loaded_words}
 use Rattle.loading.specs.Entry.{Entry, graphs}
 use Rattle.forest.specs.Forest.{Root}
 use Rattle.forest.specs.Held.{ChainCode, AtomCode}
-use Rattle.forest.specs.State.{targets, None, Runs, Looked}
+use Rattle.forest.specs.State.{targets, Runs, Looked}
+use Rattle.forest.specs.State as state
 use Rattle.classes.specs.Holds.{Holds, class, Labelled, Classed}
 use Rattle.classes.proofs.Content.{Content}
 use Rattle.classes.specs.Ask.{AtomOf, TargetOf}
-use Rattle.classes.specs.declared.ask.Borne.TheVariants.{Atom, Nothing}
-use Rattle.classes.specs.declared.ask.Led.TheVariants.{To, Nowhere}
+use Rattle.std.specs.Prelude.{Some, None}
 use Rattle.forest.proofs.Links.{chain_zero, first_mem, first_feature, first_det, none_first}
 use Rattle.classes.proofs.Writer.{spot_low, class_low, class_top, content}
 
@@ -40,7 +40,7 @@ module _ (n : ℕ) (w : List ℕ) (x : ℕ) (hx : x < n) (c : ℕ) (cl : Classed
   asked-head g l = let o = (holds g.es g.k g.holds).atom_from l in let e : get_or w c 0 ≡ code_limit + o.1.1.0 = o.1.1.1.1 in
       omega arith
 
-  pub atom-there : AtomCode (get_or w c 0) → AtomOf n w x (Atom (get_or w c 0 - 65536))
+  pub atom-there : AtomCode (get_or w c 0) → AtomOf n w x (Some (get_or w c 0 - 65536))
   atom-there l = record {
     is = λ es k h a e.
         let o = (holds es k h).atom_from l in
@@ -50,10 +50,10 @@ module _ (n : ℕ) (w : List ℕ) (x : ℕ) (hx : x < n) (c : ℕ) (cl : Classed
         (o.0, (o.1.0 ∙ is es k h, subst ((beside (graphs es)).Atom o.0) z o.1.1.1.0));
     told = λ es k h s a u e.
         let q : get_or w c 0 ≡ code_limit + a = (holds es k h).atom_in s a u (e ∙ sym (is es k h)) in
-        ap Atom (omega arith);
+        ap Some (omega arith);
   }
 
-  pub atom-none : ChainCode (get_or w c 0) → AtomOf n w x Nothing
+  pub atom-none : ChainCode (get_or w c 0) → AtomOf n w x None
   atom-none l = record {
     is = λ es k h a e. let y : ◌≡◌ {A = ℕ} 0 1 = cc in absurd (omega arith);
     told = λ es k h s a u e. let q : get_or w c 0 ≡ code_limit + a = (holds es k h).atom_in s a u (e ∙ sym (is es k h)) in
@@ -65,13 +65,13 @@ module _ (n : ℕ) (w : List ℕ) (x : ℕ) (hx : x < n) (c : ℕ) (cl : Classed
   asked-runs g l = let o = holds g.es g.k g.holds in record { xs = o.chain; chain = o.linked l; short = o.short }
 
   module _ (f : ℕ) where
-    pub target-bare : AtomCode (get_or w c 0) → TargetOf n w x f Nowhere
+    pub target-bare : AtomCode (get_or w c 0) → TargetOf n w x f None
     target-bare l = record {
       is = λ es k h d e. let y : ◌≡◌ {A = ℕ} 0 1 = cc in absurd (omega arith);
       told = λ es k h s t a e. let q = ((holds es k h).arc_in s f t a (e ∙ sym (is es k h))).0 in absurd (omega arith);
     }
 
-    pub target_none : ChainCode (get_or w c 0) → Looked (loaded_words w) w f (get_or w c 0) 0 → TargetOf n w x f Nowhere
+    pub target_none : ChainCode (get_or w c 0) → Looked (loaded_words w) w f (get_or w c 0) 0 → TargetOf n w x f None
     target_none l m = record {
       is = λ es k h d e. let y : ◌≡◌ {A = ℕ} 0 1 = cc in absurd (omega arith);
       told = λ es k h s t a e.
@@ -80,9 +80,9 @@ module _ (n : ℕ) (w : List ℕ) (x : ℕ) (hx : x < n) (c : ℕ) (cl : Classed
           absurd (none_first (loaded_words w) f o.chain q.0 (m.miss (omega arith) o.chain (o.linked l)) q.1.0);
     }
 
-    pub target-void : get_or w c 0 ≡ 0 → TargetOf n w x f Nowhere
+    pub target-void : get_or w c 0 ≡ 0 → TargetOf n w x f None
     target-void z = target_none (omega arith) (record {
-      miss = λ e xs d. subst (None (loaded_words w) f) (sym (chain_zero w (get_or w c 0) xs z d)) tt;
+      miss = λ e xs d. subst (state.None (loaded_words w) f) (sym (chain_zero w (get_or w c 0) xs z d)) tt;
       hit = λ i e. absurd (omega arith);
     })
 
@@ -96,7 +96,7 @@ module _ (n : ℕ) (w : List ℕ) (x : ℕ) (hx : x < n) (c : ℕ) (cl : Classed
           let e = r.1.1.1.1.0 in
           (r.0, omega arith)
 
-      pub target-there : (d : ℕ) → Classed n w (get_or (targets w) i 0) d → TargetOf n w x f (To d)
+      pub target-there : (d : ℕ) → Classed n w (get_or (targets w) i 0) d → TargetOf n w x f (Some d)
       target-there d v = record {
         is = λ es k h d' e.
             let o = holds es k h in
@@ -123,5 +123,5 @@ module _ (n : ℕ) (w : List ℕ) (x : ℕ) (hx : x < n) (c : ℕ) (cl : Classed
             let p = m.hit i (omega arith) o.chain (o.linked l) in
             let q = (o.arc_in s f t a (e ∙ sym (is es k h))).1 in
             let y : i ≡ q.0 = first_det (loaded_words w) f o.chain i q.0 p q.1.0 in
-            ap To (v.is es k h ∙ ap (λ (z : ℕ). class h (get_or (targets w) z 0)) y ∙ q.1.1);
+            ap Some (v.is es k h ∙ ap (λ (z : ℕ). class h (get_or (targets w) z 0)) y ∙ q.1.1);
       }

@@ -14,7 +14,7 @@ use Rattle.area.proofs.Region.{words_same}
 use Rattle.area.proofs.Undo.{word, logged_same, past_agree, undone_is, undone_logged, undone_keeps, undone_rest}
 use Rattle.forest.specs.State.{targets, Pile, Done, Chain, Near, Bears, State}
 use Rattle.loading.specs.Entry.{Entry, graphs}
-use Rattle.classes.specs.Entry.{Lies, Comes}
+use Rattle.classes.specs.Entry.{Lies}
 use Rattle.classes.specs.Holds.{Sits, Holds, Since, Remembers, Backs, Undoable}
 use Rattle.forest.specs.Forest.{size_of, parents}
 use Rattle.forest.proofs.Wood.{shape_on}

@@ -11,7 +11,7 @@ use Rattle.packing.proofs.Packed.{nodes_back, number_back}
 use Rattle.area.specs.Map.{SIZE}
 use Rattle.area.specs.Log.{body, Later, Undone}
 use Rattle.area.proofs.Undo.{later_trans, word, undone_is, undone_later}
-use Rattle.classes.specs.declared.push.Pushed.TheVariants.{In, Clashed}
+use Rattle.std.specs.Prelude.{Some, None}
 use Rattle.area.specs.Region.{loaded_words}
 use Rattle.forest.specs.State.{targets, State, Uniting, United, withPair}
 use Rattle.classes.specs.Nodes.{Listing, Listed}
@@ -107,7 +107,7 @@ module _ (n k : ℕ) (w : List ℕ) (g head base count : ℕ) (is : head ≡ get
     fine : bad ≡ false → (es : List Entry) (e : Entry) → e.at ≡ g → Holds n es k w → Comes n es e w → Holds n (es ++ e ∷ []) k' w'
     fine z es e i h d = let q = parts es e i d in a.fine z es e i q.0 q.1 h d
 
-    pub pushes_in : bad ≡ false → Pushes n k w g (In k') w'
+    pub pushes_in : bad ≡ false → Pushes n k w g (Some k') w'
     pushes_in z = record {
       len = a.later.len;
       rest = a.later.rest;
@@ -121,7 +121,7 @@ module _ (n k : ℕ) (w : List ℕ) (g head base count : ℕ) (is : head ≡ get
       clashed = λ q. let x : ◌≡◌ {A = ℕ} 0 1 = cc in absurd (omega arith);
     }
 
-    pub pushes_clashed : (w'' : List ℕ) → bad ≡ true → Undone k k' w' w'' → Pushes n k w g Clashed w''
+    pub pushes_clashed : (w'' : List ℕ) → bad ≡ true → Undone k k' w' w'' → Pushes n k w g None w''
     pushes_clashed w'' z u =
         let b : body w'' ≡ body w = undone_is k w k' w' w'' a.later.more a.later.keeps u in
         let l : Later k w k w'' = undone_later k w k' w' w'' p.holds.state.logged a.later u in

@@ -196,6 +196,13 @@ ahead_rest H n x p (arcs l) d r =
       room = omega arith;
     }
 
+-- the numbers of nodes that are there are below n
+pub nodes_low : (F : List ℕ) (G : Pile) (n x p : ℕ) (vs : Graph) → NodesAt F G n x p vs → (length vs ≡ 0) ⊎ (x + length vs ≤ n)
+nodes_low F G n x p [] s = inl refl
+nodes_low F G n x p (v ∷ vs) s =
+    let l = (node_low F G n x p v s.0).1 in
+    inr (⊎_elim (λ e. omega arith) (λ h. omega arith) (nodes_low F G n (suc x) (p + span v) vs s.1))
+
 -- the nodes us are left, from the number y and the position `at` on; at the end D is done
 pub record Reached (F T : List ℕ) (G : Pile) (D : Done) (n e : ℕ) (w' : List ℕ) (y at left : ℕ) : Type 0 where
   pub H : Done

@@ -1,6 +1,6 @@
 -- An arc, or an atom, meets its class. Assumes nothing.
 use mathlib.Core.Path.{◌≡◌, refl, sym, ap, ◌∙◌, subst}
-use mathlib.Core.Bool.{Bool, true, false, not}
+use mathlib.Core.Bool.{Bool, true, false}
 use mathlib.Core.List.Memᴰ
 use mathlib.Core.List.{List, [], ◌∷◌, Memᴰ}
 use mathlib.Core.Logic.{◌⊎◌, inl, inr, ⊎_elim}
@@ -8,10 +8,8 @@ use Prim.Native.Nat.{ℕ, suc, ◌+◌, ◌*◌, ◌-◌, ◌≤◌, ◌<◌}
 use native.Mathlib.Numerals.{add-one}
 use native.Mathlib.Omega.{arith}
 use native.Mathlib.Decide.{ℕ_discrete, dec_lt}
-use lib.Dec.{eqb}
 use lib.ListN.{length, set, get_or, length-set}
 use lib.Seq.{get_or-set_same, get_or-set_other}
-use borrow.Author.Tests.{eqb-true, eqb-false}
 use Rattle.area.specs.Map.{PARENT, NEXT, LOG, SIZE}
 use Rattle.forest.specs.Labels.{Eq, Together}
 use Rattle.area.specs.Log.{Logged, Stores}
@@ -29,7 +27,7 @@ use Rattle.forest.proofs.Links.{chain_same, chain_zero, first_mem, first_feature
 use Rattle.forest.proofs.Links.{one_most, one_some}
 use Rattle.forest.proofs.Places.{chain_det, chain_low, between_where}
 use Rattle.classes.proofs.Splice.{Grows, lodge, lodge_grows, lodge_rising, lodge_chain}
-use Rattle.forest.proofs.Fuse.{low, top, length_M, short}
+use Rattle.forest.proofs.Fuse.{low, length_M, short}
 use Rattle.forest.proofs.Turns.{hold_pair}
 
 -- where no frame is left, near is in one class
@@ -475,7 +473,7 @@ module _ (F T : List ℕ) (n k : ℕ) (w : List ℕ) (hn : n ≤ 1024) (hw : SIZ
             let q' : G.A x ≡ v = b.is in
             ClashIn.mixed b.node (λ o. omega arith) a.0 a.1.0
 
-    mark_same : Logged k w → get_or w c 0 ≡ v → Headed F T n k w x v k false w
+    pub mark_same : Logged k w → get_or w c 0 ≡ v → Headed F T n k w x v k false w
     mark_same g e = record {
       later = later_refl k w g;
       fine = λ z G H u b.
@@ -511,14 +509,6 @@ module _ (F T : List ℕ) (n k : ℕ) (w : List ℕ) (hn : n ≤ 1024) (hw : SIZ
           };
       clash = λ z. let y : ◌≡◌ {A = ℕ} 0 1 = cc in absurd (omega arith);
     }
-
-    -- an atom is there: it is the same, or there is a clash
-    pub mark_told : Logged k w → (h : ℕ) → h ≡ get_or w c 0 → AtomCode h → Headed F T n k w x v k (not (eqb h v)) w
-    mark_told g h e l = go (eqb h v) refl
-      where
-        go : (t : Bool) → eqb h v ≡ t → Headed F T n k w x v k (not t) w
-        go true i = mark_same g (sym e ∙ eqb-true h v i)
-        go false i = mark_clash g (λ z. omega arith) (λ z. eqb-false h v i (e ∙ z))
 
     module _ (e0 : get_or w c 0 ≡ 0) (hk : k + 1 ≤ 4096) (k1 : ℕ) (w1 : List ℕ) (p1 : Stores k w c v k1 w1) where
       off1 : (j : ℕ) → (j ≡ c → ⊥) → j < LOG → get_or w1 j 0 ≡ get_or w j 0

@@ -1,5 +1,5 @@
 -- What the area stands for: the graphs that are pushed, and what is remembered since a mark. Assumes nothing.
-use Rattle.std.specs.Prelude.{◌≡◌, Bool, true, false, ◌⊎◌, ℕ, suc, ◌+◌, ◌*◌, ◌≤◌, ◌<◌, length, get_or}
+use Rattle.std.specs.Prelude.{◌≡◌, Bool, true, false, ◌⊎◌, ℕ, suc, ◌+◌, ◌*◌, ◌≤◌, ◌<◌, length, get_or, Option, Some, None}
 use mathlib.Core.List.{List, [], ◌∷◌, ◌++◌, Memᴰ}
 use Rattle.area.specs.Map.{WORDS, MARKS, SIZE, NODES, ENTRIES}
 use Rattle.theory.specs.Limits.{code_limit}
@@ -7,8 +7,6 @@ use Rattle.theory.specs.Net.{Node, atom, arcs, nodeAt, arcsOf, Canonical, Clash}
 use Rattle.theory.specs.Layout.{GraphFits}
 use Rattle.theory.specs.Weight.{weight, weights}
 use Rattle.area.specs.Log.{body, past, Logged, Later}
-use Rattle.classes.specs.declared.push.Pushed.{Pushed}
-use Rattle.classes.specs.declared.push.Pushed.TheVariants.{In, Clashed}
 use Rattle.area.specs.Region.{loaded_words}
 use Rattle.forest.specs.State.{targets, Pile, Done, State, Full}
 use Rattle.loading.specs.Entry.{Entry, graphs}
@@ -117,13 +115,13 @@ pub record Adds (n k : ℕ) (w : List ℕ) (g base c k' : ℕ) (bad : Bool) (w' 
       Holds n es k w → Comes n es e w → Clash (graphs es ++ e.graph ∷ [])
 
 -- the graph is in, or it clashes with those that are there and all is as it was: told exactly
-pub record Pushes (n k : ℕ) (w : List ℕ) (g : ℕ) (r : Pushed) (w' : List ℕ) : Type 0 where
+pub record Pushes (n k : ℕ) (w : List ℕ) (g : ℕ) (r : Option ℕ) (w' : List ℕ) : Type 0 where
   pub len : length w' ≡ length w
   pub rest : (j : ℕ) → WORDS ≤ j → get_or w' j 0 ≡ get_or w j 0
-  pub inside : (k' : ℕ) → r ≡ In k' →
+  pub inside : (k' : ℕ) → r ≡ Some k' →
       Since k w k' w'
       × ((es : List Entry) (e : Entry) → e.at ≡ g → Holds n es k w → Comes n es e w → Holds n (es ++ e ∷ []) k' w')
-  pub clashed : r ≡ Clashed → (Since k w k w' × (body w' ≡ body w))
+  pub clashed : r ≡ None → (Since k w k w' × (body w' ≡ body w))
       × ((es : List Entry) (e : Entry) → e.at ≡ g → Holds n es k w →
       Comes n es e w → Clash (graphs es ++ e.graph ∷ []) × Holds n es k w')
 

@@ -3,3 +3,4 @@ pub mod Nodes
 pub mod Entry
 pub mod Holds
 pub mod Ask
+pub mod Came

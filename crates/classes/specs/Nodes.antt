@@ -17,13 +17,12 @@ pub record Follows (k : ℕ) (w : List ℕ) (t y k' : ℕ) (w' : List ℕ) : Typ
   pub rest : (j : ℕ) → j < LOG → (j ≡ NEXT + t → ⊥) → get_or w' j 0 ≡ get_or w j 0
 
 -- the arc t stands where the link l leads, before what stood there; the link to go on from is 0, or that after t where `at` is not 0
-pub record Hung (k : ℕ) (w : List ℕ) (t l at k' at' : ℕ) (bad : Bool) (w' : List ℕ) : Type 0 where
+pub record Hung (k : ℕ) (w : List ℕ) (t l at k' at' : ℕ) (w' : List ℕ) : Type 0 where
   pub entry : ℕ
   pub between : List ℕ
   pub before : Follows k w t (get_or w l 0) entry between
   pub after : Stores entry between l (t + 1) k' w'
   pub next : (at' ≡ 0) ⊎ ((0 < at) × (at' ≡ NEXT + t))
-  pub fine : bad ≡ false
 
 -- ---- the arcs of a node
 -- the d arcs from t on, each two words after the one before, the last one first

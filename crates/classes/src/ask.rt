@@ -8,50 +8,33 @@ use forest::chain::{look, target};
 use forest::held::{Held, held_by};
 use limits::CODE_LIMIT;
 
-// The atom that a class bears, if any.
-#[derive(Clone, Copy)]
-pub enum Borne {
-    Atom(u32),
-    Nothing,
-}
-
-// The class that an arc leads to, if there is one.
-#[derive(Clone, Copy)]
-pub enum Led {
-    To(usize),
-    Nowhere,
-}
-
-// The atom of the class of the number x.
-pub fn atom_of(w: &[u32], n: usize, x: usize) -> Borne
+// The atom of the class of the number x, if it bears one.
+pub fn atom_of(w: &[u32], n: usize, x: usize) -> Option<u32>
     requires x_lt_n { x < n }
     requires labelled { Labelled n w.now }
     ensures { AtomOf n w.now x result }
 {
     let c = class_of(w, n, x);
-    let held = held_by(w, c);
-    match held {
-        Held::Atom(v) => Borne::Atom(v - CODE_LIMIT),
-        Held::Nothing | Held::Arcs(_) => Borne::Nothing,
+    match held_by(w, c) {
+        Held::Atom(v) => Some(v - CODE_LIMIT),
+        Held::Nothing | Held::Arcs(_) => None,
     }
 }
 
-// The target of the class of the number x under the feature f.
-pub fn target_of(w: &[u32], n: usize, x: usize, f: u32) -> Led
+// The class that the class of the number x leads to under the feature f, if there is one.
+pub fn target_of(w: &[u32], n: usize, x: usize, f: u32) -> Option<usize>
     requires x_lt_n { x < n }
     requires labelled { Labelled n w.now }
     ensures { TargetOf n w.now x f result }
 {
     let c = class_of(w, n, x);
-    let held = held_by(w, c);
-    let Held::Arcs(chain) = held else {
-        return Led::Nowhere;
+    let Held::Arcs(chain) = held_by(w, c) else {
+        return None;
     };
     let r = look(w, chain, f);
     if r == 0 {
-        return Led::Nowhere;
+        return None;
     }
     let y = target(w, r - 1);
-    let d = class_of(w, n, y);
-    Led::To(d)
+    Some(class_of(w, n, y))
 }

@@ -7,6 +7,8 @@ ghost use Rattle.area.specs.Region.{loaded_words};
 ghost use Rattle.forest.specs.Held.{AtomCode};
 ghost use Rattle.forest.specs.State.{targets, Coming, Heading, Headed};
 ghost use Rattle.forest.specs.Order.{Ordered, Steady, Turning, VisitedInOrder};
+ghost use Rattle.forest.specs.Outcome.{log_of, clashes};
+ghost use Rattle.classes.specs.Came.{log_after, link_after};
 ghost use Rattle.classes.specs.Nodes.{Follows, Hung, Batched, Run, Noding, Noded, Listing, Listed};
 
 use area::log::put;
@@ -14,17 +16,16 @@ use area::map::{HELD, NEXT};
 use forest::chain::{loaded, locate, rises, target};
 use forest::forest::find;
 use forest::held::{Held, bears_atom, held_by};
-use forest::merge::Progress;
+use forest::merge::Clash;
 use forest::settle::unite;
 use limits::{CODE_LIMIT, wide};
 
-// The log's entries after an arc, the link to go on from with the next one, and whether there is a clash.
+// The log's entries after an arc, and the link to go on from with the next one.
 // The link is 0 where the chain of the class is not known to rise, and 1 where the next arc is looked for from the first on.
 #[derive(Clone, Copy)]
 pub struct Came {
     pub k: usize,
     pub at: usize,
-    pub bad: bool,
 }
 
 // 1 where the chain of the class of x rises, or 0.
@@ -34,13 +35,9 @@ fn afresh(w: &[u32], k: usize, n: usize, x: usize) -> usize
     ensures { Ordered (loaded_words w.now) n w.now x result }
 {
     let c = find(w, n, x);
-    let held = held_by(w, c);
-    match held {
+    match held_by(w, c) {
         Held::Nothing => 1,
-        Held::Arcs(chain) => {
-            let up = rises(w, chain);
-            if up { 1 } else { 0 }
-        }
+        Held::Arcs(chain) => { if rises(w, chain) { 1 } else { 0 } }
         Held::Atom(_) => 0,
     }
 }
@@ -95,127 +92,79 @@ fn hang(w: &mut [u32], k: usize, t: usize, l: usize, at: usize) -> Came
     requires l_bound { (l < LOG) × ((t < TARGETS) × (SIZE ≤ length w.old)) }
     requires logged { Logged k w.old × (k + 2 ≤ ENTRIES) }
     requires t_value { get_or w.old (NEXT + t) 0 ≡ 0 }
-    ensures { Hung k w.old t l at result.k result.at result.bad w.new }
+    ensures { Hung k w.old t l at result.k result.at w.new }
 {
     let y = w[l];
     let e = follow(w, k, t, y);
     let d = put(w, e, l, (t + 1) as u32);
     let a = if at == 0 { 0 } else { NEXT + t };
-    Came {
-        k: d,
-        at: a,
-        bad: false,
-    }
+    Came { k: d, at: a }
 }
 
 // The arc t of the node x: it goes onto the chain of its class, or its target joins that of the arc there with its feature.
-fn visit(w: &mut [u32], k: usize, n: usize, x: usize, t: usize, at: usize) -> Came
+fn visit(w: &mut [u32], k: usize, n: usize, x: usize, t: usize, at: usize) -> Result<Came, Clash>
     requires n_bound { (n ≤ NODES) × (SIZE ≤ length w.old) }
     requires x_lt_n { (x < n) × (t < TARGETS) }
     requires coming { Coming (loaded_words w.old) (targets w.old) n k w.old x t }
     requires ordered { Ordered (loaded_words w.old) n w.old x at }
-    ensures { VisitedInOrder (loaded_words w.old) (targets w.old) n k w.old x t result.k result.at
-        result.bad w.new }
+    ensures { VisitedInOrder (loaded_words w.old) (targets w.old) n k w.old x t (log_after result)
+        (link_after result) (clashes result) w.new }
 {
     let c = find(w, n, x);
     if bears_atom(w, c) {
-        return Came {
-            k: k,
-            at: 0,
-            bad: true,
-        };
+        return Err(Clash { k });
     }
     let f = loaded(w, t);
     let s = locate(w, c, f, at);
     let l = s.link;
     let r = s.arc;
     if r == 0 {
-        return hang(w, k, t, l, at);
+        return Ok(hang(w, k, t, l, at));
     }
     let p = target(w, t);
     let q = target(w, r - 1);
-    let m = unite(w, k, n, p, q);
-    let e = m.k;
-    if m.bad {
-        return Came {
-            k: e,
-            at: 0,
-            bad: true,
-        };
-    }
+    let e = unite(w, k, n, p, q)?;
     let a = onward(w, k, e, n, x, c, r, at);
-    Came {
-        k: e,
-        at: a,
-        bad: false,
-    }
+    Ok(Came { k: e, at: a })
 }
 
-// The atom's head v of the node x meets what its class holds.
-fn mark(w: &mut [u32], k: usize, n: usize, x: usize, v: u32) -> Progress
+// The atom's head v of the node x meets what its class holds. The log's entries then.
+fn mark(w: &mut [u32], k: usize, n: usize, x: usize, v: u32) -> Result<usize, Clash>
     requires n_bound { (n ≤ NODES) × ((x < n) × (SIZE ≤ length w.old)) }
     requires atom_code { AtomCode v × (v < ENTRY_MOST) }
     requires heading { Heading (loaded_words w.old) (targets w.old) n k w.old x v }
-    ensures { Headed (loaded_words w.old) (targets w.old) n k w.old x v result.k result.bad
+    ensures { Headed (loaded_words w.old) (targets w.old) n k w.old x v (log_of result) (clashes result)
         w.new }
 {
     let c = find(w, n, x);
-    let held = held_by(w, c);
-    let bad = match held {
-        Held::Nothing => {
-            let e = put(w, k, HELD + c, v);
-            return Progress {
-                k: e,
-                s: 0,
-                bad: false,
-            };
-        }
-        Held::Arcs(_) => true,
-        Held::Atom(h) => h != v,
-    };
-    Progress {
-        k: k,
-        s: 0,
-        bad: bad,
+    match held_by(w, c) {
+        Held::Nothing => Ok(put(w, k, HELD + c, v)),
+        Held::Arcs(_) => Err(Clash { k }),
+        Held::Atom(h) => { if h == v { Ok(k) } else { Err(Clash { k }) } }
     }
 }
 
-// The d arcs of the node x that stand from `from` on.
-fn arcs(w: &mut [u32], k: usize, n: usize, x: usize, from: usize, d: usize) -> Progress
+// The d arcs of the node x that stand from `from` on. The log's entries then.
+fn arcs(w: &mut [u32], k: usize, n: usize, x: usize, from: usize, d: usize) -> Result<usize, Clash>
     requires n_bound { (n ≤ NODES) × (SIZE ≤ length w.old) }
     requires x_lt_n { (x < n) × (from + 2 * d ≤ LOADED) }
     requires batched { Batched (loaded_words w.old) (targets w.old) n k w.old x from d }
-    ensures { Run (loaded_words w.old) (targets w.old) n k w.old x from d result.k result.bad
-        w.new }
+    ensures { Run (loaded_words w.old) (targets w.old) n k w.old x from d (log_of result)
+        (clashes result) w.new }
 {
-    let mut e = k;
-    let mut at = outset(w, k, n, x, d);
-    let mut done: usize = 0;
-    while done < d {
-        let m = visit(w, e, n, x, from + 2 * done, at);
-        e = m.k;
-        at = m.at;
-        if m.bad {
-            return Progress {
-                k: e,
-                s: 0,
-                bad: true,
-            };
-        }
-        done += 1;
+    let at = outset(w, k, n, x, d);
+    let mut came = Came { k, at };
+    for i in 0..d {
+        came = visit(w, came.k, n, x, from + 2 * i, came.at)?;
     }
-    Progress {
-        k: e,
-        s: 0,
-        bad: false,
-    }
+    Ok(came.k)
 }
 
-// The node x, whose head stands at p.
-fn node(w: &mut [u32], k: usize, n: usize, x: usize, p: usize) -> Progress
+// The node x, whose head stands at p. The log's entries then.
+fn node(w: &mut [u32], k: usize, n: usize, x: usize, p: usize) -> Result<usize, Clash>
     requires n_bound { (n ≤ NODES) × (SIZE ≤ length w.old) }
     requires noding { Noding (loaded_words w.old) (targets w.old) n k w.old x p }
-    ensures { Noded (loaded_words w.old) (targets w.old) n k w.old x p result.k result.bad
+    ensures { Noded (loaded_words w.old) (targets w.old) n k w.old x p (log_of result) (clashes result)
         w.new }
 {
     let h = loaded(w, p);
@@ -232,43 +181,34 @@ pub fn span(h: u32) -> usize
     if h >= CODE_LIMIT { 1 } else { 1 + 2 * wide(h) }
 }
 
-// The c nodes from x on, the first of which has its head at p.
-pub fn nodes(w: &mut [u32], k: usize, n: usize, x: usize, p: usize, c: usize) -> Progress
+// The c nodes from x on, the first of which has its head at p. The log's entries then.
+pub fn nodes(
+    w: &mut [u32],
+    k: usize,
+    n: usize,
+    x: usize,
+    p: usize,
+    c: usize,
+) -> Result<usize, Clash>
     requires n_bound { (n ≤ NODES) × (SIZE ≤ length w.old) }
     requires listing { Listing (loaded_words w.old) (targets w.old) n k w.old x p c }
-    ensures { Listed (loaded_words w.old) (targets w.old) n k w.old x p c result.k result.bad
-        w.new }
+    ensures { Listed (loaded_words w.old) (targets w.old) n k w.old x p c (log_of result)
+        (clashes result) w.new }
 {
     let mut e = k;
-    let mut y = x;
     let mut at = p;
-    let mut left = c;
-    while left != 0 {
-        let m = node(w, e, n, y, at);
-        e = m.k;
-        if m.bad {
-            return Progress {
-                k: e,
-                s: 0,
-                bad: true,
-            };
-        }
+    for y in x..x + c {
+        e = node(w, e, n, y, at)?;
         at += span(loaded(w, at));
-        y += 1;
-        left -= 1;
     }
-    Progress {
-        k: e,
-        s: 0,
-        bad: false,
-    }
+    Ok(e)
 }
 
 // One node, x, whose head stands at p: the same as `node`, by the loop that a push goes through, so that the step is there once.
-pub fn one_node(w: &mut [u32], k: usize, n: usize, x: usize, p: usize) -> Progress
+pub fn one_node(w: &mut [u32], k: usize, n: usize, x: usize, p: usize) -> Result<usize, Clash>
     requires n_bound { (n ≤ NODES) × (SIZE ≤ length w.old) }
     requires noding { Noding (loaded_words w.old) (targets w.old) n k w.old x p }
-    ensures { Noded (loaded_words w.old) (targets w.old) n k w.old x p result.k result.bad
+    ensures { Noded (loaded_words w.old) (targets w.old) n k w.old x p (log_of result) (clashes result)
         w.new }
 {
     nodes(w, k, n, x, p, 1)

@@ -14,6 +14,7 @@ use Rattle.loading.specs.Loaded.{nodes_in}
 use Rattle.area.specs.Map.{WORDS, LOADED, SIZE, SECOND}
 use Rattle.area.specs.Region.{region}
 use Rattle.opening.specs.Opening.{Read, Stand, Opening, definite, Opens}
+use Rattle.std.specs.Prelude.{Option}
 use Rattle.opening.specs.declared.Opened.{Opened}
 use Rattle.opening.proofs.Universe.{in_one, in_two, nodes_room, lies}
 use Rattle.theory.specs.ClashNode.{ClashNode}
@@ -57,7 +58,7 @@ module _ (w : List ℕ) (g h : Graph) (ds es : Disjs) (n : ℕ) (long : SIZE ≤
   stand_told r w' l clash = l.told g h (nodes_in d) stand_lies clash
 
 -- ---- after `opening::open`, which had the area w₀ and the inputs x and y, and answered o
-module _ (w₀ x y : List ℕ) (asked : Opening w₀ x y) (o : Opened) (w : List ℕ) (opens : Opens w₀ x y o w) where
+module _ (w₀ x y : List ℕ) (asked : Opening w₀ x y) (o : Option Opened) (w : List ℕ) (opens : Opens w₀ x y o w) where
   long : SIZE ≤ length w
   long = let e = opens.len in let l = asked.long in omega arith
 

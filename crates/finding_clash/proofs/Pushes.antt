@@ -14,8 +14,7 @@ use Rattle.area.specs.Map.{SECOND}
 use Rattle.loading.specs.Entry.{Entry, entry}
 use Rattle.classes.specs.Entry.{Aside, Comes}
 use Rattle.classes.specs.Holds.{Holds, Pushing, Pushes, Starts}
-use Rattle.classes.specs.declared.push.Pushed.{Pushed}
-use Rattle.classes.specs.declared.push.Pushed.TheVariants.{In, Clashed}
+use Rattle.std.specs.Prelude.{Option, Some, None}
 use Rattle.classes.proofs.Laws.{lies_frame}
 use Rattle.finding_clash.specs.TwoGraphs.{TwoLie, BothPushing, BothPushes}
 
@@ -48,15 +47,15 @@ module _ (n : ℕ) (w : List ℕ) (w₂ : List ℕ) (s : Starts w w₂) where
     pub first_pushing : Pushing n 0 w₂ 0
     first_pushing = record { es = []; e = one; is = refl; holds = empty; comes = first_comes }
 
-    module _ (w₃ : List ℕ) (x : Pushed) (u : Pushes n 0 w₂ 0 x w₃) where
+    module _ (w₃ : List ℕ) (x : Option ℕ) (u : Pushes n 0 w₂ 0 x w₃) where
       -- the first graph alone cannot clash
-      pub first_goes_in : x ≡ Clashed → ⊥
+      pub first_goes_in : x ≡ None → ⊥
       first_goes_in z = agree (clash_within (g ∷ []) (g ∷ h ∷ []) (lie.first_canonical, tt)
           (lie.first_canonical, (lie.second_canonical, tt))
           (λ y i. ⊎_elim (λ m. Memᴰ.head m) (λ m. absurd (Memᴰ.not-nil m)) (Memᴰ.cases_cons i))
           ((u.clashed z).1 [] one refl empty first_comes).0)
 
-      module _ (k : ℕ) (z : x ≡ In k) where
+      module _ (k : ℕ) (z : x ≡ Some k) where
         held : Holds n (one ∷ []) k w₃
         held = (u.inside k z).1 [] one refl empty first_comes
 
@@ -78,26 +77,26 @@ module _ (n : ℕ) (w : List ℕ) (w₂ : List ℕ) (s : Starts w w₂) where
         pub second_pushing : Pushing n k w₃ SECOND
         second_pushing = record { es = one ∷ []; e = two; is = refl; holds = held; comes = second_comes }
 
-        pub both_in : (w₄ : List ℕ) (y : Pushed) → Pushes n k w₃ SECOND y w₄ → (j : ℕ) × Holds n (one ∷ two ∷ []) j w₄
+        pub both_in : (w₄ : List ℕ) (y : Option ℕ) → Pushes n k w₃ SECOND y w₄ → (j : ℕ) × Holds n (one ∷ two ∷ []) j w₄
         both_in w₄ y v = go y refl
           where
-            go : (p : Pushed) → y ≡ p → (j : ℕ) × Holds n (one ∷ two ∷ []) j w₄
-            go (In j) e = (j, (v.inside j e).1 (one ∷ []) two refl held second_comes)
-            go Clashed e = absurd (agree ((v.clashed e).1 (one ∷ []) two refl held second_comes).0)
+            go : (p : Option ℕ) → y ≡ p → (j : ℕ) × Holds n (one ∷ two ∷ []) j w₄
+            go (Some j) e = (j, (v.inside j e).1 (one ∷ []) two refl held second_comes)
+            go None e = absurd (agree ((v.clashed e).1 (one ∷ []) two refl held second_comes).0)
 
   module _ (a : BothPushing n w) where
     pub asks_first : Pushing n 0 w₂ 0
     asks_first = first_pushing a.g a.h a.b a.lie a.agree a.many
 
-    module _ (w₃ : List ℕ) (x : Pushed) (u : Pushes n 0 w₂ 0 x w₃) where
-      pub pushes_never : x ≡ Clashed → BothPushes n w w₃
+    module _ (w₃ : List ℕ) (x : Option ℕ) (u : Pushes n 0 w₂ 0 x w₃) where
+      pub pushes_never : x ≡ None → BothPushes n w w₃
       pushes_never z = absurd (first_goes_in a.g a.h a.b a.lie a.agree a.many w₃ x u z)
 
-      module _ (k : ℕ) (z : x ≡ In k) where
+      module _ (k : ℕ) (z : x ≡ Some k) where
         pub asks_second : Pushing n k w₃ SECOND
         asks_second = second_pushing a.g a.h a.b a.lie a.agree a.many w₃ x u k z
 
-        pub pushes_both : (w₄ : List ℕ) (y : Pushed) → Pushes n k w₃ SECOND y w₄ → BothPushes n w w₄
+        pub pushes_both : (w₄ : List ℕ) (y : Option ℕ) → Pushes n k w₃ SECOND y w₄ → BothPushes n w w₄
         pushes_both w₄ y v = record {
           len = v.len ∙ u.len ∙ s.len;
           rest = λ j h. v.rest j h ∙ u.rest j h ∙ s.rest j h;

@@ -4,7 +4,7 @@ ghost use Rattle.finding_clash.specs.TwoGraphs.{Stripping, Strips, BothPushing, 
 use crate::heads::bare;
 use crate::notes::{first_clash, note_heads};
 use area::map::{SECOND, WORDS};
-use classes::push::{Pushed, push, start};
+use classes::push::{push, start};
 use packing::{nodes_of, number_of};
 
 // The atoms of both graphs, which have c and d nodes, are taken out.
@@ -22,8 +22,7 @@ fn push_both(w: &mut [u32], n: usize)
     ensures { BothPushes n w.old w.new }
 {
     start(w);
-    let first = push(w, 0, n, 0);
-    let Pushed::In(k) = first else {
+    let Some(k) = push(w, 0, n, 0) else {
         return;
     };
     push(w, k, n, SECOND);

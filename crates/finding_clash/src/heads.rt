@@ -24,9 +24,7 @@ pub(crate) fn bare(w: &mut [u32], p: usize, count: usize, i: usize)
     ensures { Bares w.old p count i w.new }
 {
     let mut at = p;
-    let mut left = count;
-    while 0 < left {
-        at = bare_node(w, at, i + (count - left));
-        left -= 1;
+    for node in i..i + count {
+        at = bare_node(w, at, node);
     }
 }

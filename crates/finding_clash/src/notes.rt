@@ -44,10 +44,8 @@ fn clear_notes(w: &mut [u32], n: usize)
     requires { (n ≤ NODES) × (SIZE ≤ length w.old) }
     ensures { NotesClear n n w.old w.new }
 {
-    let mut i: usize = 0;
-    while i < n {
+    for i in 0..n {
         w[STACK + i] = 0;
-        i += 1;
     }
 }
 
@@ -71,10 +69,8 @@ pub(crate) fn note_heads(w: &mut [u32], n: usize, c: usize, b: usize, m: usize)
     ensures { NotesAll n c b m w.old w.new }
 {
     clear_notes(w, n);
-    let mut i: usize = 0;
-    while i < m {
+    for i in 0..m {
         note_head(w, n, c, b, i, m);
-        i += 1;
     }
 }
 
@@ -84,15 +80,12 @@ pub(crate) fn first_clash(w: &[u32], n: usize, c: usize, b: usize, m: usize) -> 
     requires notes_asked { NotesAsked n c b m w.now }
     ensures { ClashSought n c b m w.now result }
 {
-    let mut i: usize = 0;
-    while i < m {
+    for i in 0..m {
         let x = engine_number(i, c, b);
         let r = find(w, n, x);
-        let v = w[STACK + r];
-        if v == CLASH {
+        if w[STACK + r] == CLASH {
             return i;
         }
-        i += 1;
     }
     m
 }

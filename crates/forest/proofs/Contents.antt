@@ -14,7 +14,6 @@ use Rattle.area.proofs.Region.{held_at}
 use Rattle.forest.specs.Held.{last_arc, ChainCode, AtomCode, held, held_by, bears}
 use Rattle.forest.specs.declared.held.Held.{Held}
 use Rattle.forest.specs.declared.held.Held.TheVariants.{Nothing, Arcs, Atom}
-use Rattle.forest.specs.contracts.held.Held.{the_type}
 
 -- ---- a code is read
 unfoldable chosen : ℕ → Bool → Held

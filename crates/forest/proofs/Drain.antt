@@ -48,12 +48,12 @@ pub drain_turn : (F T : List ℕ) (n k s : ℕ) (w : List ℕ) (x to k1 s1 : ℕ
 drain_turn F T n k s w x to k1 s1 w1 x1 k2 s2 bad w2 x2 p q b e =
     rw e (walk_trans F T n k s w x to k1 s1 w1 x1 k2 s2 w2 (get_or w2 (NEXT + (x1 - 1)) 0) p (q.fine b))
 
-pub drained_bad : (F T : List ℕ) (n k s : ℕ) (w : List ℕ) (x to k1 s1 : ℕ) (w1 : List ℕ) (x1 k2 s2 : ℕ) (bad : Bool) (w2 : List ℕ) →
-    FrameWalk F T n k s w x to k1 s1 w1 x1 → Turned F T n k1 s1 w1 x1 to k2 s2 bad w2 → bad ≡ true → Drained F T n k s w x to k2 s2 true w2
-drained_bad F T n k s w x to k1 s1 w1 x1 k2 s2 bad w2 p q b = record {
+pub drained_bad : (F T : List ℕ) (n k s : ℕ) (w : List ℕ) (x to k1 s1 : ℕ) (w1 : List ℕ) (x1 k2 s2 s3 : ℕ) (w2 : List ℕ) →
+    FrameWalk F T n k s w x to k1 s1 w1 x1 → Turned F T n k1 s1 w1 x1 to k2 s2 true w2 → Drained F T n k s w x to k2 s3 true w2
+drained_bad F T n k s w x to k1 s1 w1 x1 k2 s2 s3 w2 p q = record {
   later = later_trans k w k1 w1 k2 w2 p.later q.later;
   fine = λ z. let y : ◌≡◌ {A = ℕ} 0 1 = cc in absurd (omega arith);
-  clash = λ z. walk_told F T n k s w x to k1 s1 w1 x1 p (q.clash b);
+  clash = λ z. walk_told F T n k s w x to k1 s1 w1 x1 p (q.clash refl);
 }
 
 pub drained_end : (F T : List ℕ) (n k s : ℕ) (w : List ℕ) (x to k1 s1 : ℕ) (w1 : List ℕ) (x1 : ℕ) → FrameWalk F T n k s w x to k1 s1 w1 x1 →
@@ -203,14 +203,14 @@ pub settle_less : (F T : List ℕ) (n : ℕ) (e h : ℕ) (w' : List ℕ) (from t
 settle_less F T n e h w' from to e2 h2 bad w2 l q z = let c : h2 + tops 0 (parents n w2) ≤ (h - 1) + tops 0 (parents n w') =
     (q.fine z).count in omega arith
 
-pub settled_bad : (F T : List ℕ) (n k s : ℕ) (w : List ℕ) (e h : ℕ) (w' : List ℕ) (from to e2 h2 : ℕ) (bad : Bool) (w2 : List ℕ) →
+pub settled_bad : (F T : List ℕ) (n k s : ℕ) (w : List ℕ) (e h : ℕ) (w' : List ℕ) (from to e2 h2 : ℕ) (w2 : List ℕ) →
     Settling F T n k s w e h w' → 0 < h → from ≡ get_or w' (STACK + (h - 1)) 0 % 4096 → to ≡ get_or w' (STACK + (h - 1)) 0 / 4096
-    → Drained F T n e (h - 1) w' from to e2 h2 bad w2 → bad ≡ true → Settled F T n k s w e2 true w2
-settled_bad F T n k s w e h w' from to e2 h2 bad w2 p l a b q z = record {
+    → Drained F T n e (h - 1) w' from to e2 h2 true w2 → Settled F T n k s w e2 true w2
+settled_bad F T n k s w e h w' from to e2 h2 w2 p l a b q = record {
   later = later_trans k w e w' e2 w2 p.later q.later;
   still = λ i. let j = (p.still i).0 in absurd (omega arith);
   fine = λ y. let x : ◌≡◌ {A = ℕ} 0 1 = cc in absurd (omega arith);
-  clash = λ y G H u. q.clash z G H (frames w' (h - 1)) (pop G H F T n e h w' from to l a b (p.go G H u));
+  clash = λ y G H u. q.clash refl G H (frames w' (h - 1)) (pop G H F T n e h w' from to l a b (p.go G H u));
 }
 
 pub settled_end : (F T : List ℕ) (n k s : ℕ) (w : List ℕ) (e h : ℕ) (w' : List ℕ) → Settling F T n k s w e h w' → h ≡ 0 →
@@ -237,14 +237,13 @@ united F T n k w x y k1 s1 b1 w1 k2 b2 w2 m z q = record {
     on : (G : Pile) (H : Done) → State G H F T n k 0 [] w → Equal G F T x y → State G (withPair H x y) F T n k1 s1 (frames w1 s1) w1
     on G H u r = subst (λ (f : List (ℕ × ℕ)). State G (withPair H x y) F T n k1 s1 f w1) (sym m.stack) (m.fine z G H F T [] u r)
 
-pub united_bad : (F T : List ℕ) (n k : ℕ) (w : List ℕ) (x y k1 s1 : ℕ) (b1 : Bool) (w1 : List ℕ) → Merged n k 0 w x y k1 s1 b1 w1 →
-    b1 ≡ true →
+pub united_bad : (F T : List ℕ) (n k : ℕ) (w : List ℕ) (x y k1 s1 : ℕ) (w1 : List ℕ) → Merged n k 0 w x y k1 s1 true w1 →
     United F T n k w x y k1 true w1
-united_bad F T n k w x y k1 s1 b1 w1 m z = record {
+united_bad F T n k w x y k1 s1 w1 m = record {
   later = m.later;
   calm = λ h. (m.calm h).1;
   fine = λ y. let x : ◌≡◌ {A = ℕ} 0 1 = cc in absurd (omega arith);
-  clash = λ v G H u r. m.clash z G H F T [] u r;
+  clash = λ v G H u r. m.clash refl G H F T [] u r;
 }
 
 -- what `settle` asks

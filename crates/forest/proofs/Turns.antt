@@ -9,7 +9,7 @@ use native.Mathlib.Omega.{arith}
 use lib.ListN.{length, get_or}
 use Rattle.area.specs.Map.{NEXT, SIZE}
 use Rattle.forest.specs.Labels.{Together}
-use Rattle.forest.specs.Forest.{parents, Root, tops}
+use Rattle.forest.specs.Forest.{parents, Root}
 use Rattle.forest.specs.State.{Pile, Done, Equal, Chain, Seg, First, Way, Near, Framed, State, Merged, Grow, Looked, Runs, hops}
 use Rattle.forest.specs.State.{SomeState}
 use Rattle.forest.specs.State.{withPair}

@@ -1,12 +1,11 @@
 -- The state in which graphs are pushed: what the contracts of chains, merges and frames cite. Assumes nothing.
 use Rattle.std.specs.Prelude.{ℕ, zero, suc, ◌+◌, ◌*◌, ◌-◌, ◌/◌, ◌%◌, ◌^◌, ◌≤◌, ◌<◌, ◌≡◌, Bool, true, false, ◌⊎◌, eqb, length, get_or}
+use Rattle.std.specs.Prelude.{Option, MatchOption}
 use mathlib.Core.List.{List, [], ◌∷◌, ◌++◌, Memᴰ}
 use Rattle.area.specs.Map.{PARENT, NEXT, STACK, WORDS, TARGETS, LOADED, FRAME_STEP, ENTRIES, NODES}
 use Rattle.area.specs.Region.{region}
 use Rattle.forest.specs.Labels.{Eq, Together, how_many}
 use Rattle.area.specs.Log.{Logged, Later}
-use Rattle.forest.specs.declared.merge.Adopted.{Adopted}
-use Rattle.forest.specs.declared.merge.Adopted.TheVariants.{In, Not}
 use Rattle.forest.specs.Forest.{size_of, parents, Shape, Forest, SmallerUnder, tops}
 use Rattle.forest.specs.Held.{ChainCode, AtomCode}
 
@@ -239,9 +238,8 @@ pub record Drained (F T : List ℕ) (n k s : ℕ) (w : List ℕ) (x to k' s' : �
   pub clash : bad ≡ true → ClashTold F T n k s w x to
 
 -- a node by itself went under the other's class; or nothing moved
-abbrev pub AdoptedNew : (n k s : ℕ) (w : List ℕ) (x y : ℕ) → Adopted → List ℕ → Type 0
-AdoptedNew n k s w x y (In e) w' = Merged n k s w x y e s false w'
-AdoptedNew n k s w x y Not w' = w' ≡ w
+abbrev pub AdoptedNew : (n k s : ℕ) (w : List ℕ) (x y : ℕ) → Option ℕ → List ℕ → Type 0
+AdoptedNew n k s w x y r w' = MatchOption r (w' ≡ w) (λ e. Merged n k s w x y e s false w')
 
 -- the stack holds all that is owed
 pub record Stacked (F T : List ℕ) (n k s : ℕ) (w : List ℕ) : Type 0 where

@@ -7,6 +7,7 @@ ghost use Rattle.forest.specs.declared.held.Held.TheVariants.{Arcs};
 ghost use Rattle.forest.specs.Held.{held_by, Covered};
 ghost use Rattle.forest.specs.Roots.{Fusing, ByItself};
 ghost use Rattle.forest.specs.State.{SomeState, Merged, AdoptedNew};
+ghost use Rattle.forest.specs.Outcome.{entries_of, frames_of, clashes};
 
 use crate::chain::last;
 use crate::forest::{adopt, find, link, yields};
@@ -14,12 +15,17 @@ use crate::held::{Held, held_by};
 use area::log::put;
 use area::map::{FRAME_STEP, HELD, NEXT, PARENT, STACK};
 
-// The log's entries and the frames on the stack after a step, and whether it met a clash.
+// The log's entries and the frames on the stack after a step.
 #[derive(Clone, Copy)]
 pub struct Progress {
     pub k: usize,
     pub s: usize,
-    pub bad: bool,
+}
+
+// A step met a clash: the entries of the log, which the caller takes back.
+#[derive(Clone, Copy, Debug, PartialEq, Eq)]
+pub struct Clash {
+    pub k: usize,
 }
 
 // Whether a class that holds `there` holds what comes: nothing comes, or the same atom.
@@ -36,20 +42,15 @@ fn covered(came: Held, there: Held) -> bool
     }
 }
 
-// The class b goes under the class a, which holds what b holds.
-fn tuck(w: &mut [u32], k: usize, s: usize, n: usize, a: usize, b: usize) -> Progress
+// The class b goes under the class a, which holds what b holds. The log's entries after it.
+fn tuck(w: &mut [u32], k: usize, s: usize, n: usize, a: usize, b: usize) -> usize
     requires n_bound { (n ≤ NODES) × (SIZE ≤ length w.old) }
     requires fusing { Fusing n w.old a b }
     requires covered { Covered (held_by w.old b) (held_by w.old a) }
     requires some_state { SomeState n k s w.old }
-    ensures { Merged n k s w.old a b result.k result.s result.bad w.new }
+    ensures { Merged n k s w.old a b result s false w.new }
 {
-    let e = link(w, k, n, a, b);
-    Progress {
-        k: e,
-        s: s,
-        bad: false,
-    }
+    link(w, k, n, a, b)
 }
 
 // The node b, a class by itself that holds nothing, goes under the class a. The log's entries after it.
@@ -77,7 +78,7 @@ fn knit(
     requires fusing { Fusing n w.old a b }
     requires b_value { (held_by w.old b ≡ Arcs p) × (held_by w.old a ≡ Arcs q) }
     requires some_state { SomeState n k s w.old }
-    ensures { Merged n k s w.old a b result.k result.s result.bad w.new }
+    ensures { Merged n k s w.old a b result.k result.s false w.new }
 {
     let x = p as u32;
     let y = q as u32;
@@ -86,69 +87,62 @@ fn knit(
     let d = put(w, e, NEXT + z, y);
     let c = put(w, d, HELD + a, x);
     w[STACK + s] = x + FRAME_STEP * y;
-    Progress {
-        k: c,
-        s: s + 1,
-        bad: false,
-    }
+    Progress { k: c, s: s + 1 }
 }
 
 // The class b goes under the class a.
-fn fuse(w: &mut [u32], k: usize, s: usize, n: usize, a: usize, b: usize) -> Progress
+fn fuse(w: &mut [u32], k: usize, s: usize, n: usize, a: usize, b: usize) -> Result<Progress, Clash>
     requires n_bound { (n ≤ NODES) × (SIZE ≤ length w.old) }
     requires fusing { Fusing n w.old a b }
     requires some_state { SomeState n k s w.old }
-    ensures { Merged n k s w.old a b result.k result.s result.bad w.new }
+    ensures { Merged n k s w.old a b (entries_of result) (frames_of s result) (clashes result) w.new }
 {
     let came = held_by(w, b);
     if let Held::Nothing = came {
-        return tuck(w, k, s, n, a, b);
+        return Ok(Progress {
+            k: tuck(w, k, s, n, a, b),
+            s,
+        });
     }
     let there = held_by(w, a);
     if let Held::Nothing = there {
         let h = w[HELD + b];
         let e = link(w, k, n, a, b);
         let d = put(w, e, HELD + a, h);
-        return Progress {
-            k: d,
-            s: s,
-            bad: false,
-        };
+        return Ok(Progress { k: d, s });
     }
     if covered(came, there) {
-        return tuck(w, k, s, n, a, b);
+        return Ok(Progress {
+            k: tuck(w, k, s, n, a, b),
+            s,
+        });
     }
     let Held::Arcs(p) = came else {
-        return Progress {
-            k: k,
-            s: s,
-            bad: true,
-        };
+        return Err(Clash { k });
     };
     let Held::Arcs(q) = there else {
-        return Progress {
-            k: k,
-            s: s,
-            bad: true,
-        };
+        return Err(Clash { k });
     };
-    knit(w, k, s, n, a, b, p, q)
+    Ok(knit(w, k, s, n, a, b, p, q))
 }
 
 // The classes of x and y become one, whichever they are.
-pub fn blend(w: &mut [u32], k: usize, s: usize, n: usize, x: usize, y: usize) -> Progress
+pub fn blend(
+    w: &mut [u32],
+    k: usize,
+    s: usize,
+    n: usize,
+    x: usize,
+    y: usize,
+) -> Result<Progress, Clash>
     requires x_lt_n { (x < n) × ((y < n) × ((n ≤ NODES) × (SIZE ≤ length w.old))) }
     requires some_state { SomeState n k s w.old }
-    ensures { Merged n k s w.old x y result.k result.s result.bad w.new }
+    ensures { Merged n k s w.old x y (entries_of result) (frames_of s result) (clashes result) w.new }
 {
     let a = find(w, n, x);
     let b = find(w, n, y);
     if a == b {
-        return Progress {
-            k: k,
-            s: s,
-            bad: false,
-        };
+        return Ok(Progress { k, s });
     }
     if yields(w, b, a) {
         return fuse(w, k, s, n, a, b);
@@ -161,24 +155,12 @@ fn is_by_itself(w: &[u32], y: usize) -> bool
     requires { (y < NODES) × (SIZE ≤ length w.now) }
     ensures { result ≡ true → ByItself w.now y }
 {
-    if w[PARENT + y] != y as u32 {
-        return false;
-    }
-    if w[HELD + y] != 0 {
-        return false;
-    }
-    true
+    w[PARENT + y] == y as u32 && w[HELD + y] == 0
 }
 
-// The log's entries after a node by itself went under; or none did.
-#[derive(Clone, Copy)]
-pub enum Adopted {
-    In(usize),
-    Not,
-}
-
-// Of x and y, one that is a class by itself goes under the other's class at once where that has the lower number.
-pub fn adopt_new(w: &mut [u32], k: usize, s: usize, n: usize, x: usize, y: usize) -> Adopted
+// Of x and y, one that is a class by itself goes under the other's class at once where that has the lower number. The log's entries after
+// it; or None, where none of them did.
+pub fn adopt_new(w: &mut [u32], k: usize, s: usize, n: usize, x: usize, y: usize) -> Option<usize>
     requires x_lt_n { (x < n) × ((y < n) × ((n ≤ NODES) × (SIZE ≤ length w.old))) }
     requires some_state { SomeState n k s w.old }
     ensures { AdoptedNew n k s w.old x y result w.new }
@@ -186,33 +168,33 @@ pub fn adopt_new(w: &mut [u32], k: usize, s: usize, n: usize, x: usize, y: usize
     if is_by_itself(w, y) {
         let a = find(w, n, x);
         if a < y {
-            let e = take_in(w, k, s, n, a, y);
-            return Adopted::In(e);
+            return Some(take_in(w, k, s, n, a, y));
         }
     }
     if is_by_itself(w, x) {
         let b = find(w, n, y);
         if b < x {
-            let e = take_in(w, k, s, n, b, x);
-            return Adopted::In(e);
+            return Some(take_in(w, k, s, n, b, x));
         }
     }
-    Adopted::Not
+    None
 }
 
 // The classes of x and y become one.
-pub fn join(w: &mut [u32], k: usize, s: usize, n: usize, x: usize, y: usize) -> Progress
+pub fn join(
+    w: &mut [u32],
+    k: usize,
+    s: usize,
+    n: usize,
+    x: usize,
+    y: usize,
+) -> Result<Progress, Clash>
     requires x_lt_n { (x < n) × ((y < n) × ((n ≤ NODES) × (SIZE ≤ length w.old))) }
     requires some_state { SomeState n k s w.old }
-    ensures { Merged n k s w.old x y result.k result.s result.bad w.new }
+    ensures { Merged n k s w.old x y (entries_of result) (frames_of s result) (clashes result) w.new }
 {
-    let new = adopt_new(w, k, s, n, x, y);
-    match new {
-        Adopted::In(e) => Progress {
-            k: e,
-            s: s,
-            bad: false,
-        },
-        Adopted::Not => blend(w, k, s, n, x, y),
+    match adopt_new(w, k, s, n, x, y) {
+        Some(e) => Ok(Progress { k: e, s }),
+        None => blend(w, k, s, n, x, y),
     }
 }

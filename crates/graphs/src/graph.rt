@@ -4,131 +4,99 @@ ghost use Rattle.graphs.specs.Graph.{readArc, readArcs, read_node, readNodes, re
 
 use limits::{CODE_LIMIT, wide};
 
-// What an arc leads to: so many nodes are met after it, or it may not stand here.
+// What reading a node finds: the position after it and how many nodes are met.
 #[derive(Clone, Copy)]
-pub enum Arc {
-    Meets(u32),
-    Misplaced,
+pub struct Walk {
+    pub next: usize,
+    pub met: u32,
 }
 
-// What reading a node finds: the position after it and how many nodes are met, or no such node.
-#[derive(Clone, Copy)]
-pub enum Walk {
-    Went { next: usize, met: u32 },
-    Stopped,
-}
-
-// What reading a part of the words finds: the position after it, or no such part.
-#[derive(Clone, Copy)]
-pub enum Read {
-    Fine(usize),
-    Wrong,
-}
-
-// Judges an arc, where features from `low` on may stand and the nodes below `met`, of `nodes`, are met.
-fn read_arc(feature: u32, target: u32, low: u32, nodes: u32, met: u32) -> Arc
+// How many nodes are met after an arc, or none where it may not stand: features from `low` on may stand, and the nodes below `met`,
+// of `nodes`, are met before it.
+fn read_arc(feature: u32, target: u32, low: u32, nodes: u32, met: u32) -> Option<u32>
     ensures { result ≡ readArc nodes low met feature target }
 {
     if feature < low {
-        return Arc::Misplaced;
+        return None;
     }
     if CODE_LIMIT <= feature {
-        return Arc::Misplaced;
+        return None;
     }
     if target < met {
-        return Arc::Meets(met);
+        return Some(met);
     }
     if met < target {
-        return Arc::Misplaced;
+        return None;
     }
     if nodes <= target {
-        return Arc::Misplaced;
+        return None;
     }
-    Arc::Meets(target + 1)
+    Some(target + 1)
 }
 
 // Reads the `count` arcs of a node; that their words are there is tested once, for all.
-fn read_arcs(ws: &[u32], p: usize, count: u32, nodes: u32, first: u32) -> Walk
+fn read_arcs(ws: &[u32], p: usize, count: u32, nodes: u32, first: u32) -> Option<Walk>
     ensures { result ≡ readArcs ws.now nodes count first p }
 {
     if ws.len() < p {
-        return Walk::Stopped;
+        return None;
     }
     if ws.len() - p < 2 * wide(count) {
-        return Walk::Stopped;
+        return None;
     }
     let mut at = p;
-    let mut left = count;
     let mut low: u32 = 0;
     let mut met = first;
-    while 0 < left {
+    for _ in 0..count {
         let feature = ws[at];
-        let target = ws[at + 1];
-        let arc = read_arc(feature, target, low, nodes, met);
-        let Arc::Meets(after) = arc else {
-            return Walk::Stopped;
-        };
-        met = after;
+        met = read_arc(feature, ws[at + 1], low, nodes, met)?;
         low = feature + 1;
         at += 2;
-        left -= 1;
     }
-    Walk::Went { next: at, met }
+    Some(Walk { next: at, met })
 }
 
 // Reads node i: its head, and its arcs.
-fn read_node(ws: &[u32], p: usize, i: u32, nodes: u32, met: u32) -> Walk
+fn read_node(ws: &[u32], p: usize, i: u32, nodes: u32, met: u32) -> Option<Walk>
     ensures { result ≡ read_node ws.now nodes i met p }
 {
     if met <= i {
-        return Walk::Stopped;
+        return None;
     }
     if ws.len() <= p {
-        return Walk::Stopped;
+        return None;
     }
     let head = ws[p];
     if head < CODE_LIMIT {
         return read_arcs(ws, p + 1, head, nodes, met);
     }
     if CODE_LIMIT <= head - CODE_LIMIT {
-        return Walk::Stopped;
+        return None;
     }
-    Walk::Went { next: p + 1, met }
+    Some(Walk { next: p + 1, met })
 }
 
-// Reads all nodes of a graph of so many nodes.
-fn read_nodes(ws: &[u32], p: usize, nodes: u32) -> Read
+// Reads all nodes of a graph of so many nodes: the position after them.
+fn read_nodes(ws: &[u32], p: usize, nodes: u32) -> Option<usize>
     ensures { result ≡ readNodes ws.now nodes nodes 0 1 p }
 {
-    let mut at = p;
-    let mut i: u32 = 0;
-    let mut met: u32 = 1;
-    while i < nodes {
-        let node = read_node(ws, at, i, nodes, met);
-        match node {
-            Walk::Went { next, met: after } => {
-                at = next;
-                met = after;
-            }
-            Walk::Stopped => {
-                return Read::Wrong;
-            }
-        }
-        i += 1;
+    let mut walk = Walk { next: p, met: 1 };
+    for i in 0..nodes {
+        walk = read_node(ws, walk.next, i, nodes, walk.met)?;
     }
-    Read::Fine(at)
+    Some(walk.next)
 }
 
-// Reads a graph: its node count, and each node in order.
-pub fn read_graph(ws: &[u32], p: usize) -> Read
+// Reads a graph, its node count and each node in order: the position after it.
+pub fn read_graph(ws: &[u32], p: usize) -> Option<usize>
     ensures { result ≡ readGraph ws.now p }
 {
     if ws.len() <= p {
-        return Read::Wrong;
+        return None;
     }
     let nodes = ws[p];
     if nodes == 0 {
-        return Read::Wrong;
+        return None;
     }
     read_nodes(ws, p + 1, nodes)
 }

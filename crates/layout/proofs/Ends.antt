@@ -2,7 +2,6 @@
 -- Assumes nothing.
 use Prim.Native.Nat.{ℕ, zero, suc, ◌+◌, ◌-◌, ◌≤◌, ◌<◌}
 use native.Mathlib.Omega.{arith}
-use native.Mathlib.Numerals.{sub-one}
 use mathlib.Core.Path.{◌≡◌, sym, ◌∙◌}
 use mathlib.Core.List.{List, [], ◌∷◌}
 use lib.ListN.{length}
@@ -21,7 +20,7 @@ use Rattle.layout.proofs.Standing.{stands_nodes, stands_description, stands_disj
 module _ (ws : List ℕ) where
   -- one thing and then others
   more : (f : ℕ → ℕ) (k p q r : ℕ) → p < length ws → f p ≡ q → ends ws f k q ≡ r → ends ws f (suc k) p ≡ r
-  more f k p q r h e g = ends_step ws f (suc k) p q (omega arith) h (sym e) ∙ rw sub-one g
+  more f k p q r h e g = ends_step ws f (suc k) k p q (omega arith) h (sym e) ∙ g
 
   node_there : (v : Node) (p q : ℕ) → Stands ws p (node_words v) q → p < length ws
   node_there (atom a) p q s = ((stands_atom ws a p q).0 s).0

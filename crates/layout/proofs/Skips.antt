@@ -6,7 +6,7 @@ use mathlib.Core.List.{List}
 use lib.ListN.{length, get_or}
 use borrow.Author.Tests.{le-ltb, lt-ltb, le-leb, lt-leb}
 use native.Mathlib.Nat.{not-suc-le-zero}
-use native.Mathlib.Numerals.{sub-one}
+use native.Mathlib.Numerals.{sub-one, add-one}
 use Rattle.theory.specs.Limits.{code_limit}
 use Rattle.layout.specs.Skipping.{ends, nodeEnd, graphEnd, descriptionEndOf, disjunctionEnd, nestedEnd}
 
@@ -39,10 +39,9 @@ module _ (ws : List ℕ) (f : ℕ → ℕ) where
   ends_out zero p h l = absurd (not-suc-le-zero h)
   ends_out (suc k) p h l = simp (le-ltb _ _ l)
 
-  pub ends_step : (k p q : ℕ) → 0 < k → p < length ws → q ≡ f p → ends ws f k p ≡ ends ws f (k - 1) q
+  pub ends_step : (k k' p q : ℕ) → k ≡ k' + 1 → p < length ws → q ≡ f p → ends ws f k p ≡ ends ws f k' q
   unfolding ends
-  ends_step zero p q h l e = absurd (not-suc-le-zero h)
-  ends_step (suc k) p q h l e = rw e (simp (lt-ltb _ _ l, sub-one))
+  ends_step k k' p q h l e = rw (h, add-one, e) (simp (lt-ltb _ _ l))
 
 module _ (ws : List ℕ) (p : ℕ) where
   pub graph_end_none : length ws ≤ p → length ws ≡ graphEnd ws p

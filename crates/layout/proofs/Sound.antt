@@ -15,62 +15,35 @@ use Rattle.theory.specs.Descr.{Desc, desc, Disjs, end, ◌and◌, Alts, fail, �
 use Rattle.theory.specs.Layout.{arc_words, node_words, nodes_words, words, disjs_words, alts_words, ArcsFit, NodeFits, GraphFits}
 use Rattle.theory.specs.Layout.{WellFormed, WellAll, WellAny}
 use Rattle.theory.proofs.Instance.{met_ge}
-use Rattle.graphs.specs.declared.graph.Arc.{Arc}
-use Rattle.graphs.specs.declared.graph.Arc.TheVariants.{Meets, Misplaced}
 use Rattle.graphs.specs.declared.graph.Walk.{Walk}
-use Rattle.graphs.specs.declared.graph.Walk.TheVariants.{Went, Stopped}
-use Rattle.graphs.specs.declared.graph.Read.{Read}
-use Rattle.graphs.specs.declared.graph.Read.TheVariants.{Fine, Wrong}
-use Rattle.layout.specs.Reading.{then, times, disjunctionOf, descriptionOf, readDisjunction, readDescription}
-use Rattle.graphs.specs.Graph.{pick, onward, walk, readArc, arcsFrom, readArcs, read_node, readNodes, readGraph}
+use Rattle.std.specs.Prelude.{Option, Some, None}
+use Rattle.layout.specs.Reading.{times, disjunctionOf, descriptionOf, readDisjunction, readDescription}
+use Rattle.graphs.specs.Graph.{pick, onward, went, readArc, arcsFrom, readArcs, read_node, readNodes, readGraph}
 use Rattle.layout.specs.Standing.{Stands, graph_words, disjunction_words}
-use Rattle.graphs.proofs.Laws.{pick_meets}
+use Rattle.graphs.proofs.Laws.{pick_some, onward_some, went_same}
 use Rattle.layout.proofs.Standing.{stands_nil, stands_cons, stands_arc, stands_nodes, stands_description, stands_disjunctions}
 use Rattle.layout.proofs.Standing.{stands_alternatives}
 
--- a reading that went well took the good way at each test
-stopped : {q m : ℕ} → Stopped ≡ Went q m → ⊥
-stopped e = let z : ◌≡◌ {A = ℕ} 0 1 = cc in omega arith
+-- a node that was read, with the position after it and the number of nodes met
+onward_went : (o : Option Walk) (f : Walk → Option ℕ) {q : ℕ} → onward o f ≡ Some q → (r : ℕ) × (m : ℕ) × (o ≡ went r m)
+onward_went o f e = let a = onward_some o f e in (a.0.next, a.0.met, a.1)
 
-pub wrong : {q : ℕ} → Wrong ≡ Fine q → ⊥
-wrong e = let z : ◌≡◌ {A = ℕ} 0 1 = cc in omega arith
-
-pick_went : (b : Bool) (x : Walk) {q m : ℕ} → pick b x Stopped ≡ Went q m → (b ≡ true) × (x ≡ Went q m)
-pick_went true x e = (refl, e)
-pick_went false x e = absurd (stopped e)
-
-pick_fine : (b : Bool) (x : Read) {q : ℕ} → pick b x Wrong ≡ Fine q → (b ≡ true) × (x ≡ Fine q)
-pick_fine true x e = (refl, e)
-pick_fine false x e = absurd (wrong e)
-
-past_went : (a : Arc) (f : ℕ → Walk) {q m : ℕ} → onward a f ≡ Went q m → (k : ℕ) × (a ≡ Meets k)
-past_went (Meets k) f e = (k, refl)
-past_went Misplaced f e = absurd (stopped e)
-
-walk_fine : (w : Walk) (f : ℕ → ℕ → Read) {q : ℕ} → walk w f ≡ Fine q → (r : ℕ) × (m : ℕ) × (w ≡ Went r m)
-walk_fine (Went r m) f e = (r, m, refl)
-walk_fine Stopped f e = absurd (wrong e)
-
-then_fine : (r : Read) (f : ℕ → Read) {q : ℕ} → then r f ≡ Fine q → (p : ℕ) × (r ≡ Fine p)
-then_fine (Fine p) f e = (p, refl)
-then_fine Wrong f e = absurd (wrong e)
-
-arc_sound : (n low m f t after : ℕ) → readArc n low m f t ≡ Meets after →
+arc_sound : (n low m f t after : ℕ) → readArc n low m f t ≡ Some after →
     (low ≤ f) × (f < code_limit) × (t ≤ m) × (after ≡ max m (suc t)) × (m ≤ n → after ≤ n)
 unfolding readArc
 arc_sound n low m f t after e =
-    let a = pick_meets (leb low f) _ e in
-    let b = pick_meets (ltb f code_limit) _ a.1 in
+    let a = pick_some (leb low f) _ e in
+    let b = pick_some (ltb f code_limit) _ a.1 in
     let c = go (ltb t m) refl b.1 in
     (leb-true _ _ a.0, ltb-true _ _ b.0, c.0, c.1, c.2)
   where
-    go : (b : Bool) → ltb t m ≡ b → pick b (Meets m) (pick (leb t m) (pick (ltb t n) (Meets (t + 1)) Misplaced) Misplaced) ≡ Meets after →
+    go : (b : Bool) → ltb t m ≡ b → pick b (Some m) (pick (leb t m) (pick (ltb t n) (Some (t + 1)) None) None) ≡ Some after →
         (t ≤ m) × (after ≡ max m (suc t)) × (m ≤ n → after ≤ n)
     go true h e = let l : t < m = ltb-true _ _ h in let k : m ≡ after = cc in (omega arith, omega arith, λ g. omega arith)
     go false h e =
         let l : m ≤ t = ltb-false _ _ h in
-        let a = pick_meets (leb t m) _ e in
-        let b = pick_meets (ltb t n) _ a.1 in
+        let a = pick_some (leb t m) _ e in
+        let b = pick_some (ltb t n) _ a.1 in
         let u : t ≤ m = leb-true _ _ a.0 in
         let v : t < n = ltb-true _ _ b.0 in
         let x = b.1 in
@@ -78,16 +51,17 @@ arc_sound n low m f t after e =
         (omega arith, omega arith, λ g. omega arith)
 
 module _ (ws : List ℕ) where
-  arcs_sound : (n k low m p q after : ℕ) → m ≤ n → p + (k + k) ≤ length ws → arcsFrom ws n k low m p ≡ Went q after
+  arcs_sound : (n k low m p q after : ℕ) → m ≤ n → p + (k + k) ≤ length ws → arcsFrom ws n k low m p ≡ went q after
       → (l : List (ℕ × ℕ)) × (length l ≡ k) × Rising low l × InOrder m l × ArcsFit l × (after ≡ met m l) × (after ≤ n)
       × Stands ws p (arc_words l) q
   unfolding arcsFrom
-  arcs_sound n zero low m p q after h room e = let g : m ≡ after = cc in
-      ([], refl, tt, tt, tt, sym g, omega arith, (stands_nil ws p q).1 (cc))
+  arcs_sound n zero low m p q after h room e =
+      let g = went_same p m q after e in
+      ([], refl, tt, tt, tt, sym g.1, omega arith, (stands_nil ws p q).1 g.0)
   arcs_sound n (suc k) low m p q after h room e =
       let f = get_or ws p 0 in
       let t = get_or ws (p + 1) 0 in
-      let a = past_went (readArc n low m f t) _ e in
+      let a = onward_some (readArc n low m f t) _ e in
       let b = arc_sound n low m f t a.0 a.1 in
       let i = arcs_sound n k (f + 1) (max m (suc t)) (p + 2) q after (rw b.3 at (b.4 h)) (omega arith) (rw (← b.3) (rw a.1 at e)) in (
         (f, t) ∷ i.0,
@@ -105,11 +79,11 @@ module _ (ws : List ℕ) where
       × Stands ws p (node_words v) q
 
   node_head : (n m p q after : ℕ) (b : Bool) → ltb (get_or ws p 0) code_limit ≡ b → m ≤ n → p < length ws
-      → pick b (readArcs ws n (get_or ws p 0) m (p + 1)) (pick (ltb (get_or ws p 0 - code_limit) code_limit) (Went (p + 1) m) Stopped)
-      ≡ Went q after → NodeSound n m p q after
+      → pick b (readArcs ws n (get_or ws p 0) m (p + 1)) (pick (ltb (get_or ws p 0 - code_limit) code_limit) (went (p + 1) m) None)
+      ≡ went q after → NodeSound n m p q after
   unfolding NodeSound readArcs
   node_head n m p q after true h g there e =
-      let a = pick_went (leb (p + 1 + (get_or ws p 0 + get_or ws p 0)) (length ws)) _ e in
+      let a = pick_some (leb (p + 1 + (get_or ws p 0 + get_or ws p 0)) (length ws)) _ e in
       let l = arcs_sound n (get_or ws p 0) 0 m (p + 1) q after g (leb-true _ _ a.0) a.1 in
       let small : get_or ws p 0 < code_limit = ltb-true _ _ h in (
         arcs l.0,
@@ -121,33 +95,32 @@ module _ (ws : List ℕ) where
         (stands_cons ws (length l.0) (arc_words l.0) p q).1 (there, sym l.1, l.7),
       )
   node_head n m p q after false h g there e =
-      let a = pick_went (ltb (get_or ws p 0 - code_limit) code_limit) _ e in
+      let a = pick_some (ltb (get_or ws p 0 - code_limit) code_limit) _ e in
       let big : code_limit ≤ get_or ws p 0 = ltb-false _ _ h in
       let small : get_or ws p 0 - code_limit < code_limit = ltb-true _ _ a.0 in
-      let f = a.1 in
-      let k : m ≡ after = cc in (
+      let k = went_same (p + 1) m q after a.1 in (
         atom (get_or ws p 0 - code_limit),
         small,
         tt,
         tt,
-        sym k,
+        sym k.1,
         omega arith,
-        (stands_cons ws (code_limit + (get_or ws p 0 - code_limit)) [] p q).1 (there, omega arith, (stands_nil ws (p + 1) q).1 (cc)),
+        (stands_cons ws (code_limit + (get_or ws p 0 - code_limit)) [] p q).1 (there, omega arith, (stands_nil ws (p + 1) q).1 k.0),
       )
 
-  node_sound : (n i m p q after : ℕ) → m ≤ n → read_node ws n i m p ≡ Went q after → (i < m) × NodeSound n m p q after
+  node_sound : (n i m p q after : ℕ) → m ≤ n → read_node ws n i m p ≡ went q after → (i < m) × NodeSound n m p q after
   unfolding read_node
   node_sound n i m p q after g e =
-      let a = pick_went (ltb i m) _ e in
-      let b = pick_went (ltb p (length ws)) _ a.1 in
+      let a = pick_some (ltb i m) _ e in
+      let b = pick_some (ltb p (length ws)) _ a.1 in
       (ltb-true _ _ a.0, node_head n m p q after (ltb (get_or ws p 0) code_limit) refl g (ltb-true _ _ b.0) b.1)
 
-  nodes_sound : (n k i m p q : ℕ) → m ≤ n → i ≤ m → i + k ≡ n → readNodes ws n k i m p ≡ Fine q
+  nodes_sound : (n k i m p q : ℕ) → m ≤ n → i ≤ m → i + k ≡ n → readNodes ws n k i m p ≡ Some q
       → (g : Graph) × (length g ≡ k) × Numbered i m g × GraphFits g × Stands ws p (nodes_words g) q
   unfolding readNodes NodeSound
   nodes_sound n zero i m p q h l c e = ([], refl, omega arith, tt, (stands_nil ws p q).1 (cc))
   nodes_sound n (suc k) i m p q h l c e =
-      let a = walk_fine (read_node ws n i m p) _ e in
+      let a = onward_went (read_node ws n i m p) _ e in
       let s = node_sound n i m p a.0 a.1 h a.2 in
       let v = s.1.0 in
       let less = s.0 in
@@ -162,32 +135,32 @@ module _ (ws : List ℕ) where
         (stands_nodes ws v r.0 p q).1 (a.0, s.1.6, r.4),
       )
 
-  graph_sound : (p q : ℕ) → readGraph ws p ≡ Fine q → (g : Graph) × Canonical g × GraphFits g × Stands ws p (graph_words g) q
+  graph_sound : (p q : ℕ) → readGraph ws p ≡ Some q → (g : Graph) × Canonical g × GraphFits g × Stands ws p (graph_words g) q
   unfolding readGraph
   graph_sound p q e =
-      let a = pick_fine (ltb p (length ws)) _ e in
-      let b = pick_fine (leb 1 (get_or ws p 0)) _ a.1 in
+      let a = pick_some (ltb p (length ws)) _ e in
+      let b = pick_some (leb 1 (get_or ws p 0)) _ a.1 in
       let one : 1 ≤ get_or ws p 0 = leb-true _ _ b.0 in
       let x = nodes_sound (get_or ws p 0) (get_or ws p 0) 0 1 (p + 1) q one (omega arith) (omega arith) b.1 in
       (x.0, x.2, x.3, (stands_cons ws (length x.0) (nodes_words x.0) p q).1 (ltb-true _ _ a.0, sym x.1, x.4))
 
   abbrev DisjunctionSound : ℕ → Type 0
-  DisjunctionSound left = (p q : ℕ) → readDisjunction left ws p ≡ Fine q →
+  DisjunctionSound left = (p q : ℕ) → readDisjunction left ws p ≡ Some q →
       (a : Alts) × WellAll (a and end) left × Stands ws p (disjunction_words a) q
 
   abbrev DescriptionSound : ℕ → Type 0
-  DescriptionSound left = (p q : ℕ) → readDescription left ws p ≡ Fine q → (d : Desc) × WellFormed d left × Stands ws p (words d) q
+  DescriptionSound left = (p q : ℕ) → readDescription left ws p ≡ Some q → (d : Desc) × WellFormed d left × Stands ws p (words d) q
 
   well_and : (a : Alts) (ds : Disjs) (left : ℕ) → WellAll (a and end) left → WellAll ds left → WellAll (a and ds) left
   well_and a ds zero h k = h
   well_and a ds (suc left) h k = (h.0, h.1, k)
 
-  disjunctions_sound : (left : ℕ) → DisjunctionSound left → (k p q : ℕ) → times (readDisjunction left ws) k p ≡ Fine q
+  disjunctions_sound : (left : ℕ) → DisjunctionSound left → (k p q : ℕ) → times (readDisjunction left ws) k p ≡ Some q
       → (ds : Disjs) × (disjs ds ≡ k) × WellAll ds left × Stands ws p (disjs_words ds) q
   unfolding times
   disjunctions_sound left S zero p q e = (end, refl, tt, (stands_nil ws p q).1 (cc))
   disjunctions_sound left S (suc k) p q e =
-      let a = then_fine (readDisjunction left ws p) _ e in
+      let a = onward_some (readDisjunction left ws p) _ e in
       let x = S p a.0 a.1 in
       let r = disjunctions_sound left S k a.0 q (rw a.1 at e) in (
         x.0 and r.0,
@@ -196,12 +169,12 @@ module _ (ws : List ℕ) where
         (stands_disjunctions ws x.0 r.0 p q).1 (a.0, x.2, r.3),
       )
 
-  alternatives_sound : (left : ℕ) → DescriptionSound left → (k p q : ℕ) → times (readDescription left ws) k p ≡ Fine q
+  alternatives_sound : (left : ℕ) → DescriptionSound left → (k p q : ℕ) → times (readDescription left ws) k p ≡ Some q
       → (a : Alts) × (alts a ≡ k) × WellAny a left × Stands ws p (alts_words a) q
   unfolding times
   alternatives_sound left S zero p q e = (fail, refl, tt, (stands_nil ws p q).1 (cc))
   alternatives_sound left S (suc k) p q e =
-      let a = then_fine (readDescription left ws p) _ e in
+      let a = onward_some (readDescription left ws p) _ e in
       let x = S p a.0 a.1 in
       let r = alternatives_sound left S k a.0 q (rw a.1 at e) in
       (x.0 or r.0, ap suc r.1, (x.1, r.2), (stands_alternatives ws x.0 r.0 p q).1 (a.0, x.2, r.3))
@@ -209,9 +182,9 @@ module _ (ws : List ℕ) where
   description_sound : (left : ℕ) → DisjunctionSound left → DescriptionSound left
   unfolding readDescription descriptionOf
   description_sound left S p q e =
-      let a = then_fine (readGraph ws p) _ e in
+      let a = onward_some (readGraph ws p) _ e in
       let g = graph_sound p a.0 a.1 in
-      let b = pick_fine (ltb a.0 (length ws)) _ (rw a.1 at e) in
+      let b = pick_some (ltb a.0 (length ws)) _ (rw a.1 at e) in
       let ds = disjunctions_sound left S (get_or ws a.0 0) (a.0 + 1) q b.1 in (
         desc g.0 ds.0,
         (g.1, g.2, ds.2),
@@ -220,10 +193,10 @@ module _ (ws : List ℕ) where
 
   disjunction_sound : (left : ℕ) → DisjunctionSound left
   unfolding readDisjunction disjunctionOf readDescription
-  disjunction_sound zero p q e = absurd (wrong e)
+  disjunction_sound zero p q e = absurd (cc)
   disjunction_sound (suc left) p q e =
-      let a = pick_fine (ltb p (length ws)) _ e in
-      let b = pick_fine (leb 2 (get_or ws p 0)) _ a.1 in
+      let a = pick_some (ltb p (length ws)) _ e in
+      let b = pick_some (leb 2 (get_or ws p 0)) _ a.1 in
       let r = alternatives_sound left (description_sound left (disjunction_sound left)) (get_or ws p 0) (p + 1) q b.1 in
       let two : 2 ≤ get_or ws p 0 = leb-true _ _ b.0 in
       (r.0, (rw r.1 two, r.2, tt), (stands_cons ws (alts r.0) (alts_words r.0) p q).1 (ltb-true _ _ a.0, sym r.1, r.3))

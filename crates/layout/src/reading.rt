@@ -3,86 +3,57 @@ ghost use Rattle.std.specs.Prelude.{◌≡◌};
 ghost use Rattle.layout.specs.Reading.{readDisjunction, readDescription};
 ghost use Rattle.layout.specs.Judged.{Judged};
 
-use graphs::graph::{Read, read_graph};
+use graphs::graph::read_graph;
 use limits::DEPTH_LIMIT;
 
-// Whether words are the image of a description.
-#[derive(Clone, Copy)]
-pub enum Judgement {
-    Accepted,
-    Malformed,
-}
+// A disjunction has at least so many alternatives.
+const FEWEST_ALTERNATIVES: u32 = 2;
 
-// Reads a description whose alternatives may nest `left` deep: a graph, and its disjunctions.
+// Reads a description whose alternatives may nest `left` deep, a graph and its disjunctions: the position after it.
 #[cycle(read_description_read_disjunction)]
-fn read_description(ws: &[u32], p: usize, left: u32) -> Read
+fn read_description(ws: &[u32], p: usize, left: u32) -> Option<usize>
     ensures { result ≡ readDescription left ws.now p }
 {
-    let graph = read_graph(ws, p);
-    let Read::Fine(q) = graph else {
-        return Read::Wrong;
-    };
+    let q = read_graph(ws, p)?;
     if ws.len() <= q {
-        return Read::Wrong;
+        return None;
     }
-    let mut count = ws[q];
     let mut at = q + 1;
-    while 0 < count {
-        let disjunction = read_disjunction(ws, at, left);
-        match disjunction {
-            Read::Fine(next) => {
-                at = next;
-            }
-            Read::Wrong => {
-                return Read::Wrong;
-            }
-        }
-        count -= 1;
+    for _ in 0..ws[q] {
+        at = read_disjunction(ws, at, left)?;
     }
-    Read::Fine(at)
+    Some(at)
 }
 
-// Reads a disjunction whose own alternatives are one of the `left` levels: their number, and each as a description.
+// Reads a disjunction whose own alternatives are one of the `left` levels, their number and each as a description: the position
+// after it.
 #[cycle(read_description_read_disjunction)]
-fn read_disjunction(ws: &[u32], p: usize, left: u32) -> Read
+fn read_disjunction(ws: &[u32], p: usize, left: u32) -> Option<usize>
     ensures { result ≡ readDisjunction left ws.now p }
 {
     if left == 0 {
-        return Read::Wrong;
+        return None;
     }
     if ws.len() <= p {
-        return Read::Wrong;
+        return None;
     }
-    let mut count = ws[p];
-    if count < 2 {
-        return Read::Wrong;
+    let count = ws[p];
+    if count < FEWEST_ALTERNATIVES {
+        return None;
     }
     let mut at = p + 1;
-    while 0 < count {
-        let alternative = read_description(ws, at, left - 1);
-        match alternative {
-            Read::Fine(next) => {
-                at = next;
-            }
-            Read::Wrong => {
-                return Read::Wrong;
-            }
-        }
-        count -= 1;
+    for _ in 0..count {
+        at = read_description(ws, at, left - 1)?;
     }
-    Read::Fine(at)
+    Some(at)
 }
 
 // Tells whether the words are the image of a description.
-pub fn judge(ws: &[u32]) -> Judgement
+pub fn judge(ws: &[u32]) -> bool
     ensures { Judged ws.now result }
 {
-    let whole = read_description(ws, 0, DEPTH_LIMIT);
-    let Read::Fine(end) = whole else {
-        return Judgement::Malformed;
+    let Some(end) = read_description(ws, 0, DEPTH_LIMIT) else {
+        return false;
     };
-    if end == ws.len() {
-        return Judgement::Accepted;
-    }
-    Judgement::Malformed
+    end == ws.len()
 }

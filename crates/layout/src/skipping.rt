@@ -29,14 +29,12 @@ pub fn skip_graph(ws: &[u32], p: usize) -> usize
     if ws.len() <= p {
         return ws.len();
     }
-    let mut count = ws[p];
     let mut at = p + 1;
-    while 0 < count {
+    for _ in 0..ws[p] {
         if ws.len() <= at {
             return ws.len();
         }
         at = skip_node(ws, at);
-        count -= 1;
     }
     at
 }
@@ -50,14 +48,12 @@ fn skip_nested(ws: &[u32], p: usize, left: u32) -> usize
     if ws.len() <= q {
         return ws.len();
     }
-    let mut count = ws[q];
     let mut at = q + 1;
-    while 0 < count {
+    for _ in 0..ws[q] {
         if ws.len() <= at {
             return ws.len();
         }
         at = skip_disjunction(ws, at, left);
-        count -= 1;
     }
     at
 }
@@ -73,14 +69,12 @@ fn skip_disjunction(ws: &[u32], p: usize, left: u32) -> usize
     if ws.len() <= p {
         return ws.len();
     }
-    let mut count = ws[p];
     let mut at = p + 1;
-    while 0 < count {
+    for _ in 0..ws[p] {
         if ws.len() <= at {
             return ws.len();
         }
         at = skip_nested(ws, at, left - 1);
-        count -= 1;
     }
     at
 }

@@ -12,17 +12,14 @@ use borrow.Author.Tests.{eqb-true, eq-eqb, ne_eqb}
 use Rattle.blocks.specs.Block.{whichever, pair, pair_at, intact, block, filled, block_of}
 use Rattle.blocks.specs.Byte.{Bytes}
 use Rattle.blocks.proofs.Whole.{bytes_take, two, pair_of, intact_block}
-use Rattle.library.specs.Index.{room_of, used_by, index_good, found, index_of}
+use Rattle.library.specs.Index.{room_of, used_by, index_good, Index, placed, found, index_of}
 use Rattle.library.specs.File.{bodies, index_bytes, file, description_blocks}
-use Rattle.library.specs.Read.{words_from, whole_blocks, imaged, fetch_answer_at, fetch_answer_found, fetch_answer_by, fetch_answer, sought}
+use Rattle.library.specs.Read.{Fetched, words_from, whole_blocks, imaged, fetch_answer_at, fetch_answer_found, fetch_answer_by, fetch_answer, sought}
 use Rattle.library.specs.Told.{fetch_number}
 use Rattle.library.specs.Contents.{entries_from, contents}
-use Rattle.library.specs.declared.index.Index.{Index}
-use Rattle.library.specs.declared.index.Index.TheVariants.{Good}
-use Rattle.library.specs.declared.index.Found.{Found}
-use Rattle.library.specs.declared.index.Found.TheVariants.{At}
-use Rattle.library.specs.declared.read.Fetched.{Fetched}
-use Rattle.library.specs.declared.read.Fetched.TheVariants as answer
+use Rattle.std.specs.Prelude.{Option, Ok, Err}
+use Rattle.library.specs.declared.index.Place.{Place}
+use Rattle.library.specs.declared.read.ReadError.TheVariants as error
 use Rattle.library.proofs.Indices.{used_within}
 use Rattle.library.proofs.Reading.{words_length}
 use Rattle.library.proofs.Good.{Sound, goes, after_entry}
@@ -96,24 +93,24 @@ module _ (f : List ℕ) (bytes : Bytes f) (b : List ℕ) (even : length f % 512 
 
 -- ---- each entry is found by its identifier, since identifiers rise
 module _ (b : List ℕ) (total : ℕ) where
-  found_low : (id c low next p k n : ℕ) → index_good c low next p b total ≡ true → found id c p b ≡ At k n → low ≤ id
+  found_low : (id c low next p k n : ℕ) → index_good c low next p b total ≡ true → found id c p b ≡ placed k n → low ≤ id
   unfolding found
   found_low id zero low next p k n e g = absurd (let z : ◌≡◌ {A = ℕ} 0 1 = cc in omega arith)
   found_low id (suc c) low next p k n e g =
       let s = after_entry c low next p b total e in
       go (eqb (pair_at b p) id) refl g s.0 (found_low id c (pair_at b p + 1) (next + room_of (pair_at b (p + 4))) (p + 8) k n s.1)
     where
-      go : (t : Bool) → eqb (pair_at b p) id ≡ t → whichever t (At (pair_at b (p + 2)) (pair_at b (p + 4))) (found id c (p + 8) b) ≡ At k n → Sound low next p b
-          → (found id c (p + 8) b ≡ At k n → pair_at b p + 1 ≤ id) → low ≤ id
+      go : (t : Bool) → eqb (pair_at b p) id ≡ t → whichever t (placed (pair_at b (p + 2)) (pair_at b (p + 4))) (found id c (p + 8) b) ≡ placed k n → Sound low next p b
+          → (found id c (p + 8) b ≡ placed k n → pair_at b p + 1 ≤ id) → low ≤ id
       go true q g s rest = let h = eqb-true (pair_at b p) id q in let r = s.rises in omega arith
       go false q g s rest = let h = rest g in let r = s.rises in omega arith
 
-  pub first_found : (c p : ℕ) → found (pair_at b p) (suc c) p b ≡ At (pair_at b (p + 2)) (pair_at b (p + 4))
+  pub first_found : (c p : ℕ) → found (pair_at b p) (suc c) p b ≡ placed (pair_at b (p + 2)) (pair_at b (p + 4))
   unfolding found
   first_found c p = simp (eq-eqb (pair_at b p) (pair_at b p) refl)
 
-  pub later_found : (c low next p id k n : ℕ) → index_good (suc c) low next p b total ≡ true → found id c (p + 8) b ≡ At k n
-      → found id (suc c) p b ≡ At k n
+  pub later_found : (c low next p id k n : ℕ) → index_good (suc c) low next p b total ≡ true → found id c (p + 8) b ≡ placed k n
+      → found id (suc c) p b ≡ placed k n
   unfolding found
   later_found c low next p id k n e g =
       let s = after_entry c low next p b total e in
@@ -122,7 +119,7 @@ module _ (b : List ℕ) (total : ℕ) where
       rw other g
 
   all_whole : (f : List ℕ) (c low next p : ℕ) → index_good c low next p b total ≡ true
-      → ((id k n : ℕ) → found id c p b ≡ At k n → whole_blocks (room_of n) k n f ≡ true) → All c p b f
+      → ((id k n : ℕ) → found id c p b ≡ placed k n → whole_blocks (room_of n) k n f ≡ true) → All c p b f
   all_whole f zero low next p e h = tt
   all_whole f (suc c) low next p e h =
       let s = after_entry c low next p b total e in (
@@ -132,7 +129,7 @@ module _ (b : List ℕ) (total : ℕ) where
       )
 
 -- ---- the whole file
-both_hold : (t u : Bool) (x : Fetched) → fetch_number (whichever t (whichever u x answer.Malformed) answer.Damaged) ≡ 0
+both_hold : (t u : Bool) (x : Fetched) → fetch_number (whichever t (whichever u x (Err error.Malformed)) (Err error.Damaged)) ≡ 0
     → (t ≡ true) × (u ≡ true)
 both_hold true true x e = (refl, refl)
 both_hold true false x e = absurd (omega arith)
@@ -143,18 +140,18 @@ unfolding entries_from
 entries_length zero p b f = refl
 entries_length (suc c) p b f = ap suc (entries_length c (p + 8) b f)
 
-module _ (f : List ℕ) (count : ℕ) (good : index_of f ≡ Good count) where
+module _ (f : List ℕ) (count : ℕ) (good : index_of f ≡ Ok count) where
   -- a description that is read with 0
-  pub read_good : (id k n room : ℕ) → sought id count f ≡ At k n → fetch_number (fetch_answer f id room) ≡ 0
+  pub read_good : (id k n room : ℕ) → sought id count f ≡ placed k n → fetch_number (fetch_answer f id room) ≡ 0
       → (whole_blocks (room_of n) k n f ≡ true) × (imaged (words_from k 0 n f) ≡ true)
   unfolding fetch_answer fetch_answer_by fetch_answer_found fetch_answer_at
   read_good id k n room g e =
       both_hold (whole_blocks (room_of n) k n f) (imaged (words_from k 0 n f)) _
-      (ap (λ (x : Found). fetch_number (fetch_answer_found x f room)) (sym g)
+      (ap (λ (x : Option Place). fetch_number (fetch_answer_found x f room)) (sym g)
       ∙ ap (λ (x : Index). fetch_number (fetch_answer_by x id f room)) (sym good) ∙ e)
 
   -- "Writer and reader both, each undoing the other": a file all of whose entries are read with 0 is what is written of its contents
-  pub written_read : Bytes f → ((id k n : ℕ) → sought id count f ≡ At k n → fetch_number (fetch_answer f id n) ≡ 0) → file (contents count f) ≡ f
+  pub written_read : Bytes f → ((id k n : ℕ) → sought id count f ≡ placed k n → fetch_number (fetch_answer f id n) ≡ 0) → file (contents count f) ≡ f
   unfolding file
   written_read bytes reads =
       let o = goes f count (sym good) in

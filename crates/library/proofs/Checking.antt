@@ -10,12 +10,11 @@ use lib.Dec.{leb, ltb}
 use borrow.Author.Tests.{eq-eqb, ne_eqb, le-leb, lt-leb, leb-true, ltb-true}
 use Rattle.blocks.specs.Block.{whichever, pair_at, intact, block_of}
 use Rattle.blocks.proofs.Whole.{whichever_true}
-use Rattle.library.specs.Index.{room_of, first_part, index_of}
-use Rattle.library.specs.Check.{block_among, holder_of, checked_in, held_checked, checked_by, block_checked}
-use Rattle.library.specs.declared.index.Index.{Index}
-use Rattle.library.specs.declared.index.Index.TheVariants as index
-use Rattle.library.specs.declared.survey.Holder.TheVariants.{Of, Nobody}
-use Rattle.library.specs.declared.survey.Checked.TheVariants.{Whole, Costs, NoBlock, NoIndex}
+use Rattle.library.specs.Index.{room_of, first_part, Index, index_of}
+use Rattle.library.specs.Check.{held_by, block_among, holder_of, checked_in, held_checked, checked_by, block_checked}
+use Rattle.std.specs.Prelude.{Some, None, Ok, Err}
+use Rattle.library.specs.declared.index.IndexError.{IndexError}
+use Rattle.library.specs.declared.survey.CheckError.TheVariants as error
 
 module _ (first n k : ℕ) where
   pub among_before : k < first → false ≡ block_among first n k
@@ -34,7 +33,7 @@ module _ (first n k : ℕ) where
 
 module _ (k : ℕ) where
   pub holder_here : (c p : ℕ) (b : List ℕ) → 0 < c → block_among (pair_at b (p + 2)) (pair_at b (p + 4)) k ≡ true
-      → Of (pair_at b p) (4 * first_part (pair_at b (p + 4) - 126 * (k - pair_at b (p + 2)))) ≡ holder_of k c p b
+      → held_by (pair_at b p) (4 * first_part (pair_at b (p + 4) - 126 * (k - pair_at b (p + 2)))) ≡ holder_of k c p b
   unfolding holder_of
   holder_here zero p b h e = absurd (not-suc-le-zero h)
   holder_here (suc c) p b h e = rw e
@@ -45,43 +44,35 @@ module _ (k : ℕ) where
   holder_step zero p b h e = absurd (not-suc-le-zero h)
   holder_step (suc c) p b h e = rw (e, sub-one)
 
-  pub holder_none : (c p : ℕ) (b : List ℕ) → c ≤ 0 → Nobody ≡ holder_of k c p b
+  pub holder_none : (c p : ℕ) (b : List ℕ) → c ≤ 0 → None ≡ holder_of k c p b
   unfolding holder_of
   holder_none zero p b h = refl
   holder_none (suc c) p b h = absurd (not-suc-le-zero h)
 
 module _ (k count : ℕ) (f : List ℕ) where
-  pub held_start : k ≡ 0 → Whole ≡ held_checked k count f
+  pub held_start : k ≡ 0 → Ok None ≡ held_checked k count f
   unfolding held_checked
   held_start h = simp (eq-eqb _ _ h)
 
   module _ (later : k ≡ 0 → ⊥) where
-    pub held_nobody : holder_of k count 2 (block_of 0 f) ≡ Nobody → NoBlock ≡ held_checked k count f
+    pub held_nobody : holder_of k count 2 (block_of 0 f) ≡ None → Err error.NoBlock ≡ held_checked k count f
     unfolding held_checked checked_in
     held_nobody e = sym (simp (ne_eqb _ _ later) (rw e))
 
-    module _ (id used : ℕ) (held : holder_of k count 2 (block_of 0 f) ≡ Of id used) where
-      pub held_whole : intact used k (block_of k f) ≡ true → Whole ≡ held_checked k count f
+    module _ (id used : ℕ) (held : holder_of k count 2 (block_of 0 f) ≡ held_by id used) where
+      pub held_whole : intact used k (block_of k f) ≡ true → Ok None ≡ held_checked k count f
       unfolding held_checked checked_in
       held_whole e = sym (simp (ne_eqb _ _ later) (rw held (rw e)))
 
-      pub held_costs : intact used k (block_of k f) ≡ false → Costs id ≡ held_checked k count f
+      pub held_costs : intact used k (block_of k f) ≡ false → Ok (Some id) ≡ held_checked k count f
       unfolding held_checked checked_in
       held_costs e = sym (simp (ne_eqb _ _ later) (rw held (rw e)))
 
 module _ (k : ℕ) (f : List ℕ) where
-  pub checked_good : (count : ℕ) → index.Good count ≡ index_of f → held_checked k count f ≡ block_checked k f
+  pub checked_good : (count : ℕ) → Ok count ≡ index_of f → held_checked k count f ≡ block_checked k f
   unfolding block_checked checked_by
   checked_good count e = ap (λ (x : Index). checked_by x k f) e
 
-  pub checked_length : index.BadLength ≡ index_of f → NoIndex ≡ block_checked k f
+  pub checked_refused : (e : IndexError) → Err e ≡ index_of f → Err (error.Index e) ≡ block_checked k f
   unfolding block_checked checked_by
-  checked_length e = ap (λ (x : Index). checked_by x k f) e
-
-  pub checked_start : index.BadStart ≡ index_of f → NoIndex ≡ block_checked k f
-  unfolding block_checked checked_by
-  checked_start e = ap (λ (x : Index). checked_by x k f) e
-
-  pub checked_index : index.BadIndex ≡ index_of f → NoIndex ≡ block_checked k f
-  unfolding block_checked checked_by
-  checked_index e = ap (λ (x : Index). checked_by x k f) e
+  checked_refused error e = ap (λ (x : Index). checked_by x k f) e

@@ -9,17 +9,14 @@ use lib.ListN.{length}
 use lib.Dec.{eqb, leb}
 use borrow.Author.Tests.{eqb-true, ne_eqb, le-leb, lt-ltb, le-ltb}
 use Rattle.blocks.specs.Block.{whichever, pair_at, intact, block_of}
-use Rattle.library.specs.Index.{room_of, first_part, index_good, found, index_of}
-use Rattle.library.specs.Read.{words_from, whole_blocks, imaged, fetch_answer_at, fetch_answer_found, fetch_answer_by, fetch_answer, sought}
-use Rattle.library.specs.Check.{block_among, holder_of, checked_in, held_checked, checked_by, block_checked}
-use Rattle.library.specs.declared.index.Index.{Index}
-use Rattle.library.specs.declared.index.Index.TheVariants.{Good}
-use Rattle.library.specs.declared.index.Found.{Found}
-use Rattle.library.specs.declared.index.Found.TheVariants.{At, Absent}
-use Rattle.library.specs.declared.read.Fetched.TheVariants as answer
+use Rattle.library.specs.Index.{room_of, first_part, index_good, Index, placed, found, index_of}
+use Rattle.library.specs.Read.{Fetched, words_from, whole_blocks, imaged, fetch_answer_at, fetch_answer_found, fetch_answer_by, fetch_answer, sought}
+use Rattle.library.specs.Check.{Checked, held_by, block_among, holder_of, checked_in, held_checked, checked_by, block_checked}
+use Rattle.std.specs.Prelude.{Option, Some, None, Ok, Err}
+use Rattle.library.specs.declared.index.Place.{Place}
+use Rattle.library.specs.declared.read.ReadError.TheVariants as error
 use Rattle.library.specs.declared.survey.Holder.{Holder}
-use Rattle.library.specs.declared.survey.Holder.TheVariants.{Of, Nobody}
-use Rattle.library.specs.declared.survey.Checked.TheVariants.{Whole, Costs}
+use Rattle.library.proofs.Indices.{placed_is}
 use Rattle.library.proofs.Good.{Sound, goes, after_entry}
 use Rattle.library.proofs.Back.{first_found, later_found}
 use Rattle.library.proofs.Checking.{among_means}
@@ -94,27 +91,26 @@ module _ (first n k : ℕ) where
   unfolding block_among
   among_false h l = rw (le-leb first k h) (le-ltb (k - first) (room_of n) l)
 
-at_is : {k n k' n' : ℕ} → At k n ≡ At k' n' → (k ≡ k') × (n ≡ n')
-at_is e = (cc, cc)
-
-of_is : {i u i' u' : ℕ} → Of i u ≡ Of i' u' → (i ≡ i') × (u ≡ u')
-of_is e = (cc, cc)
+of_is : {i u i' u' : ℕ} → held_by i u ≡ held_by i' u' → (i ≡ i') × (u ≡ u')
+of_is {i} {u} {i'} {u'} e =
+    let same : ◌≡◌ {A = Holder} (record { identifier = i; used = u }) (record { identifier = i'; used = u' }) = cc in
+    (ap (λ (h : Holder). h.identifier) same, ap (λ (h : Holder). h.used) same)
 
 module _ (b : List ℕ) (total : ℕ) where
-  found_after : (id c low next p k n : ℕ) → index_good c low next p b total ≡ true → found id c p b ≡ At k n → next ≤ k
+  found_after : (id c low next p k n : ℕ) → index_good c low next p b total ≡ true → found id c p b ≡ placed k n → next ≤ k
   unfolding found
   found_after id zero low next p k n e g = absurd (let z : ◌≡◌ {A = ℕ} 0 1 = cc in omega arith)
   found_after id (suc c) low next p k n e g =
       let s = after_entry c low next p b total e in
       go (eqb (pair_at b p) id) g s.0 (found_after id c (pair_at b p + 1) (next + room_of (pair_at b (p + 4))) (p + 8) k n s.1)
     where
-      go : (t : Bool) → whichever t (At (pair_at b (p + 2)) (pair_at b (p + 4))) (found id c (p + 8) b) ≡ At k n → Sound low next p b
-          → (found id c (p + 8) b ≡ At k n → next + room_of (pair_at b (p + 4)) ≤ k) → next ≤ k
-      go true g s rest = let h = (at_is g).0 in let r = s.follows in omega arith
+      go : (t : Bool) → whichever t (placed (pair_at b (p + 2)) (pair_at b (p + 4))) (found id c (p + 8) b) ≡ placed k n → Sound low next p b
+          → (found id c (p + 8) b ≡ placed k n → next + room_of (pair_at b (p + 4)) ≤ k) → next ≤ k
+      go true g s rest = let h = (placed_is g).0 in let r = s.follows in omega arith
       go false g s rest = let h = rest g in omega arith
 
-  found_holds : (id c low next p k n j : ℕ) → index_good c low next p b total ≡ true → found id c p b ≡ At k n → j < room_of n
-      → holder_of (k + j) c p b ≡ Of id (4 * first_part (n - 126 * j))
+  found_holds : (id c low next p k n j : ℕ) → index_good c low next p b total ≡ true → found id c p b ≡ placed k n → j < room_of n
+      → holder_of (k + j) c p b ≡ held_by id (4 * first_part (n - 126 * j))
   unfolding found holder_of
   found_holds id zero low next p k n j e g h = absurd (let z : ◌≡◌ {A = ℕ} 0 1 = cc in omega arith)
   found_holds id (suc c) low next p k n j e g h =
@@ -124,15 +120,15 @@ module _ (b : List ℕ) (total : ℕ) where
       (λ g'. found_holds id c (pair_at b p + 1) next' (p + 8) k n j s.1 g' h)
     where
       go : (t : Bool) → eqb (pair_at b p) id ≡ t
-          → whichever t (At (pair_at b (p + 2)) (pair_at b (p + 4))) (found id c (p + 8) b) ≡ At k n → Sound low next p b
-          → (found id c (p + 8) b ≡ At k n → next + room_of (pair_at b (p + 4)) ≤ k)
-          → (found id c (p + 8) b ≡ At k n → holder_of (k + j) c (p + 8) b ≡ Of id (4 * first_part (n - 126 * j)))
+          → whichever t (placed (pair_at b (p + 2)) (pair_at b (p + 4))) (found id c (p + 8) b) ≡ placed k n → Sound low next p b
+          → (found id c (p + 8) b ≡ placed k n → next + room_of (pair_at b (p + 4)) ≤ k)
+          → (found id c (p + 8) b ≡ placed k n → holder_of (k + j) c (p + 8) b ≡ held_by id (4 * first_part (n - 126 * j)))
           → whichever (block_among (pair_at b (p + 2)) (pair_at b (p + 4)) (k + j))
-          (Of (pair_at b p) (4 * first_part (pair_at b (p + 4) - 126 * ((k + j) - pair_at b (p + 2)))))
+          (held_by (pair_at b p) (4 * first_part (pair_at b (p + 4) - 126 * ((k + j) - pair_at b (p + 2)))))
           (holder_of (k + j) c (p + 8) b)
-          ≡ Of id (4 * first_part (n - 126 * j))
+          ≡ held_by id (4 * first_part (n - 126 * j))
       go true q g s later rest =
-          let same = at_is g in
+          let same = placed_is g in
           let first = same.0 in
           let words = same.1 in
           let same_id = eqb-true (pair_at b p) id q in
@@ -145,8 +141,8 @@ module _ (b : List ℕ) (total : ℕ) where
           let other = among_false (pair_at b (p + 2)) (pair_at b (p + 4)) (k + j) (omega arith) (omega arith) in
           rw other (rest g)
 
-  holds_found : (c low next p k id used : ℕ) → index_good c low next p b total ≡ true → holder_of k c p b ≡ Of id used
-      → (first n j : ℕ) × (found id c p b ≡ At first n) × (j < room_of n) × (k ≡ first + j) × (used ≡ 4 * first_part (n - 126 * j))
+  holds_found : (c low next p k id used : ℕ) → index_good c low next p b total ≡ true → holder_of k c p b ≡ held_by id used
+      → (first n j : ℕ) × (found id c p b ≡ placed first n) × (j < room_of n) × (k ≡ first + j) × (used ≡ 4 * first_part (n - 126 * j))
   unfolding holder_of
   holds_found zero low next p k id used e g = absurd (let z : ◌≡◌ {A = ℕ} 0 1 = cc in omega arith)
   holds_found (suc c) low next p k id used e g =
@@ -155,12 +151,12 @@ module _ (b : List ℕ) (total : ℕ) where
       (λ g'. holds_found c (pair_at b p + 1) (next + room_of (pair_at b (p + 4))) (p + 8) k id used s.1 g')
     where
       go : (t : Bool) → block_among (pair_at b (p + 2)) (pair_at b (p + 4)) k ≡ t
-          → whichever t (Of (pair_at b p) (4 * first_part (pair_at b (p + 4) - 126 * (k - pair_at b (p + 2))))) (holder_of k c (p + 8) b)
-          ≡ Of id used
-          → (holder_of k c (p + 8) b ≡ Of id used
-          → (first n j : ℕ) × (found id c (p + 8) b ≡ At first n) × (j < room_of n) × (k ≡ first + j)
+          → whichever t (held_by (pair_at b p) (4 * first_part (pair_at b (p + 4) - 126 * (k - pair_at b (p + 2))))) (holder_of k c (p + 8) b)
+          ≡ held_by id used
+          → (holder_of k c (p + 8) b ≡ held_by id used
+          → (first n j : ℕ) × (found id c (p + 8) b ≡ placed first n) × (j < room_of n) × (k ≡ first + j)
           × (used ≡ 4 * first_part (n - 126 * j)))
-          → (first n j : ℕ) × (found id (suc c) p b ≡ At first n) × (j < room_of n) × (k ≡ first + j)
+          → (first n j : ℕ) × (found id (suc c) p b ≡ placed first n) × (j < room_of n) × (k ≡ first + j)
           × (used ≡ 4 * first_part (n - 126 * j))
       go true q g rest =
           let same = of_is g in
@@ -180,29 +176,29 @@ module _ (b : List ℕ) (total : ℕ) where
 
 -- ---- the reader and the check of blocks
 not_whole : (t u v : Bool) (n : ℕ)
-    → whichever t (whichever u (whichever v (answer.Words n) (answer.NoRoom n)) answer.Malformed) answer.Damaged ≡ answer.Damaged
+    → ◌≡◌ {A = Fetched} (whichever t (whichever u (whichever v (Ok n) (Err (error.NoRoom n))) (Err error.Malformed)) (Err error.Damaged)) (Err error.Damaged)
     → t ≡ false
 not_whole false u v n e = refl
 not_whole true false v n e = absurd (let z : ◌≡◌ {A = ℕ} 0 1 = cc in omega arith)
 not_whole true true false n e = absurd (let z : ◌≡◌ {A = ℕ} 0 1 = cc in omega arith)
 not_whole true true true n e = absurd (let z : ◌≡◌ {A = ℕ} 0 1 = cc in omega arith)
 
-costs_is : {i j : ℕ} → Costs i ≡ Costs j → i ≡ j
+costs_is : {i j : ℕ} → ◌≡◌ {A = Checked} (Ok (Some i)) (Ok (Some j)) → i ≡ j
 costs_is e = cc
 
 -- a block that costs a description is held by it, and is damaged
-held_costs_is : (h : Holder) (k : ℕ) (f : List ℕ) (id : ℕ) → checked_in h k f ≡ Costs id
-    → (used : ℕ) × (h ≡ Of id used) × (intact used k (block_of k f) ≡ false)
+held_costs_is : (h : Option Holder) (k : ℕ) (f : List ℕ) (id : ℕ) → checked_in h k f ≡ Ok (Some id)
+    → (used : ℕ) × (h ≡ held_by id used) × (intact used k (block_of k f) ≡ false)
 unfolding checked_in
-held_costs_is Nobody k f id e = absurd (let z : ◌≡◌ {A = ℕ} 0 1 = cc in omega arith)
-held_costs_is (Of i used) k f id e = go (intact used k (block_of k f)) refl e
+held_costs_is None k f id e = absurd (let z : ◌≡◌ {A = ℕ} 0 1 = cc in omega arith)
+held_costs_is (Some h) k f id e = go h.identifier h.used (intact h.used k (block_of k f)) refl e
   where
-    go : (t : Bool) → intact used k (block_of k f) ≡ t → whichever t Whole (Costs i) ≡ Costs id
-        → (v : ℕ) × (Of i used ≡ Of id v) × (intact v k (block_of k f) ≡ false)
-    go true q e = absurd (let z : ◌≡◌ {A = ℕ} 0 1 = cc in omega arith)
-    go false q e = (used, ap (λ (j : ℕ). Of j used) (costs_is e), q)
+    go : (i used : ℕ) (t : Bool) → intact used k (block_of k f) ≡ t → ◌≡◌ {A = Checked} (whichever t (Ok None) (Ok (Some i))) (Ok (Some id))
+        → (v : ℕ) × (held_by i used ≡ held_by id v) × (intact v k (block_of k f) ≡ false)
+    go i used true q e = absurd (let z : ◌≡◌ {A = ℕ} 0 1 = cc in omega arith)
+    go i used false q e = (used, ap (λ (j : ℕ). held_by j used) (costs_is e), q)
 
-module _ (f : List ℕ) (count : ℕ) (good : index_of f ≡ Good count) where
+module _ (f : List ℕ) (count : ℕ) (good : index_of f ≡ Ok count) where
   checks : (k : ℕ) → block_checked k f ≡ held_checked k count f
   unfolding block_checked checked_by
   checks k = ap (λ (x : Index). checked_by x k f) good
@@ -211,23 +207,23 @@ module _ (f : List ℕ) (count : ℕ) (good : index_of f ≡ Good count) where
   unfolding fetch_answer fetch_answer_by
   reads id room = ap (λ (x : Index). fetch_answer_by x id f room) good
 
-  later_costs : (k id : ℕ) → held_checked k count f ≡ Costs id → checked_in (holder_of k count 2 (block_of 0 f)) k f ≡ Costs id
+  later_costs : (k id : ℕ) → held_checked k count f ≡ Ok (Some id) → checked_in (holder_of k count 2 (block_of 0 f)) k f ≡ Ok (Some id)
   unfolding held_checked
   later_costs k id e = go (eqb k 0) e
     where
-      go : (t : Bool) → whichever t Whole (checked_in (holder_of k count 2 (block_of 0 f)) k f) ≡ Costs id
-          → checked_in (holder_of k count 2 (block_of 0 f)) k f ≡ Costs id
+      go : (t : Bool) → whichever t (Ok None) (checked_in (holder_of k count 2 (block_of 0 f)) k f) ≡ Ok (Some id)
+          → checked_in (holder_of k count 2 (block_of 0 f)) k f ≡ Ok (Some id)
       go true e = absurd (let z : ◌≡◌ {A = ℕ} 0 1 = cc in omega arith)
       go false e = e
 
-  damaged_found : (id room first n : ℕ) → sought id count f ≡ At first n → whole_blocks (room_of n) first n f ≡ false
-      → fetch_answer f id room ≡ answer.Damaged
+  damaged_found : (id room first n : ℕ) → sought id count f ≡ placed first n → whole_blocks (room_of n) first n f ≡ false
+      → fetch_answer f id room ≡ Err error.Damaged
   unfolding fetch_answer_found fetch_answer_at
   damaged_found id room first n g w =
-      reads id room ∙ ap (λ (x : Found). fetch_answer_found x f room) g ∙ rw w
+      reads id room ∙ ap (λ (x : Option Place). fetch_answer_found x f room) g ∙ rw w
 
   -- a block that is said to cost a description makes its reading give 44
-  pub costs_read : (k id room : ℕ) → block_checked k f ≡ Costs id → fetch_answer f id room ≡ answer.Damaged
+  pub costs_read : (k id room : ℕ) → block_checked k f ≡ Ok (Some id) → fetch_answer f id room ≡ Err error.Damaged
   costs_read k id room e =
       let b = block_of 0 f in
       let total = length f / 512 in
@@ -241,23 +237,25 @@ module _ (f : List ℕ) (count : ℕ) (good : index_of f ≡ Good count) where
       ∙ ap (λ (i : ℕ). intact h.0 i (block_of i f)) (sym d.5) ∙ h.2 in
       damaged_found id room first n d.3 (spoils_some f (room_of n) first n j d.4 spoils)
 
-  held_damaged : (k id used : ℕ) → 0 < k → holder_of k count 2 (block_of 0 f) ≡ Of id used → intact used k (block_of k f) ≡ false
-      → block_checked k f ≡ Costs id
+  held_damaged : (k id used : ℕ) → 0 < k → holder_of k count 2 (block_of 0 f) ≡ held_by id used → intact used k (block_of k f) ≡ false
+      → block_checked k f ≡ Ok (Some id)
   unfolding held_checked checked_in
   held_damaged k id used h o s = checks k ∙ (let later = ne_eqb k 0 (λ z. omega arith) in rw later (rw o (rw s)))
 
   -- and where reading one gives 44, some block is said to cost it
-  pub read_costs : (id room : ℕ) → fetch_answer f id room ≡ answer.Damaged → (k : ℕ) × (block_checked k f ≡ Costs id)
+  pub read_costs : (id room : ℕ) → fetch_answer f id room ≡ Err error.Damaged → (k : ℕ) × (block_checked k f ≡ Ok (Some id))
   unfolding fetch_answer_found fetch_answer_at
   read_costs id room e = go (sought id count f) refl (sym (reads id room) ∙ e)
     where
-      unfolds : (k n : ℕ) → fetch_answer_found (At k n) f room ≡ answer.Damaged → whole_blocks (room_of n) k n f ≡ false
+      unfolds : (k n : ℕ) → fetch_answer_found (placed k n) f room ≡ Err error.Damaged → whole_blocks (room_of n) k n f ≡ false
       unfolds k n e = not_whole (whole_blocks (room_of n) k n f) (imaged (words_from k 0 n f)) (leb n room) n e
 
-      go : (x : Found) → sought id count f ≡ x → fetch_answer_found x f room ≡ answer.Damaged
-          → (k : ℕ) × (block_checked k f ≡ Costs id)
-      go Absent g e = absurd (let z : ◌≡◌ {A = ℕ} 0 1 = cc in omega arith)
-      go (At first n) g e =
+      go : (x : Option Place) → sought id count f ≡ x → fetch_answer_found x f room ≡ Err error.Damaged
+          → (k : ℕ) × (block_checked k f ≡ Ok (Some id))
+      go None g e = absurd (let z : ◌≡◌ {A = ℕ} 0 1 = cc in omega arith)
+      go (Some p) g e =
+          let first = p.first in
+          let n = p.words in
           let b = block_of 0 f in
           let total = length f / 512 in
           let entries = (goes f count (sym good)).entries in

@@ -12,16 +12,14 @@ use lib.Dec.{eqb, leb}
 use borrow.Author.Tests.{eq-eqb}
 use Rattle.blocks.specs.Block.{whichever, pair, pair_at, intact, block, check, filled, block_of}
 use Rattle.blocks.proofs.Whole.{pair_back, block_intact}
-use Rattle.library.specs.Index.{room_of, used_by, entry_good, index_good, found, start_of, index_of}
+use Rattle.library.specs.Index.{room_of, used_by, entry_good, index_good, Index, placed, found, start_of, index_of}
 use Rattle.library.specs.File.{LibraryEntry, ProperEntry, Sorted, Library, bodies, index_bytes, file, description_blocks, words_under, list_of}
 use Rattle.library.specs.Read.{words_from, whole_blocks, imaged, fetch_answer_at, fetch_answer_found, fetch_answer_by, fetch_answer, sought, words_found, words_by, words_asked}
 use Rattle.library.specs.Contents.{listing}
 use Rattle.library.specs.List.{list_answer_of, list_answer_by, list_answer, list_by}
-use Rattle.library.specs.declared.index.Index.{Index}
-use Rattle.library.specs.declared.index.Index.TheVariants.{Good}
-use Rattle.library.specs.declared.index.Found.{Found}
-use Rattle.library.specs.declared.index.Found.TheVariants.{At, Absent}
-use Rattle.library.specs.declared.read.Fetched.TheVariants as answer
+use Rattle.std.specs.Prelude.{Option, None, Ok, Err}
+use Rattle.library.specs.declared.index.Place.{Place}
+use Rattle.library.specs.declared.read.ReadError.TheVariants as error
 use Rattle.library.proofs.Indices.{used_within, entry_last, start_good, index_start}
 use Rattle.library.proofs.Sizes.{rooms, rooms_few, index_length, start_size, file_size}
 use Rattle.library.proofs.Words.{behind}
@@ -29,9 +27,9 @@ use Rattle.library.proofs.Chunks.{blocks_read, description_length}
 use Rattle.library.proofs.Order.{image_imaged}
 
 -- ---- the index of what was written
-unfoldable place_of : ℕ → ℕ → List LibraryEntry → Found
-place_of id next [] = Absent
-place_of id next (e ∷ l) = whichever (eqb e.0 id) (At next (length e.1)) (place_of id (next + room_of (length e.1)) l)
+unfoldable place_of : ℕ → ℕ → List LibraryEntry → Option Place
+place_of id next [] = None
+place_of id next (e ∷ l) = whichever (eqb e.0 id) (placed next (length e.1)) (place_of id (next + room_of (length e.1)) l)
 
 -- the first entry's four numbers
 record Four (b : List ℕ) (p id next words : ℕ) : Type 0 where
@@ -167,7 +165,7 @@ module _ (l : List LibraryEntry) (library : Library l) where
       let u : used_by (pair_at start 0) ≡ length c = ap used_by counts ∙ sym (used_within (length l) library.few) ∙ sym used in
       ap (λ (n : ℕ). intact n 0 start) u ∙ block_intact c 0 fits (omega arith)
 
-  pub index_written : index_of (file l) ≡ Good (length l)
+  pub index_written : index_of (file l) ≡ Ok (length l)
   index_written =
       let n = file_length in
       let t = total_low in
@@ -176,7 +174,7 @@ module _ (l : List LibraryEntry) (library : Library l) where
       let d : length (file l) / 512 ≡ total = omega arith in
       sym (index_start (file l) (omega arith) (λ z. some_total (omega arith)))
       ∙ ap (λ (b : List ℕ). start_of b (length (file l) / 512)) first_is ∙ ap (start_of start) d
-      ∙ sym (start_good start total whole (omega arith) (ap (λ (m : ℕ). index_good m 0 1 2 start total) counts ∙ starts.good)) ∙ ap Good counts
+      ∙ sym (start_good start total whole (omega arith) (ap (λ (m : ℕ). index_good m 0 1 2 start total) counts ∙ starts.good)) ∙ ap (λ (n : ℕ). Ok n) counts
 
   -- listing what was written gives each entry's identifier and number of words, or tells the need
   pub list_written : (room : ℕ) → (list_answer (file l) room ≡ list_answer_of (length l) room) × (list_by (index_of (file l)) (file l) ≡ list_of l)
@@ -190,7 +188,7 @@ module _ (l : List LibraryEntry) (library : Library l) where
 -- where the words of an identifier stand in f
 record Held (id next : ℕ) (l : List LibraryEntry) (ws f : List ℕ) : Type 0 where
   at : ℕ
-  place : place_of id next l ≡ At at (length ws)
+  place : place_of id next l ≡ placed at (length ws)
   intacts : whole_blocks (room_of (length ws)) at (length ws) f ≡ true
   reads : words_from at 0 (length ws) f ≡ ws
   judged : imaged ws ≡ true
@@ -234,13 +232,13 @@ held id next (e ∷ l) low pre post ws s h t g = go (eqb e.0 id) refl g
     go true q g rest = held_first id next e l low pre post ws s.0 h t q (some_is g)
     go false q g rest = held_later id next e l pre post ws q (rest g)
 
-no_place : (id next : ℕ) (l : List LibraryEntry) → words_under id l ≡ none → place_of id next l ≡ Absent
+no_place : (id next : ℕ) (l : List LibraryEntry) → words_under id l ≡ none → place_of id next l ≡ None
 unfolding words_under place_of
 no_place id next [] g = refl
 no_place id next (e ∷ l) g = go (eqb e.0 id) g (no_place id (next + room_of (length e.1)) l)
   where
-    go : (q : Bool) → whichever q (some e.1) (words_under id l) ≡ none → (words_under id l ≡ none → place_of id (next + room_of (length e.1)) l ≡ Absent)
-        → whichever q (At next (length e.1)) (place_of id (next + room_of (length e.1)) l) ≡ Absent
+    go : (q : Bool) → whichever q (some e.1) (words_under id l) ≡ none → (words_under id l ≡ none → place_of id (next + room_of (length e.1)) l ≡ None)
+        → whichever q (placed next (length e.1)) (place_of id (next + room_of (length e.1)) l) ≡ None
     go true g rest = absurd (let z : ◌≡◌ {A = ℕ} 0 1 = cc in omega arith)
     go false g rest = rest g
 
@@ -251,7 +249,7 @@ module _ (l : List LibraryEntry) (library : Library l) (id : ℕ) where
 
   asks : (room : ℕ) → fetch_answer (file l) id room ≡ fetch_answer_found (place_of id 1 l) (file l) room
   unfolding fetch_answer fetch_answer_by
-  asks room = ap (λ (x : Index). fetch_answer_by x id (file l) room) (index_written l library) ∙ ap (λ (x : Found). fetch_answer_found x (file l) room) seeks
+  asks room = ap (λ (x : Index). fetch_answer_by x id (file l) room) (index_written l library) ∙ ap (λ (x : Option Place). fetch_answer_found x (file l) room) seeks
 
   holds : (ws : List ℕ) → words_under id l ≡ some ws → Held id 1 l ws (file l)
   unfolding file start total
@@ -262,18 +260,18 @@ module _ (l : List LibraryEntry) (library : Library l) (id : ℕ) where
 
   -- an identifier of the library is read back word for word, or its need is told
   pub read_written : (room : ℕ) (ws : List ℕ) → words_under id l ≡ some ws
-      → (fetch_answer (file l) id room ≡ whichever (leb (length ws) room) (answer.Words (length ws)) (answer.NoRoom (length ws))) × (words_asked (file l) id ≡ ws)
+      → (fetch_answer (file l) id room ≡ whichever (leb (length ws) room) (Ok (length ws)) (Err (error.NoRoom (length ws)))) × (words_asked (file l) id ≡ ws)
   unfolding fetch_answer_found fetch_answer_at words_asked words_by words_found
   read_written room ws g =
       let h = holds ws g in
       let w = h.intacts in
       let r = h.reads in
       let j = h.judged in (
-        asks room ∙ ap (λ (x : Found). fetch_answer_found x (file l) room) h.place ∙ rw w (rw r (rw j)),
-        ap (λ (x : Index). words_by x id (file l)) (index_written l library) ∙ ap (λ (x : Found). words_found x (file l)) (seeks ∙ h.place) ∙ r,
+        asks room ∙ ap (λ (x : Option Place). fetch_answer_found x (file l) room) h.place ∙ rw w (rw r (rw j)),
+        ap (λ (x : Index). words_by x id (file l)) (index_written l library) ∙ ap (λ (x : Option Place). words_found x (file l)) (seeks ∙ h.place) ∙ r,
       )
 
   -- and any other is refused by 43
-  pub read_absent : (room : ℕ) → words_under id l ≡ none → fetch_answer (file l) id room ≡ answer.Absent
+  pub read_absent : (room : ℕ) → words_under id l ≡ none → fetch_answer (file l) id room ≡ Err error.Absent
   unfolding fetch_answer_found
-  read_absent room g = asks room ∙ ap (λ (x : Found). fetch_answer_found x (file l) room) (no_place id 1 l g)
+  read_absent room g = asks room ∙ ap (λ (x : Option Place). fetch_answer_found x (file l) room) (no_place id 1 l g)

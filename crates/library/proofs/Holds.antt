@@ -9,16 +9,14 @@ use lib.ListN.{length}
 use Rattle.blocks.specs.Block.{pair_at, block_of}
 use Rattle.blocks.specs.Byte.{Bytes}
 use Rattle.blocks.proofs.Whole.{bytes_take}
-use Rattle.library.specs.Index.{room_of, index_good, found, index_of}
+use Rattle.library.specs.Index.{room_of, index_good, Index, placed, found, index_of}
 use Rattle.library.specs.File.{Narrow, Sorted, Library, list_of}
 use Rattle.library.specs.Read.{words_from, imaged, sought, fetch_answer, words_found, words_by, words_asked}
 use Rattle.library.specs.List.{list_by}
 use Rattle.library.specs.Contents.{entries_from, contents, listing, words_in_order, words_listed}
 use Rattle.library.specs.Told.{fetch_number}
-use Rattle.library.specs.declared.index.Index.{Index}
-use Rattle.library.specs.declared.index.Index.TheVariants.{Good}
-use Rattle.library.specs.declared.index.Found.{Found}
-use Rattle.library.specs.declared.index.Found.TheVariants.{At}
+use Rattle.std.specs.Prelude.{Option, Ok}
+use Rattle.library.specs.declared.index.Place.{Place}
 use Rattle.library.proofs.Reading.{words_length}
 use Rattle.library.proofs.Good.{goes, after_entry}
 use Rattle.library.proofs.Order.{imaged_image}
@@ -38,7 +36,7 @@ module _ (f : List ℕ) (bytes : Bytes f) where
 
   module _ (b : List ℕ) (byte : Bytes b) (total : ℕ) where
     sorted : (c low next p : ℕ) → index_good c low next p b total ≡ true
-        → ((id k n : ℕ) → found id c p b ≡ At k n → imaged (words_from k 0 n f) ≡ true) → Sorted low (entries_from c p b f)
+        → ((id k n : ℕ) → found id c p b ≡ placed k n → imaged (words_from k 0 n f) ≡ true) → Sorted low (entries_from c p b f)
     unfolding entries_from
     sorted zero low next p e h = tt
     sorted (suc c) low next p e h =
@@ -74,7 +72,7 @@ module _ (f b : List ℕ) where
       rw more (rw size)
 
   words_are : (total c low next p : ℕ) → index_good c low next p b total ≡ true
-      → ((id k n : ℕ) → found id c p b ≡ At k n → words_asked f id ≡ words_from k 0 n f)
+      → ((id k n : ℕ) → found id c p b ≡ placed k n → words_asked f id ≡ words_from k 0 n f)
       → words_listed (list_of (entries_from c p b f)) f ≡ words_in_order (entries_from c p b f)
   unfolding entries_from list_of words_listed words_in_order
   words_are total zero low next p e h = refl
@@ -88,10 +86,10 @@ module _ (f b : List ℕ) where
       rw here (rw more)
 
 -- ---- the whole file
-module _ (f : List ℕ) (count : ℕ) (good : index_of f ≡ Good count) where
-  asked_found : (id k n : ℕ) → sought id count f ≡ At k n → words_asked f id ≡ words_from k 0 n f
+module _ (f : List ℕ) (count : ℕ) (good : index_of f ≡ Ok count) where
+  asked_found : (id k n : ℕ) → sought id count f ≡ placed k n → words_asked f id ≡ words_from k 0 n f
   unfolding words_asked words_by words_found
-  asked_found id k n g = ap (λ (x : Index). words_by x id f) good ∙ ap (λ (x : Found). words_found x f) g
+  asked_found id k n g = ap (λ (x : Index). words_by x id f) good ∙ ap (λ (x : Option Place). words_found x f) g
 
   pub list_contents : list_by (index_of f) f ≡ list_of (contents count f)
   unfolding list_by
@@ -100,7 +98,7 @@ module _ (f : List ℕ) (count : ℕ) (good : index_of f ≡ Good count) where
   pub words_contents : words_listed (list_of (contents count f)) f ≡ words_in_order (contents count f)
   words_contents = words_are f (block_of 0 f) (length f / 512) count 0 1 2 (goes f count (sym good)).entries asked_found
 
-  pub contents_library : Bytes f → ((id k n : ℕ) → sought id count f ≡ At k n → fetch_number (fetch_answer f id n) ≡ 0)
+  pub contents_library : Bytes f → ((id k n : ℕ) → sought id count f ≡ placed k n → fetch_number (fetch_answer f id n) ≡ 0)
       → Library (contents count f)
   contents_library bytes reads =
       let o = goes f count (sym good) in

@@ -3,16 +3,18 @@
 use Prim.Native.Nat.{ℕ, zero, suc, ◌+◌, ◌*◌, ◌-◌, ◌/◌, ◌%◌, ◌≤◌, ◌<◌}
 use native.Mathlib.Numerals.{sub-one}
 use native.Mathlib.Nat.{not-suc-le-zero}
-use mathlib.Core.Path.{◌≡◌, refl}
+use mathlib.Core.Path.{◌≡◌, refl, ap}
+use native.Mathlib.Omega.{arith}
+use Rattle.library.specs.declared.index.Place.{Place}
 use mathlib.Core.Bool.{true, false}
 use mathlib.Core.List.{List}
 use lib.ListN.{length}
 use lib.Dec.{eqb}
 use borrow.Author.Tests.{eq-eqb, ne_eqb, le-leb, lt-leb}
 use Rattle.blocks.specs.Block.{pair_at, intact, block_of}
-use Rattle.library.specs.Index.{room_of, used_by, entry_good, index_good, found, start_of, index_of}
-use Rattle.library.specs.declared.index.Index.TheVariants.{Good, BadLength, BadStart, BadIndex}
-use Rattle.library.specs.declared.index.Found.TheVariants.{At, Absent}
+use Rattle.library.specs.Index.{room_of, used_by, entry_good, index_good, found, placed, start_of, index_of}
+use Rattle.std.specs.Prelude.{None, Ok, Err}
+use Rattle.library.specs.declared.index.IndexError.TheVariants.{BadLength, BadStart, BadIndex}
 
 pub used_over : (n : ℕ) → 60 < n → 506 ≡ used_by n
 unfolding used_by
@@ -60,8 +62,21 @@ unfolding index_good
 index_done zero low next p b total h = refl
 index_done (suc c) low next p b total h = absurd (not-suc-le-zero h)
 
+pub placed_is : {k n k' n' : ℕ} → placed k n ≡ placed k' n' → (k ≡ k') × (n ≡ n')
+placed_is {k} {n} {k'} {n'} e =
+    let same : ◌≡◌ {A = Place} (record { first = k; words = n }) (record { first = k'; words = n' }) = cc in
+    (ap (λ (p : Place). p.first) same, ap (λ (p : Place). p.words) same)
+
+-- what is left to do from the entry after entry i
+pub next_entry : {A : Type 0} (left : ℕ → ℕ → A) (count i : ℕ)
+    → left (count - i - 1) ((2 + 8 * i) + 8) ≡ left (count - (i + 1)) (2 + 8 * (i + 1))
+next_entry left count i =
+    let fewer : count - i - 1 ≡ count - (i + 1) = omega arith in
+    let after : (2 + 8 * i) + 8 ≡ 2 + 8 * (i + 1) = omega arith in
+    rw fewer (rw after)
+
 module _ (id : ℕ) where
-  pub found_here : (c p : ℕ) (b : List ℕ) → 0 < c → pair_at b p ≡ id → At (pair_at b (p + 2)) (pair_at b (p + 4)) ≡ found id c p b
+  pub found_here : (c p : ℕ) (b : List ℕ) → 0 < c → pair_at b p ≡ id → placed (pair_at b (p + 2)) (pair_at b (p + 4)) ≡ found id c p b
   unfolding found
   found_here zero p b h e = absurd (not-suc-le-zero h)
   found_here (suc c) p b h e = simp (eq-eqb _ _ e)
@@ -71,34 +86,34 @@ module _ (id : ℕ) where
   found_step zero p b h e = absurd (not-suc-le-zero h)
   found_step (suc c) p b h e = simp (ne_eqb _ _ e) (rw sub-one)
 
-  pub found_none : (c p : ℕ) (b : List ℕ) → c ≤ 0 → Absent ≡ found id c p b
+  pub found_none : (c p : ℕ) (b : List ℕ) → c ≤ 0 → None ≡ found id c p b
   unfolding found
   found_none zero p b h = refl
   found_none (suc c) p b h = absurd (not-suc-le-zero h)
 
 module _ (b : List ℕ) (total : ℕ) where
-  pub start_bad : intact (used_by (pair_at b 0)) 0 b ≡ false → BadStart ≡ start_of b total
+  pub start_bad : intact (used_by (pair_at b 0)) 0 b ≡ false → Err BadStart ≡ start_of b total
   unfolding start_of
   start_bad e = rw e
 
-  pub start_over : intact (used_by (pair_at b 0)) 0 b ≡ true → 60 < pair_at b 0 → BadIndex ≡ start_of b total
+  pub start_over : intact (used_by (pair_at b 0)) 0 b ≡ true → 60 < pair_at b 0 → Err BadIndex ≡ start_of b total
   unfolding start_of
   start_over e h = rw e (simp (lt-leb _ _ h))
 
-  pub start_broken : intact (used_by (pair_at b 0)) 0 b ≡ true → pair_at b 0 ≤ 60 → index_good (pair_at b 0) 0 1 2 b total ≡ false → BadIndex ≡ start_of b total
+  pub start_broken : intact (used_by (pair_at b 0)) 0 b ≡ true → pair_at b 0 ≤ 60 → index_good (pair_at b 0) 0 1 2 b total ≡ false → Err BadIndex ≡ start_of b total
   unfolding start_of
   start_broken e h g = rw e (rw (le-leb _ _ h) (rw g))
 
-  pub start_good : intact (used_by (pair_at b 0)) 0 b ≡ true → pair_at b 0 ≤ 60 → index_good (pair_at b 0) 0 1 2 b total ≡ true → Good (pair_at b 0) ≡ start_of b total
+  pub start_good : intact (used_by (pair_at b 0)) 0 b ≡ true → pair_at b 0 ≤ 60 → index_good (pair_at b 0) 0 1 2 b total ≡ true → Ok (pair_at b 0) ≡ start_of b total
   unfolding start_of
   start_good e h g = rw e (rw (le-leb _ _ h) (rw g))
 
 module _ (f : List ℕ) where
-  pub index_odd : (length f % 512 ≡ 0 → ⊥) → BadLength ≡ index_of f
+  pub index_odd : (length f % 512 ≡ 0 → ⊥) → Err BadLength ≡ index_of f
   unfolding index_of
   index_odd h = simp (ne_eqb _ _ h)
 
-  pub index_empty : length f % 512 ≡ 0 → length f ≡ 0 → BadLength ≡ index_of f
+  pub index_empty : length f % 512 ≡ 0 → length f ≡ 0 → Err BadLength ≡ index_of f
   unfolding index_of
   index_empty h e = simp (eq-eqb _ _ h, eq-eqb _ _ e)
 

@@ -11,10 +11,10 @@ use borrow.Author.Tests.{le-leb, lt-leb}
 use Rattle.blocks.specs.Block.{pair_at, block_of}
 use Rattle.library.specs.Index.{index_of}
 use Rattle.library.specs.Contents.{listing}
-use Rattle.library.specs.List.{list_answer_of, list_answer_by, list_answer, list_by, ListsEntries, ListsLibrary}
-use Rattle.library.specs.declared.index.Index.TheVariants as index
-use Rattle.library.specs.declared.list.Listed.{Listed}
-use Rattle.library.specs.declared.list.Listed.TheVariants.{Entries, NoRoom, BadIndex, BadStart, BadLength}
+use Rattle.library.specs.List.{Listed, list_answer_of, list_answer_by, list_answer, list_by, ListsEntries, ListsLibrary}
+use Rattle.std.specs.Prelude.{Ok, Err}
+use Rattle.library.specs.declared.index.IndexError.{IndexError}
+use Rattle.library.specs.declared.list.ListError.TheVariants as error
 
 module _ (b : List ℕ) where
   list_length : (c p : ℕ) → length (listing c p b) ≡ 2 * c
@@ -37,10 +37,10 @@ module _ (b : List ℕ) where
   list_none dst = refl
 
   pub list_step : (i : ℕ) (dst dst₀ : List ℕ) → 2 * i + 1 < length dst₀ → dst ≡ listing i 2 b ++ drop (2 * i) dst₀
-      → set (set dst (2 * i) (pair_at b (8 * i + 2))) (2 * i + 1) (pair_at b (8 * i + 6)) ≡ listing (i + 1) 2 b ++ drop (2 * (i + 1)) dst₀
+      → set (set dst (2 * i) (pair_at b (2 + 8 * i))) (2 * i + 1) (pair_at b ((2 + 8 * i) + 4)) ≡ listing (i + 1) 2 b ++ drop (2 * (i + 1)) dst₀
   list_step i dst dst₀ h e =
-      let x = pair_at b (8 * i + 2) in
-      let y = pair_at b (8 * i + 6) in
+      let x = pair_at b (2 + 8 * i) in
+      let y = pair_at b ((2 + 8 * i) + 4) in
       let front = listing i 2 b in
       let d₀ = get_or dst₀ (2 * i) 0 in
       let d₁ = get_or dst₀ (2 * i + 1) 0 in
@@ -53,34 +53,24 @@ module _ (b : List ℕ) where
       let one : set dst (2 * i) x ≡ front ++ x ∷ d₁ ∷ tail = ap (λ (l : List ℕ). set l (2 * i) x) (e ∙ ap (λ (l : List ℕ). front ++ l) rest) ∙ set_at front d₀ (d₁ ∷ tail) x (2 * i) size in
       let apart : front ++ x ∷ d₁ ∷ tail ≡ (front ++ (x ∷ [])) ++ d₁ ∷ tail = sym (append_assoc front (x ∷ []) (d₁ ∷ tail)) in
       let two : set ((front ++ (x ∷ [])) ++ d₁ ∷ tail) (2 * i + 1) y ≡ (front ++ (x ∷ [])) ++ y ∷ tail = set_at (front ++ (x ∷ [])) d₁ tail y (2 * i + 1) (length-append front (x ∷ []) ∙ (omega arith)) in
-      let p : 2 + 8 * i ≡ 8 * i + 2 = omega arith in
-      let q : 2 + 8 * i + 4 ≡ 8 * i + 6 = omega arith in
-      let more : listing (i + 1) 2 b ≡ front ++ (x ∷ y ∷ []) = list_more i 2 ∙ rw q (rw p) in
+      let more : listing (i + 1) 2 b ≡ front ++ (x ∷ y ∷ []) = list_more i 2 in
       ap (λ (l : List ℕ). set l (2 * i + 1) y) (one ∙ apart) ∙ two ∙ append_assoc front (x ∷ []) (y ∷ tail)
       ∙ sym (append_assoc front (x ∷ y ∷ []) tail) ∙ ap (λ (l : List ℕ). l ++ tail) (sym more)
 
 module _ (count : ℕ) (f area area' : List ℕ) where
-  pub lists_short : length area < 2 * count → area' ≡ area → ListsEntries count f area area' (NoRoom (2 * count))
+  pub lists_short : length area < 2 * count → area' ≡ area → ListsEntries count f area area' (Err (error.NoRoom (2 * count)))
   unfolding list_answer_of
   lists_short h a = record { answer = rw (lt-leb _ _ h); leaves = a }
 
-  pub lists_all : 2 * count ≤ length area → area' ≡ listing count 2 (block_of 0 f) ++ drop (2 * count) area → ListsEntries count f area area' (Entries (2 * count))
+  pub lists_all : 2 * count ≤ length area → area' ≡ listing count 2 (block_of 0 f) ++ drop (2 * count) area → ListsEntries count f area area' (Ok (2 * count))
   unfolding list_answer_of
   lists_all h a = record { answer = rw (le-leb _ _ h); leaves = a }
 
 module _ (f area area' : List ℕ) where
-  pub lists_good : (count : ℕ) (r : Listed) → index.Good count ≡ index_of f → ListsEntries count f area area' r → ListsLibrary f area area' r
+  pub lists_good : (count : ℕ) (r : Listed) → Ok count ≡ index_of f → ListsEntries count f area area' r → ListsLibrary f area area' r
   unfolding list_answer list_answer_by list_by
   lists_good count r e s = record { answer = s.answer ∙ rw (← e); leaves = s.leaves ∙ rw (← e) }
 
-  pub lists_length : index.BadLength ≡ index_of f → area' ≡ area → ListsLibrary f area area' BadLength
+  pub lists_refused : (e : IndexError) → Err e ≡ index_of f → area' ≡ area → ListsLibrary f area area' (Err (error.Index e))
   unfolding list_answer list_answer_by
-  lists_length e a = record { answer = rw (← e); leaves = a }
-
-  pub lists_start : index.BadStart ≡ index_of f → area' ≡ area → ListsLibrary f area area' BadStart
-  unfolding list_answer list_answer_by
-  lists_start e a = record { answer = rw (← e); leaves = a }
-
-  pub lists_index : index.BadIndex ≡ index_of f → area' ≡ area → ListsLibrary f area area' BadIndex
-  unfolding list_answer list_answer_by
-  lists_index e a = record { answer = rw (← e); leaves = a }
+  lists_refused error e a = record { answer = rw (← e); leaves = a }

@@ -6,12 +6,10 @@ use mathlib.Core.Path.{◌≡◌, refl, sym, ap, ◌∙◌}
 use mathlib.Core.List.{List, ◌++◌}
 use lib.ListN.{length}
 use Rattle.blocks.specs.Block.{block_of}
-use Rattle.library.specs.Index.{room_of, first_part, index_of}
+use Rattle.library.specs.Index.{room_of, first_part, Index, index_of}
 use Rattle.library.specs.Read.{words_from, whole_blocks, fetch_answer_at, fetch_answer_found, sought, fetch_answer_by, fetch_answer, words_found, words_by, words_asked}
-use Rattle.library.specs.declared.index.Index.{Index}
-use Rattle.library.specs.declared.index.Index.TheVariants as index
-use Rattle.library.specs.declared.index.Found.{Found}
-use Rattle.library.specs.declared.index.Found.TheVariants as place
+use Rattle.std.specs.Prelude.{Option, Some, None, Ok, Err}
+use Rattle.library.specs.declared.index.Place.{Place}
 use Rattle.library.proofs.Words.{block_words, words_split}
 
 module _ (f g : List ℕ) where
@@ -34,38 +32,36 @@ module _ (f g : List ℕ) where
       ∙ ap (λ (l : List ℕ). block_words (first_part n) 0 (block_of k g) ++ l) (words_alike c (k + 1) (n - first_part n) (omega arith) a.1) ∙ sym (words_split g k n)
 
   -- the blocks of the description that was found are the same
-  abbrev pub Same : Found → Type 0
-  Same (place.At k n) = Alike (room_of n) k
-  Same place.Absent = Unit {0}
+  abbrev pub Same : Option Place → Type 0
+  Same (Some p) = Alike (room_of p.words) p.first
+  Same None = Unit {0}
 
   abbrev pub Agree : Index → ℕ → Type 0
-  Agree (index.Good count) id = Same (sought id count f)
-  Agree index.BadLength id = Unit {0}
-  Agree index.BadStart id = Unit {0}
-  Agree index.BadIndex id = Unit {0}
+  Agree (Ok count) id = Same (sought id count f)
+  Agree (Err e) id = Unit {0}
 
   module _ (size : length f ≡ length g) (start : block_of 0 f ≡ block_of 0 g) where
     index_alike : index_of f ≡ index_of g
     unfolding index_of
     index_alike = rw size (rw start)
 
-    found_alike : (x : Found) → Same x → (room : ℕ) → (fetch_answer_found x f room ≡ fetch_answer_found x g room) × (words_found x f ≡ words_found x g)
+    found_alike : (x : Option Place) → Same x → (room : ℕ) → (fetch_answer_found x f room ≡ fetch_answer_found x g room) × (words_found x f ≡ words_found x g)
     unfolding fetch_answer_found fetch_answer_at words_found
-    found_alike (place.At k n) a room =
+    found_alike (Some p) a room =
+        let k = p.first in
+        let n = p.words in
         let w = whole_alike (room_of n) k n a in
         let v = words_alike (room_of n) k n refl a in
         (rw w (rw v), v)
-    found_alike place.Absent a room = (refl, refl)
+    found_alike None a room = (refl, refl)
 
     by_index : (x : Index) (id room : ℕ) → Agree x id → (fetch_answer_by x id f room ≡ fetch_answer_by x id g room) × (words_by x id f ≡ words_by x id g)
     unfolding fetch_answer_by words_by
-    by_index (index.Good count) id room a =
+    by_index (Ok count) id room a =
         let e = found_alike (sought id count f) a room in
         let s : sought id count f ≡ sought id count g = rw start in
-        (e.0 ∙ ap (λ (x : Found). fetch_answer_found x g room) s, e.1 ∙ ap (λ (x : Found). words_found x g) s)
-    by_index index.BadLength id room a = (refl, refl)
-    by_index index.BadStart id room a = (refl, refl)
-    by_index index.BadIndex id room a = (refl, refl)
+        (e.0 ∙ ap (λ (x : Option Place). fetch_answer_found x g room) s, e.1 ∙ ap (λ (x : Option Place). words_found x g) s)
+    by_index (Err e) id room a = (refl, refl)
 
     pub read_local : (id room : ℕ) → Agree (index_of f) id → (fetch_answer f id room ≡ fetch_answer g id room) × (words_asked f id ≡ words_asked g id)
     unfolding fetch_answer words_asked

@@ -12,17 +12,13 @@ use lib.Seq.{set_at, take_at, drop-cons}
 use borrow.Author.Tests.{le-leb, lt-leb}
 use Rattle.blocks.specs.Block.{intact, block_of}
 use Rattle.layout.specs.Judged.{Judged}
-use Rattle.layout.specs.declared.reading.Judgement.{Judgement}
-use Rattle.layout.specs.declared.reading.Judgement.TheVariants.{Accepted}
-use Rattle.layout.specs.declared.reading.Judgement.TheVariants as judgement
-use Rattle.layout.proofs.Whole.{accepted_decodes, refused_decodes, malformed_apart}
-use Rattle.library.specs.Index.{first_part, room_of, index_of}
-use Rattle.library.specs.Read.{quad_at, words_from, whole_blocks, has_read, imaged, fetch_answer_at, fetch_answer_found, sought, fetch_answer_by, fetch_answer, words_found, words_by, words_asked, FetchesAt, FetchesFound, Fetches}
-use Rattle.library.specs.declared.index.Index.TheVariants as index
-use Rattle.library.specs.declared.index.Found.{Found}
-use Rattle.library.specs.declared.index.Found.TheVariants as place
-use Rattle.library.specs.declared.read.Fetched.{Fetched}
-use Rattle.library.specs.declared.read.Fetched.TheVariants.{Words, NoRoom, Malformed, Damaged, Absent, BadIndex, BadStart, BadLength}
+use Rattle.layout.proofs.Whole.{accepted_decodes, refused_decodes}
+use Rattle.library.specs.Index.{first_part, room_of, placed, index_of}
+use Rattle.library.specs.Read.{Fetched, quad_at, words_from, whole_blocks, has_read, imaged, fetch_answer_at, fetch_answer_found, sought, fetch_answer_by, fetch_answer, words_found, words_by, words_asked, FetchesAt, FetchesFound, Fetches}
+use Rattle.std.specs.Prelude.{Option, None, Ok, Err}
+use Rattle.library.specs.declared.index.IndexError.{IndexError}
+use Rattle.library.specs.declared.index.Place.{Place}
+use Rattle.library.specs.declared.read.ReadError.TheVariants as error
 
 pub not_stop : (t : Bool) → not t ≡ true → t ≡ false
 not_stop true e = absurd (let z : ◌≡◌ {A = ℕ} 0 1 = cc in omega arith)
@@ -77,30 +73,30 @@ module _ (f : List ℕ) where
       ap (λ (l : List ℕ). set l i x) (e ∙ ap (λ (l : List ℕ). words_from k 0 i f ++ l) rest) ∙ set_at (words_from k 0 i f) (get_or dst₀ i 0) (drop (i + 1) dst₀) x i (words_length i k 0)
       ∙ sym (append_assoc (words_from k 0 i f) (x ∷ []) (drop (i + 1) dst₀)) ∙ rw more
 
-module _ (ws : List ℕ) (j : Judgement) (judged : Judged ws j) where
-  pub imaged_yes : j ≡ Accepted → imaged ws ≡ true
+module _ (ws : List ℕ) (j : Bool) (judged : Judged ws j) where
+  pub imaged_yes : j ≡ true → imaged ws ≡ true
   unfolding imaged
   imaged_yes e = let d = (accepted_decodes ws j judged).0 e in ap has_read d.1
 
-  pub imaged_not : j ≡ judgement.Malformed → imaged ws ≡ false
+  pub imaged_not : j ≡ false → imaged ws ≡ false
   unfolding imaged
-  imaged_not e = ap has_read ((refused_decodes ws j judged).0 (λ a. malformed_apart (sym e ∙ a)))
+  imaged_not e = ap has_read ((refused_decodes ws j judged).0 (λ a. let z : ◌≡◌ {A = ℕ} 0 1 = cc in omega arith))
 
 module _ (k n : ℕ) (f area area' : List ℕ) where
-  pub fetches_damaged : whole_blocks (room_of n) k n f ≡ false → area' ≡ area → FetchesAt k n f area area' Damaged
+  pub fetches_damaged : whole_blocks (room_of n) k n f ≡ false → area' ≡ area → FetchesAt k n f area area' (Err error.Damaged)
   unfolding fetch_answer_at
   fetches_damaged e a = record { answer = rw e; leaves = a }
 
   module _ (whole : whole_blocks (room_of n) k n f ≡ true) where
-    pub fetches_malformed : imaged (words_from k 0 n f) ≡ false → area' ≡ area → FetchesAt k n f area area' Malformed
+    pub fetches_malformed : imaged (words_from k 0 n f) ≡ false → area' ≡ area → FetchesAt k n f area area' (Err error.Malformed)
     unfolding fetch_answer_at
     fetches_malformed e a = record { answer = rw whole (rw e); leaves = a }
 
-    pub fetches_short : imaged (words_from k 0 n f) ≡ true → length area < n → area' ≡ area → FetchesAt k n f area area' (NoRoom n)
+    pub fetches_short : imaged (words_from k 0 n f) ≡ true → length area < n → area' ≡ area → FetchesAt k n f area area' (Err (error.NoRoom n))
     unfolding fetch_answer_at
     fetches_short e h a = record { answer = rw whole (rw e (rw (lt-leb _ _ h))); leaves = a }
 
-    pub fetches_words : imaged (words_from k 0 n f) ≡ true → n ≤ length area → area' ≡ words_from k 0 n f ++ drop n area → FetchesAt k n f area area' (Words n)
+    pub fetches_words : imaged (words_from k 0 n f) ≡ true → n ≤ length area → area' ≡ words_from k 0 n f ++ drop n area → FetchesAt k n f area area' (Ok n)
     unfolding fetch_answer_at
     fetches_words e h a = record { answer = rw whole (rw e (rw (le-leb _ _ h))); leaves = a }
 
@@ -108,35 +104,27 @@ pub filled_words : (f dst dst₀ : List ℕ) (k n : ℕ) → dst ≡ words_from 
 filled_words f dst dst₀ k n e = ap (take n) e ∙ take_at (words_from k 0 n f) (drop n dst₀) n (words_length f n k 0)
 
 -- the words that were copied to dst, and judged there
-module _ (f dst dst₀ : List ℕ) (k n : ℕ) (j : Judgement) (e : dst ≡ words_from k 0 n f ++ drop n dst₀) (judged : Judged (take n dst) j) where
-  pub copied_yes : j ≡ Accepted → imaged (words_from k 0 n f) ≡ true
+module _ (f dst dst₀ : List ℕ) (k n : ℕ) (j : Bool) (e : dst ≡ words_from k 0 n f ++ drop n dst₀) (judged : Judged (take n dst) j) where
+  pub copied_yes : j ≡ true → imaged (words_from k 0 n f) ≡ true
   copied_yes a = ap imaged (sym (filled_words f dst dst₀ k n e)) ∙ imaged_yes (take n dst) j judged a
 
-  pub copied_not : j ≡ judgement.Malformed → imaged (words_from k 0 n f) ≡ false
+  pub copied_not : j ≡ false → imaged (words_from k 0 n f) ≡ false
   copied_not a = ap imaged (sym (filled_words f dst dst₀ k n e)) ∙ imaged_not (take n dst) j judged a
 
-module _ (f area area' : List ℕ) (x : Found) (r : Fetched) where
-  pub fetches_found : (k n : ℕ) → x ≡ place.At k n → FetchesAt k n f area area' r → FetchesFound x f area area' r
+module _ (f area area' : List ℕ) (x : Option Place) (r : Fetched) where
+  pub fetches_found : (k n : ℕ) → x ≡ placed k n → FetchesAt k n f area area' r → FetchesFound x f area area' r
   unfolding fetch_answer_found words_found
   fetches_found k n e d = rw e (record { answer = d.answer; leaves = d.leaves })
 
-  pub fetches_none : x ≡ place.Absent → r ≡ Absent → area' ≡ area → FetchesFound x f area area' r
+  pub fetches_none : x ≡ None → r ≡ Err error.Absent → area' ≡ area → FetchesFound x f area area' r
   unfolding fetch_answer_found words_found
   fetches_none e h a = rw e (rw h (record { answer = refl; leaves = a }))
 
 module _ (f : List ℕ) (id : ℕ) (area area' : List ℕ) where
-  pub fetches_good : (count : ℕ) (r : Fetched) → index.Good count ≡ index_of f → FetchesFound (sought id count f) f area area' r → Fetches f id area area' r
+  pub fetches_good : (count : ℕ) (r : Fetched) → Ok count ≡ index_of f → FetchesFound (sought id count f) f area area' r → Fetches f id area area' r
   unfolding fetch_answer fetch_answer_by words_asked words_by
   fetches_good count r e s = record { answer = s.answer ∙ rw (← e); leaves = s.leaves ∙ rw (← e) }
 
-  pub fetches_length : index.BadLength ≡ index_of f → area' ≡ area → Fetches f id area area' BadLength
+  pub fetches_refused : (e : IndexError) → Err e ≡ index_of f → area' ≡ area → Fetches f id area area' (Err (error.Index e))
   unfolding fetch_answer fetch_answer_by
-  fetches_length e a = record { answer = rw (← e); leaves = a }
-
-  pub fetches_start : index.BadStart ≡ index_of f → area' ≡ area → Fetches f id area area' BadStart
-  unfolding fetch_answer fetch_answer_by
-  fetches_start e a = record { answer = rw (← e); leaves = a }
-
-  pub fetches_index : index.BadIndex ≡ index_of f → area' ≡ area → Fetches f id area area' BadIndex
-  unfolding fetch_answer fetch_answer_by
-  fetches_index e a = record { answer = rw (← e); leaves = a }
+  fetches_refused error e a = record { answer = rw (← e); leaves = a }

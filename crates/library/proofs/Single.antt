@@ -6,17 +6,14 @@ use mathlib.Core.Path.{◌≡◌, refl, sym, ap, subst, ◌∙◌}
 use mathlib.Core.List.{List}
 use lib.ListN.{length}
 use Rattle.theory.specs.Limits.{input_limit}
-use Rattle.library.specs.Read.{Fetches, words_asked, area_after}
-use Rattle.library.specs.List.{ListsLibrary, list_by, listed_after}
+use Rattle.library.specs.Read.{Fetched, Fetches, words_asked, area_after}
+use Rattle.library.specs.List.{Listed, ListsLibrary, list_by, listed_after}
 use Rattle.library.specs.Index.{entry_limit, index_of}
 use Rattle.library.specs.Rules.{count_in, FindsAt}
 use Rattle.library.specs.Rules.{Why, odd, spoilt, broken, absent, damaged, malformed, short, fine}
 use Rattle.library.specs.Rules.{WhyListed, odd_list, spoilt_list, broken_list, short_list, fine_list}
 use Rattle.library.specs.Told.{fetch_number, fetch_extent, list_number, list_extent, FetchTold, ListTold}
-use Rattle.library.specs.declared.read.Fetched.{Fetched}
-use Rattle.library.specs.declared.list.Listed.{Listed}
-use Rattle.library.specs.declared.read.Fetched.TheVariants as fetched
-use Rattle.library.specs.declared.list.Listed.TheVariants as listed
+use Rattle.std.specs.Prelude.{Ok, Err}
 use Rattle.library.proofs.Good.{found_placed}
 use Rattle.library.proofs.Order.{good_is, few_is, why, list_why}
 
@@ -53,21 +50,12 @@ module _ (f area : List ℕ) where
 
 -- ---- "A refusal writes nothing"
 pub fetch_refusal : (f : List ℕ) (id : ℕ) (area x : List ℕ) (r : Fetched) → Fetches f id area x r → ¬ (fetch_number r ≡ 0) → x ≡ area
-fetch_refusal f id area x (fetched.Words n) p h = absurd (h refl)
-fetch_refusal f id area x (fetched.NoRoom n) p h = p.leaves
-fetch_refusal f id area x fetched.Malformed p h = p.leaves
-fetch_refusal f id area x fetched.Damaged p h = p.leaves
-fetch_refusal f id area x fetched.Absent p h = p.leaves
-fetch_refusal f id area x fetched.BadIndex p h = p.leaves
-fetch_refusal f id area x fetched.BadStart p h = p.leaves
-fetch_refusal f id area x fetched.BadLength p h = p.leaves
+fetch_refusal f id area x (Ok n) p h = absurd (h refl)
+fetch_refusal f id area x (Err e) p h = p.leaves
 
 pub list_refusal : (f area x : List ℕ) (r : Listed) → ListsLibrary f area x r → ¬ (list_number r ≡ 0) → x ≡ area
-list_refusal f area x (listed.Entries n) p h = absurd (h refl)
-list_refusal f area x (listed.NoRoom n) p h = p.leaves
-list_refusal f area x listed.BadIndex p h = p.leaves
-list_refusal f area x listed.BadStart p h = p.leaves
-list_refusal f area x listed.BadLength p h = p.leaves
+list_refusal f area x (Ok n) p h = absurd (h refl)
+list_refusal f area x (Err e) p h = p.leaves
 
 -- ---- what is told is small
 found_few : (f : List ℕ) (id k n : ℕ) → FindsAt f id k n → n ≤ input_limit

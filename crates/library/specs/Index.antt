@@ -2,12 +2,12 @@
 -- stands.
 -- Assumes nothing: these are definitions.
 use Rattle.std.specs.Prelude.{ℕ, zero, suc, ◌+◌, ◌*◌, ◌/◌, ◌%◌, min, Bool, false, List, length, eqb, leb}
+use Rattle.std.specs.Prelude.{Option, Some, None, Result, Ok, Err}
 use Rattle.theory.specs.Limits.{input_limit}
 use Rattle.blocks.specs.Block.{block_size, content_size, whichever, pair_at, intact, block_of}
-use Rattle.library.specs.declared.index.Index.{Index}
-use Rattle.library.specs.declared.index.Index.TheVariants.{Good, BadLength, BadStart, BadIndex}
-use Rattle.library.specs.declared.index.Found.{Found}
-use Rattle.library.specs.declared.index.Found.TheVariants.{At, Absent}
+use Rattle.library.specs.declared.index.IndexError.{IndexError}
+use Rattle.library.specs.declared.index.IndexError.TheVariants.{BadLength, BadStart, BadIndex}
+use Rattle.library.specs.declared.index.Place.{Place}
 
 -- "up to 60 index entries"
 abbrev pub entry_limit : ℕ
@@ -58,23 +58,31 @@ index_good (suc c) low next p b total =
     (index_good c (pair_at b p + 1) (next + room_of (pair_at b (p + 4))) (p + 8) b total)
     false
 
+-- where a description stands that has n words from block k on
+abbrev pub placed : ℕ → ℕ → Option Place
+placed k n = Some (record { first = k; words = n })
+
 -- the entry of an identifier, from byte p on
-unfoldable pub found : ℕ → ℕ → ℕ → List ℕ → Found
-found id zero p b = Absent
-found id (suc c) p b = whichever (eqb (pair_at b p) id) (At (pair_at b (p + 2)) (pair_at b (p + 4))) (found id c (p + 8) b)
+unfoldable pub found : ℕ → ℕ → ℕ → List ℕ → Option Place
+found id zero p b = None
+found id (suc c) p b = whichever (eqb (pair_at b p) id) (placed (pair_at b (p + 2)) (pair_at b (p + 4))) (found id c (p + 8) b)
+
+-- how many entries an index has, or why there is none
+abbrev pub Index : Type 0
+Index = Result ℕ IndexError
 
 -- 41 "block 0 damaged", 42 "index breaks a rule", of a library of so many blocks
 unfoldable pub start_of : List ℕ → ℕ → Index
 start_of b total =
     whichever (intact (used_by (pair_at b 0)) 0 b)
     (whichever (leb (pair_at b 0) entry_limit)
-    (whichever (index_good (pair_at b 0) 0 1 2 b total) (Good (pair_at b 0)) BadIndex)
-    BadIndex)
-    BadStart
+    (whichever (index_good (pair_at b 0) 0 1 2 b total) (Ok (pair_at b 0)) (Err BadIndex))
+    (Err BadIndex))
+    (Err BadStart)
 
 -- 40 "length no multiple of 512 or zero"
 unfoldable pub index_of : List ℕ → Index
 index_of f =
     whichever (eqb (length f % block_size) 0)
-    (whichever (eqb (length f) 0) BadLength (start_of (block_of 0 f) (length f / block_size)))
-    BadLength
+    (whichever (eqb (length f) 0) (Err BadLength) (start_of (block_of 0 f) (length f / block_size)))
+    (Err BadLength)

@@ -1,19 +1,20 @@
 -- What reading a description of a library gives: request Eight's numbers 40 to 46, in that order.
 -- Assumes nothing: these are definitions.
 use Rattle.std.specs.Prelude.{ℕ, zero, suc, ◌+◌, ◌*◌, ◌-◌, ◌/◌, ◌%◌, ◌≤◌, ◌≡◌, Bool, true, false, List, [], ◌∷◌, ◌++◌, length, get_or, drop, leb}
-use Rattle.std.proofs.Math.Option.{Option, none, some}
+use Rattle.std.specs.Prelude.{Option, Some, None, Result, Ok, Err}
+use Rattle.std.proofs.Math.Option as math
 use Rattle.theory.specs.Limits.{input_limit}
 use Rattle.theory.specs.Descr.{Desc}
 use Rattle.theory.specs.Reading.{decode}
 use Rattle.blocks.specs.Block.{block_size, whichever, intact, block_of}
-use Rattle.library.specs.Index.{words_per_block, room_of, first_part, found, index_of}
-use Rattle.library.specs.declared.index.Index.{Index}
-use Rattle.library.specs.declared.index.Index.TheVariants as index
-use Rattle.library.specs.declared.index.Found.{Found}
-use Rattle.library.specs.declared.index.Found.TheVariants as place
-use Rattle.library.specs.declared.read.Fetched.{Fetched}
-use Rattle.library.specs.declared.read.Fetched.TheVariants.{Words, NoRoom, Malformed, Damaged}
-use Rattle.library.specs.declared.read.Fetched.TheVariants.{Absent, BadIndex, BadStart, BadLength}
+use Rattle.library.specs.Index.{words_per_block, room_of, first_part, Index, found, index_of}
+use Rattle.library.specs.declared.index.Place.{Place}
+use Rattle.library.specs.declared.read.ReadError.{ReadError}
+use Rattle.library.specs.declared.read.ReadError.TheVariants as error
+
+-- so many words are read, or why none are
+abbrev pub Fetched : Type 0
+Fetched = Result ℕ ReadError
 
 -- the word that stands in the four bytes from i on
 abbrev pub quad_at : List ℕ → ℕ → ℕ
@@ -37,9 +38,9 @@ whole_blocks (suc c) k n f =
     whichever (intact (4 * first_part n) k (block_of k f)) (whole_blocks c (k + 1) (n - first_part n) f) false
 
 -- the words are the image of a description
-abbrev pub has_read : Option Desc → Bool
-has_read none = false
-has_read (some d) = true
+abbrev pub has_read : math.Option Desc → Bool
+has_read math.none = false
+has_read (math.some d) = true
 
 unfoldable pub imaged : List ℕ → Bool
 imaged ws = has_read (decode ws)
@@ -48,57 +49,47 @@ imaged ws = has_read (decode ws)
 unfoldable pub fetch_answer_at : ℕ → ℕ → List ℕ → ℕ → Fetched
 fetch_answer_at k n f room =
     whichever (whole_blocks (room_of n) k n f)
-    (whichever (imaged (words_from k 0 n f)) (whichever (leb n room) (Words n) (NoRoom n)) Malformed)
-    Damaged
+    (whichever (imaged (words_from k 0 n f)) (whichever (leb n room) (Ok n) (Err (error.NoRoom n))) (Err error.Malformed))
+    (Err error.Damaged)
 
 -- 43 "no such identifier"
-unfoldable pub fetch_answer_found : Found → List ℕ → ℕ → Fetched
-fetch_answer_found (place.At k n) f room = fetch_answer_at k n f room
-fetch_answer_found place.Absent f room = Absent
+unfoldable pub fetch_answer_found : Option Place → List ℕ → ℕ → Fetched
+fetch_answer_found (Some p) f room = fetch_answer_at p.first p.words f room
+fetch_answer_found None f room = Err error.Absent
 
-abbrev pub sought : ℕ → ℕ → List ℕ → Found
+abbrev pub sought : ℕ → ℕ → List ℕ → Option Place
 sought id count f = found id count 2 (block_of 0 f)
 
 unfoldable pub fetch_answer_by : Index → ℕ → List ℕ → ℕ → Fetched
-fetch_answer_by (index.Good count) id f room = fetch_answer_found (sought id count f) f room
-fetch_answer_by index.BadLength id f room = BadLength
-fetch_answer_by index.BadStart id f room = BadStart
-fetch_answer_by index.BadIndex id f room = BadIndex
+fetch_answer_by (Ok count) id f room = fetch_answer_found (sought id count f) f room
+fetch_answer_by (Err e) id f room = Err (error.Index e)
 
 unfoldable pub fetch_answer : List ℕ → ℕ → ℕ → Fetched
 fetch_answer f id room = fetch_answer_by (index_of f) id f room
 
 -- the words of the description of an identifier
-unfoldable pub words_found : Found → List ℕ → List ℕ
-words_found (place.At k n) f = words_from k 0 n f
-words_found place.Absent f = []
+unfoldable pub words_found : Option Place → List ℕ → List ℕ
+words_found (Some p) f = words_from p.first 0 p.words f
+words_found None f = []
 
 unfoldable pub words_by : Index → ℕ → List ℕ → List ℕ
-words_by (index.Good count) id f = words_found (sought id count f) f
-words_by index.BadLength id f = []
-words_by index.BadStart id f = []
-words_by index.BadIndex id f = []
+words_by (Ok count) id f = words_found (sought id count f) f
+words_by (Err e) id f = []
 
 unfoldable pub words_asked : List ℕ → ℕ → List ℕ
 words_asked f id = words_by (index_of f) id f
 
 -- "A refusal writes nothing": the area afterwards
 abbrev pub area_after : Fetched → List ℕ → List ℕ → List ℕ
-area_after (Words n) ws area = ws ++ drop n area
-area_after (NoRoom n) ws area = area
-area_after Malformed ws area = area
-area_after Damaged ws area = area
-area_after Absent ws area = area
-area_after BadIndex ws area = area
-area_after BadStart ws area = area
-area_after BadLength ws area = area
+area_after (Ok n) ws area = ws ++ drop n area
+area_after (Err e) ws area = area
 
 -- the reader's contract: number, need and every word of the area
 pub record Fetches (f : List ℕ) (id : ℕ) (area area' : List ℕ) (r : Fetched) : Type 0 where
   pub answer : r ≡ fetch_answer f id (length area)
   pub leaves : area' ≡ area_after r (words_asked f id) area
 
-pub record FetchesFound (x : Found) (f area area' : List ℕ) (r : Fetched) : Type 0 where
+pub record FetchesFound (x : Option Place) (f area area' : List ℕ) (r : Fetched) : Type 0 where
   pub answer : r ≡ fetch_answer_found x f (length area)
   pub leaves : area' ≡ area_after r (words_found x f) area
 

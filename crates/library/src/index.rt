@@ -1,6 +1,7 @@
 // The start of a library: its length, block 0 and the index in it.
-ghost use Rattle.std.specs.Prelude.{◌≡◌, ◌+◌, ◌<◌, ◌≤◌, length};
+ghost use Rattle.std.specs.Prelude.{◌≡◌, ◌+◌, ◌*◌, ◌<◌, ◌≤◌, length};
 ghost use Rattle.library.specs.Index.{room_of, first_part, used_by, entry_good, index_good, found, start_of, index_of};
+ghost use Rattle.library.specs.Told.{index_number};
 
 use blocks::{BLOCK, CONTENT, is_intact, read_pair};
 use limits::INPUT_LIMIT;
@@ -15,20 +16,32 @@ pub const WORDS: usize = 126;
 
 pub const LEAST: usize = 3;
 
-// How many entries the index has; or why there is none.
-#[derive(Clone, Copy)]
-pub enum Index {
-    Good(usize),
+// Why a library has no index.
+#[derive(Clone, Copy, Debug, PartialEq, Eq)]
+pub enum IndexError {
     BadLength,
     BadStart,
     BadIndex,
 }
 
-// Where a description stands; or there is none of that identifier.
+impl IndexError {
+    // The number that it is told by.
+    pub fn number(self) -> u32
+        ensures { result ≡ index_number self }
+    {
+        match self {
+            IndexError::BadLength => 40,
+            IndexError::BadStart => 41,
+            IndexError::BadIndex => 42,
+        }
+    }
+}
+
+// Where a description stands: its first block, and its words.
 #[derive(Clone, Copy)]
-pub enum Found {
-    At { first: usize, words: usize },
-    Absent,
+pub struct Place {
+    pub first: usize,
+    pub words: usize,
 }
 
 // How many blocks so many words take.
@@ -36,51 +49,48 @@ pub fn blocks_for(words: usize) -> usize
     requires { words < 65536 }
     ensures { (result ≡ room_of words) × (result < 65536) }
 {
-    (words + (WORDS - 1)) / WORDS
+    words.div_ceil(WORDS)
 }
 
 // How many of so many words stand in the first of their blocks.
 pub fn first_part(words: usize) -> usize
     ensures { result ≡ first_part words }
 {
-    if words < WORDS {
-        return words;
-    }
-    WORDS
+    words.min(WORDS)
 }
 
 // How many bytes of block 0's content are used where it counts so many entries.
+#[tactic(auto, unfolding(crate::specs::Index::used_by))]
 fn used_bytes(count: usize) -> usize
     ensures { result ≡ used_by count }
 {
     if ENTRIES < count {
-        return CONTENT;
+        CONTENT
+    } else {
+        entry_at(count)
     }
-    2 + ENTRY * count
+}
+
+// The byte of block 0 at which entry i stands.
+pub(crate) fn entry_at(i: usize) -> usize
+    requires { i ≤ 60 }
+    ensures { result ≡ 2 + 8 * i }
+{
+    2 + ENTRY * i
 }
 
 // Whether the entry at that byte breaks no rule, where identifiers from `low` on may stand and block `next` comes next.
+#[tactic(auto, unfolding(crate::specs::Index::entry_good))]
 fn is_entry_good(start: &[u8], at: usize, low: usize, next: usize) -> bool
     requires { (length start.now ≡ 512) × (at < 500) }
     ensures { result ≡ entry_good low next at start.now }
 {
-    let identifier = read_pair(start, at);
-    if identifier < low {
-        return false;
-    }
-    let first = read_pair(start, at + 2);
-    if first != next {
-        return false;
-    }
     let words = read_pair(start, at + 4);
-    if words < LEAST {
-        return false;
-    }
-    if INPUT_LIMIT < words {
-        return false;
-    }
-    let last = read_pair(start, at + 6);
-    last == 0
+    low <= read_pair(start, at)
+        && read_pair(start, at + 2) == next
+        && LEAST <= words
+        && words <= INPUT_LIMIT
+        && read_pair(start, at + 6) == 0
 }
 
 // Whether the index breaks no rule.
@@ -88,75 +98,64 @@ fn is_index_good(start: &[u8], count: usize, total: usize) -> bool
     requires { (length start.now ≡ 512) × (count ≤ 60) }
     ensures { result ≡ index_good count 0 1 2 start.now total }
 {
-    let mut left = count;
-    let mut low: usize = 0;
-    let mut next: usize = 1;
-    let mut at: usize = 2;
-    while 0 < left {
-        let good = is_entry_good(start, at, low, next);
-        if good {
-            low = read_pair(start, at) + 1;
-            let words = read_pair(start, at + 4);
-            next += blocks_for(words);
-            at += ENTRY;
-            left -= 1;
-        } else {
+    let mut low = 0;
+    let mut next = 1;
+    for i in 0..count {
+        let at = entry_at(i);
+        if !is_entry_good(start, at, low, next) {
             return false;
         }
+        low = read_pair(start, at) + 1;
+        next += blocks_for(read_pair(start, at + 4));
     }
     next == total
 }
 
-// Judges block 0 of a library of so many blocks.
-fn judge_start(start: &[u8], total: usize) -> Index
+// Judges block 0 of a library of so many blocks: how many entries its index has.
+#[tactic(auto, unfolding(crate::specs::Index::start_of))]
+fn judge_start(start: &[u8], total: usize) -> Result<usize, IndexError>
     requires { length start.now ≡ 512 }
     ensures { result ≡ start_of start.now total }
 {
     let count = read_pair(start, 0);
-    let used = used_bytes(count);
-    let intact = is_intact(start, 0, used);
-    if intact {
-        if ENTRIES < count {
-            return Index::BadIndex;
-        }
-        let good = is_index_good(start, count, total);
-        if good {
-            return Index::Good(count);
-        }
-        return Index::BadIndex;
+    if !is_intact(start, 0, used_bytes(count)) {
+        return Err(IndexError::BadStart);
     }
-    Index::BadStart
+    if ENTRIES < count {
+        return Err(IndexError::BadIndex);
+    }
+    if !is_index_good(start, count, total) {
+        return Err(IndexError::BadIndex);
+    }
+    Ok(count)
 }
 
-// Judges length, block 0 and index of a library.
-pub fn judge_index(file: &[u8]) -> Index
+// Judges length, block 0 and index of a library: how many entries its index has.
+#[tactic(auto, unfolding(crate::specs::Index::index_of))]
+pub fn judge_index(file: &[u8]) -> Result<usize, IndexError>
     ensures { result ≡ index_of file.now }
 {
     if file.len() % BLOCK != 0 {
-        return Index::BadLength;
+        return Err(IndexError::BadLength);
     }
-    if file.len() == 0 {
-        return Index::BadLength;
+    if file.is_empty() {
+        return Err(IndexError::BadLength);
     }
     judge_start(&file[..BLOCK], file.len() / BLOCK)
 }
 
 // Looks an identifier up among the entries.
-pub(crate) fn find(start: &[u8], count: usize, identifier: usize) -> Found
+pub(crate) fn find(start: &[u8], count: usize, identifier: usize) -> Option<Place>
     requires { (length start.now ≡ 512) × (count ≤ 60) }
     ensures { result ≡ found identifier count 2 start.now }
 {
-    let mut left = count;
-    let mut at: usize = 2;
-    while 0 < left {
-        let this = read_pair(start, at);
-        if this == identifier {
+    for i in 0..count {
+        let at = entry_at(i);
+        if read_pair(start, at) == identifier {
             let first = read_pair(start, at + 2);
             let words = read_pair(start, at + 4);
-            return Found::At { first, words };
+            return Some(Place { first, words });
         }
-        at += ENTRY;
-        left -= 1;
     }
-    Found::Absent
+    None
 }

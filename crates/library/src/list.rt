@@ -1,22 +1,28 @@
 // Listing a library: each entry's identifier and number of words.
-ghost use Rattle.std.specs.Prelude.{◌≡◌, ◌++◌, ◌*◌, ◌≤◌, length, drop};
+ghost use Rattle.std.specs.Prelude.{◌≡◌, ◌++◌, ◌*◌, ◌≤◌, length, drop, Ok};
+ghost use Rattle.library.specs.declared.list.ListError.TheVariants.{Index};
 ghost use Rattle.library.specs.Index.{index_of};
 ghost use Rattle.library.specs.Contents.{listing};
 ghost use Rattle.library.specs.List.{ListsLibrary, ListsEntries};
 ghost use Rattle.library.specs.Told.{list_number, list_extent};
 
-use crate::index::{Index, judge_index};
-use crate::row::{Row, refused};
+use crate::index::{IndexError, entry_at, judge_index};
+use crate::row::{Row, done, no_room, refused};
 use blocks::{BLOCK, read_pair};
 
-// So many words are listed, two an entry; or why none are: the numbers 46 (with the need), 42, 41, 40.
-#[derive(Clone, Copy)]
-pub enum Listed {
-    Entries(usize),
-    NoRoom(usize),
-    BadIndex,
-    BadStart,
-    BadLength,
+// Why a library is not listed: it has no index, or the area is too short for the words that are needed.
+#[derive(Clone, Copy, Debug, PartialEq, Eq)]
+pub enum ListError {
+    Index(IndexError),
+    NoRoom { need: usize },
+}
+
+impl From<IndexError> for ListError {
+    ghost from_gives = { λ error result. result ≡ Index error };
+
+    fn from(error: IndexError) -> ListError {
+        ListError::Index(error)
+    }
 }
 
 // Copies the entries to the start of dst.
@@ -24,57 +30,43 @@ fn fill_list(dst: &mut [u32], start: &[u8], count: usize)
     requires { (length start.now ≡ 512) × (count ≤ 60) × (2 * count ≤ length dst.old) }
     ensures { dst.new ≡ listing count 2 start.now ++ drop (2 * count) dst.old }
 {
-    let mut i: usize = 0;
-    while i < count {
-        let identifier = read_pair(start, 8 * i + 2) as u32;
-        let words = read_pair(start, 8 * i + 6) as u32;
-        dst[2 * i] = identifier;
-        dst[2 * i + 1] = words;
-        i += 1;
+    for i in 0..count {
+        let at = entry_at(i);
+        dst[2 * i] = read_pair(start, at) as u32;
+        dst[2 * i + 1] = read_pair(start, at + 4) as u32;
     }
 }
 
 // Lists the entries of a library whose index is good.
-fn list_entries(file: &[u8], count: usize, area: &mut [u32]) -> Listed
-    requires { Index.Good count ≡ index_of file.now }
+#[tactic(auto, unfolding(crate::specs::List::list_answer_of))]
+fn list_entries(file: &[u8], count: usize, area: &mut [u32]) -> Result<usize, ListError>
+    requires { Ok count ≡ index_of file.now }
     ensures { ListsEntries count file.now area.old area.new result }
 {
     let need = 2 * count;
     if area.len() < need {
-        return Listed::NoRoom(need);
+        return Err(ListError::NoRoom { need });
     }
     fill_list(area, &file[..BLOCK], count);
-    Listed::Entries(need)
+    Ok(need)
 }
 
-// Lists the entries of a library to the start of the area.
-pub fn list(file: &[u8], area: &mut [u32]) -> Listed
+// Lists the entries of a library to the start of the area. So many words are listed, two an entry.
+#[tactic(auto, using(crate::proofs::Listing::lists_good, crate::proofs::Listing::lists_refused))]
+pub fn list(file: &[u8], area: &mut [u32]) -> Result<usize, ListError>
     ensures { ListsLibrary file.now area.old area.new result }
 {
-    let index = judge_index(file);
-    match index {
-        Index::Good(count) => list_entries(file, count, area),
-        Index::BadLength => Listed::BadLength,
-        Index::BadStart => Listed::BadStart,
-        Index::BadIndex => Listed::BadIndex,
-    }
+    let count = judge_index(file)?;
+    list_entries(file, count, area)
 }
 
 // The row of an answer.
-pub fn list_told(a: Listed) -> Row
-    ensures { (result.number ≡ list_number a) × (result.extent ≡ list_extent a) }
+pub fn list_told(answer: Result<usize, ListError>) -> Row
+    ensures { (result.number ≡ list_number answer) × (result.extent ≡ list_extent answer) }
 {
-    match a {
-        Listed::Entries(n) => Row {
-            number: 0,
-            extent: n,
-        },
-        Listed::NoRoom(n) => Row {
-            number: 46,
-            extent: n,
-        },
-        Listed::BadIndex => refused(42),
-        Listed::BadStart => refused(41),
-        Listed::BadLength => refused(40),
+    match answer {
+        Ok(words) => done(words),
+        Err(ListError::NoRoom { need }) => no_room(need),
+        Err(ListError::Index(error)) => refused(error.number()),
     }
 }

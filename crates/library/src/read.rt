@@ -1,27 +1,33 @@
 // Reading a description of a library.
-ghost use Rattle.std.specs.Prelude.{◌≡◌, true, ◌++◌, ◌+◌, ◌<◌, ◌≤◌, length, drop};
-ghost use Rattle.theory.specs.Limits.{input_limit};
+ghost use Rattle.std.specs.Prelude.{◌≡◌, true, ◌++◌, ◌+◌, ◌<◌, ◌≤◌, length, drop, Ok};
+ghost use Rattle.library.specs.declared.read.ReadError.TheVariants.{Index};
 ghost use Rattle.library.specs.Index.{room_of, index_of};
 ghost use Rattle.library.specs.Read.{quad_at, words_from, whole_blocks, sought, StandsWithin, FetchesAt, FetchesFound, Fetches};
 ghost use Rattle.library.specs.Told.{fetch_number, fetch_extent};
 
-use crate::index::{Found, Index, WORDS, blocks_for, find, first_part, judge_index};
-use crate::row::{Row, refused};
-use blocks::{BLOCK, is_damaged, read_pair};
-use layout::reading::{Judgement, judge};
-use limits::INPUT_LIMIT;
+use crate::index::{IndexError, WORDS, blocks_for, find, first_part, judge_index};
+use crate::row::{Row, done, no_room, refused};
+use blocks::{BLOCK, is_damaged};
+use layout::reading::judge;
+use limits::{INPUT_LIMIT, wide};
 
-// So many words are read; or why none are: the numbers 46 (with the need), 45, 44, 43, 42, 41, 40.
-#[derive(Clone, Copy)]
-pub enum Fetched {
-    Words(usize),
-    NoRoom(usize),
-    Malformed,
-    Damaged,
+// Why no description is read: the library has no index, or no such identifier; a block of the description is damaged; its words are
+// malformed; or the area is too short for the words that are needed.
+#[derive(Clone, Copy, Debug, PartialEq, Eq)]
+pub enum ReadError {
+    Index(IndexError),
     Absent,
-    BadIndex,
-    BadStart,
-    BadLength,
+    Damaged,
+    Malformed,
+    NoRoom { need: usize },
+}
+
+impl From<IndexError> for ReadError {
+    ghost from_gives = { λ error result. result ≡ Index error };
+
+    fn from(error: IndexError) -> ReadError {
+        ReadError::Index(error)
+    }
 }
 
 // The word that stands from `at` on.
@@ -29,9 +35,7 @@ fn read_word(bytes: &[u8], at: usize) -> u32
     requires { at + 3 < length bytes.now }
     ensures { result ≡ quad_at bytes.now at }
 {
-    let low = read_pair(bytes, at);
-    let high = read_pair(bytes, at + 2);
-    (low + 65536 * high) as u32
+    u32::from_le_bytes([bytes[at], bytes[at + 1], bytes[at + 2], bytes[at + 3]])
 }
 
 // Whether all blocks of a description of so many words are intact, from block `first` on.
@@ -39,18 +43,13 @@ fn is_whole(file: &[u8], first: usize, words: usize) -> bool
     requires { StandsWithin first words file.now }
     ensures { result ≡ whole_blocks (room_of words) first words file.now }
 {
-    let mut left = blocks_for(words);
-    let mut k = first;
     let mut rest = words;
-    while 0 < left {
+    for k in first..first + blocks_for(words) {
         let here = first_part(rest);
-        let damaged = is_damaged(file, k, 4 * here);
-        if damaged {
+        if is_damaged(file, k, 4 * here) {
             return false;
         }
         rest -= here;
-        k += 1;
-        left -= 1;
     }
     true
 }
@@ -60,19 +59,10 @@ fn fill(dst: &mut [u32], file: &[u8], first: usize, words: usize)
     requires { StandsWithin first words file.now × (words ≤ length dst.old) }
     ensures { dst.new ≡ words_from first 0 words file.now ++ drop words dst.old }
 {
-    let mut i: usize = 0;
-    while i < words {
+    for i in 0..words {
         let at = BLOCK * (first + i / WORDS) + 4 * (i % WORDS);
         dst[i] = read_word(file, at);
-        i += 1;
     }
-}
-
-// The space in which words are judged.
-fn space() -> [u32; INPUT_LIMIT]
-    ensures { length result ≡ input_limit }
-{
-    [0; INPUT_LIMIT]
 }
 
 // Judges the words of a description whose blocks are intact, in the space, and copies them to the area.
@@ -81,83 +71,75 @@ fn judge_words(
     first: usize,
     words: usize,
     area: &mut [u32],
-    space: &mut [u32],
-) -> Fetched
-    requires { StandsWithin first words file.now × (length space.old ≡ input_limit)
-        × (whole_blocks (room_of words) first words file.now ≡ true) }
+    space: &mut [u32; INPUT_LIMIT],
+) -> Result<usize, ReadError>
+    requires { StandsWithin first words file.now × (whole_blocks (room_of words) first words file.now ≡ true) }
     ensures { FetchesAt first words file.now area.old area.new result }
 {
     fill(space, file, first, words);
-    let judgement = judge(&space[..words]);
-    match judgement {
-        Judgement::Accepted => {
-            if area.len() < words {
-                return Fetched::NoRoom(words);
-            }
-            fill(area, file, first, words);
-            Fetched::Words(words)
-        }
-        Judgement::Malformed => Fetched::Malformed,
+    if !judge(&space[..words]) {
+        return Err(ReadError::Malformed);
     }
+    if area.len() < words {
+        return Err(ReadError::NoRoom { need: words });
+    }
+    area[..words].copy_from_slice(&space[..words]);
+    Ok(words)
 }
 
 // Reads the description of so many words that begins in block `first`.
-fn read_description(file: &[u8], first: usize, words: usize, area: &mut [u32]) -> Fetched
+#[tactic(auto, unfolding(crate::specs::Read::fetch_answer_at))]
+fn read_description(
+    file: &[u8],
+    first: usize,
+    words: usize,
+    area: &mut [u32],
+) -> Result<usize, ReadError>
     requires { StandsWithin first words file.now }
     ensures { FetchesAt first words file.now area.old area.new result }
 {
-    let whole = is_whole(file, first, words);
-    if whole {
-        let mut space = space();
-        return judge_words(file, first, words, area, &mut space);
+    if !is_whole(file, first, words) {
+        return Err(ReadError::Damaged);
     }
-    Fetched::Damaged
+    judge_words(file, first, words, area, &mut [0; INPUT_LIMIT])
 }
 
 // Reads the description of an identifier in a library whose index is good.
-fn read_indexed(file: &[u8], count: usize, identifier: usize, area: &mut [u32]) -> Fetched
-    requires { Index.Good count ≡ index_of file.now }
+fn read_indexed(
+    file: &[u8],
+    count: usize,
+    identifier: usize,
+    area: &mut [u32],
+) -> Result<usize, ReadError>
+    requires { Ok count ≡ index_of file.now }
     ensures { FetchesFound (sought identifier count file.now) file.now area.old
         area.new result }
 {
-    let found = find(&file[..BLOCK], count, identifier);
-    match found {
-        Found::At { first, words } => read_description(file, first, words, area),
-        Found::Absent => Fetched::Absent,
-    }
+    let Some(place) = find(&file[..BLOCK], count, identifier) else {
+        return Err(ReadError::Absent);
+    };
+    read_description(file, place.first, place.words, area)
 }
 
-// Reads the description of an identifier of a library to the start of the area.
-pub fn fetch(file: &[u8], identifier: u32, area: &mut [u32]) -> Fetched
+// Reads the description of an identifier of a library to the start of the area. So many words are read.
+#[tactic(auto, using(crate::proofs::Reading::fetches_good, crate::proofs::Reading::fetches_refused))]
+pub fn fetch(file: &[u8], identifier: u32, area: &mut [u32]) -> Result<usize, ReadError>
     ensures { Fetches file.now identifier area.old area.new result }
 {
-    let index = judge_index(file);
-    match index {
-        Index::Good(count) => read_indexed(file, count, identifier as usize, area),
-        Index::BadLength => Fetched::BadLength,
-        Index::BadStart => Fetched::BadStart,
-        Index::BadIndex => Fetched::BadIndex,
-    }
+    let count = judge_index(file)?;
+    read_indexed(file, count, wide(identifier), area)
 }
 
 // The row of an answer.
-pub fn fetch_told(a: Fetched) -> Row
-    ensures { (result.number ≡ fetch_number a) × (result.extent ≡ fetch_extent a) }
+pub fn fetch_told(answer: Result<usize, ReadError>) -> Row
+    ensures { (result.number ≡ fetch_number answer) × (result.extent ≡ fetch_extent answer) }
 {
-    match a {
-        Fetched::Words(n) => Row {
-            number: 0,
-            extent: n,
-        },
-        Fetched::NoRoom(n) => Row {
-            number: 46,
-            extent: n,
-        },
-        Fetched::Malformed => refused(45),
-        Fetched::Damaged => refused(44),
-        Fetched::Absent => refused(43),
-        Fetched::BadIndex => refused(42),
-        Fetched::BadStart => refused(41),
-        Fetched::BadLength => refused(40),
+    match answer {
+        Ok(words) => done(words),
+        Err(ReadError::NoRoom { need }) => no_room(need),
+        Err(ReadError::Malformed) => refused(45),
+        Err(ReadError::Damaged) => refused(44),
+        Err(ReadError::Absent) => refused(43),
+        Err(ReadError::Index(error)) => refused(error.number()),
     }
 }

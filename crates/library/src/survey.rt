@@ -1,91 +1,84 @@
 // Checking a library block by block: whether a block is damaged, and which description that costs.
-ghost use Rattle.std.specs.Prelude.{◌≡◌, ◌<◌, ◌≤◌, length};
+ghost use Rattle.std.specs.Prelude.{◌≡◌, ◌<◌, ◌≤◌, length, Ok};
+ghost use Rattle.library.specs.declared.survey.CheckError.TheVariants.{Index};
 ghost use Rattle.library.specs.Index.{index_of};
 ghost use Rattle.library.specs.Check.{block_among, holder_of, held_checked, block_checked};
 
-use crate::index::{Index, WORDS, blocks_for, first_part, judge_index};
+use crate::index::{IndexError, WORDS, blocks_for, entry_at, first_part, judge_index};
 use blocks::{BLOCK, is_damaged, read_pair};
 
-// The description that a block belongs to, and how many bytes of the block's content it uses; or there is none.
+// The description that a block belongs to, and how many bytes of the block's content it uses.
 #[derive(Clone, Copy)]
-pub enum Holder {
-    Of { identifier: usize, used: usize },
-    Nobody,
+pub struct Holder {
+    pub identifier: usize,
+    pub used: usize,
 }
 
-// The block is whole; it is damaged, which costs the description of that identifier; the library has no such block; or it has no good
-// index, and no block can be judged.
-#[derive(Clone, Copy)]
-pub enum Checked {
-    Whole,
-    Costs(usize),
+// Why no block can be judged: the library has no index, or no such block.
+#[derive(Clone, Copy, Debug, PartialEq, Eq)]
+pub enum CheckError {
+    Index(IndexError),
     NoBlock,
-    NoIndex,
+}
+
+impl From<IndexError> for CheckError {
+    ghost from_gives = { λ error result. result ≡ Index error };
+
+    fn from(error: IndexError) -> CheckError {
+        CheckError::Index(error)
+    }
 }
 
 // Whether block k is one of the blocks of so many words from block `first` on.
+#[tactic(auto, unfolding(crate::specs::Check::block_among))]
 fn has_block(first: usize, words: usize, k: usize) -> bool
     requires { words < 65536 }
     ensures { result ≡ block_among first words k }
 {
-    if k < first {
-        return false;
-    }
-    k - first < blocks_for(words)
+    first <= k && k - first < blocks_for(words)
 }
 
 // Looks up among the entries to which description block k belongs.
-fn find_holder(start: &[u8], count: usize, k: usize) -> Holder
+fn find_holder(start: &[u8], count: usize, k: usize) -> Option<Holder>
     requires { (length start.now ≡ 512) × (count ≤ 60) }
     ensures { result ≡ holder_of k count 2 start.now }
 {
-    let mut left = count;
-    let mut at: usize = 2;
-    while 0 < left {
+    for i in 0..count {
+        let at = entry_at(i);
         let first = read_pair(start, at + 2);
         let words = read_pair(start, at + 4);
-        let here = has_block(first, words, k);
-        if here {
+        if has_block(first, words, k) {
             let identifier = read_pair(start, at);
             let used = 4 * first_part(words - WORDS * (k - first));
-            return Holder::Of { identifier, used };
+            return Some(Holder { identifier, used });
         }
-        at += 8;
-        left -= 1;
     }
-    Holder::Nobody
+    None
 }
 
 // Checks block k of a library whose index is good.
-fn check_held(file: &[u8], count: usize, k: usize) -> Checked
-    requires { Index.Good count ≡ index_of file.now }
+fn check_held(file: &[u8], count: usize, k: usize) -> Result<Option<usize>, CheckError>
+    requires { Ok count ≡ index_of file.now }
     ensures { result ≡ held_checked k count file.now }
 {
     if k == 0 {
-        return Checked::Whole;
+        return Ok(None);
     }
-    let holder = find_holder(&file[..BLOCK], count, k);
-    match holder {
-        Holder::Of { identifier, used } => {
-            let damaged = is_damaged(file, k, used);
-            if damaged {
-                return Checked::Costs(identifier);
-            }
-            Checked::Whole
-        }
-        Holder::Nobody => Checked::NoBlock,
+    let Some(holder) = find_holder(&file[..BLOCK], count, k) else {
+        return Err(CheckError::NoBlock);
+    };
+    if is_damaged(file, k, holder.used) {
+        Ok(Some(holder.identifier))
+    } else {
+        Ok(None)
     }
 }
 
-// Checks block k of a library.
-pub fn check_block(file: &[u8], k: usize) -> Checked
+// Checks block k of a library: the identifier of the description that its damage costs, or none where it is whole.
+#[tactic(auto, using(crate::proofs::Checking::checked_good, crate::proofs::Checking::checked_refused))]
+pub fn check_block(file: &[u8], k: usize) -> Result<Option<usize>, CheckError>
     ensures { result ≡ block_checked k file.now }
 {
-    let index = judge_index(file);
-    match index {
-        Index::Good(count) => check_held(file, count, k),
-        Index::BadLength => Checked::NoIndex,
-        Index::BadStart => Checked::NoIndex,
-        Index::BadIndex => Checked::NoIndex,
-    }
+    let count = judge_index(file)?;
+    check_held(file, count, k)
 }

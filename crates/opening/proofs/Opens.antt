@@ -23,9 +23,7 @@ use Rattle.area.proofs.Region.{region_ext}
 use Rattle.classes.specs.Entry.{Comes}
 use Rattle.classes.specs.Holds.{Holds, Pushing, Pushes, Undoable, Starts}
 use Rattle.classes.proofs.Laws.{undoable_start, undoable_on}
-use Rattle.classes.specs.declared.push.Pushed.{Pushed}
-use Rattle.classes.specs.declared.push.Pushed.TheVariants.{In, Clashed}
-use Rattle.opening.specs.declared.Opened.TheVariants as opened
+use Rattle.std.specs.Prelude.{Option, Some, None}
 use Rattle.opening.specs.Opening.{Read, Stand, Paired, Opening, definite, OpenedAs, Opens}
 use Rattle.opening.proofs.Universe.{universe, in_one, in_two, nodes_room, comes}
 
@@ -70,11 +68,11 @@ number_definite p n (desc g ds) = refl
 
 -- a clash of the pushed graphs, as the opening tells it
 both : (w : List ℕ) (d e : Desc) → Clash ((definite 0 0 d).graph ∷ (definite SECOND (nodes_in d) e).graph ∷ []) →
-    OpenedAs w d e opened.Clashed
+    OpenedAs w d e None
 both w (desc g ds) (desc h es) c = c
 
 alone : (w : List ℕ) (d e : Desc) → WellFormed d depth_limit → WellFormed e depth_limit → Clash ((definite 0 0 d).graph ∷ []) →
-    OpenedAs w d e opened.Clashed
+    OpenedAs w d e None
 alone w (desc g ds) (desc h es) p q c =
     clash_within (g ∷ []) (g ∷ h ∷ []) (p.0, tt) (p.0, (q.0, tt))
     (λ x i. ⊎_elim (λ m. Memᴰ.head m) (λ m. absurd (Memᴰ.not-nil m)) (Memᴰ.cases_cons i)) c
@@ -133,10 +131,10 @@ module _ (w a b t : List ℕ) (o : Opening w a b) (n : ℕ) (p : Paired (take 20
     first_pushing = record { es = []; e = one; is = at_definite 0 0 d; holds = empty; comes = first_comes }
 
     -- the first graph alone clashes: then both do
-    pub first_clashes : (w₃ : List ℕ) (x : Pushed) → Pushes n 0 w₂ 0 x w₃ → x ≡ Clashed → OpenedAs w₃ d e opened.Clashed
+    pub first_clashes : (w₃ : List ℕ) (x : Option ℕ) → Pushes n 0 w₂ 0 x w₃ → x ≡ None → OpenedAs w₃ d e None
     first_clashes w₃ x u z = alone w₃ d e r.first_well r.second_well ((u.clashed z).1 [] one (at_definite 0 0 d) empty first_comes).0
 
-    module _ (w₃ : List ℕ) (k : ℕ) (x : Pushed) (u : Pushes n 0 w₂ 0 x w₃) (z : x ≡ In k) where
+    module _ (w₃ : List ℕ) (k : ℕ) (x : Option ℕ) (u : Pushes n 0 w₂ 0 x w₃) (z : x ≡ Some k) where
       held : Holds n (one ∷ []) k w₃
       held = (u.inside k z).1 [] one (at_definite 0 0 d) empty first_comes
 
@@ -164,11 +162,11 @@ module _ (w a b t : List ℕ) (o : Opening w a b) (n : ℕ) (p : Paired (take 20
       pub second_pushing : Pushing n k w₃ SECOND
       second_pushing = record { es = one ∷ []; e = two; is = at_definite SECOND (nodes_in d) e; holds = held; comes = second_comes }
 
-      module _ (w₄ : List ℕ) (y : Pushed) (v : Pushes n k w₃ SECOND y w₄) where
-        pub second_clashes : y ≡ Clashed → OpenedAs w₄ d e opened.Clashed
+      module _ (w₄ : List ℕ) (y : Option ℕ) (v : Pushes n k w₃ SECOND y w₄) where
+        pub second_clashes : y ≡ None → OpenedAs w₄ d e None
         second_clashes q = both w₄ d e ((v.clashed q).1 (one ∷ []) two (at_definite SECOND (nodes_in d) e) held second_comes).0
 
-        pub joined : (j : ℕ) → y ≡ In j → OpenedAs w₄ d e (opened.Joined n j)
+        pub joined : (j : ℕ) → y ≡ Some j → OpenedAs w₄ d e (Some (record { nodes = n; log = j }))
         joined j q = (
           stand w₄ (v.len ∙ u.len) (λ i h. v.rest i h ∙ u.rest i h),
           (v.inside j q).1 (one ∷ []) two (at_definite SECOND (nodes_in d) e) held second_comes,
@@ -188,8 +186,8 @@ module _ (w a b t : List ℕ) (o : Opening w a b) (n : ℕ) (p : Paired (take 20
   pub asks_first : Pushing n 0 w₂ 0
   asks_first = first_pushing o.inputs.first.0 o.inputs.second.0 first
 
-  module _ (w₃ : List ℕ) (x : Pushed) (u : Pushes n 0 w₂ 0 x w₃) where
-    pub opens_clash : x ≡ Clashed → Opens w a b opened.Clashed w₃
+  module _ (w₃ : List ℕ) (x : Option ℕ) (u : Pushes n 0 w₂ 0 x w₃) where
+    pub opens_clash : x ≡ None → Opens w a b None w₃
     opens_clash z = record {
       len = u.len ∙ len₂;
       rest = λ j h. u.rest j (omega arith)
@@ -198,11 +196,11 @@ module _ (w a b t : List ℕ) (o : Opening w a b) (n : ℕ) (p : Paired (take 20
       told = λ d e r. first_clashes d e r w₃ x u z;
     }
 
-    module _ (k : ℕ) (z : x ≡ In k) where
+    module _ (k : ℕ) (z : x ≡ Some k) where
       pub asks_second : Pushing n k w₃ SECOND
       asks_second = second_pushing o.inputs.first.0 o.inputs.second.0 first w₃ k x u z
 
-      module _ (w₄ : List ℕ) (y : Pushed) (v : Pushes n k w₃ SECOND y w₄) where
+      module _ (w₄ : List ℕ) (y : Option ℕ) (v : Pushes n k w₃ SECOND y w₄) where
         len₄ : length w₄ ≡ length w
         len₄ = v.len ∙ u.len ∙ len₂
 
@@ -213,7 +211,7 @@ module _ (w a b t : List ℕ) (o : Opening w a b) (n : ℕ) (p : Paired (take 20
         stands₄ : (d e : Desc) → Read a b d e → (m : ℕ) × Stand (region WORDS 2048 w₄) d e m
         stands₄ d e r = (n, stand d e r w₄ (v.len ∙ u.len) (λ j h. v.rest j h ∙ u.rest j h))
 
-        pub opens_clash_2 : y ≡ Clashed → Opens w a b opened.Clashed w₄
+        pub opens_clash_2 : y ≡ None → Opens w a b None w₄
         opens_clash_2 q = record {
           len = len₄;
           rest = rest₄;
@@ -221,7 +219,7 @@ module _ (w a b t : List ℕ) (o : Opening w a b) (n : ℕ) (p : Paired (take 20
           told = λ d e r. second_clashes d e r w₃ k x u z w₄ y v q;
         }
 
-        pub opens_joined : (j : ℕ) → y ≡ In j → Opens w a b (opened.Joined n j) w₄
+        pub opens_joined : (j : ℕ) → y ≡ Some j → Opens w a b (Some (record { nodes = n; log = j })) w₄
         opens_joined j q = record {
           len = len₄;
           rest = rest₄;

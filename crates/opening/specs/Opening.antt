@@ -1,6 +1,6 @@
 -- Both inputs in the working area: what stands there once they are loaded, and what their opening comes to.
 -- Assumes nothing: these are definitions.
-use Rattle.std.specs.Prelude.{ℕ, ◌+◌, ◌*◌, ◌≤◌, ◌≡◌, List, [], ◌∷◌, length, get_or}
+use Rattle.std.specs.Prelude.{ℕ, ◌+◌, ◌*◌, ◌≤◌, ◌≡◌, List, [], ◌∷◌, length, get_or, Option, Some, None}
 use Rattle.theory.specs.Limits.{input_limit, depth_limit}
 use Rattle.theory.specs.Net.{Clash}
 use Rattle.theory.specs.Descr.{Desc, desc}
@@ -13,7 +13,6 @@ use Rattle.area.specs.Map.{SECOND, WORDS, MARKS, SIZE, LOADED}
 use Rattle.area.specs.Region.{region}
 use Rattle.classes.specs.Holds.{Holds, Undoable}
 use Rattle.opening.specs.declared.Opened.{Opened}
-use Rattle.opening.specs.declared.Opened.TheVariants.{Joined, Clashed}
 
 -- two inputs that are well formed and not too long
 pub record Acceptable (a b : List ℕ) : Type 0 where
@@ -55,12 +54,12 @@ definite p n (desc g ds) = record { at = p; number = n; graph = g }
 
 -- "0, join. The graph is the join of both definite graphs (a clash there is a clash in all modes).": both are pushed and can be taken
 -- back, or they clash
-abbrev pub OpenedAs : List ℕ → Desc → Desc → Opened → Type 0
-OpenedAs w d e (Joined n k) = Stand (region WORDS LOADED w) d e n × Holds n (definite 0 0 d ∷ definite SECOND (nodes_in d) e ∷ []) k w
-    × Undoable n k w
-OpenedAs w (desc g ds) (desc h es) Clashed = Clash (g ∷ h ∷ [])
+abbrev pub OpenedAs : List ℕ → Desc → Desc → Option Opened → Type 0
+OpenedAs w d e (Some o) = Stand (region WORDS LOADED w) d e o.nodes
+    × Holds o.nodes (definite 0 0 d ∷ definite SECOND (nodes_in d) e ∷ []) o.log w × Undoable o.nodes o.log w
+OpenedAs w (desc g ds) (desc h es) None = Clash (g ∷ h ∷ [])
 
-pub record Opens (w a b : List ℕ) (r : Opened) (w' : List ℕ) : Type 0 where
+pub record Opens (w a b : List ℕ) (r : Option Opened) (w' : List ℕ) : Type 0 where
   pub len : length w' ≡ length w
   pub rest : (j : ℕ) → MARKS ≤ j → get_or w' j 0 ≡ get_or w j 0
   pub stands : (d e : Desc) → Read a b d e → (n : ℕ) × Stand (region WORDS LOADED w') d e n

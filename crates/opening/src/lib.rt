@@ -4,14 +4,14 @@
 ghost use Rattle.opening.specs.Opening.{Pairing, Paired, Opening, Opens};
 
 use area::map::{MARKS, SECOND, WORDS};
-use classes::push::{Pushed, push, start};
+use classes::push::{push, start};
 use loading::loading::load;
 
-// How it came out: the definite graphs join, there are so many nodes, and the log has so many entries; or they clash.
-#[derive(Clone, Copy)]
-pub enum Opened {
-    Joined { nodes: usize, log: usize },
-    Clashed,
+// The definite graphs join: how many nodes there are, and how many entries the log has.
+#[derive(Clone, Copy, Debug, PartialEq, Eq)]
+pub struct Opened {
+    pub nodes: usize,
+    pub log: usize,
 }
 
 // Loads both inputs into the words t. The number of their nodes.
@@ -23,22 +23,14 @@ fn load_both(t: &mut [u32], a: &[u32], b: &[u32]) -> usize
     load(t, b, SECOND, m)
 }
 
-// Loads both inputs and pushes their definite graphs.
-pub fn open(w: &mut [u32], a: &[u32], b: &[u32]) -> Opened
+// Loads both inputs and pushes their definite graphs. None, where these clash.
+pub fn open(w: &mut [u32], a: &[u32], b: &[u32]) -> Option<Opened>
     requires { Opening w.old a.now b.now }
     ensures { Opens w.old a.now b.now result w.new }
 {
-    let from = WORDS;
-    let to = MARKS;
-    let n = load_both(&mut w[from..to], a, b);
+    let nodes = load_both(&mut w[WORDS..MARKS], a, b);
     start(w);
-    let first = push(w, 0, n, 0);
-    let Pushed::In(k) = first else {
-        return Opened::Clashed;
-    };
-    let second = push(w, k, n, SECOND);
-    let Pushed::In(j) = second else {
-        return Opened::Clashed;
-    };
-    Opened::Joined { nodes: n, log: j }
+    let first = push(w, 0, nodes, 0)?;
+    let log = push(w, first, nodes, SECOND)?;
+    Some(Opened { nodes, log })
 }

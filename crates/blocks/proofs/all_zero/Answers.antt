@@ -1,20 +1,14 @@
--- `blocks::all_zero` meets its contract: the bytes so far are zero.
+-- `blocks::all_zero` meets its contract: `all` answers whether each byte passes the test.
 -- Assumes nothing.
-use native.Mathlib.Omega.{arith}
-use mathlib.Core.Path.{refl, sym, ◌∙◌}
-use Rattle.blocks.proofs.Laws.{zeros_step, zeros_stop, zeros_done}
+use mathlib.Core.Path.{◌∙◌}
+use Rattle.std.specs.Prelude.{eqb}
+use Rattle.std.proofs.Common.{rules}
+use Rattle.std.proofs.lemmas.Iterator.{YieldsList-from_slice}
+use Rattle.std.proofs.lemmas.Iterator.Search.{all_from_yields_List}
+use Rattle.blocks.proofs.Laws.{zeros_each}
 use Rattle.blocks.proofs.all_zero.Goals as goal
 
-pub loop-i-init : goal.loop-i-init
-loop-i-init c = refl
-
-pub returns-then-bytes-i-ne0 : goal.returns-then-bytes-i-ne0
-returns-then-bytes-i-ne0 c =
-    zeros_stop c.args.bytes.now c.loop-i.i (omega arith) c.if-bytes-i-ne0.true ∙ sym c.loop-i.invariant
-
-pub loop-i-preserved : goal.loop-i-preserved
-loop-i-preserved c =
-    c.loop-i.invariant ∙ zeros_step c.args.bytes.now c.loop-i.i (omega arith) c.if-bytes-i-ne0.false
-
 pub returns : goal.returns
-returns c = zeros_done c.args.bytes.now c.loop-i.i (omega arith) ∙ sym c.loop-i.invariant
+returns c =
+    all_from_yields_List (λ x. eqb x 0) _ _ _ c.all.ensures.ran (YieldsList-from_slice c.args.bytes.now cc) (λ x b q k. search rules)
+    ∙ zeros_each c.args.bytes.now

@@ -5,5 +5,5 @@ use Rattle.blocks.proofs.finish.Goals as goal
 
 pub returns : goal.returns
 returns c =
-    finished c.args.bytes.now c.clear.new.bytes c.seal.new.block c.args.used c.args.number c.requires.0 c.requires.1
-    c.clear.ensures c.seal.ensures
+    finished c.args.bytes.now c.fill.new.self c.seal.new.block c.args.used c.args.number c.requires.0 c.requires.1
+    (c.fill.ensures.after (λ y e. e)) c.seal.ensures

@@ -2,18 +2,15 @@
 -- Assumes nothing.
 use native.Mathlib.Omega.{arith}
 use native.Mathlib.Nat.{mod-lt}
-use mathlib.Core.Path.{refl, ◌∙◌}
+use mathlib.Core.Path.{◌∙◌}
 use Rattle.blocks.proofs.Laws.{sums_step, sums_done}
 use Rattle.blocks.proofs.sums_over.Goals as goal
 
-pub loop-i-init : goal.loop-i-init
-loop-i-init c = (omega arith, (omega arith, refl))
-
-pub loop-i-preserved : goal.loop-i-preserved
-loop-i-preserved c = (
+pub loop-byte-preserved : goal.loop-byte-preserved
+loop-byte-preserved c = (
   mod-lt _ (omega arith),
-  (mod-lt _ (omega arith), c.loop-i.invariant.1.1 ∙ sums_step c.args.bytes.now c.loop-i.first c.loop-i.second c.loop-i.i (omega arith) ∙ rw c.wide.ensures.0),
+  (mod-lt _ (omega arith), c.loop-byte.invariant.1.1 ∙ sums_step c.args.bytes.now c.loop-byte.first c.loop-byte.second c.loop-byte.byte-index (omega arith) ∙ rw c.from.ensures),
 )
 
 pub returns : goal.returns
-returns c = c.loop-i.invariant.1.1 ∙ sums_done c.args.bytes.now c.loop-i.first c.loop-i.second c.loop-i.i (omega arith)
+returns c = c.loop-byte.invariant.1.1 ∙ sums_done c.args.bytes.now c.loop-byte.first c.loop-byte.second c.loop-byte.byte-index (omega arith)

@@ -12,15 +12,8 @@ use Rattle.forest.proofs.Walks.{some}
 use Rattle.classes.proofs.Answers.{asked_low, asked-runs, target-bare, target-void, target_none, target_low, target-there}
 use Rattle.classes.proofs.ask.target_of.Goals as goal
 
-pub class_of-c-requires : goal.class_of-c-requires
-class_of-c-requires c =
-    record {
-      x_lt_n = c.requires.x_lt_n;
-      labelled = c.requires.labelled;
-    }
-
-pub held_by-held-requires : goal.held_by-held-requires
-held_by-held-requires c =
+pub held_by-requires : goal.held_by-requires
+held_by-requires c =
     let l = asked_low c.args.n c.args.w.now c.args.x c.requires.x_lt_n c.class_of-c.result c.class_of-c.ensures c.requires.labelled in
     (omega arith, c.requires.labelled.holds.long)
 
@@ -28,11 +21,11 @@ pub returns-in_default : goal.returns-in_default
 returns-in_default c =
     ⊎_elim (target-void c.args.n c.args.w.now c.args.x c.requires.x_lt_n c.class_of-c.result c.class_of-c.ensures c.args.f)
     (target-bare c.args.n c.args.w.now c.args.x c.requires.x_lt_n c.class_of-c.result c.class_of-c.ensures c.args.f)
-    (told_other _ _ _ c.held_by-held.ensures c.in_default.not-Arcs)
+    (told_other _ _ _ c.held_by.ensures c.in_default.not-Arcs)
 
 pub look-r-requires : goal.look-r-requires
 look-r-requires c =
-    let chain = told_arcs _ _ _ (sym c.held_by-held.ensures ∙ c.in-Arcs.is) in
+    let chain = told_arcs _ _ _ (sym c.held_by.ensures ∙ c.in-Arcs.is) in
     record {
       in_bounds = c.requires.labelled.holds.long;
       runs = subst (Runs c.args.w.now) (sym chain.0)
@@ -43,7 +36,7 @@ look-r-requires c =
 
 pub returns-then-r-eq0 : goal.returns-then-r-eq0
 returns-then-r-eq0 c =
-    let chain = told_arcs _ _ _ (sym c.held_by-held.ensures ∙ c.in-Arcs.is) in
+    let chain = told_arcs _ _ _ (sym c.held_by.ensures ∙ c.in-Arcs.is) in
     let k : Looked (loaded_words c.args.w.now) c.args.w.now c.args.f (get_or c.args.w.now c.class_of-c.result 0)
     c.look-r.result = subst (λ (z : ℕ). Looked (loaded_words c.args.w.now) c.args.w.now c.args.f z c.look-r.result)
     chain.0 c.look-r.ensures in
@@ -52,13 +45,9 @@ returns-then-r-eq0 c =
     (omega arith)
     (subst (Looked (loaded_words c.args.w.now) c.args.w.now c.args.f (get_or c.args.w.now c.class_of-c.result 0)) c.if-r-eq0.true k)
 
-pub overflow_sub-r : goal.overflow_sub-r
-overflow_sub-r c =
-    some c.look-r.result c.if-r-eq0.false
-
 pub target-y-requires : goal.target-y-requires
 target-y-requires c =
-    let chain = told_arcs _ _ _ (sym c.held_by-held.ensures ∙ c.in-Arcs.is) in
+    let chain = told_arcs _ _ _ (sym c.held_by.ensures ∙ c.in-Arcs.is) in
     let p = some c.look-r.result c.if-r-eq0.false in
     let e : c.look-r.result ≡ suc (c.look-r.result - 1) = omega arith in
     let k : Looked (loaded_words c.args.w.now) c.args.w.now c.args.f (get_or c.args.w.now c.class_of-c.result 0)
@@ -72,9 +61,9 @@ target-y-requires c =
       c.requires.labelled.holds.long,
     )
 
-pub class_of-d-requires : goal.class_of-d-requires
-class_of-d-requires c =
-    let chain = told_arcs _ _ _ (sym c.held_by-held.ensures ∙ c.in-Arcs.is) in
+pub class_of-requires : goal.class_of-requires
+class_of-requires c =
+    let chain = told_arcs _ _ _ (sym c.held_by.ensures ∙ c.in-Arcs.is) in
     let p = some c.look-r.result c.if-r-eq0.false in
     let e : c.look-r.result ≡ suc (c.look-r.result - 1) = omega arith in
     let k : Looked (loaded_words c.args.w.now) c.args.w.now c.args.f (get_or c.args.w.now c.class_of-c.result 0)
@@ -94,17 +83,17 @@ class_of-d-requires c =
 
 pub returns : goal.returns
 returns c =
-    let chain = told_arcs _ _ _ (sym c.held_by-held.ensures ∙ c.in-Arcs.is) in
+    let chain = told_arcs _ _ _ (sym c.held_by.ensures ∙ c.in-Arcs.is) in
     let p = some c.look-r.result c.if-r-eq0.false in
     let e : c.look-r.result ≡ suc (c.look-r.result - 1) = omega arith in
     let k : Looked (loaded_words c.args.w.now) c.args.w.now c.args.f (get_or c.args.w.now c.class_of-c.result 0)
     c.look-r.result =
     subst (λ (z : ℕ). Looked (loaded_words c.args.w.now) c.args.w.now c.args.f z c.look-r.result)
     chain.0 c.look-r.ensures in
-    let v = subst (λ (z : ℕ). Classed c.args.n c.args.w.now z c.class_of-d.result) c.target-y.ensures c.class_of-d.ensures in
+    let v = subst (λ (z : ℕ). Classed c.args.n c.args.w.now z c.class_of.result) c.target-y.ensures c.class_of.ensures in
     target-there c.args.n c.args.w.now c.args.x c.requires.x_lt_n
     c.class_of-c.result
     c.class_of-c.ensures c.args.f
     (omega arith) (c.look-r.result - 1)
     (subst (Looked (loaded_words c.args.w.now) c.args.w.now c.args.f (get_or c.args.w.now c.class_of-c.result 0)) e k)
-    c.class_of-d.result v
+    c.class_of.result v

@@ -6,21 +6,12 @@ use Rattle.area.specs.Region.{loaded_words}
 use Rattle.forest.specs.State.{Runs}
 use Rattle.forest.specs.Order.{Risen}
 use Rattle.forest.proofs.Contents.{told_nothing, told_arcs}
-use Rattle.classes.proofs.Visits.{ordered_none, ordered_hint, hint_none, hint_first, class_runs}
+use Rattle.classes.proofs.Visits.{ordered_hint, hint_none, hint_first, class_runs}
 use Rattle.classes.proofs.visit.afresh.Goals as goal
 
-pub find-c-requires : goal.find-c-requires
-find-c-requires c = record {
-  i_lt_n = (omega arith, (omega arith, omega arith));
-  shape = c.requires.steady.state.shape;
-}
-
-pub held_by-held-requires : goal.held_by-held-requires
-held_by-held-requires c = (omega arith, omega arith)
-
-pub rises-up-requires : goal.rises-up-requires
-rises-up-requires c =
-    let chain = told_arcs _ _ _ (sym c.held_by-held.ensures ∙ c.in-Arcs.is) in record {
+pub rises-requires : goal.rises-requires
+rises-requires c =
+    let chain = told_arcs _ _ _ (sym c.held_by.ensures ∙ c.in-Arcs.is) in record {
       in_bounds = omega arith;
       runs = subst (Runs c.args.w.now) (sym chain.0)
           (class_runs c.requires.steady.F c.requires.steady.T c.args.n c.args.k c.args.w.now (omega arith) (omega arith) c.args.x (omega arith) c.find-c.result
@@ -29,21 +20,14 @@ rises-up-requires c =
 
 pub returns-in-Nothing : goal.returns-in-Nothing
 returns-in-Nothing c =
-    let none = told_nothing _ _ (sym c.held_by-held.ensures ∙ c.in-Nothing.is) in
+    let none = told_nothing _ _ (sym c.held_by.ensures ∙ c.in-Nothing.is) in
     ordered_hint (loaded_words c.args.w.now) c.args.n c.args.k c.args.w.now c.args.x c.find-c.result 1 c.requires.steady c.find-c.ensures
     (hint_none (loaded_words c.args.w.now) c.args.w.now c.find-c.result none)
 
-pub returns-then-up : goal.returns-then-up
-returns-then-up c =
+pub returns-then-rises : goal.returns-then-rises
+returns-then-rises c =
     let F = loaded_words c.args.w.now in
-    let chain = told_arcs _ _ _ (sym c.held_by-held.ensures ∙ c.in-Arcs.is) in
+    let chain = told_arcs _ _ _ (sym c.held_by.ensures ∙ c.in-Arcs.is) in
     ordered_hint F c.args.n c.args.k c.args.w.now c.args.x c.find-c.result 1 c.requires.steady c.find-c.ensures
-    (hint_first F c.args.w.now c.find-c.result c.rises-up.result
-    (subst (λ (z : ℕ). Risen F c.args.w.now z c.rises-up.result) chain.0 c.rises-up.ensures) c.if-up.true)
-
-pub returns-else-up : goal.returns-else-up
-returns-else-up c =
-    ordered_none (loaded_words c.args.w.now) c.args.n c.args.w.now c.args.x
-
-pub returns-in-Atom : goal.returns-in-Atom
-returns-in-Atom c = ordered_none (loaded_words c.args.w.now) c.args.n c.args.w.now c.args.x
+    (hint_first F c.args.w.now c.find-c.result c.rises.result
+    (subst (λ (z : ℕ). Risen F c.args.w.now z c.rises.result) chain.0 c.rises.ensures) c.if-rises.true)

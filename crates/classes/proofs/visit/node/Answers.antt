@@ -4,33 +4,8 @@ use native.Mathlib.Omega.{arith}
 use lib.ListN.{get_or}
 use Rattle.area.specs.Region.{loaded_words}
 use Rattle.forest.specs.State.{targets}
-use Rattle.classes.proofs.Runs.{node_low, node_marking, node_batched, noded_mark, noded_run}
-use borrow.Author.Rules.{rules}
+use Rattle.classes.proofs.Runs.{node_low, noded_mark, noded_run}
 use Rattle.classes.proofs.visit.node.Goals as goal
-
-pub loaded-h-requires : goal.loaded-h-requires
-loaded-h-requires c =
-    let F = loaded_words c.args.w.now in
-    let lo = node_low F c.requires.noding.G c.args.n c.args.x c.args.p c.requires.noding.v c.requires.noding.node in
-    let lp = lo.0 in
-    let lx = lo.1 in
-    (omega arith, omega arith)
-
-pub mark-requires : goal.mark-requires
-mark-requires c =
-    let F = loaded_words c.args.w.now in
-    let T = targets c.args.w.now in
-    let lo = node_low F c.requires.noding.G c.args.n c.args.x c.args.p c.requires.noding.v c.requires.noding.node in
-    let lp = lo.0 in
-    let lx = lo.1 in
-    let he : c.loaded-h.result ≡ get_or F c.args.p 0 = c.loaded-h.ensures in
-    let m = node_marking F T c.args.n c.args.k c.args.w.now c.args.x c.args.p c.requires.noding (omega arith) in
-    let b = m.1 in
-    record {
-      n_bound = (omega arith, (omega arith, omega arith));
-      atom_code = (omega arith, omega arith);
-      heading = rw he m.0;
-    }
 
 pub returns-then-h-ge-CODE_LIMIT : goal.returns-then-h-ge-CODE_LIMIT
 returns-then-h-ge-CODE_LIMIT c =
@@ -40,33 +15,8 @@ returns-then-h-ge-CODE_LIMIT c =
     let lp = lo.0 in
     let lx = lo.1 in
     let he : c.loaded-h.result ≡ get_or F c.args.p 0 = c.loaded-h.ensures in
-    noded_mark F T c.args.n c.args.k c.args.w.now c.args.x c.args.p c.mark.result.k c.mark.result.bad c.mark.new.w (omega arith)
+    noded_mark F T c.args.n c.args.k c.args.w.now c.args.x c.args.p _ _ c.mark.new.w (omega arith)
     (rw he at c.mark.ensures)
-
-pub overflow_add-p : goal.overflow_add-p
-overflow_add-p c =
-    let F = loaded_words c.args.w.now in
-    let lo = node_low F c.requires.noding.G c.args.n c.args.x c.args.p c.requires.noding.v c.requires.noding.node in
-    let lp = lo.0 in
-    let lx = lo.1 in
-    search rules
-
-pub arcs-requires : goal.arcs-requires
-arcs-requires c =
-    let F = loaded_words c.args.w.now in
-    let T = targets c.args.w.now in
-    let lo = node_low F c.requires.noding.G c.args.n c.args.x c.args.p c.requires.noding.v c.requires.noding.node in
-    let lp = lo.0 in
-    let lx = lo.1 in
-    let he : c.loaded-h.result ≡ get_or F c.args.p 0 = c.loaded-h.ensures in
-    let m = node_batched F T c.args.n c.args.k c.args.w.now c.args.x c.args.p c.requires.noding (omega arith) in
-    let b = m.1 in
-    let we : c.wide.result ≡ get_or F c.args.p 0 = c.wide.ensures ∙ he in
-    record {
-      n_bound = (omega arith, omega arith);
-      x_lt_n = (omega arith, omega arith);
-      batched = rw we m.0;
-    }
 
 pub returns : goal.returns
 returns c =
@@ -77,5 +27,5 @@ returns c =
     let lx = lo.1 in
     let he : c.loaded-h.result ≡ get_or F c.args.p 0 = c.loaded-h.ensures in
     let we : c.wide.result ≡ get_or F c.args.p 0 = c.wide.ensures ∙ he in
-    noded_run F T c.args.n c.args.k c.args.w.now c.args.x c.args.p c.arcs.result.k c.arcs.result.bad c.arcs.new.w (omega arith)
+    noded_run F T c.args.n c.args.k c.args.w.now c.args.x c.args.p _ _ c.arcs.new.w (omega arith)
     (rw we at c.arcs.ensures)

@@ -1,13 +1,13 @@
 -- `classes::visit::visit` meets its contract. Assumes nothing.
 use mathlib.Core.Logic.{⊎_elim}
-use mathlib.Core.Bool.{Bool, true, false}
+use mathlib.Core.Bool.{true, false}
 use Prim.Native.Nat.{ℕ, ◌-◌, ◌<◌, ◌+◌, ◌≤◌}
-use mathlib.Core.Path.{◌≡◌, refl, sym, subst}
+use mathlib.Core.Path.{◌≡◌, refl, subst}
 use native.Mathlib.Omega.{arith}
 use lib.ListN.{get_or}
 use Rattle.area.specs.Region.{loaded_words}
 use Rattle.area.specs.Map.{NEXT}
-use Rattle.forest.specs.State.{targets, Looked, withPair, Pile, Done, Equal, Visited}
+use Rattle.forest.specs.State.{targets, Looked, withPair, Equal}
 use Rattle.forest.specs.Order.{Located, Hint, Ordered}
 use Rattle.forest.proofs.Contents.{told_bears, told_bare}
 use Rattle.forest.proofs.Words.{words_later}
@@ -16,21 +16,11 @@ use Rattle.forest.specs.Held.{ChainCode}
 use Rattle.classes.proofs.Visits.{ordered_none, hint_calm, class_runs, visit_clash, visit_hung, hung_ordered, visit_found, found_arc}
 use Rattle.classes.proofs.Visits.{found_same}
 use Rattle.classes.specs.Nodes.{Hung}
-use mathlib.Core.List.{List}
+use Rattle.std.proofs.lemmas.Result.{err_from_is_err_and}
 use Rattle.classes.proofs.visit.visit.Goals as goal
 
 never : {A : Type 0} → true ≡ false → A
 never e = let z : ◌≡◌ {A = ℕ} 0 1 = cc in absurd (omega arith)
-
-pub find-c-requires : goal.find-c-requires
-find-c-requires c =
-    record {
-      i_lt_n = (c.requires.x_lt_n.0, c.requires.n_bound);
-      shape = c.requires.coming.state.shape;
-    }
-
-pub bears_atom-requires : goal.bears_atom-requires
-bears_atom-requires c = (omega arith, omega arith)
 
 pub returns-then-bears_atom : goal.returns-then-bears_atom
 returns-then-bears_atom c =
@@ -53,18 +43,6 @@ locate-s-requires c =
           c.find-c.result c.find-c.ensures;
     }
 
-pub hang-requires : goal.hang-requires
-hang-requires c =
-    let g = c.requires.coming in
-    let rr = g.fresh.room in
-    let rq = g.state.room in
-    let blank = g.state.blank c.args.t (omega arith) g.fresh.new in
-    record {
-      l_bound = (c.locate-s.ensures.low, (omega arith, omega arith));
-      logged = (g.state.logged, omega arith);
-      t_value = blank;
-    }
-
 pub returns-then-r-eq0 : goal.returns-then-r-eq0
 returns-then-r-eq0 c =
     let chained : ChainCode (get_or c.args.w.now c.find-c.result 0) = told_bare _ _ _ c.bears_atom.ensures c.if-bears_atom.false in
@@ -73,12 +51,10 @@ returns-then-r-eq0 c =
     Located (loaded_words c.args.w.now) c.args.w.now (get_or (loaded_words c.args.w.now) c.args.t 0) c.find-c.result c.locate-s.result.link 0 = λ z.
     subst (Located (loaded_words c.args.w.now) c.args.w.now (get_or (loaded_words c.args.w.now) c.args.t 0) c.find-c.result c.locate-s.result.link) z
     (subst (λ (f : ℕ). Located (loaded_words c.args.w.now) c.args.w.now f c.find-c.result c.locate-s.result.link c.locate-s.result.arc) c.loaded-f.ensures c.locate-s.ensures) in
-    let hung : Hung c.args.k c.args.w.now c.args.t c.locate-s.result.link c.args.at c.hang.result.k c.hang.result.at c.hang.result.bad c.hang.new.w = c.hang.ensures in
+    let hung : Hung c.args.k c.args.w.now c.args.t c.locate-s.result.link c.args.at c.hang.result.k c.hang.result.at c.hang.new.w = c.hang.ensures in
     let two_more : c.args.k + 2 ≤ 4096 = let g = c.requires.coming in omega (arith, g.fresh.room, g.state.room) in
-    let visited_hung : Visited (loaded_words c.args.w.now) (targets c.args.w.now) c.args.n c.args.k c.args.w.now c.args.x c.args.t c.hang.result.k c.hang.result.bad c.hang.new.w =
-    subst (λ (bad : Bool). Visited (loaded_words c.args.w.now) (targets c.args.w.now) c.args.n c.args.k c.args.w.now c.args.x c.args.t c.hang.result.k bad c.hang.new.w) (sym hung.fine)
-    (visit_hung _ _ _ _ _ c.requires.n_bound.0 c.requires.n_bound.1 _ c.requires.x_lt_n.0 _ c.find-c.ensures _ (omega arith) chained _ _ hint
-    (located c.if-r-eq0.true) _ refl two_more _ _ _ _ hung.before hung.after) in
+    let visited_hung = visit_hung (loaded_words c.args.w.now) (targets c.args.w.now) c.args.n c.args.k c.args.w.now c.requires.n_bound.0 c.requires.n_bound.1 c.args.x c.requires.x_lt_n.0 _ c.find-c.ensures
+    c.args.t (omega arith) chained _ _ hint (located c.if-r-eq0.true) _ refl two_more _ _ _ _ hung.before hung.after in
     let ordered_hung : 0 < c.args.at → Ordered (loaded_words c.args.w.now) c.args.n c.hang.new.w c.args.x (NEXT + c.args.t) =
     let g = c.requires.coming in
     hung_ordered _ _ _ _ _ c.requires.n_bound.0 c.requires.n_bound.1 _ c.requires.x_lt_n.0 _ c.find-c.ensures _ (omega arith) chained _ _ hint
@@ -87,11 +63,6 @@ returns-then-r-eq0 c =
       visited = visited_hung;
       next = λ z. ⊎_elim (λ e. rw e (ordered_none _ _ _ _)) (λ e. rw e.1 (ordered_hung e.0)) hung.next;
     }
-
-pub overflow_sub-r : goal.overflow_sub-r
-overflow_sub-r c =
-    let found : 0 < c.locate-s.result.arc = some c.locate-s.result.arc c.if-r-eq0.false in
-    found
 
 pub target-q-requires : goal.target-q-requires
 target-q-requires c =
@@ -103,8 +74,8 @@ target-q-requires c =
     chained looked (omega (arith, found)) g.G g.H g.state in
     (omega arith, omega arith)
 
-pub unite-m-requires : goal.unite-m-requires
-unite-m-requires c =
+pub unite-requires : goal.unite-requires
+unite-requires c =
     let chained : ChainCode (get_or c.args.w.now c.find-c.result 0) = told_bare _ _ _ c.bears_atom.ensures c.if-bears_atom.false in
     let looked : Looked (loaded_words c.args.w.now) c.args.w.now (get_or (loaded_words c.args.w.now) c.args.t 0) (get_or c.args.w.now c.find-c.result 0) c.locate-s.result.arc = rw c.loaded-f.ensures at c.locate-s.ensures.looked in
     let found : 0 < c.locate-s.result.arc = some c.locate-s.result.arc c.if-r-eq0.false in
@@ -124,20 +95,18 @@ unite-m-requires c =
       uniting = record { G = g.G; H = g.H; state = g.state; same = rw (c.target-p.ensures, c.target-q.ensures) same };
     }
 
-pub returns-then-m : goal.returns-then-m
-returns-then-m c =
+pub returns-in_err-e : goal.returns-in_err-e
+returns-in_err-e c =
     let chained : ChainCode (get_or c.args.w.now c.find-c.result 0) = told_bare _ _ _ c.bears_atom.ensures c.if-bears_atom.false in
     let looked : Looked (loaded_words c.args.w.now) c.args.w.now (get_or (loaded_words c.args.w.now) c.args.t 0) (get_or c.args.w.now c.find-c.result 0) c.locate-s.result.arc = rw c.loaded-f.ensures at c.locate-s.ensures.looked in
     let found : 0 < c.locate-s.result.arc = some c.locate-s.result.arc c.if-r-eq0.false in
-    let visited : Visited (loaded_words c.args.w.now) (targets c.args.w.now) c.args.n c.args.k c.args.w.now c.args.x c.args.t c.unite-m.result.k c.unite-m.result.bad
-    c.unite-m.new.w =
-    visit_found _ _ _ _ _ c.requires.n_bound.0 c.requires.n_bound.1 _ c.requires.x_lt_n.0 _ c.find-c.ensures _ c.locate-s.result.arc (c.locate-s.result.arc - 1)
-    chained looked (omega (arith, found)) _ _ _
-    (rw (c.target-p.ensures, c.target-q.ensures) at c.unite-m.ensures) in
-    record {
-      visited = rw c.if-m.true at visited;
+    let p = err_from_is_err_and c.from_residual.result c.from_residual.ensures.1 in
+    rw (p.1, p.2) (record {
+      visited = visit_found _ _ _ _ _ c.requires.n_bound.0 c.requires.n_bound.1 _ c.requires.x_lt_n.0 _ c.find-c.ensures _ c.locate-s.result.arc (c.locate-s.result.arc - 1)
+          chained looked (omega (arith, found)) _ _ _
+          (rw (c.target-p.ensures, c.target-q.ensures) at c.in_err-e.ensures);
       next = λ z. never z;
-    }
+    })
 
 pub onward-a-requires : goal.onward-a-requires
 onward-a-requires c =
@@ -154,9 +123,9 @@ onward-a-requires c =
     let g = c.requires.coming in
     let rr = g.fresh.room in
     let rq = g.state.room in
-    let wl = words_later _ c.args.w.now _ _ c.requires.n_bound.1 c.unite-m.ensures.later in
+    let wl = words_later _ c.args.w.now _ _ c.requires.n_bound.1 c.unite.ensures.later in
     record {
-      x_lt_n = (omega arith, (omega arith, omega (arith, c.unite-m.ensures.later.len)));
+      x_lt_n = (omega arith, (omega arith, omega (arith, c.unite.ensures.later.len)));
       r_nonzero = (found, (omega arith, omega arith));
       turning = rw wl (record {
         steady = record {
@@ -164,10 +133,10 @@ onward-a-requires c =
           H = withPair g.H c.target-p.result c.target-q.result;
           F = loaded_words c.args.w.now;
           T = targets c.args.w.now;
-          state = c.unite-m.ensures.fine c.if-m.false g.G g.H g.state
+          state = c.in_ok-e.ensures.fine refl g.G g.H g.state
               (rw (c.target-p.ensures, c.target-q.ensures) same);
         };
-        kept = λ h z. hint_calm _ _ _ _ _ _ _ (omega arith) found (omega arith) looked (hint z) (c.unite-m.ensures.calm h);
+        kept = λ h z. hint_calm _ _ _ _ _ _ _ (omega arith) found (omega arith) looked (hint z) (c.in_ok-e.ensures.calm h);
       });
     }
 
@@ -176,10 +145,10 @@ returns c =
     let chained : ChainCode (get_or c.args.w.now c.find-c.result 0) = told_bare _ _ _ c.bears_atom.ensures c.if-bears_atom.false in
     let looked : Looked (loaded_words c.args.w.now) c.args.w.now (get_or (loaded_words c.args.w.now) c.args.t 0) (get_or c.args.w.now c.find-c.result 0) c.locate-s.result.arc = rw c.loaded-f.ensures at c.locate-s.ensures.looked in
     let found : 0 < c.locate-s.result.arc = some c.locate-s.result.arc c.if-r-eq0.false in
-    let visited : Visited (loaded_words c.args.w.now) (targets c.args.w.now) c.args.n c.args.k c.args.w.now c.args.x c.args.t c.unite-m.result.k c.unite-m.result.bad
-    c.unite-m.new.w =
-    visit_found _ _ _ _ _ c.requires.n_bound.0 c.requires.n_bound.1 _ c.requires.x_lt_n.0 _ c.find-c.ensures _ c.locate-s.result.arc (c.locate-s.result.arc - 1)
-    chained looked (omega (arith, found)) _ _ _
-    (rw (c.target-p.ensures, c.target-q.ensures) at c.unite-m.ensures) in
-    let wl = words_later _ c.args.w.now _ _ c.requires.n_bound.1 c.unite-m.ensures.later in
-    record { visited = rw c.if-m.false at visited; next = λ z. rw wl at c.onward-a.ensures }
+    let wl = words_later _ c.args.w.now _ _ c.requires.n_bound.1 c.unite.ensures.later in
+    record {
+      visited = visit_found _ _ _ _ _ c.requires.n_bound.0 c.requires.n_bound.1 _ c.requires.x_lt_n.0 _ c.find-c.ensures _ c.locate-s.result.arc (c.locate-s.result.arc - 1)
+          chained looked (omega (arith, found)) _ _ _
+          (rw (c.target-p.ensures, c.target-q.ensures) at c.in_ok-e.ensures);
+      next = λ z. rw wl at c.onward-a.ensures;
+    }

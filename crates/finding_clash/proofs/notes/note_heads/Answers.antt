@@ -1,43 +1,25 @@
 -- `finding_clash::notes::note_heads` meets its contract. The loop's invariant: the heads of the first i nodes are noted. Assumes nothing.
-use mathlib.Core.Path.{◌≡◌, subst, ◌∙◌}
+use mathlib.Core.Path.{◌≡◌, subst}
 use Prim.Native.Nat.{ℕ}
 use native.Mathlib.Omega.{arith}
 use Rattle.finding_clash.proofs.Passing.{noting_on, NotesUpTo, up_to_none, up_to_more, up_to_all}
 use Rattle.finding_clash.proofs.notes.note_heads.Goals as goal
 
-pub clear_notes-requires : goal.clear_notes-requires
-clear_notes-requires c = (c.requires.notes_asked.below, c.requires.notes_asked.long)
-
 pub loop-i-init : goal.loop-i-init
-loop-i-init c =
-    (omega arith, omega arith, noting_on _ _ _ c.requires.notes_asked.long c.requires.notes_asked.below c.clear_notes.ensures.only _ _ _ c.requires.notes_asked, up_to_none _ _ _ _ _ _ c.clear_notes.ensures)
-
-pub note_head-requires : goal.note_head-requires
-note_head-requires c =
-    record {
-      i_lt_m = (omega arith, c.requires.b_bound);
-      notes_asked = c.loop-i.invariant.2;
-    }
-
-pub overflow_add-i : goal.overflow_add-i
-overflow_add-i c = omega arith
-
-pub loop-i-smaller : goal.loop-i-smaller
-loop-i-smaller c = omega arith
+loop-i-init c = (
+  noting_on _ _ _ c.requires.notes_asked.long c.requires.notes_asked.below c.clear_notes.ensures.only _ _ _ c.requires.notes_asked,
+  up_to_none _ _ _ _ _ _ c.clear_notes.ensures,
+)
 
 pub loop-i-preserved : goal.loop-i-preserved
 loop-i-preserved c = (
-  omega arith,
-  c.loop-i.invariant.1,
-  noting_on _ _ _ c.loop-i.invariant.2.long c.requires.notes_asked.below c.note_head.ensures.only _ _ _ c.loop-i.invariant.2,
-  up_to_more _ _ _ _ _ _ _ _ c.loop-i.invariant.1 c.requires.notes_asked.below (omega arith) c.requires.notes_asked.few c.loop-i.invariant.3 c.note_head.ensures,
+  noting_on _ _ _ c.loop-i.invariant.0.long c.requires.notes_asked.below c.note_head.ensures.only _ _ _ c.loop-i.invariant.0,
+  up_to_more _ _ _ _ _ _ _ _ (omega (arith, c.clear_notes.ensures.only.len, c.requires.notes_asked.long)) c.requires.notes_asked.below (omega arith) c.requires.notes_asked.few
+      c.loop-i.invariant.1 c.note_head.ensures,
 )
-
-pub shape_of-w : goal.shape_of-w
-shape_of-w c = c.loop-i.invariant.3.only.len ∙ c.clear_notes.ensures.only.len
 
 pub returns : goal.returns
 returns c =
     let e : c.loop-i.i ≡ c.args.m = omega arith in
     up_to_all _ _ _ _ _ c.clear_notes.new.w _ c.requires.notes_asked.long c.requires.notes_asked.below c.requires.notes_asked.few c.clear_notes.ensures.only
-    (subst (λ (k : ℕ). NotesUpTo c.args.n c.args.c c.args.b c.args.m k c.clear_notes.new.w c.loop-i.w) e c.loop-i.invariant.3)
+    (subst (λ (k : ℕ). NotesUpTo c.args.n c.args.c c.args.b c.args.m k c.clear_notes.new.w c.loop-i.w) e c.loop-i.invariant.1)

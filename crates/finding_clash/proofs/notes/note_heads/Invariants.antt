@@ -1,12 +1,6 @@
-use Prim.Native.Nat.{◌-◌, ◌≤◌}
-use lib.ListN.{length}
-use Rattle.area.specs.Map.{SIZE}
 use Rattle.finding_clash.specs.Notes.{NotesAsked}
 use Rattle.finding_clash.proofs.Passing.{NotesUpTo}
 use Rattle.finding_clash.proofs.notes.note_heads.Given as goal
 
 abbrev pub invariant-loop-i : goal.invariant-loop-i
-invariant-loop-i l = (l.i ≤ l.m) × (SIZE ≤ length l.initial.w) × NotesAsked l.n l.c l.b l.m l.w × NotesUpTo l.n l.c l.b l.m l.i l.initial.w l.w
-
-abbrev pub decreases-loop-i : goal.decreases-loop-i
-decreases-loop-i l = l.m - l.i
+invariant-loop-i l = NotesAsked l.n l.c l.b l.m l.w × NotesUpTo l.n l.c l.b l.m l.i l.initial.w l.w

@@ -1,27 +1,14 @@
 -- `forest::merge::fuse` meets its contract. Assumes nothing.
 use Prim.Native.Nat.{ℕ, ◌+◌}
-use mathlib.Core.Path.{◌≡◌, sym, ap, ◌∙◌, subst}
-use mathlib.Core.Logic.{◌⊎◌, inl, ⊎_elim}
+use mathlib.Core.Path.{sym, ap, ◌∙◌, subst}
 use native.Mathlib.Omega.{arith}
 use lib.ListN.{get_or}
 use Rattle.area.specs.Map.{HELD}
 use Rattle.area.specs.Log.{Stores}
 use Rattle.area.proofs.Region.{held_at}
-use Rattle.forest.specs.declared.held.Held.{Held}
-use Rattle.forest.specs.declared.held.Held.TheVariants.{Nothing, Arcs}
 use Rattle.forest.proofs.Contents.{told_nothing}
 use Rattle.forest.proofs.Cases.{room, linking, moved, clash_met}
 use Rattle.forest.proofs.merge.fuse.Goals as goal
-
-pub tuck-requires : goal.tuck-requires
-tuck-requires c =
-    let none = sym c.held_by-came.ensures ∙ c.in-Nothing.is in
-    record {
-      n_bound = c.requires.n_bound;
-      fusing = c.requires.fusing;
-      covered = inl none;
-      some_state = c.requires.some_state;
-    }
 
 pub link-e-requires : goal.link-e-requires
 link-e-requires c =
@@ -49,16 +36,6 @@ returns-in-Nothing-there c =
     (subst (λ (i : ℕ). Stores c.link-e.result c.link-e.new.w i v c.put-d.result c.put-d.new.w) (held_at c.args.a) c.put-d.ensures)
     (told_nothing c.args.w.now c.args.a none)
 
-pub tuck-requires-then-covered : goal.tuck-requires-then-covered
-tuck-requires-then-covered c =
-    let covers = c.covered.ensures.0 c.if-covered.true in
-    record {
-      n_bound = c.requires.n_bound;
-      fusing = c.requires.fusing;
-      covered = rw (← c.held_by-came.ensures, ← c.held_by-there.ensures) covers;
-      some_state = c.requires.some_state;
-    }
-
 pub returns-in_default-came : goal.returns-in_default-came
 returns-in_default-came c =
     clash_met c.args.n c.args.k c.args.s c.args.w.now c.args.a c.args.b c.requires.fusing c.requires.n_bound.0 c.requires.n_bound.1 c.requires.some_state _ _
@@ -73,15 +50,3 @@ returns-in_default-there-2 c =
     c.held_by-there.ensures
     (c.covered.ensures.1 c.if-covered.false)
     c.in_default-there.not-Nothing (λ x y e i. c.in_default-there-2.not-Arcs y i)
-
-pub knit-requires : goal.knit-requires
-knit-requires c =
-    let came = sym c.held_by-came.ensures ∙ c.in-Arcs.is in
-    let there = sym c.held_by-there.ensures
-    ∙ c.in-Arcs-there.is in
-    record {
-      n_bound = c.requires.n_bound;
-      fusing = c.requires.fusing;
-      b_value = (came, there);
-      some_state = c.requires.some_state;
-    }

@@ -1,14 +1,14 @@
 -- `forest::merge::knit` meets its contract. Assumes nothing.
 use Prim.Native.Nat.{ℕ, ◌+◌, ◌*◌}
-use mathlib.Core.Path.{refl, sym, ◌∙◌, subst}
+use mathlib.Core.Path.{refl, sym, subst}
 use native.Mathlib.Omega.{arith}
-use lib.ListN.{set, length-set}
+use lib.ListN.{set}
 use Rattle.area.specs.Map.{STACK}
 use Rattle.area.specs.Log.{Stores}
 use Rattle.area.proofs.Region.{held_at}
 use Rattle.forest.specs.State.{Runs}
 use Rattle.forest.proofs.Contents.{told_arcs}
-use Rattle.forest.proofs.Cases.{room, high, linking, knitted, ready_runs}
+use Rattle.forest.proofs.Cases.{room, linking, knitted, ready_runs}
 use Rattle.forest.proofs.merge.knit.Goals as goal
 
 pub overflow_cast-x : goal.overflow_cast-x
@@ -69,22 +69,6 @@ overflow_add-w c =
     let came = told_arcs c.args.w.now c.args.b c.args.p c.requires.b_value.0 in
     let there = told_arcs c.args.w.now c.args.a c.args.q c.requires.b_value.1 in
     omega arith
-
-pub bounds-w-s : goal.bounds-w-s
-bounds-w-s c =
-    let hi = high c.args.n c.args.k c.args.s c.args.w.now c.args.a c.args.b c.requires.fusing c.requires.n_bound.0 c.requires.n_bound.1 c.requires.some_state in
-    omega (
-      arith,
-      c.link-e.ensures.later.len,
-      c.put-d.ensures.later.len,
-      c.put-c.ensures.later.len,
-      hi,
-    )
-
-pub shape_of-w : goal.shape_of-w
-shape_of-w c = simp length-set (c.put-c.ensures.later.len
-    ∙ c.put-d.ensures.later.len
-    ∙ c.link-e.ensures.later.len)
 
 pub returns : goal.returns
 returns c =

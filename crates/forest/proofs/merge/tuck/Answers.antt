@@ -2,8 +2,8 @@
 use Rattle.forest.proofs.Cases.{linking, plain}
 use Rattle.forest.proofs.merge.tuck.Goals as goal
 
-pub link-e-requires : goal.link-e-requires
-link-e-requires c =
+pub link-requires : goal.link-requires
+link-requires c =
     record {
       n_bound = c.requires.n_bound;
       linking = linking c.args.n c.args.k c.args.s c.args.w.now c.args.a c.args.b c.requires.fusing c.requires.n_bound.0 c.requires.n_bound.1 c.requires.some_state;
@@ -11,5 +11,5 @@ link-e-requires c =
 
 pub returns : goal.returns
 returns c =
-    plain c.args.n c.args.k c.args.s c.args.w.now c.args.a c.args.b c.requires.fusing c.requires.n_bound.0 c.requires.n_bound.1 c.requires.some_state c.link-e.result c.link-e.new.w c.link-e.ensures
+    plain c.args.n c.args.k c.args.s c.args.w.now c.args.a c.args.b c.requires.fusing c.requires.n_bound.0 c.requires.n_bound.1 c.requires.some_state c.link.result c.link.new.w c.link.ensures
     c.requires.covered

@@ -47,11 +47,6 @@ returns-then-r-eq0 c =
     subst (λ (v : ℕ). Looked F c.args.w.now v c.args.to c.look-r.result) c.loaded-f.ensures c.look-r.ensures in
     turned_miss F T c.args.n c.args.k c.args.s c.args.x c.args.to c.args.w.now c.requires.n_bound.0 c.requires.n_bound.1 c.requires.fact c.requires.working (rw c.if-r-eq0.true at lk)
 
-pub overflow_sub-i : goal.overflow_sub-i
-overflow_sub-i c =
-    let rp = some c.look-r.result c.if-r-eq0.false in
-    search rules
-
 pub target-p-requires : goal.target-p-requires
 target-p-requires c =
     let F = loaded_words c.args.w.now in
@@ -112,7 +107,6 @@ returns c =
     let mt = match_target c.requires.working.G c.requires.working.H F T c.args.n c.args.k c.args.s c.args.x c.args.to c.requires.working.fs c.args.w.now c.requires.n_bound.0 c.requires.n_bound.1 c.requires.working.state
     c.requires.fact c.look-r.result (c.look-r.result - 1) lk ri in
     let mi : c.look-r.result - 1 < 2047 = mt.1 in
-    turned_hit F T c.args.n c.args.k c.args.s c.args.x c.args.to c.args.w.now c.requires.n_bound.0 c.requires.n_bound.1 c.requires.fact c.requires.working c.look-r.result (c.look-r.result - 1) c.join.result.k
-    c.join.result.s c.join.result.bad c.join.new.w lk ri
+    turned_hit F T c.args.n c.args.k c.args.s c.args.x c.args.to c.args.w.now c.requires.n_bound.0 c.requires.n_bound.1 c.requires.fact c.requires.working c.look-r.result (c.look-r.result - 1) _ _ _ c.join.new.w lk ri
     (rw (c.target-p.ensures, c.target-q.ensures) at
     c.join.ensures)

@@ -1,4 +1,4 @@
--- `layout::reading::read_arc` meets its contract: one law for each answer.
+-- `graphs::graph::read_arc` meets its contract: one law for each answer.
 -- Assumes nothing.
 use native.Mathlib.Omega.{arith}
 use Rattle.graphs.proofs.Laws.{arc_low, arc_high, arc_met, arc_far, arc_no_node, arc_next}

@@ -1,4 +1,4 @@
--- `layout::reading::read_graph` meets its contract: one law for each answer.
+-- `graphs::graph::read_graph` meets its contract: one law for each answer.
 -- Assumes nothing.
 use native.Mathlib.Omega.{arith}
 use mathlib.Core.Path.{◌∙◌}

@@ -9,14 +9,8 @@ decreases-read_description l = 2 * l.left + 1
 abbrev pub decreases-read_disjunction : goal.decreases-read_disjunction
 decreases-read_disjunction l = 2 * l.left
 
-abbrev pub invariant-read_description-loop-count : goal.invariant-read_description-loop-count
-invariant-read_description-loop-count l = readDescription l.left l.ws l.p ≡ times (readDisjunction l.left l.ws) l.count l.at
+abbrev pub invariant-read_description-loop : goal.invariant-read_description-loop
+invariant-read_description-loop l = readDescription l.left l.ws l.p ≡ times (readDisjunction l.left l.ws) (l.end - l.counter) l.at
 
-abbrev pub decreases-read_description-loop-count : goal.decreases-read_description-loop-count
-decreases-read_description-loop-count l = l.count
-
-abbrev pub invariant-read_disjunction-loop-count : goal.invariant-read_disjunction-loop-count
-invariant-read_disjunction-loop-count l = readDisjunction l.left l.ws l.p ≡ times (readDescription (l.left - 1) l.ws) l.count l.at
-
-abbrev pub decreases-read_disjunction-loop-count : goal.decreases-read_disjunction-loop-count
-decreases-read_disjunction-loop-count l = l.count
+abbrev pub invariant-read_disjunction-loop : goal.invariant-read_disjunction-loop
+invariant-read_disjunction-loop l = readDisjunction l.left l.ws l.p ≡ times (readDescription (l.left - 1) l.ws) (l.count - l.counter) l.at

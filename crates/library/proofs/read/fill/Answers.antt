@@ -1,24 +1,11 @@
 -- `library::read::fill` meets its contract: the words so far stand at the start.
 -- Assumes nothing.
 use native.Mathlib.Omega.{arith}
-use mathlib.Core.Path.{◌≡◌, refl, ◌∙◌}
-use lib.ListN.{length-set}
 use Rattle.library.proofs.Reading.{fill_none, fill_step}
 use Rattle.library.proofs.read.fill.Goals as goal
 
 pub loop-i-init : goal.loop-i-init
-loop-i-init c = (omega arith, (refl, fill_none c.args.file.now c.args.first c.args.dst.now))
+loop-i-init c = fill_none c.args.file.now c.args.first c.args.dst.now
 
 pub loop-i-preserved : goal.loop-i-preserved
-loop-i-preserved c = (
-  omega arith,
-  (
-    length-set c.loop-i.dst c.loop-i.i c.read_word.result ∙ c.loop-i.invariant.1.0,
-    rw c.read_word.ensures (fill_step c.args.file.now c.args.first c.loop-i.i c.loop-i.dst c.args.dst.now (omega (arith, c.requires.1)) c.loop-i.invariant.1.1),
-  ),
-)
-
-pub returns : goal.returns
-returns c =
-    let e : c.loop-i.i ≡ c.args.words = omega arith in
-    c.loop-i.invariant.1.1 ∙ rw e
+loop-i-preserved c = rw c.read_word.ensures (fill_step c.args.file.now c.args.first c.loop-i.i c.loop-i.dst c.args.dst.now (omega (arith, c.requires.1)) c.loop-i.invariant)

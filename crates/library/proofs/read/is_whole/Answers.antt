@@ -1,18 +1,21 @@
 -- `library::read::is_whole` meets its contract: the blocks left are judged as all are.
 -- Assumes nothing.
 use native.Mathlib.Omega.{arith}
-use mathlib.Core.Path.{sym, ◌∙◌}
+use Prim.Native.Nat.{ℕ, ◌+◌, ◌-◌}
+use mathlib.Core.Path.{◌≡◌, sym, ap, ◌∙◌}
+use Rattle.library.specs.Index.{first_part, room_of}
+use Rattle.library.specs.Read.{whole_blocks}
 use Rattle.library.proofs.Reading.{not_stop, not_go, whole_stop, whole_step, whole_done}
 use Rattle.library.proofs.read.is_whole.Goals as goal
 
-pub loop-left-init : goal.loop-left-init
-loop-left-init c = (omega arith, (omega arith, rw c.blocks_for-left.ensures.0))
+pub returns-then-is_damaged : goal.returns-then-is_damaged
+returns-then-is_damaged c = whole_stop c.args.file.now (c.args.first + room_of c.args.words - c.loop-k.k) c.loop-k.k c.loop-k.rest (omega arith) (not_stop _ (rw c.first_part-here.ensures at (sym c.is_damaged.ensures ∙ c.if-is_damaged.true))) ∙ sym c.loop-k.invariant.1
 
-pub returns-then-damaged : goal.returns-then-damaged
-returns-then-damaged c = whole_stop c.args.file.now c.loop-left.left c.loop-left.k c.loop-left.rest (omega arith) (not_stop _ (rw c.first_part-here.ensures at (sym c.is_damaged-damaged.ensures ∙ c.if-damaged.true))) ∙ sym c.loop-left.invariant.1.1
-
-pub loop-left-preserved : goal.loop-left-preserved
-loop-left-preserved c = (omega arith, (omega arith, c.loop-left.invariant.1.1 ∙ whole_step c.args.file.now c.loop-left.left c.loop-left.k c.loop-left.rest (omega arith) (not_go _ (rw c.first_part-here.ensures at (sym c.is_damaged-damaged.ensures ∙ c.if-damaged.false))) ∙ rw c.first_part-here.ensures))
+pub loop-k-preserved : goal.loop-k-preserved
+loop-k-preserved c =
+    let fewer : c.args.first + room_of c.args.words - c.loop-k.k - 1 ≡ c.args.first + room_of c.args.words - (c.loop-k.k + 1) = omega arith in
+    let step = whole_step c.args.file.now (c.args.first + room_of c.args.words - c.loop-k.k) c.loop-k.k c.loop-k.rest (omega arith) (not_go _ (rw c.first_part-here.ensures at (sym c.is_damaged.ensures ∙ c.if-is_damaged.false))) in
+    (omega arith, c.loop-k.invariant.1 ∙ step ∙ rw c.first_part-here.ensures (ap (λ (n : ℕ). whole_blocks n (c.loop-k.k + 1) (c.loop-k.rest - first_part c.loop-k.rest) c.args.file.now) fewer))
 
 pub returns : goal.returns
-returns c = whole_done c.args.file.now c.loop-left.left c.loop-left.k c.loop-left.rest (omega arith) ∙ sym c.loop-left.invariant.1.1
+returns c = whole_done c.args.file.now (c.args.first + room_of c.args.words - c.loop-k.k) c.loop-k.k c.loop-k.rest (omega arith) ∙ sym c.loop-k.invariant.1

@@ -1,0 +1,22 @@
+-- What a step gives, as the laws read it: entries of the log, frames on the stack, and whether it met a clash. Assumes nothing.
+use Rattle.std.specs.Prelude.{ℕ, Bool, true, false, Result, Ok, Err}
+use Rattle.forest.specs.declared.merge.Progress.{Progress}
+use Rattle.forest.specs.declared.merge.Clash.{Clash}
+
+abbrev pub entries_of : Result Progress Clash → ℕ
+entries_of (Ok p) = p.k
+entries_of (Err c) = c.k
+
+-- a clash leaves the s frames of before
+abbrev pub frames_of : ℕ → Result Progress Clash → ℕ
+frames_of s (Ok p) = p.s
+frames_of s (Err c) = s
+
+-- the entries of the log where no frame is left
+abbrev pub log_of : Result ℕ Clash → ℕ
+log_of (Ok e) = e
+log_of (Err c) = c.k
+
+abbrev pub clashes : {A : Type 0} → Result A Clash → Bool
+clashes (Ok a) = false
+clashes (Err c) = true

@@ -1,0 +1,47 @@
+// What the programs have in common: a text is read, answered, and the answer printed.
+#![tactic(auto)]
+
+ghost use Rattle.std.specs.Prelude.{List, ℕ, length, take, IfSome, OnOk};
+ghost use Rattle.programs.specs.Said.{Answered, Prints};
+
+use std::io;
+use std::io::{Read, Write};
+use streams::read_full;
+
+// A program, by what it answers to a text.
+pub trait Program {
+    // What may be said of a text in an area of so many bytes.
+    ghost says: { ℕ → List ℕ → List ℕ → Type 0 };
+
+    // Whether an area of so many bytes is enough.
+    ghost suffices: { ℕ → Type 0 };
+
+    // Writes what is said of the text to the start of `out`, and answers how many bytes that is.
+    fn answer(text: &[u8], out: &mut [u8]) -> usize
+        requires { suffices (length out.old) }
+        ensures { Answered (says (length out.old) text.now) result out.new };
+}
+
+// Prints what the program says of the text.
+pub fn print<P: Program, W: Write>(output: &mut W, text: &[u8], out: &mut [u8]) -> io::Result<()>
+    requires { P.suffices (length out.old) }
+    ensures { OnOk result (Prints (P.says (length out.old) text.now) (W.contents output.old) (W.contents output.new)) }
+{
+    let n = P::answer(text, out);
+    output.write_all(&out[..n])
+}
+
+// Reads a text as far as there is room for it, and prints what the program says of it.
+pub fn run<P: Program, R: Read, W: Write>(
+    input: &mut R,
+    output: &mut W,
+    text: &mut [u8],
+    out: &mut [u8],
+) -> io::Result<()>
+    requires { P.suffices (length out.old) }
+    ensures { OnOk result (IfSome (R.remaining input.old) (λ all.
+        Prints (P.says (length out.old) (take (length text.old) all)) (W.contents output.old) (W.contents output.new))) }
+{
+    let n = read_full(input, text)?;
+    print::<P, W>(output, &text[..n], out)
+}
