@@ -11,8 +11,7 @@ use lib.ListN.{length, get_or, take, drop, drop_of_length-le, length-append}
 use lib.Seq.{drop-cons, take_at}
 use lib.Dec.{eqb}
 use borrow.Author.Tests.{eq-eqb, ne_eqb}
-use Rattle.answer_text.specs.declared.line.Written.{Written}
-use Rattle.answer_text.specs.declared.line.Written.TheVariants.{Bytes, NoRoom}
+use Rattle.std.specs.Prelude.{Option, Some, None}
 use Rattle.call_text.specs.Token.{space_or_newline, largest, token, is}
 use Rattle.call_text.specs.Call.{before, words_in}
 use Rattle.answer_text.specs.Answer.{decimal, after_spaces, spaced, newline, answer_label, words_label, readings_label, labelled}
@@ -109,20 +108,20 @@ module _ (number count readings : ℕ) (few : number ≤ largest) (short : count
 -- ---- what an answer of the writer says
 module _ (text dst : List ℕ) where
   -- what is written is the text
-  pub wrote-text : (dst' : List ℕ) (n : ℕ) → Wrote text dst dst' (Bytes n) → take n dst' ≡ text
+  pub wrote-text : (dst' : List ℕ) (n : ℕ) → Wrote text dst dst' (Some n) → take n dst' ≡ text
   wrote-text dst' n w = ap (take n) w.2 ∙ take_at text (drop n dst) n (sym w.0)
 
   -- where there is room, the text is written
-  pub wrote-fits : (dst' : List ℕ) (r : Written) → Wrote text dst dst' r → length text ≤ length dst →
-      (r ≡ Bytes (length text)) × (dst' ≡ text ++ drop (length text) dst)
-  wrote-fits dst' (Bytes n) w h = (ap Bytes w.0, w.2 ∙ ap (λ (k : ℕ). text ++ drop k dst) w.0)
-  wrote-fits dst' NoRoom w h = absurd (omega arith)
+  pub wrote-fits : (dst' : List ℕ) (r : Option ℕ) → Wrote text dst dst' r → length text ≤ length dst →
+      (r ≡ Some (length text)) × (dst' ≡ text ++ drop (length text) dst)
+  wrote-fits dst' (Some n) w h = (ap Some w.0, w.2 ∙ ap (λ (k : ℕ). text ++ drop k dst) w.0)
+  wrote-fits dst' None w h = absurd (omega arith)
 
   -- one answer only is allowed
-  pub wrote_one : (d e : List ℕ) (r s : Written) → Wrote text dst d r → Wrote text dst e s → r ≡ s
-  wrote_one d e (Bytes n) s v w = ap Bytes v.0 ∙ sym (wrote-fits e s w (let q = v.0 in let z = v.1 in omega arith)).0
-  wrote_one d e NoRoom (Bytes k) v w = absurd (let q = w.0 in let z = w.1 in omega arith)
-  wrote_one d e NoRoom NoRoom v w = refl
+  pub wrote_one : (d e : List ℕ) (r s : Option ℕ) → Wrote text dst d r → Wrote text dst e s → r ≡ s
+  wrote_one d e (Some n) s v w = ap Some v.0 ∙ sym (wrote-fits e s w (let q = v.0 in let z = v.1 in omega arith)).0
+  wrote_one d e None (Some k) v w = absurd (let q = w.0 in let z = w.1 in omega arith)
+  wrote_one d e None None v w = refl
 
 -- ---- reading back
 after-parted : (ws rest : List ℕ) → Parted rest → Parted (after_spaces ws ++ rest)

@@ -1,9 +1,8 @@
 -- What `meet` prints, as bytes: "It prints `answer` number `words` length `readings` count and, after 0 only, a second line of result
 -- words parted by single spaces".
 -- Assumes nothing: these are definitions.
+use Rattle.std.specs.Prelude.{Option, Some, None}
 use Rattle.std.specs.Prelude.{ℕ, zero, suc, ◌+◌, ◌/◌, ◌%◌, ◌≤◌, ◌<◌, ◌≡◌, true, false, List, [], ◌∷◌, ◌++◌, length, drop, eqb, ltb}
-use Rattle.answer_text.specs.declared.line.Written.{Written}
-use Rattle.answer_text.specs.declared.line.Written.TheVariants.{Bytes, NoRoom}
 
 -- the decimal digits of a number, where it has at most so many
 unfoldable pub digits : ℕ → ℕ → List ℕ
@@ -58,6 +57,6 @@ abbrev pub bad_text : List ℕ
 bad_text = 98 ∷ 97 ∷ 100 ∷ 32 ∷ 105 ∷ 110 ∷ 112 ∷ 117 ∷ 116 ∷ 10 ∷ []
 
 -- the text stands at the start of dst, and what stood after it stays; or the text is longer than dst, and what dst then holds is not said
-abbrev pub Wrote : List ℕ → List ℕ → List ℕ → Written → Type 0
-Wrote text dst dst' (Bytes n) = (n ≡ length text) × (n ≤ length dst) × (dst' ≡ text ++ drop n dst)
-Wrote text dst dst' NoRoom = length dst < length text
+abbrev pub Wrote : List ℕ → List ℕ → List ℕ → Option ℕ → Type 0
+Wrote text dst dst' (Some n) = (n ≡ length text) × (n ≤ length dst) × (dst' ≡ text ++ drop n dst)
+Wrote text dst dst' None = length dst < length text

@@ -3,7 +3,6 @@ ghost use Rattle.theory.specs.LayoutOne.{Image};
 ghost use Rattle.answering.specs.Caused.{CauseIn};
 
 use faults::fault::fault;
-use faults::verdict::Fault;
 use roles::cause::Cause;
 
 // Why these words are malformed: looked for only where they are, so that what is accepted costs nothing more.
@@ -11,9 +10,8 @@ pub fn cause_in(ws: &[u32]) -> Cause
     requires { Image ws.now → ⊥ }
     ensures { CauseIn ws.now result }
 {
-    let found = fault(ws);
-    match found {
-        Fault::At(cause, _) => cause,
-        Fault::None => Cause::WordsEnd,
+    match fault(ws) {
+        Some(found) => found.cause,
+        None => Cause::WordsEnd,
     }
 }

@@ -2,7 +2,7 @@
 -- Assumes nothing.
 use Prim.Native.Nat.{ℕ, ◌≤◌, ◌<◌}
 use native.Mathlib.Omega.{arith}
-use mathlib.Core.Path.{◌≡◌, refl, sym, ap, ap₂, ◌∙◌, subst}
+use mathlib.Core.Path.{◌≡◌, refl, sym, ap, ◌∙◌, subst}
 use mathlib.Core.Bool.{Bool, true, false}
 use mathlib.Core.Option.{Option, none, some}
 use mathlib.Core.List.{List}
@@ -11,18 +11,25 @@ use lib.Dec.{ltb}
 use borrow.Author.Tests.{lt-ltb, le-ltb, ltb-false}
 use Rattle.call_text.specs.Token.{Start, is, over, bad, token}
 use Rattle.call_text.specs.Call.{Taken, words_in, count_limit, counted, done, Typed, inputs, typed, text_limit, heard, heard_in}
-use Rattle.call_text.specs.Call.{Heard}
+use Rattle.call_text.specs.Call.{Answer, Heard}
 use Rattle.call_text.specs.Finding.{beyond, FindsRun, Puts}
-use Rattle.call_text.specs.declared.call.Counts.{Counts}
-use Rattle.call_text.specs.declared.call.Counts.TheVariants.{Good, BadInput}
-use Rattle.call_text.specs.declared.call.Words.{Words}
-use Rattle.call_text.specs.declared.call.Words.TheVariants.{Run, Wrong}
-use Rattle.call_text.proofs.Runs.{words_length}
+use Rattle.std.specs.Prelude.{Some, None}
+use Rattle.call_text.specs.declared.call.Run.{Run}
+use Rattle.call_text.specs.declared.number.Token.{Token}
+use Rattle.call_text.specs.declared.number.Token.TheVariants.{Is, Over, Bad}
+use Rattle.call_text.proofs.Tokens.{meant}
+use Rattle.call_text.proofs.Runs.{Other, words_length}
 
 -- ---- whether a number is left
 pub done_by : (cs : List ℕ) (s : Start) → s ≡ token cs → elim s [ is v rest ↦ false | over ↦ true | bad ↦ false ] ≡ done cs
 unfolding done
 done_by cs s e = ap {B = Bool} (λ (s : Start). elim s [ is v rest ↦ false | over ↦ true | bad ↦ false ]) e
+
+-- what is read is something else than the end
+pub still_more : (text cs : List ℕ) (r : Token) → meant text r ≡ token cs → (r ≡ Over → ⊥) → false ≡ done cs
+still_more text cs (Is v q) e o = done_by cs (is v (drop q text)) e
+still_more text cs Over e o = absurd (o refl)
+still_more text cs Bad e o = done_by cs bad e
 
 -- ---- what follows the mode
 module _ (m : ℕ) (cs : List ℕ) where
@@ -76,8 +83,8 @@ module _ (m : ℕ) (cs : List ℕ) where
       inputs_both x g = ap (last a b) g ∙ ap (second a) f ∙ ap first e ∙ parts
 
 -- ---- bad input changes nothing
-module _ (o : Option Typed) (first second : List ℕ) (r : Counts) where
-  pub unheard : o ≡ none → r ≡ BadInput → Heard o first second first second r
+module _ (o : Option Typed) (first second : List ℕ) (r : Answer) where
+  pub unheard : o ≡ none → r ≡ None → Heard o first second first second r
   unheard e f =
       subst (λ (o : Option Typed). Heard o first second first second r) (sym e)
       (record { answer = f; the_first = refl; the_second = refl })
@@ -89,52 +96,43 @@ pub there : (text : List ℕ) (run : Option Taken) (next : ℕ) → beyond run �
 there text none next e = let z : ◌≡◌ {A = ℕ} 0 1 = cc in absurd (omega arith)
 there text (some t) next e = let f : t.1 ≡ drop next text = cc in (t.0, ap (λ (l : List ℕ). some (t.0, l)) (sym f))
 
-pub found_few : (text : List ℕ) (run : Option Taken) (r : Words) → FindsRun text run r → (n s q : ℕ) → r ≡ Run n s q → n ≤ count_limit
-found_few text run r f n s q e = let one : FindsRun text run (Run n s q) = subst (FindsRun text run) e f in one.0
-
 module _ (m : ℕ) (text cs : List ℕ) where
-  pub without_first : (r : Words) → FindsRun text (counted cs) r → r ≡ Wrong → inputs m cs ≡ none
-  without_first r f e = sym (inputs_none m cs (sym (subst (FindsRun text (counted cs)) e f)))
+  pub without_first : counted cs ≡ none → inputs m cs ≡ none
+  without_first e = sym (inputs_none m cs (sym e))
 
-  module _ (r : Words) (f : FindsRun text (counted cs) r) (n s q : ℕ) (e : r ≡ Run n s q) where
-    one : FindsRun text (counted cs) (Run n s q)
-    one = subst (FindsRun text (counted cs)) e f
-
-    ahead : (xs : List ℕ) × (some (xs, drop q text) ≡ counted cs)
-    ahead = there text (counted cs) q one.2
+  module _ (r : Run) (one : FindsRun text (counted cs) (Some r)) where
+    ahead : (xs : List ℕ) × (some (xs, drop r.next text) ≡ counted cs)
+    ahead = there text (counted cs) r.next one.2
 
     abbrev rest : Option Taken
-    rest = counted (drop q text)
+    rest = counted (drop r.next text)
 
-    pub without_second : (w : Words) → FindsRun text rest w → w ≡ Wrong → inputs m cs ≡ none
-    without_second w g d = sym (inputs_one m cs ahead.0 (drop q text) ahead.1 (sym (subst (FindsRun text rest) d g)))
+    pub without_second : rest ≡ none → inputs m cs ≡ none
+    without_second e = sym (inputs_one m cs ahead.0 (drop r.next text) ahead.1 (sym e))
 
-    module _ (w : Words) (g : FindsRun text rest w) (k u z : ℕ) (d : w ≡ Run k u z) where
-      two : FindsRun text rest (Run k u z)
-      two = subst (FindsRun text rest) d g
+    module _ (w : Run) (two : FindsRun text rest (Some w)) where
+      after : (ys : List ℕ) × (some (ys, drop w.next text) ≡ rest)
+      after = there text rest w.next two.2
 
-      after : (ys : List ℕ) × (some (ys, drop z text) ≡ rest)
-      after = there text rest z two.2
+      pub with_more : false ≡ done (drop w.next text) → inputs m cs ≡ none
+      with_more h = sym (inputs_both m cs ahead.0 (drop r.next text) ahead.1 after.0 (drop w.next text) after.1 false h)
 
-      pub with_more : false ≡ done (drop z text) → inputs m cs ≡ none
-      with_more h = sym (inputs_both m cs ahead.0 (drop q text) ahead.1 after.0 (drop z text) after.1 false h)
-
-      module _ (h : true ≡ done (drop z text)) (first second first' second' : List ℕ) (a : Counts) (v : a ≡ Good m n k) where
+      module _ (h : true ≡ done (drop w.next text)) (first second first' second' : List ℕ) where
         asked : some (record { mode = m; first = ahead.0; second = after.0 }) ≡ inputs m cs
-        asked = inputs_both m cs ahead.0 (drop q text) ahead.1 after.0 (drop z text) after.1 true h
+        asked = inputs_both m cs ahead.0 (drop r.next text) ahead.1 after.0 (drop w.next text) after.1 true h
 
-        pub with_both : Puts (words_in n (drop s text)) first first' → Puts (words_in k (drop u text)) second second'
-            → Heard (inputs m cs) first second first' second' a
+        pub with_both : Puts (words_in r.count (drop r.start text)) first first' → Puts (words_in w.count (drop w.start text)) second second'
+            → Heard (inputs m cs) first second first' second' (Some (record { mode = m; first = r.count; second = w.count }))
         with_both i j =
-            let x : words_in n (drop s text) ≡ some (ahead.0, drop q text) = one.1 ∙ sym ahead.1 in
-            let y : words_in k (drop u text) ≡ some (after.0, drop z text) = two.1 ∙ sym after.1 in
-            let xs = words_length n (drop s text) (ahead.0, drop q text) x in
-            let ys = words_length k (drop u text) (after.0, drop z text) y in
-            subst (λ (o : Option Typed). Heard o first second first' second' a) asked
-            (record {
-              answer = v ∙ ap₂ {C = Counts} (Good m) (sym xs) (sym ys);
-              the_first = i (ahead.0, drop q text) x;
-              the_second = j (after.0, drop z text) y;
+            let x : words_in r.count (drop r.start text) ≡ some (ahead.0, drop r.next text) = one.1 ∙ sym ahead.1 in
+            let y : words_in w.count (drop w.start text) ≡ some (after.0, drop w.next text) = two.1 ∙ sym after.1 in
+            let xs = words_length r.count (drop r.start text) (ahead.0, drop r.next text) x in
+            let ys = words_length w.count (drop w.start text) (after.0, drop w.next text) y in
+            subst (λ (o : Option Typed). Heard o first second first' second' (Some (record { mode = m; first = r.count; second = w.count })))
+            asked (record {
+              answer = cc;
+              the_first = i (ahead.0, drop r.next text) x;
+              the_second = j (after.0, drop w.next text) y;
             })
 
 -- ---- the whole
@@ -178,20 +176,19 @@ module _ (n m : ℕ) (text : List ℕ) where
         unfolding heard
         short_text = let e = le-ltb text_limit (length text) fits in with_room ∙ rw (e, heard)
 
-        pub no_mode : over ≡ token text → heard_in n m text ≡ none
-        no_mode e = short_text ∙ sym (call_start text over e)
+        pub without_mode : (r : Token) → meant text r ≡ token text → Other r → heard_in n m text ≡ none
+        without_mode (Is v q) e o = absurd (o v q refl)
+        without_mode Over e o = short_text ∙ sym (call_start text over e)
+        without_mode Bad e o = short_text ∙ sym (call_start text bad e)
 
-        pub bad_mode : bad ≡ token text → heard_in n m text ≡ none
-        bad_mode e = short_text ∙ sym (call_start text bad e)
-
-        module _ (first second first' second' : List ℕ) (r : Counts) (mode : ℕ) (rest : List ℕ) (e : is mode rest ≡ token text) where
+        module _ (first second first' second' : List ℕ) (r : Answer) (mode : ℕ) (rest : List ℕ) (e : is mode rest ≡ token text) where
           pub with_mode : Heard (inputs mode rest) first second first' second' r → Heard (heard_in n m text) first second first' second' r
           with_mode h =
               subst (λ (o : Option Typed). Heard o first second first' second' r) (call_start text (is mode rest) e ∙ sym short_text) h
 
 -- ---- what a call is
 -- one answer only is allowed, and one content of both lists
-pub one_call : (o : Option Typed) (first second : List ℕ) (a b c d : List ℕ) (r s : Counts)
+pub one_call : (o : Option Typed) (first second : List ℕ) (a b c d : List ℕ) (r s : Answer)
     → Heard o first second a b r → Heard o first second c d s → (r ≡ s) × (a ≡ c) × (b ≡ d)
 one_call o first second a b c d r s p q =
     (p.answer ∙ sym q.answer, p.the_first ∙ sym q.the_first, p.the_second ∙ sym q.the_second)

@@ -1,14 +1,14 @@
 -- The call that a text begins with, found part by part: one law for each way that it goes on or ends.
 -- Assumes nothing.
 use Prim.Native.Nat.{ℕ}
-use mathlib.Core.Path.{◌≡◌, refl, sym, ap, ◌∙◌, subst}
+use mathlib.Core.Path.{◌≡◌, refl, sym, ap, ◌∙◌}
 use mathlib.Core.Option.{Option, none, some}
 use mathlib.Core.List.{List}
 use lib.ListN.{drop}
 use Rattle.call_text.specs.declared.number.Token.{Token}
 use Rattle.call_text.specs.declared.number.Token.TheVariants.{Is, Over, Bad}
-use Rattle.call_text.specs.declared.call.Words.{Words}
-use Rattle.call_text.specs.declared.call.Words.TheVariants.{Run, Wrong}
+use Rattle.std.specs.Prelude.{Some}
+use Rattle.call_text.specs.declared.call.Run.{Run}
 use Rattle.call_text.specs.Token.{Start, is, over, bad, token}
 use Rattle.call_text.specs.Call.{Taken, counted}
 use Rattle.call_text.specs.Finding.{beyond, FindsRun, leading}
@@ -54,21 +54,19 @@ module _ (cs text : List ℕ) (v p : ℕ) (mode : is v (drop p text) ≡ token c
   first = counted (drop p text)
 
   -- no first run
-  pub leads_without : (r : Words) → FindsRun text first r → r ≡ Wrong → leading cs ≡ none
-  leads_without r f e = leading_start cs (is v (drop p text)) (sym mode) ∙ ap second (subst (FindsRun text first) e f)
+  pub leads_without : first ≡ none → leading cs ≡ none
+  leads_without e = leading_start cs (is v (drop p text)) (sym mode) ∙ ap second e
 
-  module _ (r : Words) (f : FindsRun text first r) (n s q : ℕ) (e : r ≡ Run n s q) where
+  module _ (r : Run) (f : FindsRun text first (Some r)) where
     abbrev rest : Option Taken
-    rest = counted (drop q text)
+    rest = counted (drop r.next text)
 
     onward : leading cs ≡ beyond rest
-    onward = let one : FindsRun text first (Run n s q) = subst (FindsRun text first) e f in
-        let ahead = there text first q one.2 in
-        leading_start cs (is v (drop p text)) (sym mode) ∙ ap second (sym ahead.1)
+    onward = let ahead = there text first r.next f.2 in leading_start cs (is v (drop p text)) (sym mode) ∙ ap second (sym ahead.1)
 
     -- no second run, or both
-    pub leads_short : (w : Words) → FindsRun text rest w → w ≡ Wrong → leading cs ≡ none
-    leads_short w g d = onward ∙ ap beyond (subst (FindsRun text rest) d g)
+    pub leads_short : rest ≡ none → leading cs ≡ none
+    leads_short e = onward ∙ ap beyond e
 
-    pub leads_on : (w : Words) → FindsRun text rest w → (m t u : ℕ) → w ≡ Run m t u → leading cs ≡ some (drop u text)
-    leads_on w g m t u d = let two : FindsRun text rest (Run m t u) = subst (FindsRun text rest) d g in onward ∙ two.2
+    pub leads_on : (w : Run) → FindsRun text rest (Some w) → leading cs ≡ some (drop w.next text)
+    leads_on w g = onward ∙ g.2

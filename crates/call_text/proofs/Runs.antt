@@ -14,10 +14,9 @@ use lib.Dec.{ltb}
 use borrow.Author.Tests.{lt-ltb, le-ltb}
 use Rattle.call_text.specs.declared.number.Token.{Token}
 use Rattle.call_text.specs.declared.number.Token.TheVariants.{Is, Over, Bad}
-use Rattle.call_text.specs.declared.call.Words.{Words}
 use Rattle.call_text.specs.Token.{Start, is, over, bad, token}
 use Rattle.call_text.specs.Call.{Taken, before, words_in, count_limit, counted}
-use Rattle.call_text.specs.Finding.{beyond, FindsRun, Puts}
+use Rattle.call_text.specs.Finding.{beyond, Words, FindsRun, Puts}
 use Rattle.call_text.proofs.Tokens.{meant}
 
 before_before : (xs ys : List ℕ) (o : Option Taken) → before xs (before ys o) ≡ before (xs ++ ys) o

@@ -1,10 +1,9 @@
 -- A call as `meet` reads it: "namely mode, word count, first words, word count, second words".
 -- Assumes nothing: these are definitions.
-use Rattle.std.specs.Prelude.{ℕ, zero, suc, ◌≡◌, Bool, true, false, List, [], ◌∷◌, ◌++◌, length, drop, ltb}
+use Rattle.std.specs.Prelude.{ℕ, zero, suc, ◌≡◌, Bool, true, false, List, [], ◌∷◌, ◌++◌, length, drop, ltb, Some, None}
 use Rattle.std.proofs.Math.Option.{Option, none, some}
 use Rattle.call_text.specs.Token.{is, over, bad, token}
 use Rattle.call_text.specs.declared.call.Counts.{Counts}
-use Rattle.call_text.specs.declared.call.Counts.TheVariants.{Good, BadInput}
 
 -- words, and the text after them
 abbrev pub Taken : Type 0
@@ -65,10 +64,13 @@ heard text = elim (ltb text_limit (length text)) [ true ↦ none | false ↦ typ
 unfoldable pub heard_in : ℕ → ℕ → List ℕ → Option Typed
 heard_in n m text = elim (ltb n count_limit) [ true ↦ none | false ↦ elim (ltb m count_limit) [ true ↦ none | false ↦ heard text ] ]
 
--- the answer: the mode, and how many words each input has
-abbrev pub told : Option Typed → Counts
-told none = BadInput
-told (some c) = Good c.mode (length c.first) (length c.second)
+-- the answer: the mode, and how many words each input has; or bad input
+abbrev pub Answer : Type 0
+Answer = Rattle.std.specs.Prelude.Option Counts
+
+abbrev pub told : Option Typed → Answer
+told none = None
+told (some c) = Some (record { mode = c.mode; first = length c.first; second = length c.second })
 
 -- the words of each input, none after bad input
 abbrev pub first_words : Option Typed → List ℕ
@@ -84,7 +86,7 @@ abbrev pub upon : List ℕ → List ℕ → List ℕ
 upon words l = words ++ drop (length words) l
 
 -- the answer to a call, and every word of both lists: the inputs stand at their starts, and bad input changes neither
-pub record Heard (o : Option Typed) (first second first' second' : List ℕ) (r : Counts) : Type 0 where
+pub record Heard (o : Option Typed) (first second first' second' : List ℕ) (r : Answer) : Type 0 where
   pub answer : r ≡ told o
   pub the_first : first' ≡ upon (first_words o) first
   pub the_second : second' ≡ upon (second_words o) second

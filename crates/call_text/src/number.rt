@@ -2,8 +2,9 @@
 ghost use Rattle.std.specs.Prelude.{◌≡◌, ◌≤◌, length, drop};
 ghost use Rattle.call_text.specs.Token.{space_or_newline, digit, more, token, placed};
 
-// What stands next: a number and the position after it, no number any more, or something else.
-#[derive(Clone, Copy)]
+// What stands next: a number and the position after it, no number any more, or something else. Each is an answer of its own, since a text
+// may end with no number and must not end with something else.
+#[derive(Clone, Copy, Debug, PartialEq, Eq)]
 pub enum Token {
     Is { value: u32, next: usize },
     Over,
@@ -14,26 +15,14 @@ pub enum Token {
 fn is_blank(c: u8) -> bool
     ensures { result ≡ space_or_newline c }
 {
-    if c == 32 {
-        return true;
-    }
-    c == 10
+    c == b' ' || c == b'\n'
 }
 
 // Whether the byte is a decimal digit.
 fn is_digit(c: u8) -> bool
     ensures { result ≡ digit c }
 {
-    if c < 48 {
-        return false;
-    }
-    c < 58
-}
-
-fn wide(c: u8) -> u64
-    ensures { result ≡ c }
-{
-    c as u64
+    c.is_ascii_digit()
 }
 
 // The rest of a number whose value so far is `first`, from p on.
@@ -41,45 +30,39 @@ fn read_more(text: &[u8], p: usize, first: u32) -> Token
     requires { p ≤ length text.now }
     ensures { result ≡ placed text.now (more first (drop p text.now)) }
 {
-    let mut at = p;
     let mut value = first;
-    while at < text.len() {
+    for at in p..text.len() {
         let c = text[at];
-        let digit = is_digit(c);
-        if digit {
-            let next = value as u64 * 10 + (wide(c) - 48);
-            if 4294967295 < next {
-                return Token::Bad;
-            }
-            value = next as u32;
-            at += 1;
-        } else {
-            let blank = is_blank(c);
-            if blank {
-                return Token::Is { value, next: at };
-            }
-            return Token::Bad;
+        if !is_digit(c) {
+            return if is_blank(c) {
+                Token::Is { value, next: at }
+            } else {
+                Token::Bad
+            };
         }
+        let Ok(next) = u32::try_from(u64::from(value) * 10 + u64::from(c - b'0')) else {
+            return Token::Bad;
+        };
+        value = next;
     }
-    Token::Is { value, next: at }
+    Token::Is {
+        value,
+        next: text.len(),
+    }
 }
 
 // The next number from p on.
 pub fn read_token(text: &[u8], p: usize) -> Token
     ensures { result ≡ placed text.now (token (drop p text.now)) }
 {
-    let mut at = p;
-    while at < text.len() {
+    for at in p..text.len() {
         let c = text[at];
-        let blank = is_blank(c);
-        if blank {
-            at += 1;
-        } else {
-            let digit = is_digit(c);
-            if digit {
-                return read_more(text, at, 0);
-            }
-            return Token::Bad;
+        if !is_blank(c) {
+            return if is_digit(c) {
+                read_more(text, at, 0)
+            } else {
+                Token::Bad
+            };
         }
     }
     Token::Over

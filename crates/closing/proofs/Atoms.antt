@@ -6,10 +6,10 @@ use mathlib.Core.Bool.{Bool, true, false}
 use mathlib.Core.Option.{Option, none, some}
 use mathlib.Core.List.Memᴰ
 use mathlib.Core.List.{List, [], ◌∷◌, Memᴰ}
-use Prim.Native.Nat.{ℕ, zero, suc, ◌+◌, ◌-◌, ◌<◌, ◌≤◌}
+use Prim.Native.Nat.{ℕ, suc, ◌+◌, ◌<◌, ◌≤◌}
 use native.Mathlib.Omega.{arith}
-use lib.ListN.{length, get_or, set, drop, length-set}
-use lib.Seq.{get_or-set_same, get_or-set_other, drop-length, drop-cons}
+use lib.ListN.{length, get_or, set, length-set}
+use lib.Seq.{get_or-set_same, get_or-set_other}
 use Rattle.descriptions.proofs.Tests.{Test, equal, differ, test, eqb_yes, eqb_no}
 use Rattle.theory.specs.Join.{atom_of}
 use Rattle.theory.proofs.Number.{Bearing, bears, bare, bearing}
@@ -17,24 +17,12 @@ use Rattle.closing.specs.Rows.{spot_limit, mark_limit, spot_of, spot_mark, in_pa
 use Rattle.closing.specs.Labels.{lab_of}
 use Rattle.closing.specs.Bearing.{held_of, Borne, Struck, AtomsBorne, Against}
 use Rattle.closing.specs.Bearing as asked
-use Rattle.closing.proofs.Lists.{pair_at, pair_in}
+use Rattle.closing.proofs.Lists.{pair_at, pair_in, pair_from}
 use Rattle.closing.proofs.Labels.{lab_at}
 use Rattle.closing.proofs.Chains.{by_cons}
 
 abbrev Pair : Type 0
 Pair = ℕ × ℕ
-
-pub against_none : (held given : ℕ) → (held ≡ 0) ⊎ (held ≡ given) → Against held given false
-against_none held given e = record { other = λ f. let z : ◌≡◌ {A = ℕ} 0 1 = cc in absurd (omega arith); fine = λ f. e }
-
-pub against_other : (held given : ℕ) → held ≢ 0 → held ≢ given → Against held given true
-against_other held given m n = record { other = λ f. (m, n); fine = λ f. let z : ◌≡◌ {A = ℕ} 0 1 = cc in absurd (omega arith) }
-
-drop_in : (rows : List ℕ) (n : ℕ) (p : Pair) → Memᴰ p (in_pairs (drop n rows)) → Memᴰ p (in_pairs rows)
-drop_in [] zero p m = m
-drop_in [] (suc n) p m = m
-drop_in (row ∷ rows) zero p m = m
-drop_in (row ∷ rows) (suc n) p m = Memᴰ.tail (drop_in rows n p m)
 
 -- the atom of a label
 atom_here : (lab : ℕ → ℕ) (l : ℕ) (p : Pair) (S : List Pair) → lab p.0 ≡ l → atom_of lab l (p ∷ S) ≡ some p.1
@@ -95,42 +83,66 @@ module _ (L H B : List ℕ) (S : List Pair) (b : Borne L H S B) (p : Pair) (l : 
             (λ q m. by_cons {P = λ r. lab_of L q.0 ≡ lab_of L r.0 → q.1 ≡ r.1} (λ e. sym (same_atom q m (sym e)))
             (λ r n. b.one q r m n) r j) q i
 
--- the rows from `left` on are done
-pub record Bearings (L H atoms : List ℕ) (left : ℕ) (B : List ℕ) : Type 0 where
-  pub room : left ≤ length atoms
-  pub borne : Borne L H (in_pairs (drop left atoms)) B
+-- a label's atom is the same in two lists of the same pairs
+atom_same : (lab : ℕ → ℕ) (l : ℕ) (S T : List Pair) → ((q : Pair) → Memᴰ q S → Memᴰ q T) → ((q : Pair) → Memᴰ q T → Memᴰ q S) →
+    ((p q : Pair) → Memᴰ p S → Memᴰ q S → lab p.0 ≡ lab q.0 → p.1 ≡ q.1) → atom_of lab l S ≡ atom_of lab l T
+atom_same lab l S T f g one = go (atom_of lab l S) (bearing lab S l S) (atom_of lab l T) (bearing lab T l T)
+  where
+    go : (o : Option ℕ) → Bearing lab S l S o → (u : Option ℕ) → Bearing lab T l T u → o ≡ u
+    go none (bare h) none (bare k) = refl
+    go none (bare h) (some a) (bears q m e) = absurd (h q (g q m) e)
+    go (some a) (bears p m e) none (bare k) = absurd (k p (f p m) e)
+    go (some a) (bears p m e) (some b) (bears q n d) = ap some (one p q m (g q n) (e ∙ sym d))
 
-pub bear_start : (L H atoms B : List ℕ) → asked.AtomsBearing L B → Bearings L H atoms (length atoms) B
+-- the first k rows are done: `seen` has their pairs
+pub record Bearings (L H atoms : List ℕ) (k : ℕ) (B : List ℕ) : Type 0 where
+  pub seen : List Pair
+  pub borne : Borne L H seen B
+  pub of : (q : Pair) → Memᴰ q seen → Memᴰ q (in_pairs atoms)
+  pub all : (j : ℕ) → j < k → Memᴰ (pair_at atoms j) seen
+
+pub bear_start : (L H atoms B : List ℕ) → asked.AtomsBearing L B → Bearings L H atoms 0 B
 bear_start L H atoms B g = record {
-  room = omega arith;
-  borne = rw (drop-length atoms) (record {
+  seen = [];
+  borne = record {
     len = g.clear.len;
     held = λ l h. g.clear.each l;
     small = λ l. omega (arith, g.clear.each l);
     one = λ p q m. absurd (Memᴰ.not-nil m);
     bare = λ p m. absurd (Memᴰ.not-nil m);
-  });
+  };
+  of = λ q m. absurd (Memᴰ.not-nil m);
+  all = λ j h. absurd (omega arith);
 }
 
-pub bear_done : (L H atoms : List ℕ) (left : ℕ) (B : List ℕ) → Bearings L H atoms left B → left ≡ 0 → AtomsBorne L H atoms false B
-bear_done L H atoms left B s e = record {
-  calm = λ f. subst (λ (n : ℕ). Borne L H (in_pairs (drop n atoms)) B) e s.borne;
+pub bear_done : (L H atoms : List ℕ) (k : ℕ) (B : List ℕ) → Bearings L H atoms k B → length atoms ≤ k → AtomsBorne L H atoms false B
+bear_done L H atoms k B s e = record {
+  calm = λ f. let b = s.borne in record {
+    len = b.len;
+    held = λ l h. b.held l h ∙ ap held_of (atom_same (lab_of L) l s.seen (in_pairs atoms) s.of back b.one);
+    small = b.small;
+    one = λ p q m n. b.one p q (back p m) (back q n);
+    bare = λ p m. b.bare p (back p m);
+  };
   struck = λ f. let z : ◌≡◌ {A = ℕ} 0 1 = cc in absurd (omega arith);
 }
+  where
+    back : (q : Pair) → Memᴰ q (in_pairs atoms) → Memᴰ q s.seen
+    back q m = let (j, h, f) = pair_from atoms q m in subst (λ (p : Pair). Memᴰ p s.seen) f (s.all j (omega arith))
 
-module _ (L H atoms : List ℕ) (left : ℕ) (B B₀ : List ℕ) (g : asked.AtomsBearing L B₀) (s : Bearings L H atoms left B) (h : 0 < left) where
+module _ (L H atoms : List ℕ) (k : ℕ) (B B₀ : List ℕ) (g : asked.AtomsBearing L B₀) (s : Bearings L H atoms k B) (h : k < length atoms) where
   abbrev p : Pair
-  p = pair_at atoms (left - 1)
+  p = pair_at atoms k
 
-  pub bear_label : (x l : ℕ) → x ≡ spot_of (get_or atoms (left - 1) 0) → l ≡ get_or L x 0 → l ≡ lab_of L p.0
-  bear_label x l e f = f ∙ ap (λ (z : ℕ). get_or L z 0) e ∙ sym (lab_at L p.0 g.len (omega arith))
+  module _ (x l : ℕ) (of : x ≡ spot_of (get_or atoms k 0)) (label : l ≡ get_or L x 0) where
+    at : l ≡ lab_of L p.0
+    at = label ∙ ap (λ (z : ℕ). get_or L z 0) of ∙ sym (lab_at L p.0 g.len (omega arith))
 
-  module _ (l : ℕ) (at : l ≡ lab_of L p.0) where
     pub bear_low : l < spot_limit
     bear_low = rw at (g.low p.0 (omega arith))
 
     there : Memᴰ p (in_pairs atoms)
-    there = pair_in atoms (left - 1) (omega (arith, s.room))
+    there = pair_in atoms k h
 
     struck : Struck L H (in_pairs atoms) → (B' : List ℕ) → AtomsBorne L H atoms true B'
     struck w B' = record { calm = λ f. let z : ◌≡◌ {A = ℕ} 0 1 = cc in absurd (omega arith); struck = λ f. w }
@@ -138,23 +150,24 @@ module _ (L H atoms : List ℕ) (left : ℕ) (B B₀ : List ℕ) (g : asked.Atom
     pub bear_arcs : get_or H l 0 ≢ 0 → AtomsBorne L H atoms true B
     bear_arcs n = struck (record { pair = p; there = there; against = inl (λ e. n (ap (λ (z : ℕ). get_or H z 0) at ∙ e)) }) B
 
-    module _ (given : ℕ) (e : given ≡ spot_mark (get_or atoms (left - 1) 0) + 1) (r : Bool) (a : Against (get_or B l 0) given r) where
+    module _ (given : ℕ) (e : given ≡ spot_mark (get_or atoms k 0) + 1) (r : Bool) (a : Against (get_or B l 0) given r) where
       is_suc : given ≡ suc p.1
       is_suc = omega arith
 
       pub bear_atoms : r ≡ true → AtomsBorne L H atoms true B
-      bear_atoms t = struck (struck_atoms L H B (in_pairs (drop left atoms)) s.borne p l at bear_low (in_pairs atoms) there
-          (λ q m. drop_in atoms left q m) (a.other t).0 (λ f. (a.other t).1 (f ∙ sym is_suc))) B
+      bear_atoms t = struck (struck_atoms L H B s.seen s.borne p l at bear_low (in_pairs atoms) there s.of
+          (a.other t).0 (λ f. (a.other t).1 (f ∙ sym is_suc))) B
 
-      pub bear_step : get_or H l 0 ≡ 0 → r ≡ false → given ≤ mark_limit → Bearings L H atoms (left - 1) (set B l given)
+      pub bear_step : get_or H l 0 ≡ 0 → r ≡ false → given ≤ mark_limit → Bearings L H atoms (k + 1) (set B l given)
       bear_step free t small = record {
-        room = omega (arith, s.room);
-        borne = rw (down, is_suc) (
-            borne_step L H B (in_pairs (drop left atoms)) s.borne p l at bear_low free (⊎_elim inl (λ f. inr (f ∙ is_suc)) (a.fine t))
+        seen = p ∷ s.seen;
+        borne = rw is_suc (
+            borne_step L H B s.seen s.borne p l at bear_low free (⊎_elim inl (λ f. inr (f ∙ is_suc)) (a.fine t))
             (omega (arith, is_suc)));
+        of = by_cons there s.of;
+        all = λ j i. all j i (test j k);
       }
         where
-          down : drop (left - 1) atoms ≡ get_or atoms (left - 1) 0 ∷ drop left atoms
-          down = let f : suc (left - 1) ≡ left = omega arith in
-              subst (λ (n : ℕ). drop (left - 1) atoms ≡ get_or atoms (left - 1) 0 ∷ drop n atoms) f
-              (drop-cons atoms (left - 1) 0 (omega (arith, s.room)))
+          all : (j : ℕ) → j < k + 1 → {t : Bool} → Test j k t → Memᴰ (pair_at atoms j) (p ∷ s.seen)
+          all j i (equal f) = rw f (Memᴰ.head refl)
+          all j i (differ n) = Memᴰ.tail (s.all j (omega arith))

@@ -7,58 +7,25 @@ use mathlib.Core.List.Memᴰ
 use mathlib.Core.List.{List, ◌∷◌}
 use Prim.Native.Nat.{ℕ, ◌+◌, ◌<◌, ◌≤◌}
 use native.Mathlib.Omega.{arith}
-use lib.ListN.{length, get_or, set, length-set, get_or-eq_default}
+use lib.ListN.{length, get_or}
 use lib.Dec.{eqb, T, eqb→eq}
-use lib.Seq.{get_or-set_same, get_or-set_other}
 use Rattle.descriptions.proofs.Tests.{Test, equal, differ, test, eqb_yes, eqb_no}
 use Rattle.theory.specs.Join.{Rule, swap}
 use Rattle.theory.proofs.Instance.{seed_rule_in}
 use Rattle.theory.proofs.Close.{count_lt, Swapped, moved, stays, swapped, swap_moved, swap_stays}
 use Rattle.closing.specs.Rows.{spot_limit, spot_of, spot_mark, in_pairs}
-use Rattle.closing.specs.Labels.{lab_of, SpotLabelled, Below, Labels, reps, LabelsStart, Changes, Relabelling, Relabels}
+use Rattle.closing.specs.Labels.{lab_of, SpotLabelled, Below, Labels, reps, Changes, Relabelling, Relabels}
 use Rattle.closing.specs.Labels.{LabelsMerged, same, more, LabelsUniting, Unites, Tying, Ties}
-use Rattle.closing.proofs.Lists.{below_or, getD_within, in_get, pair_at, pair_in}
+use Rattle.closing.proofs.Lists.{getD_within, in_get, pair_at, pair_in}
 
 -- the first i spots have their own labels
 pub record Started (L : List ℕ) (i : ℕ) : Type 0 where
   pub len : length L ≡ spot_limit
   pub each : (j : ℕ) → j < i → lab_of L j ≡ j
 
-pub start_step : (L : List ℕ) (i : ℕ) → Started L i → i < spot_limit → Started (set L i i) (i + 1)
-start_step L i s h = record { len = simp length-set s.len; each = λ j k. go j k (test j i) }
-  where
-    go : (j : ℕ) → j < i + 1 → {t : Bool} → Test j i t → lab_of (set L i i) j ≡ j
-    go j k (equal e) = rw e (get_or-set_same L i i i (omega (arith, s.len)))
-    go j k (differ n) = get_or-set_other L i j i j n ∙ s.each j (omega arith)
-
-pub start_done : (L : List ℕ) (i : ℕ) → Started L i → spot_limit ≤ i → LabelsStart L
-start_done L i s h = record { len = s.len; each = λ j. go j (test_le j) }
-  where
-    test_le : (j : ℕ) → (j < i) ⊎ (length L ≤ j)
-    test_le j = ⊎_elim inl (λ k. inr (omega (arith, s.len))) (below_or j i)
-
-    go : (j : ℕ) → (j < i) ⊎ (length L ≤ j) → lab_of L j ≡ j
-    go j (inl k) = s.each j k
-    go j (inr k) = get_or-eq_default L j k
-
 -- the label that code reads
 pub lab_at : (L : List ℕ) (x : ℕ) → length L ≡ spot_limit → x < spot_limit → lab_of L x ≡ get_or L x 0
 lab_at L x e h = getD_within L x x 0 (omega arith)
-
-pub change_none : (L : List ℕ) (x a b : ℕ) → length L ≡ spot_limit → x < spot_limit → get_or L x 0 ≢ b → Changes L x a b L
-change_none L x a b e h n = record {
-  len = e;
-  here = sym (swap_stays a b (lab_of L x) (λ p. n (sym (lab_at L x e h) ∙ p)));
-  rest = λ i k.
-      refl;
-}
-
-pub change_one : (L : List ℕ) (x a b : ℕ) → length L ≡ spot_limit → x < spot_limit → get_or L x 0 ≡ b → Changes L x a b (set L x a)
-change_one L x a b e h p = record {
-  len = simp length-set e;
-  here = get_or-set_same L x a x (omega arith) ∙ sym (swap_moved a b (lab_of L x) (lab_at L x e h ∙ p));
-  rest = λ i n. get_or-set_other L x i a i n;
-}
 
 -- while spots are relabelled: the first k ends are done
 pub record Turning (ends L : List ℕ) (a b : ℕ) (L' : List ℕ) (k : ℕ) : Type 0 where
@@ -77,9 +44,6 @@ swap_twice : (a b l : ℕ) → a ≢ b → swap a b (swap a b l) ≡ swap a b l
 swap_twice a b l n = swap_stays a b (swap a b l) (swap_away a b l n)
 
 module _ (ends L : List ℕ) (a b : ℕ) (g : Relabelling ends L a b) where
-  pub turning_start : Turning ends L a b L 0
-  turning_start = record { len = g.labels.len; either = λ i. inl refl; done = λ j h. absurd (omega arith) }
-
   module _ (L' : List ℕ) (k : ℕ) (t : Turning ends L a b L' k) where
     turn_here : (x : ℕ) (L'' : List ℕ) → Changes L' x a b L'' → lab_of L'' x ≡ swap a b (lab_of L x)
     turn_here x L'' c = ⊎_elim (λ e. c.here ∙ ap (swap a b) e) (λ e. c.here ∙ ap (swap a b) e ∙ swap_twice a b (lab_of L x) g.apart)

@@ -1,6 +1,6 @@
 -- Atoms by label, and clashes.
 -- Assumes nothing: these are definitions.
-use Rattle.std.specs.Prelude.{◌≡◌, ◌⊎◌, ◌≢◌, Bool, true, false, ℕ, zero, suc, ◌<◌, ◌≤◌, length, get_or}
+use Rattle.std.specs.Prelude.{◌≡◌, ◌⊎◌, ◌≢◌, Bool, true, false, Result, Ok, Err, ⊤, ℕ, zero, suc, ◌<◌, ◌≤◌, length, get_or}
 use Rattle.std.proofs.Math.Option.{Option, none, some}
 use mathlib.Core.List.{List, Memᴰ}
 use Rattle.theory.specs.Net.{Node, atom, arcs}
@@ -8,6 +8,7 @@ use Rattle.theory.specs.Join.{atom_of}
 use Rattle.closing.specs.Rows.{spot_limit, mark_limit, in_pairs}
 use Rattle.closing.specs.Labels.{lab_of}
 use Rattle.closing.specs.Chains.{Clears}
+use Rattle.closing.specs.declared.bearing.Clash.{Clash}
 
 -- 0, or an atom and 1
 abbrev pub held_of : Option ℕ → ℕ
@@ -42,6 +43,11 @@ pub record AtomsBearing (L B : List ℕ) : Type 0 where
 pub record AtomsBorne (L H atoms : List ℕ) (clash : Bool) (B : List ℕ) : Type 0 where
   pub calm : clash ≡ false → Borne L H (in_pairs atoms) B
   pub struck : clash ≡ true → Struck L H (in_pairs atoms)
+
+-- whether an answer is a clash
+abbrev pub clashed : Result ⊤ Clash → Bool
+clashed (Ok x) = false
+clashed (Err e) = true
 
 -- the test of one label
 pub record Against (held given : ℕ) (r : Bool) : Type 0 where

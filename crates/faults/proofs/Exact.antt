@@ -14,7 +14,7 @@ use Rattle.roles.specs.declared.cause.Cause as Coded
 use Rattle.roles.specs.declared.cause.Cause.TheVariants.{WordsEnd, WordsLeftOver, NoNodes, BadHead, BadFeature, BadTarget, NotMet}
 use Rattle.roles.specs.declared.cause.Cause.TheVariants.{FewAlternatives, TooDeep}
 use Rattle.faults.specs.declared.verdict.Fault.{Fault}
-use Rattle.faults.specs.declared.verdict.Fault.TheVariants.{None, At}
+use Rattle.std.specs.Prelude.{Option, Some, None}
 use Rattle.faults.proofs.Run.{Goes, start, ends_or_faulty, ends_faultless}
 use Rattle.faults.proofs.Reach.{desc_goes}
 use Rattle.faults.proofs.Rests.{ends_image}
@@ -65,10 +65,10 @@ coded_of FewAlternatives = refl
 coded_of TooDeep = refl
 
 -- one answer only is told of words
-pub told_once : (ws : List ℕ) (r r' : Fault) → Told ws r → Told ws r' → r ≡ r'
+pub told_once : (ws : List ℕ) (r r' : Option Fault) → Told ws r → Told ws r' → r ≡ r'
 told_once ws None None f g = refl
-told_once ws None (At c p) f g = absurd ((faulty_iff ws).0 (cause_of c, p, g) f)
-told_once ws (At c p) None f g = absurd ((faulty_iff ws).0 (cause_of c, p, f) g)
-told_once ws (At c p) (At c' p') f g =
-    let h = one_fault ws (cause_of c) (cause_of c') p p' f g in
-    ap₂ {C = Fault} At (sym (coded_of c) ∙ ap coded h.0 ∙ coded_of c') h.1
+told_once ws None (Some x) f g = absurd ((faulty_iff ws).0 (cause_of x.cause, x.at, g) f)
+told_once ws (Some x) None f g = absurd ((faulty_iff ws).0 (cause_of x.cause, x.at, f) g)
+told_once ws (Some x) (Some y) f g =
+    let h = one_fault ws (cause_of x.cause) (cause_of y.cause) x.at y.at f g in
+    ap Some (ap₂ {C = Fault} (λ c p. record { cause = c; at = p }) (sym (coded_of x.cause) ∙ ap coded h.0 ∙ coded_of y.cause) h.1)

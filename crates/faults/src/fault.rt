@@ -6,33 +6,28 @@ ghost use Rattle.faults.specs.Told.{Told};
 use crate::stop::first_stop;
 use crate::verdict::Fault;
 use roles::cause::Cause;
-use roles::role::{Role, Rule};
+use roles::role::Role;
 
 // The words end.
-fn ended(role: Role, at: usize) -> Fault
+fn ended(role: Role, at: usize) -> Option<Fault>
     ensures { result ≡ ended_of role at }
 {
     match role {
-        Role::NodeCount => Fault::At(Cause::WordsEnd, at),
-        Role::Head(_) => Fault::At(Cause::WordsEnd, at),
-        Role::Feature(_, _, _) => Fault::At(Cause::WordsEnd, at),
-        Role::Target(_, _, _) => Fault::At(Cause::WordsEnd, at),
-        Role::DisjunctionCount => Fault::At(Cause::WordsEnd, at),
-        Role::AlternativeCount(_) => Fault::At(Cause::WordsEnd, at),
-        Role::End => Fault::None,
+        Role::End => None,
+        _ => Some(Fault {
+            cause: Cause::WordsEnd,
+            at,
+        }),
     }
 }
 
-// "The first word, in reading order, that breaks a rule by itself or with the words before it decides"
-pub fn fault(ws: &[u32]) -> Fault
+// "The first word, in reading order, that breaks a rule by itself or with the words before it decides"; a description has no fault.
+pub fn fault(ws: &[u32]) -> Option<Fault>
     ensures { Told ws.now result }
 {
     let stop = first_stop(ws);
-    let role = stop.role;
-    let rule = stop.rule;
-    let at = stop.at;
-    match rule {
-        Rule::Broken(cause) => Fault::At(cause, at),
-        Rule::Kept => ended(role, at),
+    match stop.broken {
+        Some(cause) => Some(Fault { cause, at: stop.at }),
+        None => ended(stop.role, stop.at),
     }
 }

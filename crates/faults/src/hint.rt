@@ -5,7 +5,7 @@ ghost use Rattle.faults.specs.Hints.{kind, greatest_target, bound, hint, Hinted}
 
 use crate::stop::first_stop;
 use roles::cause::Cause;
-use roles::role::{Nodes, Role, Rule};
+use roles::role::{Nodes, Role};
 
 // The number of a role, 1 to 6; 0 at the end.
 fn kind(role: Role) -> u32
@@ -40,13 +40,10 @@ fn bound(role: Role) -> u32
     ensures { result ≡ bound (role_of role) }
 {
     match role {
-        Role::NodeCount => 0,
         Role::Head(nodes) => nodes.node,
         Role::Feature(_, _, low) => low,
         Role::Target(nodes, _, _) => greatest_target(nodes),
-        Role::DisjunctionCount => 0,
-        Role::AlternativeCount(_) => 0,
-        Role::End => 0,
+        _ => 0,
     }
 }
 
@@ -56,14 +53,8 @@ fn hint_for(cause: Cause, role: Role) -> u32
 {
     match cause {
         Cause::WordsEnd => kind(role),
-        Cause::WordsLeftOver => 0,
-        Cause::NoNodes => 0,
-        Cause::BadHead(_) => 0,
-        Cause::BadFeature => bound(role),
-        Cause::BadTarget(_) => bound(role),
-        Cause::NotMet => bound(role),
-        Cause::FewAlternatives => 0,
-        Cause::TooDeep => 0,
+        Cause::BadFeature | Cause::BadTarget(_) | Cause::NotMet => bound(role),
+        _ => 0,
     }
 }
 
@@ -72,10 +63,8 @@ pub fn hint(ws: &[u32]) -> u32
     ensures { Hinted ws.now result }
 {
     let stop = first_stop(ws);
-    let role = stop.role;
-    let rule = stop.rule;
-    match rule {
-        Rule::Broken(cause) => hint_for(cause, role),
-        Rule::Kept => kind(role),
+    match stop.broken {
+        Some(cause) => hint_for(cause, stop.role),
+        None => kind(stop.role),
     }
 }

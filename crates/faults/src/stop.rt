@@ -1,49 +1,40 @@
 // Going over the words to the first that breaks a rule.
-ghost use Rattle.roles.specs.Coded.{role_of, rule_of};
+ghost use Rattle.roles.specs.Coded.{role_of, broken_of};
 ghost use Rattle.faults.specs.Stops.{Stopped};
 
-use crate::nesting::{Expected, Nesting, expected_after};
-use roles::role::{Role, Rule, breaks};
+use crate::nesting::{Expected, expected_after, nothing_open};
+use roles::cause::Cause;
+use roles::role::{Role, breaks};
 
-// The role of a word, whether the word breaks a rule, and its place; none stands there where a rule is kept.
+// The role of a word and its place, and the cause that the word breaks; none at the end.
 #[derive(Clone, Copy)]
 pub struct Stop {
     pub role: Role,
-    pub rule: Rule,
+    pub broken: Option<Cause>,
     pub at: usize,
 }
 
 // The first word that breaks a rule, or the end.
 pub(crate) fn first_stop(ws: &[u32]) -> Stop
-    ensures { Stopped ws.now (role_of result.role) (rule_of result.rule) result.at }
+    ensures { Stopped ws.now (role_of result.role) (broken_of result.broken) result.at }
 {
     let mut expected = Expected {
         role: Role::NodeCount,
-        nesting: Nesting {
-            depth: 0,
-            alternatives: [0; 4],
-            disjunctions: [0; 4],
-        },
+        nesting: nothing_open(),
     };
-    let mut at: usize = 0;
-    while at < ws.len() {
-        let word = ws[at];
-        let role = expected.role;
-        let rule = breaks(role, expected.nesting.depth, word);
-        if let Rule::Broken(cause) = rule {
+    for (at, word) in ws.iter().enumerate() {
+        if let Some(cause) = breaks(expected.role, expected.nesting.depth, *word) {
             return Stop {
-                role,
-                rule: Rule::Broken(cause),
+                role: expected.role,
+                broken: Some(cause),
                 at,
             };
         }
-        expected = expected_after(expected, word);
-        at += 1;
+        expected = expected_after(expected, *word);
     }
-    let role = expected.role;
     Stop {
-        role,
-        rule: Rule::Kept,
-        at,
+        role: expected.role,
+        broken: None,
+        at: ws.len(),
     }
 }

@@ -1,9 +1,9 @@
 // Why words are no description, and which word decides.
 use roles::cause::Cause;
 
-// A description has no fault; other words have a cause, and the place of the word that decides.
-#[derive(Clone, Copy)]
-pub enum Fault {
-    None,
-    At(Cause, usize),
+// The cause, and the place of the word that decides.
+#[derive(Clone, Copy, Debug, PartialEq, Eq)]
+pub struct Fault {
+    pub cause: Cause,
+    pub at: usize,
 }

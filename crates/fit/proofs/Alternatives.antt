@@ -15,8 +15,7 @@ use Rattle.layout.specs.Skipping.{descriptionEnd}
 use Rattle.layout.proofs.Standing.{stands_nil, stands_disjunction, stands_alternatives}
 use Rattle.layout.proofs.Ends.{description_ends}
 use Rattle.fit.specs.Testing.{Subject, description_subject, disjunction_subject, Testable, Answers, Skips}
-use Rattle.fit.specs.declared.sending.Trial.{Trial}
-use Rattle.fit.specs.declared.sending.Trial.TheVariants as answer
+use Rattle.std.specs.Prelude.{Option, Some, None}
 use Rattle.fit.proofs.Things.{Left, left_says, left_on}
 
 -- k alternatives under which others nest at most `left` deep
@@ -57,8 +56,8 @@ module _ (ws : List ℕ) where
       alternative_next some (few, (d or a, q, f, s)) = let t = (stands_alternatives ws d a at q).0 s in
           (few, (d, t.0, (f.1, f.2.0), t.1))
 
-      module _ (r : Trial) (answers : Answers (description_subject H left) ws at r) (some : 0 < count) where
-        others : (n : ℕ) → r ≡ answer.Fails → n ≡ descriptionEnd ws at →
+      module _ (r : Option ℕ) (answers : Answers (description_subject H left) ws at r) (some : 0 < count) where
+        others : (n : ℕ) → r ≡ None → n ≡ descriptionEnd ws at →
             Left ws (its_alternatives H left count) at (its_alternatives H left (count - 1)) n
         others n e d fail q f s = let z = f.0 in absurd (omega arith)
         others n e d (x or a) q f s =
@@ -74,7 +73,7 @@ module _ (ws : List ℕ) where
                   (⊎_elim (λ h. absurd (lost h)) (λ h. h), λ h. inr h);
             }
 
-        one : (n m : ℕ) → r ≡ answer.Fits n → Skips ws n (count - 1) m → Answers (its_alternatives H left count) ws at (answer.Fits m)
+        one : (n m : ℕ) → r ≡ Some n → Skips ws n (count - 1) m → Answers (its_alternatives H left count) ws at (Some m)
         one n m e skips fail q f s = let z = f.0 in absurd (omega arith)
         one n m e skips (x or a) q f s =
             let z = f.0 in
@@ -84,18 +83,18 @@ module _ (ws : List ℕ) where
             (skips a left q (omega arith) f.1 f.2.1 (rw y t.2), inl b.1)
 
         module _ (K : Subject) (p : ℕ) (going : Left ws K p (its_alternatives H left count) at) where
-          pub alternatives_step : (n : ℕ) → r ≡ answer.Fails → n ≡ descriptionEnd ws at →
+          pub alternatives_step : (n : ℕ) → r ≡ None → n ≡ descriptionEnd ws at →
               Left ws K p (its_alternatives H left (count - 1)) n
           alternatives_step n e d = left_on ws K (its_alternatives H left count) (its_alternatives H left (count - 1)) p at n going
               (others n e d)
 
-          pub alternatives_fit : (n m : ℕ) → r ≡ answer.Fits n → Skips ws n (count - 1) m → Answers K ws p (answer.Fits m)
-          alternatives_fit n m e skips = left_says ws K (its_alternatives H left count) p at (answer.Fits m) going (one n m e skips)
+          pub alternatives_fit : (n m : ℕ) → r ≡ Some n → Skips ws n (count - 1) m → Answers K ws p (Some m)
+          alternatives_fit n m e skips = left_says ws K (its_alternatives H left count) p at (Some m) going (one n m e skips)
 
-      none : count ≤ 0 → Answers (its_alternatives H left count) ws at answer.Fails
+      none : count ≤ 0 → Answers (its_alternatives H left count) ws at None
       none h fail q f s = λ o. o
       none h (d or a) q f s = let z = f.0 in absurd (omega arith)
 
       pub alternatives_end : (K : Subject) (p : ℕ) → Left ws K p (its_alternatives H left count) at → count ≤ 0 →
-          Answers K ws p answer.Fails
-      alternatives_end K p going h = left_says ws K (its_alternatives H left count) p at answer.Fails going (none h)
+          Answers K ws p None
+      alternatives_end K p going h = left_says ws K (its_alternatives H left count) p at None going (none h)

@@ -2,18 +2,16 @@
 -- Assumes nothing.
 use Prim.Native.Nat.{ℕ, suc, ◌+◌, ◌-◌, ◌≤◌, ◌<◌, max}
 use native.Mathlib.Omega.{arith}
-use mathlib.Core.Path.{◌≡◌, refl, subst, ◌∙◌}
+use mathlib.Core.Path.{◌≡◌, refl, subst}
 use mathlib.Core.Logic.{◌↔◌}
 use mathlib.Core.List.{List, ◌∷◌}
-use lib.ListN.{length, get_or}
+use lib.ListN.{get_or}
 use Rattle.theory.specs.Net.{Rising, InOrder, met}
 use Rattle.theory.proofs.Instance.{met_ge}
 use Rattle.fit.specs.Parts.{node_limit, arcsOfWords, lastArcs}
-use Rattle.fit.specs.Sending.{SentArcs, SameMaps, NoMap, FindsTarget, Sendable, Steps, ArcsAsked, Sends}
-use Rattle.fit.specs.declared.sending.Lookup.{Lookup}
-use Rattle.fit.specs.declared.sending.Lookup.TheVariants.{Target, Nowhere}
-use Rattle.fit.specs.declared.sending.Mapped.{Mapped}
-use Rattle.fit.specs.declared.sending.Mapped.TheVariants.{Met, Stopped}
+use Rattle.fit.specs.Sending.{SentArcs, SameMaps, NoMap, FindsTarget, hit, Sendable, Steps, ArcsAsked, Sends}
+use Rattle.std.specs.Prelude.{Option, Some, None}
+use Rattle.fit.specs.declared.sending.Found.{Found}
 use Rattle.fit.proofs.Parts.{arcs_step, arcs_none}
 use Rattle.fit.proofs.Finding.{rising_all, sent_first}
 use Rattle.fit.proofs.Steps.{comes_start, comes_on, comes_end, comes_refused}
@@ -22,12 +20,11 @@ module _ (s : List ℕ) (e : ℕ) (ws : List ℕ) (B l : List (ℕ × ℕ)) (L :
   -- what is left of the arcs l, which go into B, are those from `at` on, which go into the last `more` before e
   pub record Arcwise (more at left : ℕ) (M : List ℕ) (k : ℕ) : Type 0 where
     pub asked : ArcsAsked s e more ws at left k
-    pub kept : length M ≡ length L
     pub sum : met k (arcsOfWords ws at left) ≡ met j l
     pub comes : SameMaps L j (λ m. SentArcs B m l) M k (λ m. SentArcs (lastArcs s e more) m (arcsOfWords ws at left))
 
   module _ (more at left : ℕ) (M : List ℕ) (k : ℕ) (a : Arcwise more at left M k) where
-    pub arcwise_end : left ≤ 0 → Sends B l L j M (Met k)
+    pub arcwise_end : left ≤ 0 → Sends B l L j M (Some k)
     arcwise_end h =
         let z = arcs_none ws at left h in
         let d : k ≡ met j l = subst (λ (x : List (ℕ × ℕ)). met k x ≡ met j l) z a.sum in
@@ -59,28 +56,28 @@ module _ (s : List ℕ) (e : ℕ) (ws : List ℕ) (B l : List (ℕ × ℕ)) (L :
           let q = order.0 in
           record { next = q; few = omega (arith, few, met_ge (max k (suc t)) (arcsOfWords ws (at + 2) (left - 1))) }
 
-      pub arcwise_none : (r : Lookup) → r ≡ Nowhere → FindsTarget s e more f r → NoMap L j (λ m. SentArcs B m l)
+      pub arcwise_none : (r : Option Found) → r ≡ None → FindsTarget s e more f r → NoMap L j (λ m. SentArcs B m l)
       arcwise_none r is n =
           comes_refused L j (λ m. SentArcs B m l) M k (λ m. SentArcs (lastArcs s e more) m (arcsOfWords ws at left)) a.comes
           (λ m g o. subst (FindsTarget s e more f) is n (m t) (subst (SentArcs (lastArcs s e more) m) split o).0)
 
-      module _ (z : Lookup) (u i : ℕ) (is : z ≡ Target u i) (finds : FindsTarget s e more f z) where
-        found : FindsTarget s e more f (Target u i)
+      module _ (z : Option Found) (u i : ℕ) (is : z ≡ hit u i) (finds : FindsTarget s e more f z) where
+        found : FindsTarget s e more f (hit u i)
         found = subst (FindsTarget s e more f) is finds
 
         same : (m : ℕ → ℕ) → SentArcs (lastArcs s e more) m (arcsOfWords ws at left)
             ↔ ((m t ≡ u) × SentArcs (lastArcs s e i) m (arcsOfWords ws (at + 2) (left - 1)))
         same m = rw split (sent_first (lastArcs s e more) (lastArcs s e i) f u found.1 m t (arcsOfWords ws (at + 2) (left - 1)) rising)
 
-        pub arcwise_stop : (k' : ℕ) (M' : List ℕ) (y : Mapped) → y ≡ Stopped → Steps M k (λ m. m t ≡ u) k' M' y →
+        pub arcwise_stop : (k' : ℕ) (M' : List ℕ) (y : Option ℕ) → y ≡ None → Steps M k (λ m. m t ≡ u) k' M' y →
             NoMap L j (λ m. SentArcs B m l)
         arcwise_stop k' M' y d n =
             comes_refused L j (λ m. SentArcs B m l) M k (λ m. SentArcs (lastArcs s e more) m (arcsOfWords ws at left)) a.comes
             (λ m g o. subst (Steps M k (λ m. m t ≡ u) k' M') d n m g ((same m).0 o).0)
 
-        pub arcwise_step : (M' : List ℕ) (y : Mapped) (r : ℕ) → y ≡ Met r → Steps M k (λ m. m t ≡ u) (max k (suc t)) M' y →
-            length M' ≡ length M → Arcwise i (at + 2) (left - 1) M' r
-        arcwise_step M' y r d steps h =
+        pub arcwise_step : (M' : List ℕ) (y : Option ℕ) (r : ℕ) → y ≡ Some r → Steps M k (λ m. m t ≡ u) (max k (suc t)) M' y →
+            Arcwise i (at + 2) (left - 1) M' r
+        arcwise_step M' y r d steps =
             let g = subst (Steps M k (λ m. m t ≡ u) (max k (suc t)) M') d steps in
             let z = g.0 in
             let there = a.asked.there in
@@ -92,7 +89,6 @@ module _ (s : List ℕ) (e : ℕ) (ws : List ℕ) (B l : List (ℕ × ℕ)) (L :
                 order = order.1;
                 few = few;
               };
-              kept = h ∙ a.kept;
               sum = rw split at a.sum;
               comes = comes_on L j (λ m. SentArcs B m l) M k (λ m. SentArcs (lastArcs s e more) m (arcsOfWords ws at left)) a.comes
                   (λ m. m t ≡ u) M' (max k (suc t)) (λ m. SentArcs (lastArcs s e i) m (arcsOfWords ws (at + 2) (left - 1))) same g.1;
@@ -101,4 +97,4 @@ module _ (s : List ℕ) (e : ℕ) (ws : List ℕ) (B l : List (ℕ × ℕ)) (L :
 pub arcwise_start : (s : List ℕ) (e more : ℕ) (ws : List ℕ) (at left : ℕ) (M : List ℕ) (k : ℕ) → ArcsAsked s e more ws at left k
     → Arcwise s e ws (lastArcs s e more) (arcsOfWords ws at left) M k more at left M k
 arcwise_start s e more ws at left M k a =
-    record { asked = a; kept = refl; sum = refl; comes = comes_start M k (λ m. SentArcs (lastArcs s e more) m (arcsOfWords ws at left)) }
+    record { asked = a; sum = refl; comes = comes_start M k (λ m. SentArcs (lastArcs s e more) m (arcsOfWords ws at left)) }

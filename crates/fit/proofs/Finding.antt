@@ -10,17 +10,14 @@ use lib.ListN.{get_or}
 use Rattle.theory.specs.Net.{Rising}
 use Rattle.theory.proofs.Unique.{rising_above, Arcs, In}
 use Rattle.fit.specs.Parts.{lastArcs}
-use Rattle.fit.specs.Sending.{SentArcs, Findable, Beyond, FindsTarget}
-use Rattle.fit.specs.declared.sending.Lookup.TheVariants.{Target, Nowhere}
+use Rattle.fit.specs.Sending.{SentArcs, Findable, Beyond, FindsTarget, hit}
+use Rattle.std.specs.Prelude.{None}
 use Rattle.fit.proofs.Parts.{arcs_none, last_step}
 
 -- C has the arcs of B from feature f on
 pub record Behind (B : Arcs) (f : ℕ) (C : Arcs) : Type 0 where
   pub kept : (g t : ℕ) → f ≤ g → In g t B → In g t C
   pub among : (g t : ℕ) → In g t C → In g t B
-
-pub behind_start : (B : Arcs) (f : ℕ) → Behind B f B
-behind_start B f = record { kept = λ g t h i. i; among = λ g t i. i }
 
 feature : {f t g u : ℕ} → ◌≡◌ {A = ℕ × ℕ} (f, t) (g, u) → f ≡ g
 feature e = ap (λ (z : ℕ × ℕ). z.0) e
@@ -77,7 +74,7 @@ abbrev pub Looking : List ℕ → ℕ → ℕ → ℕ → ℕ → Type 0
 Looking s e count f left = Findable s e left × Behind (lastArcs s e count) f (lastArcs s e left)
 
 module _ (s : List ℕ) (e count f left : ℕ) (b : Looking s e count f left) where
-  pub look_none : left ≤ 0 → FindsTarget s e count f Nowhere
+  pub look_none : left ≤ 0 → FindsTarget s e count f None
   look_none h = behind_none (lastArcs s e count) f (lastArcs s e left) (arcs_none s (e - 2 * left) left h) b.1
 
   module _ (at : ℕ) (is : at ≡ e - 2 * left) (some : 0 < left) where
@@ -94,11 +91,11 @@ module _ (s : List ℕ) (e count f left : ℕ) (b : Looking s e count f left) wh
               rising_all (suc (get_or s at 0)) (lastArcs s e (left - 1)) (subst (Rising 0) split b.0.rising).1;
         }
 
-    pub look_high : f < get_or s at 0 → FindsTarget s e count f Nowhere
+    pub look_high : f < get_or s at 0 → FindsTarget s e count f None
     look_high h = behind_high (lastArcs s e count) f (get_or s at 0) (get_or s (at + 1) 0) (lastArcs s e (left - 1)) (lastArcs s e left) split h
         b.0.rising b.1
 
-    pub look_hit : f ≡ get_or s at 0 → FindsTarget s e count f (Target (get_or s (at + 1) 0) (left - 1))
+    pub look_hit : f ≡ get_or s at 0 → FindsTarget s e count f (hit (get_or s (at + 1) 0) (left - 1))
     look_hit h = (
       less,
       behind_hit (lastArcs s e count) f (lastArcs s e left) (get_or s (at + 1) 0) (lastArcs s e (left - 1)) (split

@@ -12,9 +12,9 @@ use Rattle.theory.specs.Net.{Node, Graph, arcsOf, InOrder, met, Numbered, Canoni
 use Rattle.theory.proofs.Instance.{numbered_ge, numbered_target, met_ge, met_reach}
 use Rattle.fit.specs.Parts.{node_limit, after_node, nodeFrom, nodesFrom, nodesEnd, graphIn}
 use Rattle.fit.specs.Sending.{SentHere, SentAll, SameMaps, Turns, NoMap, GivenBelow, NodeAsked, NodesAsked, Walks, SentNodes}
-use Rattle.fit.specs.declared.sending.MappedNode.{MappedNode}
-use Rattle.fit.specs.declared.sending.MappedNode.TheVariants.{Went, Stuck}
-use Rattle.fit.specs.declared.sending.Trial.TheVariants.{Fits}
+use Rattle.std.specs.Prelude.{Option, Some, None}
+use Rattle.graphs.specs.declared.graph.Walk.{Walk}
+use Rattle.graphs.specs.Graph.{went}
 use Rattle.fit.proofs.Parts.{nodes_step, nodes_none, nodes_length, nodes_few, end_step, end_none, end_far}
 use Rattle.fit.proofs.Maps.{sent_arc}
 use Rattle.fit.proofs.Steps.{comes_start, comes_on, comes_refused}
@@ -39,7 +39,6 @@ module _ (s ws : List ℕ) (p nodes : ℕ) (L : List ℕ) where
   -- the nodes from i on stand from `at` on, and sending them sends all
   pub record Nodewise (i at : ℕ) (M : List ℕ) (k : ℕ) : Type 0 where
     pub part : i ≤ nodes
-    pub kept : length M ≡ length L
     pub few : nodes ≤ node_limit
     pub numbered : Numbered i k (nodesFrom ws at (nodes - i))
     pub ends : nodesEnd ws at (nodes - i) ≡ nodesEnd ws p nodes
@@ -50,7 +49,6 @@ module _ (s ws : List ℕ) (p nodes : ℕ) (L : List ℕ) where
   pub nodewise_start : NodesAsked s ws p nodes L → Nodewise 0 p L 1
   nodewise_start a = record {
     part = omega arith;
-    kept = refl;
     few = omega (arith, a.few, a.there, nodes_few ws p nodes 0 1 a.canonical);
     numbered = rw sub-zero a.canonical;
     ends = rw sub-zero;
@@ -60,7 +58,7 @@ module _ (s ws : List ℕ) (p nodes : ℕ) (L : List ℕ) where
   }
 
   module _ (i at : ℕ) (M : List ℕ) (k : ℕ) (a : Nodewise i at M k) where
-    pub nodewise_end : nodes ≤ i → SentNodes (graphIn s 0) ws p nodes L (Fits at)
+    pub nodewise_end : nodes ≤ i → SentNodes (graphIn s 0) ws p nodes L (Some at)
     nodewise_end h =
         let z = nodes_none ws at nodes i h in
         let b = a.comes.back (λ j. get_or M j 0) (λ j h. refl) (rw z tt) in
@@ -101,14 +99,14 @@ module _ (s ws : List ℕ) (p nodes : ℕ) (L : List ℕ) where
       same m = rw split (subst (λ (j : ℕ). SentAll (graphIn s 0) m i (v ∷ vs)
           ↔ (SentHere (graphIn s 0) m i v × SentAll (graphIn s 0) m j vs)) (sym (add-one i)) (λ o. o, λ o. o))
 
-      pub nodewise_stop : (M' : List ℕ) (r : MappedNode) → r ≡ Stuck → Walks (graphIn s 0) ws at i M k M' r → NoMap L 1 All
+      pub nodewise_stop : (M' : List ℕ) (r : Option Walk) → r ≡ None → Walks (graphIn s 0) ws at i M k M' r → NoMap L 1 All
       nodewise_stop M' r d n =
           comes_refused L 1 All M k (λ m. SentAll (graphIn s 0) m i (nodesFrom ws at (nodes - i))) a.comes
           (λ m g o. subst (Walks (graphIn s 0) ws at i M k M') d n m g ((same m).0 o).0)
 
-      pub nodewise_step : Canonical (graphIn s 0) → (M' : List ℕ) (r : MappedNode) (q j : ℕ) → r ≡ Went q j →
-          Walks (graphIn s 0) ws at i M k M' r → length M' ≡ length M → Nodewise (i + 1) q M' j
-      nodewise_step c M' r q j d walks h =
+      pub nodewise_step : Canonical (graphIn s 0) → (M' : List ℕ) (r : Option Walk) (q j : ℕ) → r ≡ went q j →
+          Walks (graphIn s 0) ws at i M k M' r → Nodewise (i + 1) q M' j
+      nodewise_step c M' r q j d walks =
           let w = subst (Walks (graphIn s 0) ws at i M k M') d walks in
           let n = numbers in
           let z = w.0 in
@@ -116,7 +114,6 @@ module _ (s ws : List ℕ) (p nodes : ℕ) (L : List ℕ) where
           let t : Turns M k (λ m. SentHere (graphIn s 0) m i v) M' (met k (arcsOf v)) = rw y at w.2 in
           rw (z, y) (record {
             part = omega arith;
-            kept = h ∙ a.kept;
             few = a.few;
             numbered = subst (λ (x : ℕ). Numbered x (met k (arcsOf v)) vs) (sym (add-one i)) n.3;
             ends = sym (end_step ws at nodes i some) ∙ a.ends;

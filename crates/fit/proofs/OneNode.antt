@@ -13,9 +13,8 @@ use Rattle.theory.proofs.Number.{TestLt, less, geq, test_lt}
 use Rattle.theory.proofs.Fit.{numbered_rising}
 use Rattle.fit.specs.Parts.{node_limit, arcs_in, after_node, arcsOfWords, lastArcs, nodeFrom, graphIn}
 use Rattle.fit.specs.Sending.{SentArcs, Sent, SentHere, Agrees, NoMap, Sends, ArcsAsked, NodeAsked, Walks, Noted}
-use Rattle.fit.specs.declared.sending.Mapped.{Mapped}
-use Rattle.fit.specs.declared.sending.Mapped.TheVariants.{Met, Stopped}
-use Rattle.fit.specs.declared.sending.MappedNode.TheVariants.{Went}
+use Rattle.std.specs.Prelude.{Option, Some, None}
+use Rattle.graphs.specs.Graph.{went}
 use Rattle.fit.proofs.Parts.{arcs_in_low, arcs_in_high, node_arcs, node_atom, node_its}
 
 -- where the structure node of node i stands
@@ -38,9 +37,6 @@ module _ (s P ws : List ℕ) (p i : ℕ) (M : List ℕ) (k : ℕ) (noted : Noted
   low : x < length H
   low = asked.low i asked.known
 
-  pub given_low : (u v : ℕ) → u ≡ i → v ≡ get_or M u 0 → v < node_limit
-  given_low u v e d = let l = low in omega (arith, d ∙ ap (λ (x : ℕ). get_or M x 0) e, noted.few)
-
   module _ (q : ℕ) (place : q ≡ get_or P (get_or M i 0) 0) where
     pub inside : after_node s q ≤ length s
     inside = rw place (noted.noted x low).0
@@ -49,7 +45,7 @@ module _ (s P ws : List ℕ) (p i : ℕ) (M : List ℕ) (k : ℕ) (noted : Noted
     is = rw place (noted.noted x low).1
 
     module _ (high : code_limit ≤ h) where
-      pub atom_same : h ≡ get_or s q 0 → Walks H ws p i M k M (Went (p + 1) k)
+      pub atom_same : h ≡ get_or s q 0 → Walks H ws p i M k M (went (p + 1) k)
       atom_same e =
           let v = node_atom ws p high in
           let a = arcs_in_high h high in
@@ -112,13 +108,13 @@ module _ (s P ws : List ℕ) (p i : ℕ) (M : List ℕ) (k : ℕ) (noted : Noted
           let v = node_arcs ws p low in
           rw (v, z, y) (λ o. o.1, λ o. (asked.low i asked.known, o))
 
-      pub arcs_stuck : (M' : List ℕ) (y : Mapped) → y ≡ Stopped → Sends (lastArcs s e ahead) (arcsOfWords ws (p + 1) h) M k M' y →
+      pub arcs_stuck : (M' : List ℕ) (y : Option ℕ) → y ≡ None → Sends (lastArcs s e ahead) (arcsOfWords ws (p + 1) h) M k M' y →
           NoMap M k Here
       arcs_stuck M' y d n m g o = subst (Sends (lastArcs s e ahead) (arcsOfWords ws (p + 1) h) M k M') d n m g ((same m g).0 o)
 
-      pub arcs_went : (M' : List ℕ) (y : Mapped) (r : ℕ) → y ≡ Met r → Sends (lastArcs s e ahead) (arcsOfWords ws (p + 1) h) M k M' y →
+      pub arcs_went : (M' : List ℕ) (y : Option ℕ) (r : ℕ) → y ≡ Some r → Sends (lastArcs s e ahead) (arcsOfWords ws (p + 1) h) M k M' y →
           (n : ℕ) →
-          n ≡ p + 1 + 2 * h → Walks H ws p i M k M' (Went n r)
+          n ≡ p + 1 + 2 * h → Walks H ws p i M k M' (went n r)
       arcs_went M' y r d sends n far =
           let t = subst (Sends (lastArcs s e ahead) (arcsOfWords ws (p + 1) h) M k M') d sends in
           let z = its in

@@ -11,15 +11,14 @@ use Rattle.theory.specs.Limits.{depth_limit}
 use Rattle.theory.specs.Net.{Graph, Canonical}
 use Rattle.theory.specs.Descr.{desc, Disjs, end, ◌and◌, Alts, disjs}
 use Rattle.theory.specs.Layout.{nodes_words, disjs_words, WellAll, WellAny}
-use Rattle.theory.specs.FitTest.{Fits, FitsAll}
+use Rattle.theory.specs.FitTest.{FitsAll}
 use Rattle.theory.proofs.Meaning.{canonical_some}
 use Rattle.layout.specs.Standing.{Stands}
 use Rattle.layout.proofs.Standing.{stands_nil, stands_within, stands_graph, stands_description, stands_disjunctions}
 use Rattle.fit.specs.Parts.{graphIn}
 use Rattle.fit.specs.Sending.{NodesAsked, SentNodes}
 use Rattle.fit.specs.Testing.{Subject, graph_subject, description_subject, disjunction_subject, Testable, Answers}
-use Rattle.fit.specs.declared.sending.Trial.{Trial}
-use Rattle.fit.specs.declared.sending.Trial.TheVariants as answer
+use Rattle.std.specs.Prelude.{Option, Some, None}
 use Rattle.fit.proofs.Parts.{nodes_stand}
 use Rattle.fit.proofs.Maps.{sent_map, given, given_root, map_sent}
 
@@ -48,10 +47,10 @@ module _ (ws : List ℕ) where
   left_asked K L p at a l = let b = a.1 in let r = l b.0 b.1 b.2 b.3 in (a.0, (r.rest, b.1, r.fine, r.there))
 
   -- the structure satisfies what is left, or it does not
-  pub left_says : (K L : Subject) (p at : ℕ) (r : Trial) → Left K p L at → Answers L ws at r → Answers K ws p r
-  left_says K L p at (answer.Fits n) l a x q f s = let r = l x q f s in let b = a r.rest q r.fine r.there in
+  pub left_says : (K L : Subject) (p at : ℕ) (r : Option ℕ) → Left K p L at → Answers L ws at r → Answers K ws p r
+  left_says K L p at (Some n) l a x q f s = let r = l x q f s in let b = a r.rest q r.fine r.there in
       (b.0, r.same.1 b.1)
-  left_says K L p at answer.Fails l a x q f s = let r = l x q f s in λ h. a r.rest q r.fine r.there (r.same.0 h)
+  left_says K L p at None l a x q f s = let r = l x q f s in λ h. a r.rest q r.fine r.there (r.same.0 h)
 
   pub left_on : (K L M : Subject) (p at n : ℕ) → Left K p L at → Left L at M n → Left K p M n
   left_on K L M p at n l k x q f s =
@@ -82,16 +81,16 @@ module _ (ws : List ℕ) where
           root = λ j l. let d : j ≡ 0 = omega arith in rw (d, z, ← h) i;
         }
 
-    pub graph_says : (p : ℕ) (M : List ℕ) → get_or M 0 0 ≡ 0 → (r : Trial) → SentNodes H ws (p + 1) (get_or ws p 0) M r →
+    pub graph_says : (p : ℕ) (M : List ℕ) → get_or M 0 0 ≡ 0 → (r : Option ℕ) → SentNodes H ws (p + 1) (get_or ws p 0) M r →
         Answers (graph_subject H) ws p r
-    graph_says p M z (answer.Fits n) o g q f s =
+    graph_says p M z (Some n) o g q f s =
         let t = (stands_graph ws g p q).0 s in
         let e = t.1 in
         let k = nodes_stand ws g (p + 1) q f.1 t.2 in
         let d = k.0 in
         let b = o.1 in
         (o.0 ∙ rw e k.1, sent_map H b.0 g (b.1 0 (omega arith) ∙ z) (rw (e, d) at b.2))
-    graph_says p M z answer.Fails o g q f s =
+    graph_says p M z None o g q f s =
         let t = (stands_graph ws g p q).0 s in
         let e = t.1 in
         let k = nodes_stand ws g (p + 1) q f.1 t.2 in
@@ -103,13 +102,13 @@ module _ (ws : List ℕ) where
       pub graph_first : Testable (description_subject H left) ws p → Testable (graph_subject H) ws p
       graph_first (few, (desc g ds, q, f, s)) = let t = (stands_description ws g ds p q).0 s in (few, (g, t.0, (f.1.0, f.1.1), t.1))
 
-      pub graph_fails : (r : Trial) → r ≡ answer.Fails → Answers (graph_subject H) ws p r →
-          Answers (description_subject H left) ws p answer.Fails
+      pub graph_fails : (r : Option ℕ) → r ≡ None → Answers (graph_subject H) ws p r →
+          Answers (description_subject H left) ws p None
       graph_fails r e n (desc g ds) q f s =
           let t = (stands_description ws g ds p q).0 s in
           λ h. subst (Answers (graph_subject H) ws p) e n g t.0 (f.1.0, f.1.1) t.1 h.0
 
-      module _ (r : Trial) (n : ℕ) (e : r ≡ answer.Fits n) (fits : Answers (graph_subject H) ws p r) where
+      module _ (r : Option ℕ) (n : ℕ) (e : r ≡ Some n) (fits : Answers (graph_subject H) ws p r) where
         pub after_graph : Testable (description_subject H left) ws p → n < length ws
         after_graph (few, (desc g ds, q, f, s)) =
             let t = (stands_description ws g ds p q).0 s in
@@ -128,7 +127,7 @@ module _ (ws : List ℕ) where
     well_split a ds (suc left) w = (omega arith, rw sub-one w.1, w.2)
 
     module _ (left count at : ℕ) where
-      disjunctions_one : (r : Trial) (n : ℕ) → r ≡ answer.Fits n → Answers (disjunction_subject H left) ws at r → 0 < count →
+      disjunctions_one : (r : Option ℕ) (n : ℕ) → r ≡ Some n → Answers (disjunction_subject H left) ws at r → 0 < count →
           Left (its_disjunctions H left count) at (its_disjunctions H left (count - 1)) n
       disjunctions_one r n e fits some end q f s = let z = f.0 in absurd (omega arith)
       disjunctions_one r n e fits some (a and ds) q f s =
@@ -139,15 +138,15 @@ module _ (ws : List ℕ) where
           let d = b.0 in
           record { rest = ds; fine = (omega arith, f.1, w.2); there = rw d t.2; same = (λ h. h.1, λ h. (b.1, h)) }
 
-      disjunctions_lost : (r : Trial) → r ≡ answer.Fails → Answers (disjunction_subject H left) ws at r → 0 < count →
-          Answers (its_disjunctions H left count) ws at answer.Fails
+      disjunctions_lost : (r : Option ℕ) → r ≡ None → Answers (disjunction_subject H left) ws at r → 0 < count →
+          Answers (its_disjunctions H left count) ws at None
       disjunctions_lost r e n some end q f s = let z = f.0 in absurd (omega arith)
       disjunctions_lost r e n some (a and ds) q f s =
           let w = well_split a ds left f.2 in
           let t = (stands_disjunctions ws a ds at q).0 s in
           λ h. subst (Answers (disjunction_subject H left) ws at) e n a t.0 (w.0, f.1, w.1) t.1 h.0
 
-      disjunctions_none : count ≤ 0 → Answers (its_disjunctions H left count) ws at (answer.Fits at)
+      disjunctions_none : count ≤ 0 → Answers (its_disjunctions H left count) ws at (Some at)
       disjunctions_none h end q f s = ((stands_nil ws at q).0 s, tt)
       disjunctions_none h (a and ds) q f s = let z = f.0 in absurd (omega arith)
 
@@ -159,14 +158,14 @@ module _ (ws : List ℕ) where
           (few, (a, t.0, (w.0, f.1, w.1), t.1))
 
       module _ (K : Subject) (p : ℕ) (going : Left K p (its_disjunctions H left count) at) where
-        pub disjunctions_step : (r : Trial) (n : ℕ) → r ≡ answer.Fits n → Answers (disjunction_subject H left) ws at r → 0 < count →
+        pub disjunctions_step : (r : Option ℕ) (n : ℕ) → r ≡ Some n → Answers (disjunction_subject H left) ws at r → 0 < count →
             Left K p (its_disjunctions H left (count - 1)) n
         disjunctions_step r n e fits some =
             left_on K (its_disjunctions H left count) (its_disjunctions H left (count - 1)) p at n going (disjunctions_one r n e fits some)
 
-        pub disjunctions_stop : (r : Trial) → r ≡ answer.Fails → Answers (disjunction_subject H left) ws at r → 0 < count →
-            Answers K ws p answer.Fails
-        disjunctions_stop r e n some = left_says K (its_disjunctions H left count) p at answer.Fails going (disjunctions_lost r e n some)
+        pub disjunctions_stop : (r : Option ℕ) → r ≡ None → Answers (disjunction_subject H left) ws at r → 0 < count →
+            Answers K ws p None
+        disjunctions_stop r e n some = left_says K (its_disjunctions H left count) p at None going (disjunctions_lost r e n some)
 
-        pub disjunctions_end : count ≤ 0 → Answers K ws p (answer.Fits at)
-        disjunctions_end h = left_says K (its_disjunctions H left count) p at (answer.Fits at) going (disjunctions_none h)
+        pub disjunctions_end : count ≤ 0 → Answers K ws p (Some at)
+        disjunctions_end h = left_says K (its_disjunctions H left count) p at (Some at) going (disjunctions_none h)

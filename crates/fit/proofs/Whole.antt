@@ -2,7 +2,7 @@
 -- Assumes nothing.
 use Prim.Native.Nat.{ℕ, ◌≤◌, ◌<◌}
 use native.Mathlib.Omega.{arith}
-use mathlib.Core.Path.{◌≡◌, refl, sym, subst, ap, ◌∙◌}
+use mathlib.Core.Path.{◌≡◌, refl, sym, ap, ◌∙◌}
 use mathlib.Core.Logic.{◌↔◌}
 use mathlib.Core.List.{List}
 use lib.ListN.{length, get_or}
@@ -17,33 +17,30 @@ use Rattle.theory.specs.Fitted.{fitted}
 use Rattle.theory.specs.Satisfaction.{Sat}
 use Rattle.theory.proofs.Fit.{structure}
 use Rattle.theory.proofs.FitTable.{fit_table, fit_satisfies}
-use Rattle.layout.specs.declared.reading.Judgement.{Judgement}
-use Rattle.layout.specs.declared.reading.Judgement.TheVariants.{Malformed}
 use Rattle.layout.specs.Judged.{Judged}
 use Rattle.graphs.specs.Graph.{pick}
 use Rattle.layout.specs.Skipping.{graphEnd}
 use Rattle.layout.proofs.Standing.{stands_whole, stands_graph, stands_description}
-use Rattle.layout.proofs.Whole.{malformed_apart}
 use Rattle.layout.proofs.Ends.{graph_ends}
 use Rattle.fit.specs.Parts.{nodesEnd, graphIn}
 use Rattle.fit.specs.Testing.{description_subject, Testable, Answers, TestAsked, Tested}
-use Rattle.fit.specs.Number.{number_of}
-use Rattle.fit.specs.declared.Verdict.{Verdict}
-use Rattle.fit.specs.declared.Verdict.TheVariants.{Satisfies, Fails, TooLong, BadStructure, BadDescription, HasDisjunctions}
-use Rattle.fit.specs.declared.sending.Trial.{Trial}
-use Rattle.fit.specs.declared.sending.Trial.TheVariants as answer
+use Rattle.fit.specs.Number.{Verdict, number_of}
+use Rattle.fit.specs.declared.Refusal.TheVariants.{TooLong, BadStructure, BadDescription, HasDisjunctions}
+use Rattle.std.specs.Prelude.{Bool, true, false, is_some, Option, Some, None, Ok, Err}
 use Rattle.fit.proofs.Parts.{nodes_stand}
 
 module _ (ws : List ℕ) where
   pub whole_asked : (H : Graph) → length ws ≤ input_limit → Image ws → Testable (description_subject H depth_limit) ws 0
   whole_asked H few i = (few, (i.0, length ws, (omega arith, i.1), (stands_whole ws (words i.0)).0 i.2))
 
-  pub whole_tested : (s : List ℕ) (r : Trial) → Answers (description_subject (graphIn s 0) depth_limit) ws 0 r → Tested s ws r
-  whole_tested s r a d w e = a d (length ws) (omega arith, w) ((stands_whole ws (words d)).0 e)
+  -- the answer says of the whole whether the structure satisfies it
+  pub whole_tested : (s : List ℕ) (r : Option ℕ) → Answers (description_subject (graphIn s 0) depth_limit) ws 0 r → Tested s ws (is_some r)
+  whole_tested s (Some q) a d w e = (a d (length ws) (omega arith, w) ((stands_whole ws (words d)).0 e)).1
+  whole_tested s None a d w e = a d (length ws) (omega arith, w) ((stands_whole ws (words d)).0 e)
 
 -- words that are refused are no image
-pub no_image : (ws : List ℕ) (r : Judgement) → r ≡ Malformed → Judged ws r → ¬ (Image ws)
-no_image ws r e j i = malformed_apart (sym e ∙ j.complete i)
+pub no_image : (ws : List ℕ) (r : Bool) → r ≡ false → Judged ws r → ¬ (Image ws)
+no_image ws r e j i = let z = j.complete i in absurd (cc)
 
 module _ (a : List ℕ) (H : Graph) (ds : Disjs) (w : WellFormed (desc H ds) depth_limit) (is : a ≡ words (desc H ds)) where
   -- where the graph of the structure ends, the number of its disjunctions stands
@@ -86,20 +83,15 @@ module _ (a : List ℕ) where
         let z = s.0 in
         record { structure = record { few = la; some = s.2; canonical = rw z p.1.0; there = s.1 }; few = lb; image = j }
 
-    module _ (r : Trial) (tested : Tested a b r) where
-      pub tested_fits : (q : ℕ) → r ≡ answer.Fits q → FitGiven a b 0
-      tested_fits q d =
-          let p = plain i n e h in
-          let z = (structure_is a p.0 end p.1 p.2).0 in
-          let t = subst (Tested a b) d tested j.0 j.1 j.2 in
-          fits la lb p.0 p.1 p.2 j.0 j.1 j.2 (rw z at t.1)
-
-      pub tested_fails : r ≡ answer.Fails → FitGiven a b 6
-      tested_fails d =
-          let p = plain i n e h in
-          let z = (structure_is a p.0 end p.1 p.2).0 in
-          let t = subst (Tested a b) d tested j.0 j.1 j.2 in
-          six la lb p.0 p.1 p.2 j.0 j.1 j.2 (rw z at t)
+    pub tested_number : (r : Bool) → Tested a b r → FitGiven a b (number_of (Ok r))
+    tested_number true t =
+        let p = plain i n e h in
+        let z = (structure_is a p.0 end p.1 p.2).0 in
+        fits la lb p.0 p.1 p.2 j.0 j.1 j.2 (rw z at (t j.0 j.1 j.2))
+    tested_number false t =
+        let p = plain i n e h in
+        let z = (structure_is a p.0 end p.1 p.2).0 in
+        six la lb p.0 p.1 p.2 j.0 j.1 j.2 (rw z at (t j.0 j.1 j.2))
 
 -- the contract as an equation
 pub given_number : (a b : List ℕ) (r : Verdict) → FitGiven a b (number_of r) ↔ (fitted a b ≡ number_of r)
@@ -107,27 +99,27 @@ given_number a b r = let t = fit_table a b (number_of r) in (t.1, t.0)
 
 -- the answer with this number
 answered : ℕ → Verdict
-answered n = pick (eqb n 0) Satisfies
-    (pick (eqb n 6) Fails (pick (eqb n 3) TooLong (pick (eqb n 4) BadStructure (pick (eqb n 5) BadDescription HasDisjunctions))))
+answered n = pick (eqb n 0) (Ok true) (pick (eqb n 6) (Ok false)
+    (Err (pick (eqb n 3) TooLong (pick (eqb n 4) BadStructure (pick (eqb n 5) BadDescription HasDisjunctions)))))
 
 answered_is : (r : Verdict) → answered (number_of r) ≡ r
 unfolding answered
-answered_is Satisfies = refl
-answered_is Fails = refl
-answered_is TooLong = refl
-answered_is BadStructure = refl
-answered_is BadDescription = refl
-answered_is HasDisjunctions = refl
+answered_is (Ok true) = refl
+answered_is (Ok false) = refl
+answered_is (Err TooLong) = refl
+answered_is (Err BadStructure) = refl
+answered_is (Err BadDescription) = refl
+answered_is (Err HasDisjunctions) = refl
 
 -- the contract allows one answer
 pub one_fit : (a b : List ℕ) (r s : Verdict) → FitGiven a b (number_of r) → FitGiven a b (number_of s) → r ≡ s
 one_fit a b r s g h = sym (answered_is r) ∙ ap answered (sym ((given_number a b r).0 g) ∙ (given_number a b s).0 h) ∙ answered_is s
 
--- in the words of satisfaction: of inputs that are read, the answer is `Satisfies` exactly when the structure satisfies the description
+-- in the words of satisfaction: of inputs that are read, the answer is `Ok true` exactly when the structure satisfies the description
 pub satisfies_iff : (H : Graph) (d : Desc) (w : WellFormed (desc H end) depth_limit) → WellFormed d depth_limit →
     length (words (desc H end)) ≤ input_limit → length (words d) ≤ input_limit
-    → (r : Verdict) → FitGiven (words (desc H end)) (words d) (number_of r) → (r ≡ Satisfies) ↔ Sat (structure H w.0) d
+    → (r : Verdict) → FitGiven (words (desc H end)) (words d) (number_of r) → (r ≡ Ok true) ↔ Sat (structure H w.0) d
 satisfies_iff H d w v la lb r g =
     let t = fit_satisfies H d w v la lb in
     let e = (given_number (words (desc H end)) (words d) r).0 g in
-    (λ z. t.0 (e ∙ ap number_of z), λ s. sym (answered_is r) ∙ ap answered (sym e ∙ t.1 s) ∙ answered_is Satisfies)
+    (λ z. t.0 (e ∙ ap number_of z), λ s. sym (answered_is r) ∙ ap answered (sym e ∙ t.1 s) ∙ answered_is (Ok true))

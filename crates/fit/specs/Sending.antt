@@ -1,18 +1,12 @@
 -- Giving graph nodes their structure nodes: what the functions that do ask, and what they promise.
 -- Assumes nothing: these are definitions.
-use Rattle.std.specs.Prelude.{ℕ, suc, ◌+◌, ◌*◌, ◌≤◌, ◌<◌, ◌≡◌, length, get_or}
+use Rattle.std.specs.Prelude.{ℕ, suc, ◌+◌, ◌*◌, ◌≤◌, ◌<◌, ◌≡◌, length, get_or, Option, Some, None}
 use mathlib.Core.List.{List, [], ◌∷◌, Memᴰ}
 use Rattle.theory.specs.Limits.{input_limit}
 use Rattle.theory.specs.Net.{Node, atom, arcs, Graph, nodeAt, arcsOf, Rising, InOrder, met, Canonical}
 use Rattle.fit.specs.Parts.{node_limit, after_node, arcsOfWords, lastArcs, nodeFrom, nodesFrom, nodesEnd, graphIn}
-use Rattle.fit.specs.declared.sending.Lookup.{Lookup}
-use Rattle.fit.specs.declared.sending.Lookup.TheVariants.{Target, Nowhere}
-use Rattle.fit.specs.declared.sending.Mapped.{Mapped}
-use Rattle.fit.specs.declared.sending.Mapped.TheVariants.{Met, Stopped}
-use Rattle.fit.specs.declared.sending.MappedNode.{MappedNode}
-use Rattle.fit.specs.declared.sending.MappedNode.TheVariants.{Went, Stuck}
-use Rattle.fit.specs.declared.sending.Trial.{Trial}
-use Rattle.fit.specs.declared.sending.Trial.TheVariants.{Fits, Fails}
+use Rattle.graphs.specs.declared.graph.Walk.{Walk}
+use Rattle.fit.specs.declared.sending.Found.{Found}
 
 -- "every arc goes to an arc of the same feature between the given nodes": into the arcs B, where m gives the nodes
 abbrev pub SentArcs : List (ℕ × ℕ) → (ℕ → ℕ) → List (ℕ × ℕ) → Type 0
@@ -67,9 +61,13 @@ pub record Beyond (B : List (ℕ × ℕ)) (f u : ℕ) (C : List (ℕ × ℕ)) : 
   pub later : (g t : ℕ) → f < g → Memᴰ (g, t) B → Memᴰ (g, t) C
   pub among : (g t : ℕ) → Memᴰ (g, t) C → Memᴰ (g, t) B
 
-abbrev pub FindsTarget : List ℕ → ℕ → ℕ → ℕ → Lookup → Type 0
-FindsTarget s e k f (Target u j) = Findable s e j × Beyond (lastArcs s e k) f u (lastArcs s e j)
-FindsTarget s e k f Nowhere = (u : ℕ) → Memᴰ (f, u) (lastArcs s e k) → ⊥
+-- the arc to u, which j arcs come after
+abbrev pub hit : ℕ → ℕ → Option Found
+hit u j = Some (record { target = u; left = j })
+
+abbrev pub FindsTarget : List ℕ → ℕ → ℕ → ℕ → Option Found → Type 0
+FindsTarget s e k f (Some x) = Findable s e x.left × Beyond (lastArcs s e k) f x.target (lastArcs s e x.left)
+FindsTarget s e k f None = (u : ℕ) → Memᴰ (f, u) (lastArcs s e k) → ⊥
 
 -- a node that is known or the next
 pub record Sendable (node k : ℕ) : Type 0 where
@@ -77,9 +75,9 @@ pub record Sendable (node k : ℕ) : Type 0 where
   pub few : node < node_limit
 
 -- k' nodes are given after what P asks, or no map does it
-abbrev pub Steps : List ℕ → ℕ → ((ℕ → ℕ) → Type 0) → ℕ → List ℕ → Mapped → Type 0
-Steps M k P k' M' (Met j) = (j ≡ k') × Turns M k P M' k'
-Steps M k P k' M' Stopped = NoMap M k P
+abbrev pub Steps : List ℕ → ℕ → ((ℕ → ℕ) → Type 0) → ℕ → List ℕ → Option ℕ → Type 0
+Steps M k P k' M' (Some j) = (j ≡ k') × Turns M k P M' k'
+Steps M k P k' M' None = NoMap M k P
 
 pub record ArcsAsked (s : List ℕ) (e ahead : ℕ) (ws : List ℕ) (p count k : ℕ) : Type 0 where
   pub findable : Findable s e ahead
@@ -88,7 +86,7 @@ pub record ArcsAsked (s : List ℕ) (e ahead : ℕ) (ws : List ℕ) (p count k :
   pub order : InOrder k (arcsOfWords ws p count)
   pub few : met k (arcsOfWords ws p count) ≤ node_limit
 
-abbrev pub Sends : List (ℕ × ℕ) → List (ℕ × ℕ) → List ℕ → ℕ → List ℕ → Mapped → Type 0
+abbrev pub Sends : List (ℕ × ℕ) → List (ℕ × ℕ) → List ℕ → ℕ → List ℕ → Option ℕ → Type 0
 Sends B l M k M' r = Steps M k (λ m. SentArcs B m l) (met k l) M' r
 
 -- a node v, whose words are there, is met
@@ -101,10 +99,10 @@ pub record NodeAsked (s ws : List ℕ) (p i : ℕ) (M : List ℕ) (k : ℕ) : Ty
   pub order : InOrder k (arcsOf (nodeFrom ws p))
   pub few : met k (arcsOf (nodeFrom ws p)) ≤ node_limit
 
-abbrev pub Walks : Graph → List ℕ → ℕ → ℕ → List ℕ → ℕ → List ℕ → MappedNode → Type 0
-Walks H ws p i M k M' (Went q j) =
-    (q ≡ after_node ws p) × (j ≡ met k (arcsOf (nodeFrom ws p))) × Turns M k (λ m. SentHere H m i (nodeFrom ws p)) M' j
-Walks H ws p i M k M' Stuck = NoMap M k (λ m. SentHere H m i (nodeFrom ws p))
+abbrev pub Walks : Graph → List ℕ → ℕ → ℕ → List ℕ → ℕ → List ℕ → Option Walk → Type 0
+Walks H ws p i M k M' (Some w) =
+    (w.next ≡ after_node ws p) × (w.met ≡ met k (arcsOf (nodeFrom ws p))) × Turns M k (λ m. SentHere H m i (nodeFrom ws p)) M' w.met
+Walks H ws p i M k M' None = NoMap M k (λ m. SentHere H m i (nodeFrom ws p))
 
 -- k nodes whose words are there, of which the root is given a structure node
 pub record NodesAsked (s ws : List ℕ) (p k : ℕ) (M : List ℕ) : Type 0 where
@@ -113,9 +111,9 @@ pub record NodesAsked (s ws : List ℕ) (p k : ℕ) (M : List ℕ) : Type 0 wher
   pub canonical : Canonical (nodesFrom ws p k)
   pub root : GivenBelow (length (graphIn s 0)) M 1
 
-abbrev pub SentNodes : Graph → List ℕ → ℕ → ℕ → List ℕ → Trial → Type 0
-SentNodes H ws p k M (Fits q) = (q ≡ nodesEnd ws p k) × ((m : ℕ → ℕ) × Agrees M 1 m × SentAll H m 0 (nodesFrom ws p k))
-SentNodes H ws p k M Fails = NoMap M 1 (λ m. SentAll H m 0 (nodesFrom ws p k))
+abbrev pub SentNodes : Graph → List ℕ → ℕ → ℕ → List ℕ → Option ℕ → Type 0
+SentNodes H ws p k M (Some q) = (q ≡ nodesEnd ws p k) × ((m : ℕ → ℕ) × Agrees M 1 m × SentAll H m 0 (nodesFrom ws p k))
+SentNodes H ws p k M None = NoMap M 1 (λ m. SentAll H m 0 (nodesFrom ws p k))
 
 -- a node, whose words are there
 abbrev pub NodeStands : List ℕ → ℕ → Node → Type 0

@@ -1,6 +1,6 @@
 -- Testing what stands in words against a structure: one promise for each kind of thing that words stand for.
 -- Assumes nothing: these are definitions.
-use Rattle.std.specs.Prelude.{ℕ, ◌-◌, ◌≤◌, ◌<◌, ◌≡◌, List, length}
+use Rattle.std.specs.Prelude.{ℕ, ◌-◌, ◌≤◌, ◌<◌, ◌≡◌, List, length, Bool, true, false, Option, Some, None}
 use Rattle.theory.specs.Limits.{depth_limit, input_limit}
 use Rattle.theory.specs.Net.{Graph, graph, Canonical}
 use Rattle.theory.specs.Descr.{Desc, Alts, alts}
@@ -10,9 +10,6 @@ use Rattle.theory.specs.FitTest.{Map, Fits, FitsAny}
 use Rattle.layout.specs.Standing.{Stands, graph_words, disjunction_words}
 use Rattle.fit.specs.Parts.{graphIn}
 use Rattle.fit.specs.Sending.{Notable}
-use Rattle.fit.specs.declared.sending.Trial.{Trial}
-use Rattle.fit.specs.declared.sending.Trial.TheVariants.{Fails}
-use Rattle.fit.specs.declared.sending.Trial.TheVariants as answer
 
 -- a kind of thing: when it may come, its words, and when the structure satisfies it
 pub record Subject : Type 1 where
@@ -51,12 +48,12 @@ abbrev pub Testable : Subject → List ℕ → ℕ → Type 0
 Testable K ws p = (length ws ≤ input_limit) × ((x : K.Thing) × (q : ℕ) × K.Fine x × Stands ws p (K.text x) q)
 
 -- what an answer says of a thing that ends at q
-abbrev pub Decides : Type 0 → ℕ → Trial → Type 0
-Decides X q (answer.Fits r) = (r ≡ q) × X
-Decides X q Fails = ¬ X
+abbrev pub Decides : Type 0 → ℕ → Option ℕ → Type 0
+Decides X q (Some r) = (r ≡ q) × X
+Decides X q None = ¬ X
 
 -- and of whatever thing of the kind stands at p
-abbrev pub Answers : Subject → List ℕ → ℕ → Trial → Type 0
+abbrev pub Answers : Subject → List ℕ → ℕ → Option ℕ → Type 0
 Answers K ws p r = (x : K.Thing) (q : ℕ) → K.Fine x → Stands ws p (K.text x) q → Decides (K.Holds x) q r
 
 -- the k alternatives that stand at p end at r
@@ -69,5 +66,10 @@ pub record TestAsked (s ws : List ℕ) : Type 0 where
   pub few : length ws ≤ input_limit
   pub image : Image ws
 
-abbrev pub Tested : List ℕ → List ℕ → Trial → Type 0
-Tested s ws r = (d : Desc) → WellFormed d depth_limit → ws ≡ words d → Decides (Fits (graphIn s 0) d) (length ws) r
+-- what a verdict says
+abbrev pub Says : Type 0 → Bool → Type 0
+Says X true = X
+Says X false = ¬ X
+
+abbrev pub Tested : List ℕ → List ℕ → Bool → Type 0
+Tested s ws r = (d : Desc) → WellFormed d depth_limit → ws ≡ words d → Says (Fits (graphIn s 0) d) r

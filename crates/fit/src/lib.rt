@@ -8,34 +8,34 @@ ghost use Rattle.std.specs.Prelude.{◌≡◌};
 ghost use Rattle.theory.specs.FitTest.{FitGiven};
 ghost use Rattle.fit.specs.Number.{number_of};
 
-use crate::sending::Trial;
 use crate::testing::satisfied;
-use layout::reading::{Judgement, judge};
+use layout::reading::judge;
 use layout::skipping::skip_graph;
 use limits::INPUT_LIMIT;
 
-// What comes of a fit test; `number_of` gives document 01's number of each.
-#[derive(Clone, Copy)]
-pub enum Verdict {
-    Satisfies,
-    Fails,
+// Why no fit is tested.
+#[derive(Clone, Copy, Debug, PartialEq, Eq)]
+pub enum Refusal {
     TooLong,
     BadStructure,
     BadDescription,
     HasDisjunctions,
 }
 
+// Whether a structure satisfies a description; `number_of` gives document 01's number of each verdict.
+pub type Verdict = Result<bool, Refusal>;
+
 // Document 01's number.
 pub fn number(verdict: Verdict) -> u32
     ensures { result ≡ number_of verdict }
 {
     match verdict {
-        Verdict::Satisfies => 0,
-        Verdict::Fails => 6,
-        Verdict::TooLong => 3,
-        Verdict::BadStructure => 4,
-        Verdict::BadDescription => 5,
-        Verdict::HasDisjunctions => 9,
+        Ok(true) => 0,
+        Ok(false) => 6,
+        Err(Refusal::TooLong) => 3,
+        Err(Refusal::BadStructure) => 4,
+        Err(Refusal::BadDescription) => 5,
+        Err(Refusal::HasDisjunctions) => 9,
     }
 }
 
@@ -44,26 +44,20 @@ pub fn fit(structure: &[u32], description: &[u32]) -> Verdict
     ensures { FitGiven structure.now description.now (number_of result) }
 {
     if INPUT_LIMIT < structure.len() {
-        return Verdict::TooLong;
+        return Err(Refusal::TooLong);
     }
     if INPUT_LIMIT < description.len() {
-        return Verdict::TooLong;
+        return Err(Refusal::TooLong);
     }
-    let first = judge(structure);
-    let Judgement::Accepted = first else {
-        return Verdict::BadStructure;
-    };
-    let second = judge(description);
-    let Judgement::Accepted = second else {
-        return Verdict::BadDescription;
-    };
+    if !judge(structure) {
+        return Err(Refusal::BadStructure);
+    }
+    if !judge(description) {
+        return Err(Refusal::BadDescription);
+    }
     let end = skip_graph(structure, 0);
     if 0 < structure[end] {
-        return Verdict::HasDisjunctions;
+        return Err(Refusal::HasDisjunctions);
     }
-    let answer = satisfied(structure, description);
-    match answer {
-        Trial::Fits(next) => Verdict::Satisfies,
-        Trial::Fails => Verdict::Fails,
-    }
+    Ok(satisfied(structure, description))
 }

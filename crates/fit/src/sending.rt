@@ -1,44 +1,25 @@
 // Giving each node of a graph its structure node: the one possible map, from the root on.
-ghost use Rattle.std.specs.Prelude.{◌≡◌, ◌≤◌, suc, max, length};
-ghost use Rattle.fit.specs.Parts.{node_limit, arcs_in, arcsOfWords, lastArcs, graphIn};
+ghost use Rattle.std.specs.Prelude.{◌≡◌, suc, max};
+ghost use Rattle.fit.specs.Parts.{arcs_in, arcsOfWords, lastArcs, graphIn};
 ghost use Rattle.fit.specs.Sending.{FindsTarget, Steps, Sends, Walks, SentNodes, Findable, Sendable, ArcsAsked, NodeAsked};
 ghost use Rattle.fit.specs.Sending.{NodesAsked};
 ghost use Rattle.fit.specs.Sending.{Noted, Notable};
 
+use graphs::graph::Walk;
 use limits::{CODE_LIMIT, wide};
 
 // A graph in an input has at most so many nodes: each but the root has an arc to it, so it takes three words.
 pub const NODE_LIMIT: usize = 342;
 
-// What looking for a feature finds: the target of its arc and how many arcs come after that, or no such arc.
+// The target of the arc of a feature, and how many arcs come after that one.
 #[derive(Clone, Copy)]
-pub enum Lookup {
-    Target { target: u32, left: u32 },
-    Nowhere,
-}
-
-// How many nodes have their structure node after a step, or that there is no map.
-#[derive(Clone, Copy)]
-pub enum Mapped {
-    Met(u32),
-    Stopped,
-}
-
-// The same after a node, with the position after it.
-#[derive(Clone, Copy)]
-pub enum MappedNode {
-    Went { next: usize, met: u32 },
-    Stuck,
-}
-
-// Whether there is a map of a part of the words, and the position after that part.
-#[derive(Clone, Copy)]
-pub enum Trial {
-    Fits(usize),
-    Fails,
+pub struct Found {
+    pub target: u32,
+    pub left: u32,
 }
 
 // How many arcs a head tells.
+#[tactic(auto, unfolding(crate::specs::Parts::arcs_in))]
 fn arcs_in(head: u32) -> u32
     ensures { result ≡ arcs_in head }
 {
@@ -48,44 +29,40 @@ fn arcs_in(head: u32) -> u32
     0
 }
 
-// Looks for a feature among the last `count` of a node's arcs, which end at `end`.
-fn find(structure: &[u32], end: usize, count: u32, feature: u32) -> Lookup
+// Looks for a feature among the last `count` of a node's arcs, which end at `end` and rise.
+fn find(structure: &[u32], end: usize, count: u32, feature: u32) -> Option<Found>
     requires { Findable structure.now end count }
     ensures { FindsTarget structure.now end count feature result }
 {
-    let mut left = count;
-    while 0 < left {
-        let at = end - 2 * wide(left);
+    for left in (0..count).rev() {
+        let at = end - 2 * wide(left + 1);
         let here = structure[at];
         if feature < here {
-            return Lookup::Nowhere;
+            return None;
         }
         if feature == here {
-            return Lookup::Target {
+            return Some(Found {
                 target: structure[at + 1],
-                left: left - 1,
-            };
+                left,
+            });
         }
-        left -= 1;
     }
-    Lookup::Nowhere
+    None
 }
 
-// Gives a node its structure node, where the nodes below `met` have one.
-fn send(map: &mut [u32; NODE_LIMIT], node: u32, given: u32, met: u32) -> Mapped
-    requires node_limit_in_bounds { node_limit ≤ length map.old }
-    requires sendable { Sendable node met }
-    ensures steps { Steps map.old met (λ m. m node ≡ given) (max met (suc node)) map.new result }
-    ensures map_len_unchanged { length map.new ≡ length map.old }
+// Gives a node its structure node, where the nodes below `met` have one: how many have one then, or none where it has another.
+fn send(map: &mut [u32; NODE_LIMIT], node: u32, given: u32, met: u32) -> Option<u32>
+    requires { Sendable node met }
+    ensures { Steps map.old met (λ m. m node ≡ given) (max met (suc node)) map.new result }
 {
     if node < met {
         if map[wide(node)] == given {
-            return Mapped::Met(met);
+            return Some(met);
         }
-        return Mapped::Stopped;
+        return None;
     }
     map[wide(node)] = given;
-    Mapped::Met(node + 1)
+    Some(node + 1)
 }
 
 // Sends the `count` arcs of a node along the `ahead` arcs of its structure node, which end at `end`: both rise.
@@ -98,38 +75,21 @@ fn send_arcs(
     p: usize,
     count: u32,
     first: u32,
-) -> Mapped
-    requires node_limit_in_bounds { node_limit ≤ length map.old }
-    requires arcs_asked { ArcsAsked structure.now end ahead ws.now p count first }
-    ensures sends { Sends (lastArcs structure.now end ahead) (arcsOfWords ws.now p count) map.old first
+) -> Option<u32>
+    requires { ArcsAsked structure.now end ahead ws.now p count first }
+    ensures { Sends (lastArcs structure.now end ahead) (arcsOfWords ws.now p count) map.old first
         map.new result }
-    ensures map_len_unchanged { length map.new ≡ length map.old }
 {
     let mut at = p;
-    let mut left = count;
     let mut more = ahead;
     let mut met = first;
-    while 0 < left {
-        let feature = ws[at];
-        let node = ws[at + 1];
-        let found = find(structure, end, more, feature);
-        let Lookup::Target {
-            target,
-            left: others,
-        } = found
-        else {
-            return Mapped::Stopped;
-        };
-        let step = send(map, node, target, met);
-        let Mapped::Met(reached) = step else {
-            return Mapped::Stopped;
-        };
-        met = reached;
-        more = others;
+    for _ in 0..count {
+        let found = find(structure, end, more, ws[at])?;
+        met = send(map, ws[at + 1], found.target, met)?;
+        more = found.left;
         at += 2;
-        left -= 1;
     }
-    Mapped::Met(met)
+    Some(met)
 }
 
 // Sends node i to the structure node that it is given: its atom, or its arcs.
@@ -141,12 +101,10 @@ fn send_node(
     p: usize,
     i: u32,
     met: u32,
-) -> MappedNode
-    requires node_limit_in_bounds { node_limit ≤ length map.old }
+) -> Option<Walk>
     requires noted { Noted structure.now place.now }
     requires node_asked { NodeAsked structure.now ws.now p i map.old met }
-    ensures walks { Walks (graphIn structure.now 0) ws.now p i map.old met map.new result }
-    ensures map_len_unchanged { length map.new ≡ length map.old }
+    ensures { Walks (graphIn structure.now 0) ws.now p i map.old met map.new result }
 {
     let head = ws[p];
     let given = map[wide(i)];
@@ -154,23 +112,20 @@ fn send_node(
     let other = structure[there];
     if CODE_LIMIT <= head {
         if head == other {
-            return MappedNode::Went { next: p + 1, met };
+            return Some(Walk { next: p + 1, met });
         }
-        return MappedNode::Stuck;
+        return None;
     }
     let ahead = arcs_in(other);
     let end = there + 1 + 2 * wide(ahead);
-    let step = send_arcs(map, structure, end, ahead, ws, p + 1, head, met);
-    let Mapped::Met(reached) = step else {
-        return MappedNode::Stuck;
-    };
-    MappedNode::Went {
+    let reached = send_arcs(map, structure, end, ahead, ws, p + 1, head, met)?;
+    Some(Walk {
         next: p + 1 + 2 * wide(head),
         met: reached,
-    }
+    })
 }
 
-// Sends all nodes of a graph of so many nodes, where the root has its structure node.
+// Sends all nodes of a graph of so many nodes, where the root has its structure node: the position after them.
 pub fn send_nodes(
     map: &mut [u32; NODE_LIMIT],
     place: &[u32; NODE_LIMIT],
@@ -178,41 +133,27 @@ pub fn send_nodes(
     ws: &[u32],
     p: usize,
     nodes: u32,
-) -> Trial
-    requires node_limit_in_bounds { node_limit ≤ length map.old }
+) -> Option<usize>
     requires noted { Noted structure.now place.now }
     requires nodes_asked { NodesAsked structure.now ws.now p nodes map.old }
-    ensures sent_nodes { SentNodes (graphIn structure.now 0) ws.now p nodes map.old result }
-    ensures map_len_unchanged { length map.new ≡ length map.old }
+    ensures { SentNodes (graphIn structure.now 0) ws.now p nodes map.old result }
 {
-    let mut at = p;
-    let mut i: u32 = 0;
-    let mut met: u32 = 1;
-    while i < nodes {
-        let node = send_node(map, place, structure, ws, at, i, met);
-        let MappedNode::Went { next, met: reached } = node else {
-            return Trial::Fails;
-        };
-        at = next;
-        met = reached;
-        i += 1;
+    let mut walk = Walk { next: p, met: 1 };
+    for i in 0..nodes {
+        walk = send_node(map, place, structure, ws, walk.next, i, walk.met)?;
     }
-    Trial::Fits(at)
+    Some(walk.next)
 }
 
 // Notes where each node of the structure stands.
 pub fn note(place: &mut [u32; NODE_LIMIT], structure: &[u32])
-    requires node_limit_in_bounds { node_limit ≤ length place.old }
-    requires notable { Notable structure.now }
+    requires { Notable structure.now }
     ensures { Noted structure.now place.new }
 {
-    let nodes = wide(structure[0]);
     let mut at: u32 = 1;
-    let mut i: usize = 0;
-    while i < nodes {
+    for i in 0..wide(structure[0]) {
         let head = structure[wide(at)];
         place[i] = at;
         at = at + 1 + 2 * arcs_in(head);
-        i += 1;
     }
 }

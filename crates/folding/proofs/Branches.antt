@@ -15,8 +15,11 @@ use Rattle.formulas.specs.Tables.{Tables}
 use Rattle.folding.specs.Buffer.{WordsEnd, Grows}
 use Rattle.folding.specs.Homing.{Untouched, WithinHomes, BranchHomes, NamedCome}
 use Rattle.folding.specs.Settled.{Settling, AlternativeSettles, BranchSettling, Concludes, BranchedBy, BranchSettles}
+use Rattle.folding.specs.Settled.{KeptFirst, alternative_of, count_of, inner_of}
 use Rattle.folding.specs.declared.settle.Settled.{Settled}
-use Rattle.folding.specs.declared.settle.Settled.TheVariants.{Clash, Fine}
+use Rattle.folding.specs.declared.settle.Kept.{Kept}
+use Rattle.std.specs.Prelude as rust
+use Rattle.std.specs.Prelude.{Some, None}
 use Rattle.folding.specs.declared.settle.Branch.{Branch}
 use Rattle.folding.proofs.Ending.{grows_none, grows_less, grows_on}
 use Rattle.folding.proofs.Moving.{branch_same, come_none, branch_folded, come_folded}
@@ -38,7 +41,7 @@ several_words hs kept n old ws = ap₂ {C = List ℕ} ◌∷◌ (n ∙ sym (alts
 
 module _ (hm₀ b₀ : List ℕ) (len k g m z : ℕ) (after : k < g) (some_left : g < m) (few : m ≤ length hm₀) (f : Untouched hm₀ g m)
     (hm b : List ℕ) (at kept sole count inner : ℕ) (u : WithinHomes hm₀ hm g m) (grown : Grows b₀ len b at)
-    (r : Branch) (hm' b' : List ℕ) (t : Concludes hm b at k kept sole count inner z r hm' b') where
+    (r : rust.Option Branch) (hm' b' : List ℕ) (t : Concludes hm b at k kept sole count inner z r hm' b') where
   concluded : (hs : List Home) → kept ≡ length hs → ((ws : List ℕ) → WordsEnd b₀ len ws → WordsEnd b at (alts_words (home_alts hs) ++ ws)) →
       Alone b₀ len hm b g m at sole count inner hs →
       BranchHomes hm₀ hm' k g m × ((old : HandedOver) → BranchedBy hm' b₀ b' len k g m z old (handed_over hs old) r)
@@ -52,9 +55,9 @@ module _ (hm₀ b₀ : List ℕ) (len k g m z : ℕ) (after : k < g) (some_left 
       let size = grown.same in (
         branch_folded hm₀ hm hm' k g m sole after f u a.low a.high few moves,
         λ old. (
-          count,
-          inner,
+          record { count = count; inner = inner; before = z },
           e,
+          refl,
           record {
             more_is = let s = disjs_then x.rest old.left in let i = a.count_is in omega arith;
             small = a.small;
@@ -74,9 +77,9 @@ module _ (hm₀ b₀ : List ℕ) (len k g m z : ℕ) (after : k < g) (some_left 
       let most = puts.grows.most in (
         subst (λ (v : List ℕ). BranchHomes hm₀ v k g m) (sym same) (branch_same hm₀ hm hm k g m 0 after f u),
         λ old. (
-          1,
-          from,
+          record { count = 1; inner = from; before = z },
           e,
+          refl,
           record {
             more_is = omega arith;
             small = omega arith;
@@ -104,7 +107,7 @@ last_low T hm k last left c =
     ((branch_last T hm [] 0 k last left c).0, omega arith)
 
 pub going_start : (T : Tables) (hm b : List ℕ) (len k last left : ℕ) → BranchSettling T hm k last left → len ≤ suc (length b) →
-    Going T hm b len k last left hm b len last 0 0 0 len
+    Going T hm b len k last left hm b len last 0 0 0 0
 going_start T hm b len k last left c l = record {
   size = refl;
   grown = grows_none b len l;
@@ -131,8 +134,8 @@ module _ {T : Tables} {hm₀ b₀ : List ℕ} {len k last left : ℕ} {hm b : Li
       cell_asking T hm₀ b₀ len k last left c hm b at pointer kept sole count inner (v.between c) (here c),
     )
 
-    module _ {r : Settled} {hm' b' : List ℕ} (s : AlternativeSettles T hm b at pointer left r hm' b') where
-      pub going_clash : r ≡ Clash → Going T hm₀ b₀ len k last left hm' b' at (T.before pointer) kept sole count inner
+    module _ {r : rust.Option Settled} {hm' b' : List ℕ} (s : AlternativeSettles T hm b at pointer left r hm' b') where
+      pub going_clash : r ≡ None → Going T hm₀ b₀ len k last left hm' b' at (T.before pointer) kept sole count inner
       going_clash i = record {
         size = s.size ∙ v.size;
         grown = grows_on b₀ b b' len at at v.grown s.kept;
@@ -140,22 +143,22 @@ module _ {T : Tables} {hm₀ b₀ : List ℕ} {len k last left : ℕ} {hm b : Li
         between = λ c. between_clash T hm₀ b₀ len k last left c hm b at pointer kept sole count inner (v.between c) (here c) r hm' b' s i;
       }
 
-      pub going_fine : BranchSettling T hm₀ k last left → (more from whole : ℕ) → r ≡ Fine more from whole →
-          Going T hm₀ b₀ len k last left hm' b' whole (T.before pointer) (kept + 1) pointer more from
-      going_fine asked more from whole i =
+      pub going_fine : BranchSettling T hm₀ k last left → (y : Settled) → r ≡ Some y →
+          Going T hm₀ b₀ len k last left hm' b' y.whole (T.before pointer) (kept + 1) pointer y.count y.inner
+      going_fine asked y i =
           let far = v.grown.more in
           let (on, most) = fine_grows T hm₀ b₀ len k last left asked hm b at pointer kept sole count inner (v.between asked) (here asked)
-          r hm' b' s more from whole i in
-          let further : Grows b at b' whole = record { same = s.kept.same; rest = s.kept.rest; more = on; most = most } in
+          r hm' b' s y i in
+          let further : Grows b at b' y.whole = record { same = s.kept.same; rest = s.kept.rest; more = on; most = most } in
           record {
             size = s.size ∙ v.size;
-            grown = grows_on b₀ b b' len at whole v.grown further;
+            grown = grows_on b₀ b b' len at y.whole v.grown further;
             low = (going_low asked).0;
             between = λ c. between_fine T hm₀ b₀ len k last left c hm b at pointer kept sole count inner (v.between c) (here c) r hm' b' s
-                more from whole i far;
+                y i far;
           }
 
-  module _ (o : (pointer ≡ 0) ⊎ (T.group pointer ≢ T.group last)) {r : Branch} {hm' b' : List ℕ}
+  module _ (o : (pointer ≡ 0) ⊎ (T.group pointer ≢ T.group last)) {r : rust.Option Branch} {hm' b' : List ℕ}
       (s : Concludes hm b at k kept sole count inner pointer r hm' b') where
     module _ (c : BranchSettling T hm₀ k last left) where
       abbrev u : Between T hm₀ b₀ len k last left c hm b at pointer kept sole count inner
@@ -198,9 +201,10 @@ module _ {T : Tables} {hm₀ b₀ : List ℕ} {len k last left : ℕ} {hm b : Li
           (left_are c) ((whole c).1 old);
     }
 
--- the same numbers by other names
-pub going_as : {T : Tables} {hm₀ b₀ hm b : List ℕ} {len k last left at pointer kept sole count inner : ℕ}
-    {at' pointer' kept' sole' count' inner' : ℕ} →
-    Going T hm₀ b₀ len k last left hm b at pointer kept sole count inner → at' ≡ at → pointer' ≡ pointer → kept' ≡ kept → sole' ≡ sole →
-    count' ≡ count → inner' ≡ inner → Going T hm₀ b₀ len k last left hm b at' pointer' kept' sole' count' inner'
-going_as v a p n s c i = rw (a, p, n, s, c, i) v
+-- the same by other names
+pub going_as : {T : Tables} {hm₀ b₀ hm b : List ℕ} {len k last left at pointer kept at' pointer' kept' : ℕ} {first first' : rust.Option Kept} →
+    at' ≡ at → pointer' ≡ pointer → kept' ≡ kept → first' ≡ first →
+    Going T hm₀ b₀ len k last left hm b at pointer kept (alternative_of first) (count_of first) (inner_of first) × KeptFirst kept first →
+    Going T hm₀ b₀ len k last left hm b at' pointer' kept' (alternative_of first') (count_of first') (inner_of first')
+    × KeptFirst kept' first'
+going_as a p n f v = rw (a, p, n, f) v

@@ -17,7 +17,8 @@ use Rattle.folding.specs.Buffer.{WordsEnd, Grows}
 use Rattle.folding.specs.Homing.{Untouched, WithinHomes, NamedCome}
 use Rattle.folding.specs.Settled.{Settling, SettledBy, SettlesAs, AlternativeSettles, BranchSettling}
 use Rattle.folding.specs.declared.settle.Settled.{Settled}
-use Rattle.folding.specs.declared.settle.Settled.TheVariants.{Clash, Fine}
+use Rattle.std.specs.Prelude as rust
+use Rattle.std.specs.Prelude.{Some, None}
 use Rattle.folding.proofs.Ending.{ends_kept}
 use Rattle.folding.proofs.Moving.{within_none, within_more, come_kept, come_alone, fresh_next}
 use Rattle.folding.proofs.Tails.{◌joined◌, joined_none, joined_on, joined_wide, sound_middle, nests_middle}
@@ -82,7 +83,7 @@ module _ (T : Tables) (L : List Item) (O : Sheet) (hm : List ℕ) (p left : ℕ)
     fresh = subst (λ (z : ℕ). Untouched hm p z) u.size u.fresh;
   }
 
-  cell_told : (d : Laid) (h : ℕ) → Cell d h → (b : List ℕ) (at : ℕ) (r : Settled) (hm' b' : List ℕ) →
+  cell_told : (d : Laid) (h : ℕ) → Cell d h → (b : List ℕ) (at : ℕ) (r : rust.Option Settled) (hm' b' : List ℕ) →
       AlternativeSettles T hm b at p left r hm' b' →
       WithinHomes hm hm' p h × SettledBy hm' b b' at p h (house L p d) r
   unfolding cell_asked
@@ -92,18 +93,16 @@ module _ (T : Tables) (L : List Item) (O : Sheet) (hm : List ℕ) (p left : ℕ)
       (s.homes c, s.answer c)
 
 module _ (hm' b b' : List ℕ) (at p h : ℕ) where
-  told_clash : (o : Option Home) (r : Settled) → SettledBy hm' b b' at p h o r → r ≡ Clash → o ≡ none
+  told_clash : (o : Option Home) (r : rust.Option Settled) → SettledBy hm' b b' at p h o r → r ≡ None → o ≡ none
   told_clash none r s e = refl
-  told_clash (some x) r (count, inner, whole, i, s) e = let z : ◌≡◌ {A = ℕ} 0 1 = cc in absurd (omega arith)
+  told_clash (some x) r (y, i, s) e = let z : ◌≡◌ {A = ℕ} 0 1 = cc in absurd (omega arith)
 
-  told_fine : (o : Option Home) (r : Settled) (more from whole : ℕ) → SettledBy hm' b b' at p h o r → r ≡ Fine more from whole →
-      (x : Home) × (o ≡ some x) × SettlesAs hm' b b' at p h x more from whole
-  told_fine none r more from whole s e = let z : ◌≡◌ {A = ℕ} 0 1 = cc in absurd (omega arith)
-  told_fine (some x) r more from whole (count, inner, all, i, s) e =
-      let u : count ≡ more = cc in
-      let v : inner ≡ from = cc in
-      let w : all ≡ whole = cc in
-      (x, refl, rw (← u, ← v, ← w) s)
+  told_fine : (o : Option Home) (r : rust.Option Settled) (y : Settled) → SettledBy hm' b b' at p h o r → r ≡ Some y →
+      (x : Home) × (o ≡ some x) × SettlesAs hm' b b' at p h x y.count y.inner y.whole
+  told_fine none r y s e = let z : ◌≡◌ {A = ℕ} 0 1 = cc in absurd (omega arith)
+  told_fine (some x) r y (z, i, s) e =
+      let same : z ≡ y = cc in
+      (x, refl, subst (λ (v : Settled). SettlesAs hm' b b' at p h x v.count v.inner v.whole) same s)
 
 -- what is alone stays so beside a clash
 alone_kept : (b₀ : List ℕ) (len : ℕ) (hm₀ hm hm' b b' : List ℕ) (p h m at sole count inner : ℕ) → p ≤ h → h ≤ m → WithinHomes hm₀ hm h m →
@@ -155,7 +154,7 @@ module _ (T : Tables) (hm₀ b₀ : List ℕ) (len k last left : ℕ) (c : Branc
       let (low, high, group) = cell_end T c.L c.O c.g c.g c.z c.a last c.some_left c.lies in
       (omega arith, group)
 
-  pub between_start : Between T hm₀ b₀ len k last left c hm₀ b₀ len last 0 0 0 len
+  pub between_start : Between T hm₀ b₀ len k last left c hm₀ b₀ len last 0 0 0 0
   between_start = record {
     first = c.a;
     later = gone;
@@ -260,7 +259,7 @@ module _ (T : Tables) (hm₀ b₀ : List ℕ) (len k last left : ℕ) (c : Branc
       pub cell_asking : Settling T hm pointer left
       cell_asking = cell_asked T c.L c.O hm pointer left w.d u.h cell
 
-      module _ (r : Settled) (hm' b' : List ℕ) (s : AlternativeSettles T hm b at pointer left r hm' b') where
+      module _ (r : rust.Option Settled) (hm' b' : List ℕ) (s : AlternativeSettles T hm b at pointer left r hm' b') where
         told : WithinHomes hm hm' pointer u.h × SettledBy hm' b b' at pointer u.h (house c.L pointer w.d) r
         told = cell_told T c.L c.O hm pointer left w.d u.h cell b at r hm' b' s
 
@@ -275,7 +274,7 @@ module _ (T : Tables) (hm₀ b₀ : List ℕ) (len k last left : ℕ) (c : Branc
             ∙ ap (λ (z : Option Home). home_before z (house_left c.L u.h u.later)) e
             ∙ ap (λ (z : List Home). home_before o z) (sym u.left_is)
 
-        pub between_clash : r ≡ Clash → Between T hm₀ b₀ len k last left c hm' b' at (T.before pointer) kept sole count inner
+        pub between_clash : r ≡ None → Between T hm₀ b₀ len k last left c hm' b' at (T.before pointer) kept sole count inner
         between_clash e = record {
           first = w.first;
           later = w.d against u.later;
@@ -292,14 +291,14 @@ module _ (T : Tables) (hm₀ b₀ : List ℕ) (len k last left : ℕ) (c : Branc
               (omega arith) below u.homes told.0 s.kept u.hs u.alone;
         }
 
-        module _ (more from whole : ℕ) (e : r ≡ Fine more from whole) where
-          fine : (x : Home) × (house c.L pointer w.d ≡ some x) × SettlesAs hm' b b' at pointer u.h x more from whole
-          fine = told_fine hm' b b' at pointer u.h (house c.L pointer w.d) r more from whole told.1 e
+        module _ (y : Settled) (e : r ≡ Some y) where
+          fine : (x : Home) × (house c.L pointer w.d ≡ some x) × SettlesAs hm' b b' at pointer u.h x y.count y.inner y.whole
+          fine = told_fine hm' b b' at pointer u.h (house c.L pointer w.d) r y told.1 e
 
-          pub fine_grows : (at ≤ whole) × (whole ≤ suc (length b))
+          pub fine_grows : (at ≤ y.whole) × (y.whole ≤ suc (length b))
           fine_grows = let (on, most) = fine.2.more in (omega arith, fine.2.most)
 
-          pub between_fine : len ≤ at → Between T hm₀ b₀ len k last left c hm' b' whole (T.before pointer) (kept + 1) pointer more from
+          pub between_fine : len ≤ at → Between T hm₀ b₀ len k last left c hm' b' y.whole (T.before pointer) (kept + 1) pointer y.count y.inner
           between_fine far = record {
             first = w.first;
             later = w.d against u.later;
@@ -311,9 +310,9 @@ module _ (T : Tables) (hm₀ b₀ : List ℕ) (len k last left : ℕ) (c : Branc
             left_is = sym (left_by (some fine.0) fine.1);
             homes = more_homes;
             kept_is = let n = u.kept_is in omega arith;
-            ends = λ ws i. subst (λ (z : List ℕ). WordsEnd b' whole z)
+            ends = λ ws i. subst (λ (z : List ℕ). WordsEnd b' y.whole z)
                 (sym (append_assoc (words (home_desc fine.0)) (alts_words (home_alts u.hs)) ws))
                 (fine.2.whole_is (alts_words (home_alts u.hs) ++ ws) (u.ends ws i));
-            alone = let i = size in alone_new b₀ len hm₀ hm hm' b b' pointer u.h (c.g + wide_cells c.a) at more from whole
+            alone = let i = size in alone_new b₀ len hm₀ hm hm' b b' pointer u.h (c.g + wide_cells c.a) at y.count y.inner y.whole
                 (omega arith) below far u.homes told.0 fine.0 fine.2 u.hs u.ends;
           }

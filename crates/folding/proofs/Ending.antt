@@ -2,10 +2,10 @@
 -- Assumes nothing.
 use Prim.Native.Nat.{ℕ, suc, ◌+◌, ◌-◌, ◌≤◌, ◌<◌}
 use native.Mathlib.Omega.{arith}
-use mathlib.Core.Path.{◌≡◌, refl, sym, subst, ◌∙◌}
-use mathlib.Core.List.{List, [], ◌∷◌, ◌++◌, append_assoc}
-use lib.ListN.{length, get_or, set, take, drop, length-set, drop_of_length-le}
-use lib.Seq.{get_or-set_same, get_or-set_other, drop-cons, get_or-take, length-take-le}
+use mathlib.Core.Path.{◌≡◌, refl, ap, sym, subst, ◌∙◌}
+use mathlib.Core.List.{List, [], ◌∷◌, ◌++◌, append_assoc, append-nil}
+use lib.ListN.{length, set, length-set}
+use lib.Seq.{get_or-set_same, get_or-set_other}
 use Rattle.layout.specs.Standing.{Stands}
 use Rattle.layout.proofs.Standing.{stands_cons, stands_frame}
 use Rattle.folding.specs.Buffer.{WordsEnd, Grows, PutsBefore}
@@ -43,9 +43,6 @@ ends_kept b b' len r ws g e =
       words = λ h. rw size (stands_frame b b' ws (length b - length ws) (length b)
           (λ j l u t. (omega arith, g.rest j (omega arith))) (e.words (omega arith)));
     }
-
-pub puts_none : (b : List ℕ) (len : ℕ) → len ≤ suc (length b) → PutsBefore b len [] b len
-puts_none b len h = record { grows = grows_none b len h; before = λ ws e. e }
 
 pub puts_on : (b c d : List ℕ) (l m n : ℕ) (xs ys : List ℕ) → PutsBefore b l xs c m → PutsBefore c m ys d n → PutsBefore b l (ys ++ xs) d n
 puts_on b c d l m n xs ys u v = record {
@@ -95,21 +92,35 @@ put_out b n len x s h l = record {
   before = λ ws e. let many = e.many in record { many = omega arith; words = λ k. absurd (omega arith) };
 }
 
--- of the first `count` words of xs those from `left` on are written, the last of them first
-abbrev pub Back : (b : List ℕ) (len : ℕ) (xs : List ℕ) (count left : ℕ) (c : List ℕ) (at : ℕ) → Type 0
-Back b len xs count left c at = PutsBefore b len (drop left (take count xs)) c at
+-- while the words xs are written, the last of them first: those of `rest` are not
+pub record Backwards (b : List ℕ) (len : ℕ) (xs rest c : List ℕ) (at : ℕ) : Type 0 where
+  pub written : List ℕ
+  pub whole : rest ++ written ≡ xs
+  pub puts : PutsBefore b len written c at
 
-module _ (b : List ℕ) (len : ℕ) (xs : List ℕ) (count : ℕ) (few : count ≤ length xs) where
-  size : length (take count xs) ≡ count
-  size = length-take-le count xs few
+module _ (b : List ℕ) (len : ℕ) (xs rest : List ℕ) where
+  pub backwards_start : len ≤ suc (length b) → rest ≡ xs → Backwards b len xs rest b len
+  backwards_start h e = record {
+    written = [];
+    whole = append-nil rest ∙ e;
+    puts = record { grows = grows_none b len h; before = λ ws u. u };
+  }
 
-  pub back_start : len ≤ suc (length b) → Back b len xs count count b len
-  back_start h = rw (drop_of_length-le (take count xs) {i = count} (omega (arith, size))) (puts_none b len h)
+  module _ (c : List ℕ) (at : ℕ) (v : Backwards b len xs rest c at) where
+    pub backwards_more : (x : ℕ) (rest' c' : List ℕ) (at' : ℕ) → rest ≡ rest' ++ x ∷ [] → PutsBefore c at (x ∷ []) c' at' →
+        Backwards b len xs rest' c' at'
+    backwards_more x rest' c' at' e u = record {
+      written = x ∷ v.written;
+      whole = sym (append_assoc rest' (x ∷ []) v.written) ∙ ap (λ (z : List ℕ). z ++ v.written) (sym e) ∙ v.whole;
+      puts = puts_on b c c' len at at' v.written (x ∷ []) v.puts u;
+    }
 
-  pub back_more : (left at at' : ℕ) (c c' : List ℕ) → left < count → Back b len xs count (suc left) c at →
-      PutsBefore c at (get_or xs left 0 ∷ []) c' at' → Back b len xs count left c' at'
-  back_more left at at' c c' l u v = rw (drop-cons (take count xs) left 0 (omega (arith, size)))
-      (rw (get_or-take count xs left 0 l) (puts_on b c c' len at at' (drop (suc left) (take count xs)) (get_or xs left 0 ∷ []) u v))
+    pub backwards_done : length rest ≡ 0 → PutsBefore b len xs c at
+    backwards_done z = subst (λ (y : List ℕ). PutsBefore b len y c at) (go rest z v.whole) v.puts
+      where
+        go : (l : List ℕ) → length l ≡ 0 → l ++ v.written ≡ xs → v.written ≡ xs
+        go [] e w = w
+        go (y ∷ l) e w = absurd (omega arith)
 
 -- what goes on writing has the room that was there
 pub room_on : {hm₀ alts b₀ hm b : List ℕ} {len at : ℕ} → SettlingRoom hm₀ alts b₀ len → length hm ≡ length hm₀ → Grows b₀ len b at →

@@ -1,14 +1,13 @@
 -- Laws of what has come to which alternative.
 -- Assumes nothing.
-use Prim.Native.Nat.{ℕ, zero, suc, ◌+◌, ◌<◌, ◌≤◌}
+use Prim.Native.Nat.{ℕ, zero, suc, ◌<◌, ◌≤◌}
 use native.Mathlib.Omega.{arith}
 use native.Mathlib.Decide.{ℕ_discrete, dec_lt}
-use mathlib.Core.Path.{◌≡◌, refl, sym, ◌∙◌, subst}
+use mathlib.Core.Path.{◌≡◌, refl, sym, ◌∙◌}
 use mathlib.Core.Logic.{◌⊎◌, inl, inr, ◌≢◌, ⊎_elim}
 use mathlib.Core.List.Memᴰ
 use mathlib.Core.List.{List, [], ◌∷◌, ◌++◌, Memᴰ}
-use lib.ListN.{length, get_or, set, length-set}
-use lib.Seq.{get_or-set_same, get_or-set_other}
+use lib.ListN.{length, get_or}
 use Rattle.folding.specs.Homing.{Rehomes, Untouched, WithinHomes, BranchHomes, NamedCome}
 
 -- a number stands before another, or from it on
@@ -24,44 +23,6 @@ pub record Rehomed (hm : List ℕ) (x k i : ℕ) (hm' : List ℕ) : Type 0 where
   pub same : length hm' ≡ length hm
   pub here : (j : ℕ) → j < i → get_or hm j 0 ≡ x → get_or hm' j 0 ≡ k
   pub rest : (j : ℕ) → (i ≤ j) ⊎ (get_or hm j 0 ≢ x) → get_or hm' j 0 ≡ get_or hm j 0
-
-pub rehome_none : (hm : List ℕ) (x k : ℕ) → Rehomed hm x k 0 hm
-rehome_none hm x k = record { same = refl; here = λ j l e. absurd (omega arith); rest = λ j o. refl }
-
-pub rehome_done : (hm : List ℕ) (x k i : ℕ) (hm' : List ℕ) → length hm ≤ i → Rehomed hm x k i hm' → Rehomes hm x k hm'
-rehome_done hm x k i hm' l u = record { same = u.same; here = λ j h. u.here j (omega arith); rest = λ j n. u.rest j (inr n) }
-
-module _ (hm : List ℕ) (x k i : ℕ) (hm' : List ℕ) (u : Rehomed hm x k i hm') where
-  later : (j : ℕ) → (i + 1 ≤ j) ⊎ (get_or hm j 0 ≢ x) → (i ≤ j) ⊎ (get_or hm j 0 ≢ x)
-  later j (inl h) = inl (omega arith)
-  later j (inr n) = inr n
-
-  pub rehome_other : get_or hm' i 0 ≢ x → Rehomed hm x k (i + 1) hm'
-  rehome_other n = record { same = u.same; here = λ j l e. go j l e (side j i); rest = λ j o. u.rest j (later j o) }
-    where
-      go : (j : ℕ) → j < i + 1 → get_or hm j 0 ≡ x → (j < i) ⊎ (i ≤ j) → get_or hm' j 0 ≡ k
-      go j l e (inl h) = u.here j h e
-      go j l e (inr h) = let s : j ≡ i = omega arith in
-          absurd (n (subst (λ (z : ℕ). get_or hm' z 0 ≡ x) s (u.rest j (inl h) ∙ e)))
-
-  pub rehome_one : i < length hm → get_or hm' i 0 ≡ x → Rehomed hm x k (i + 1) (set hm' i k)
-  rehome_one l is = record {
-    same = length-set hm' i k ∙ u.same;
-    here = λ j h e. new j h e (ℕ_discrete j i);
-    rest = λ j o. kept j o (ℕ_discrete j i);
-  }
-    where
-      at_i : (j : ℕ) → j ≡ i → get_or (set hm' i k) j 0 ≡ k
-      at_i j s = let size = u.same in rw s (get_or-set_same hm' i k 0 (omega arith))
-
-      new : (j : ℕ) → j < i + 1 → get_or hm j 0 ≡ x → Dec (j ≡ i) → get_or (set hm' i k) j 0 ≡ k
-      new j h e (no n) = get_or-set_other hm' i j k 0 n ∙ u.here j (omega arith) e
-      new j h e (yes s) = at_i j s
-
-      kept : (j : ℕ) → (i + 1 ≤ j) ⊎ (get_or hm j 0 ≢ x) → Dec (j ≡ i) → get_or (set hm' i k) j 0 ≡ get_or hm j 0
-      kept j o (no n) = get_or-set_other hm' i j k 0 n ∙ u.rest j (later j o)
-      kept j (inl h) (yes s) = absurd (omega arith)
-      kept j (inr h) (yes s) = absurd (h (sym (u.rest j (inl (omega arith))) ∙ subst (λ (z : ℕ). get_or hm' z 0 ≡ x) (sym s) is))
 
 -- ---- of the alternatives from h up to m the settled ones, and the one from c up to h that is settled next
 pub within_none : (hm : List ℕ) (m : ℕ) → WithinHomes hm hm m m

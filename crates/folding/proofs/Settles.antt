@@ -23,9 +23,9 @@ use Rattle.folding.specs.Homing.{Untouched, WithinHomes, BranchHomes, NamedCome}
 use Rattle.folding.specs.Settled.{Settling, ClosedBy, AlternativeCloses, SettledBy, AlternativeSettles, BranchSettling, BranchesAs}
 use Rattle.folding.specs.Settled.{BranchedBy, BranchSettles}
 use Rattle.folding.specs.declared.settle.Settled.{Settled}
-use Rattle.folding.specs.declared.settle.Settled.TheVariants.{Clash}
+use Rattle.std.specs.Prelude as rust
+use Rattle.std.specs.Prelude.{Some, None}
 use Rattle.folding.specs.declared.settle.Branch.{Branch}
-use Rattle.folding.specs.declared.settle.Branch.TheVariants.{Dead, Left}
 use Rattle.folding.proofs.Ending.{ends_kept, grows_none, grows_less, grows_on}
 use Rattle.folding.proofs.Moving.{branch_none, nothing_come, fresh_branch, branch_more, come_more}
 use Rattle.folding.proofs.Moving.{within_owner, come_owner, all_come}
@@ -51,19 +51,18 @@ pub record Under (T : Tables) (hm₀ b₀ : List ℕ) (len k left : ℕ) (c : Se
   pub ends : (ws : List ℕ) → WordsEnd b₀ len ws → WordsEnd b at (disjs_words old.left ++ ws)
 
 module _ (hm' b b' : List ℕ) (len k g m z : ℕ) (old : HandedOver) where
-  told_dead : (o : Option HandedOver) (r : Branch) → BranchedBy hm' b b' len k g m z old o r → r ≡ Dead → o ≡ none
+  told_dead : (o : Option HandedOver) (r : rust.Option Branch) → BranchedBy hm' b b' len k g m z old o r → r ≡ None → o ≡ none
   told_dead none r s e = refl
-  told_dead (some x) r (more, inner, i, s) e = let y : ◌≡◌ {A = ℕ} 0 1 = cc in absurd (omega arith)
+  told_dead (some x) r (v, i, w, s) e = let y : ◌≡◌ {A = ℕ} 0 1 = cc in absurd (omega arith)
 
-  told_left : (o : Option HandedOver) (r : Branch) (more inner before : ℕ) → BranchedBy hm' b b' len k g m z old o r →
-      r ≡ Left more inner before →
-      (before ≡ z) × ((new : HandedOver) × (o ≡ some new) × BranchesAs hm' b b' len k g m old new more inner)
-  told_left none r more inner before s e = let y : ◌≡◌ {A = ℕ} 0 1 = cc in absurd (omega arith)
-  told_left (some x) r more inner before (n, from, i, s) e =
-      let u : n ≡ more = cc in
-      let v : from ≡ inner = cc in
-      let w : before ≡ z = cc in
-      (w, (x, refl, rw (← u, ← v) s))
+  told_left : (o : Option HandedOver) (r : rust.Option Branch) (y : Branch) → BranchedBy hm' b b' len k g m z old o r → r ≡ Some y →
+      (y.before ≡ z) × ((new : HandedOver) × (o ≡ some new) × BranchesAs hm' b b' len k g m old new y.count y.inner)
+  told_left none r y s e = let v : ◌≡◌ {A = ℕ} 0 1 = cc in absurd (omega arith)
+  told_left (some x) r y (v, i, w, s) e =
+      let same : v ≡ y = cc in (
+        subst (λ (u : Branch). u.before ≡ z) same w,
+        (x, refl, subst (λ (u : Branch). BranchesAs hm' b b' len k g m old x u.count u.inner) same s),
+      )
 
 words_are : (G : Graph) (ds : Disjs) (count : ℕ) → count ≡ disjs ds → (ws : List ℕ) →
     (graph_words G ++ count ∷ []) ++ (disjs_words ds ++ ws) ≡ words (desc G ds) ++ ws
@@ -168,7 +167,7 @@ module _ (T : Tables) (hm₀ b₀ : List ℕ) (len k left : ℕ) (c : Settling T
             owner = u.homes.rest k (inl (omega arith)) ∙ c.fresh.own k (omega arith) (omega arith);
           }
 
-      module _ (r : Branch) (hm' b' : List ℕ) (s : BranchSettles T hm b at k last (left - 1) r hm' b') where
+      module _ (r : rust.Option Branch) (hm' b' : List ℕ) (s : BranchSettles T hm b at k last (left - 1) r hm' b') where
         abbrev joint : Option HandedOver
         joint = handed_over (house_left c.L w.g w.a) u.old
 
@@ -192,17 +191,17 @@ module _ (T : Tables) (hm₀ b₀ : List ℕ) (len k left : ℕ) (c : Settling T
         dead_homes = let e = size in let i = w.place in let l = below in
             within_owner hm₀ hm' k w.g m (omega arith) (omega arith) c.fresh more_homes
 
-        dead_house : r ≡ Dead → house c.L k (laid c.A c.ds) ≡ none
+        dead_house : r ≡ None → house c.L k (laid c.A c.ds) ≡ none
         dead_house e = house_none c.L k c.A c.ds (subst (λ (z : Rows). house_all c.L (suc k) z ≡ none) (sym whole_is)
             (house_next_none c.L (suc k) w.g w.first (w.a besides u.later) w.place
             (house_is ∙ told_dead hm' b b' at k w.g u.g w.y u.old joint r answer_told e)))
 
-        module _ (more inner before : ℕ) (e : r ≡ Left more inner before) where
-          left_told : (before ≡ w.y) × ((new : HandedOver) × (joint ≡ some new)
-              × BranchesAs hm' b b' at k w.g u.g u.old new more inner)
-          left_told = told_left hm' b b' at k w.g u.g w.y u.old joint r more inner before answer_told e
+        module _ (y : Branch) (e : r ≡ Some y) where
+          left_told : (y.before ≡ w.y) × ((new : HandedOver) × (joint ≡ some new)
+              × BranchesAs hm' b b' at k w.g u.g u.old new y.count y.inner)
+          left_told = told_left hm' b b' at k w.g u.g w.y u.old joint r y answer_told e
 
-          left_grows : (before < last) × (at ≤ inner) × (inner ≤ suc (length b)) × (count + more ≤ length hm₀)
+          left_grows : (y.before < last) × (at ≤ y.inner) × (y.inner ≤ suc (length b)) × (count + y.count ≤ length hm₀)
           left_grows =
               let q = left_told.0 in
               let x = left_told.1.2 in
@@ -214,7 +213,7 @@ module _ (T : Tables) (hm₀ b₀ : List ℕ) (len k left : ℕ) (c : Settling T
               let less = x.small in
               (omega arith, far, top, omega arith)
 
-          under_more : Under T hm₀ b₀ len k left c hm' b' inner before (count + more)
+          under_more : Under T hm₀ b₀ len k left c hm' b' y.inner y.before (count + y.count)
           under_more =
               let q = left_told.0 in
               let new = left_told.1.0 in
@@ -288,7 +287,7 @@ module _ (T : Tables) (hm₀ b₀ : List ℕ) (len k left : ℕ) (c : Settling T
       done_homes : WithinHomes hm₀ hm k m
       done_homes = within_owner hm₀ hm k (suc k) m (omega arith) (omega arith) c.fresh homes_are
 
-      module _ (grown : Grows b₀ len b at) (r : Settled) (b' : List ℕ) (s : AlternativeCloses T hm b at count k r b') where
+      module _ (grown : Grows b₀ len b at) (r : rust.Option Settled) (b' : List ℕ) (s : AlternativeCloses T hm b at count k r b') where
         closed : (o : Option Graph) → ClosedBy b b' at count o r →
             SettledBy hm b₀ b' len k m (home_closed (k ∷ u.old.names) u.old.left o) r
         closed none e = e
@@ -299,9 +298,7 @@ module _ (T : Tables) (hm₀ b₀ : List ℕ) (len k left : ℕ) (c : Settling T
             let most = puts.grows.most in
             let room = u.small in
             let i = at_k in (
-              count,
-              at,
-              whole,
+              record { count = count; inner = at; whole = whole },
               e,
               record {
                 count_is = u.counts;
@@ -345,8 +342,8 @@ module _ {T : Tables} {hm₀ b₀ : List ℕ} {len k left : ℕ} {hm b : List �
       row_asking T hm₀ b₀ len k left c hm b at last count (v.under c) (here c),
     )
 
-    module _ {r : Branch} {hm' b' : List ℕ} (s : BranchSettles T hm b at k last (left - 1) r hm' b') where
-      pub rising_dead : r ≡ Dead → AlternativeSettles T hm₀ b₀ len k left Clash hm' b'
+    module _ {r : rust.Option Branch} {hm' b' : List ℕ} (s : BranchSettles T hm b at k last (left - 1) r hm' b') where
+      pub rising_dead : r ≡ None → AlternativeSettles T hm₀ b₀ len k left None hm' b'
       rising_dead e = record {
         size = s.size ∙ v.size;
         kept = grows_less b₀ b' len at (grows_on b₀ b b' len at at v.grown s.kept);
@@ -354,27 +351,27 @@ module _ {T : Tables} {hm₀ b₀ : List ℕ} {len k left : ℕ} {hm b : List �
         answer = λ c. rw (dead_house T hm₀ b₀ len k left c hm b at last count (v.under c) (here c) r hm' b' s e) refl;
       }
 
-      module _ (asked : Settling T hm₀ k left) (more inner before : ℕ) (e : r ≡ Left more inner before) where
-        pub rising_less : (before < last) × (count + more ≤ length hm₀)
+      module _ (asked : Settling T hm₀ k left) (y : Branch) (e : r ≡ Some y) where
+        pub rising_less : (y.before < last) × (count + y.count ≤ length hm₀)
         rising_less =
-            let x = left_grows T hm₀ b₀ len k left asked hm b at last count (v.under asked) (here asked) r hm' b' s more inner before e in
+            let x = left_grows T hm₀ b₀ len k left asked hm b at last count (v.under asked) (here asked) r hm' b' s y e in
             (x.0, x.3)
 
-        pub rising_more : Rising T hm₀ b₀ len k left hm' b' inner before (count + more)
+        pub rising_more : Rising T hm₀ b₀ len k left hm' b' y.inner y.before (count + y.count)
         rising_more =
-            let x = left_grows T hm₀ b₀ len k left asked hm b at last count (v.under asked) (here asked) r hm' b' s more inner before e in
-            let further : Grows b at b' inner = record { same = s.kept.same; rest = s.kept.rest; more = x.1; most = x.2 } in
+            let x = left_grows T hm₀ b₀ len k left asked hm b at last count (v.under asked) (here asked) r hm' b' s y e in
+            let further : Grows b at b' y.inner = record { same = s.kept.same; rest = s.kept.rest; more = x.1; most = x.2 } in
             record {
               size = s.size ∙ v.size;
-              grown = grows_on b₀ b b' len at inner v.grown further;
-              under = λ c. under_more T hm₀ b₀ len k left c hm b at last count (v.under c) (here c) r hm' b' s more inner before e;
+              grown = grows_on b₀ b b' len at y.inner v.grown further;
+              under = λ c. under_more T hm₀ b₀ len k left c hm b at last count (v.under c) (here c) r hm' b' s y e;
             }
 
   module _ (done : last ≡ 0) where
     pub rising_parts : Settling T hm₀ k left → Parting T hm k
     rising_parts c = parting T hm₀ b₀ len k left c hm b at last count (v.under c) done
 
-    pub rising_done : {r : Settled} {b' : List ℕ} → AlternativeCloses T hm b at count k r b' →
+    pub rising_done : {r : rust.Option Settled} {b' : List ℕ} → AlternativeCloses T hm b at count k r b' →
         AlternativeSettles T hm₀ b₀ len k left r hm b'
     rising_done {r} {b'} s = record {
       size = v.size;

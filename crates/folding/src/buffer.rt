@@ -1,6 +1,6 @@
 // The words of the result, written from its end towards its beginning: what stands before a thing is written after it, and what is
 // taken back is only counted off.
-ghost use Rattle.std.specs.Prelude.{suc, ◌≤◌, ◌≡◌, [], ◌∷◌, length, take};
+ghost use Rattle.std.specs.Prelude.{suc, ◌≤◌, ◌≡◌, [], ◌∷◌, length};
 ghost use Rattle.theory.specs.Limits.{input_limit};
 ghost use Rattle.folding.specs.Buffer.{PutsBefore};
 
@@ -18,16 +18,14 @@ pub fn put(b: &mut [u32], len: usize, x: u32) -> usize
     INPUT_LIMIT + 1
 }
 
-// Writes the first `count` words of xs before the last `len` words.
-pub fn put_all(b: &mut [u32], len: usize, xs: &[u32], count: usize) -> usize
-    requires { (length b.old ≡ input_limit) × (len ≤ suc input_limit) × (count ≤ length xs.now) }
-    ensures { PutsBefore b.old len (take count xs.now) b.new result }
+// Writes the words xs before the last `len` words.
+pub fn put_all(b: &mut [u32], len: usize, xs: &[u32]) -> usize
+    requires { (length b.old ≡ input_limit) × (len ≤ suc input_limit) }
+    ensures { PutsBefore b.old len xs.now b.new result }
 {
-    let mut left = count;
     let mut at = len;
-    while 0 < left {
-        left -= 1;
-        at = put(b, at, xs[left]);
+    for &x in xs.iter().rev() {
+        at = put(b, at, x);
     }
     at
 }

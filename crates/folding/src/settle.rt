@@ -5,38 +5,45 @@ ghost use Rattle.formulas.specs.Tables.{tables};
 ghost use Rattle.parting.specs.Parted.{Parting};
 ghost use Rattle.folding.specs.Homing.{Rehomes};
 ghost use Rattle.folding.specs.Settled.{SettlingRoom, Beside, Settling, AlternativeCloses, AlternativeSettles, BranchSettling};
-ghost use Rattle.folding.specs.Settled.{Concludes, BranchSettles};
+ghost use Rattle.folding.specs.Settled.{KeptFirst, alternative_of, count_of, inner_of, Concludes, BranchSettles};
 
 use crate::buffer::{put, put_all};
 use limits::{INPUT_LIMIT, wide};
 use parting::part::part;
-use sheets::drawing::Drawn;
+use sheets::drawing::Undrawn;
 
-// An alternative that clashes; or the number of its disjunctions, and how many words there are from them on and from it on.
+// What is left of an alternative: the number of its disjunctions, and how many words there are from them on and from it on.
 #[derive(Clone, Copy)]
-pub enum Settled {
-    Clash,
-    Fine(u32, usize, usize),
+pub struct Settled {
+    pub count: u32,
+    pub inner: usize,
+    pub whole: usize,
 }
 
-// A disjunction with no alternative left; or how many disjunctions come of it, how many words there are from them on, and the last
-// alternative before it.
+// An alternative that is left, and what is left of it.
 #[derive(Clone, Copy)]
-pub enum Branch {
-    Dead,
-    Left(u32, usize, usize),
+struct Kept {
+    alternative: usize,
+    settled: Settled,
+}
+
+// What is left of a disjunction: how many disjunctions come of it, how many words there are from them on, and the last alternative
+// before it.
+#[derive(Clone, Copy)]
+struct Branch {
+    count: u32,
+    inner: usize,
+    before: usize,
 }
 
 // What was given to, or had come to, the alternative x comes to k.
 fn move_home(homes: &mut [u32], x: u32, k: u32)
     ensures { Rehomes homes.old x k homes.new }
 {
-    let mut i = 0;
-    while i < homes.len() {
-        if homes[i] == x {
-            homes[i] = k;
+    for home in homes.iter_mut() {
+        if *home == x {
+            *home = k;
         }
-        i += 1;
     }
 }
 
@@ -45,10 +52,7 @@ fn beside(alts: &[u32], c: usize, g: u32) -> bool
     requires { 4 * c < length alts.now }
     ensures { Beside alts.now c g result }
 {
-    if c == 0 {
-        return false;
-    }
-    alts[4 * c] == g
+    c != 0 && alts[4 * c] == g
 }
 
 // Draws the graph of the alternative k, before the words of its disjunctions and their number.
@@ -62,51 +66,65 @@ fn close(
     len: usize,
     count: u32,
     k: usize,
-) -> Settled
+) -> Option<Settled>
     requires parting { Parting (tables arcs.now atoms.now ties.now alts.now) homes.now k }
     requires settling_room { SettlingRoom homes.now alts.now words.old len × (k < length homes.now) }
     ensures { AlternativeCloses (tables arcs.now atoms.now ties.now alts.now)
         homes.now
         words.old len count k result words.new }
 {
-    let mut out: [u32; 1024] = [0; 1024];
-    let drawn = part(arcs, atoms, ties, alts, homes, k, &mut out);
-    match drawn {
-        Drawn::Clash => Settled::Clash,
-        Drawn::Long => Settled::Fine(count, len, INPUT_LIMIT + 1),
-        Drawn::Words(n) => {
+    let mut out = [0; INPUT_LIMIT];
+    match part(arcs, atoms, ties, alts, homes, k, &mut out) {
+        Ok(n) => {
             let tail = put(words, len, count);
-            let whole = put_all(words, tail, &out, n);
-            Settled::Fine(count, len, whole)
+            let whole = put_all(words, tail, &out[..n]);
+            Some(Settled {
+                count,
+                inner: len,
+                whole,
+            })
         }
+        // words that do not fit are only counted
+        Err(Undrawn::Long) => Some(Settled {
+            count,
+            inner: len,
+            whole: INPUT_LIMIT + 1,
+        }),
+        Err(Undrawn::Clash) => None,
     }
 }
 
-// What becomes of a disjunction of which `kept` alternatives are left: none, one, which is folded, or several.
+// What becomes of a disjunction of which `kept` alternatives are left, `first` the first of them: nothing, where it is none; one is
+// folded; several stay.
 fn conclude(
     homes: &mut [u32],
     words: &mut [u32],
     k: usize,
     kept: u32,
-    sole: usize,
-    count: u32,
-    inner: usize,
+    first: Option<Kept>,
     at: usize,
     before: usize,
-) -> Branch
-    requires { (k < code_limit) × (sole < code_limit) × (length words.old ≡ input_limit) × (at ≤ suc input_limit) }
-    ensures { Concludes homes.old words.old at k kept sole count inner before result
+) -> Option<Branch>
+    requires room { (k < code_limit) × (length words.old ≡ input_limit) × (at ≤ suc input_limit) }
+    requires kept_first { KeptFirst kept first }
+    ensures { Concludes homes.old words.old at k kept (alternative_of first) (count_of first) (inner_of first) before result
         homes.new words.new }
 {
-    if kept == 0 {
-        return Branch::Dead;
-    }
+    let one = first?;
     if kept == 1 {
-        move_home(homes, sole as u32, k as u32);
-        return Branch::Left(count, inner, before);
+        move_home(homes, one.alternative as u32, k as u32);
+        return Some(Branch {
+            count: one.settled.count,
+            inner: one.settled.inner,
+            before,
+        });
     }
     let from = put(words, at, kept);
-    Branch::Left(1, from, before)
+    Some(Branch {
+        count: 1,
+        inner: from,
+        before,
+    })
 }
 
 // Settles the disjunction of the alternative k whose last alternative is `last`.
@@ -122,7 +140,7 @@ fn settle_disjunction(
     k: usize,
     last: usize,
     left: u32,
-) -> Branch
+) -> Option<Branch>
     requires branch_settling { BranchSettling (tables arcs.now atoms.now ties.now alts.now) homes.old k last left }
     requires settling_room { SettlingRoom homes.old alts.now words.old len }
     ensures { BranchSettles (tables arcs.now atoms.now ties.now alts.now)
@@ -132,22 +150,20 @@ fn settle_disjunction(
     let g = alts[4 * last];
     let mut c = last;
     let mut kept: u32 = 0;
-    let mut sole: usize = 0;
-    let mut count: u32 = 0;
-    let mut inner = len;
+    let mut first = None;
     let mut at = len;
     while beside(alts, c, g) {
-        let one = settle(arcs, atoms, ties, alts, homes, words, at, c, left);
-        if let Settled::Fine(more, from, whole) = one {
+        if let Some(settled) = settle(arcs, atoms, ties, alts, homes, words, at, c, left) {
             kept += 1;
-            sole = c;
-            count = more;
-            inner = from;
-            at = whole;
+            first = Some(Kept {
+                alternative: c,
+                settled,
+            });
+            at = settled.whole;
         }
         c = wide(alts[4 * c + 1]);
     }
-    conclude(homes, words, k, kept, sole, count, inner, at, c)
+    conclude(homes, words, k, kept, first, at, c)
 }
 
 // Settles the alternative k, under which disjunctions nest at most `left` deep.
@@ -162,7 +178,7 @@ pub fn settle(
     len: usize,
     k: usize,
     left: u32,
-) -> Settled
+) -> Option<Settled>
     requires settling { Settling (tables arcs.now atoms.now ties.now alts.now) homes.old k left }
     requires settling_room { SettlingRoom homes.old alts.now words.old len }
     ensures { AlternativeSettles (tables arcs.now atoms.now ties.now alts.now)
@@ -173,13 +189,21 @@ pub fn settle(
     let mut count: u32 = 0;
     let mut at = len;
     while last != 0 {
-        let one = settle_disjunction(arcs, atoms, ties, alts, homes, words, at, k, last, left - 1);
-        let Branch::Left(more, inner, before) = one else {
-            return Settled::Clash;
-        };
-        count += more;
-        at = inner;
-        last = before;
+        let branch = settle_disjunction(
+            arcs,
+            atoms,
+            ties,
+            alts,
+            homes,
+            words,
+            at,
+            k,
+            last,
+            left - 1,
+        )?;
+        count += branch.count;
+        at = branch.inner;
+        last = branch.before;
     }
     close(arcs, atoms, ties, alts, homes, words, at, count, k)
 }

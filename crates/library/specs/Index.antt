@@ -1,7 +1,8 @@
 -- What the start of a library must be: the refusals 40, 41 and 42 of request Eight, and where its index says that a description
 -- stands.
 -- Assumes nothing: these are definitions.
-use Rattle.std.specs.Prelude.{ℕ, zero, suc, ◌+◌, ◌*◌, ◌/◌, ◌%◌, min, Bool, false, List, Option, Some, None, Result, Ok, Err, length, eqb, leb}
+use Rattle.std.specs.Prelude.{ℕ, zero, suc, ◌+◌, ◌*◌, ◌/◌, ◌%◌, min, Bool, false, List, length, eqb, leb}
+use Rattle.std.specs.Prelude.{Option, Some, None, Result, Ok, Err}
 use Rattle.theory.specs.Limits.{input_limit}
 use Rattle.blocks.specs.Block.{block_size, content_size, whichever, pair_at, intact, block_of}
 use Rattle.library.specs.declared.index.IndexError.{IndexError}

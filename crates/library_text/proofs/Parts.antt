@@ -17,14 +17,11 @@ use Rattle.call_text.proofs.Tokens.{meant, said}
 use Rattle.call_text.specs.Finding.{beyond}
 use Rattle.call_text.proofs.Runs.{Other, Going, words_zero, skip_stops}
 use Rattle.answer_text.specs.Answer.{bad_text, Wrote}
-use Rattle.answer_text.specs.declared.line.Written.{Written}
-use Rattle.library_text.specs.Run.{ReadsRun}
-use Rattle.library_text.specs.declared.writing.Ran.{Ran}
-use Rattle.library_text.specs.declared.writing.Ran.TheVariants.{At, Wrong}
+use Rattle.std.specs.Prelude.{Some, None}
 use Rattle.library_text.specs.Serves.{past_number, past_words, past_newline}
 
 -- a text under another name
-pub wrote_as : (xs ys dst dst' : List ℕ) (r : Written) → xs ≡ ys → Wrote xs dst dst' r → Wrote ys dst dst' r
+pub wrote_as : (xs ys dst dst' : List ℕ) (r : Rattle.std.specs.Prelude.Option ℕ) → xs ≡ ys → Wrote xs dst dst' r → Wrote ys dst dst' r
 wrote_as xs ys dst dst' r e w = subst (λ (l : List ℕ). Wrote l dst dst' r) e w
 
 -- ---- a number
@@ -89,14 +86,6 @@ run_whole text run old count dst at i g h =
     ∙ ap (before (take i dst)) (words_zero (drop at text))
     ∙ ap (λ (l : List ℕ). some (l, drop at text)) (append-nil (take i dst))
     ∙ ap (λ (n : ℕ). some (take n dst, drop at text)) y
-
--- what an answer to reading a run says
-module _ (text : List ℕ) (count : ℕ) (run : Option Taken) (dst : List ℕ) (r : Ran) (s : ReadsRun text count run dst r) where
-  pub run_there : (next : ℕ) → r ≡ At next → run ≡ some (take count dst, drop next text)
-  run_there next e = subst (ReadsRun text count run dst) e s
-
-  pub run_gone : r ≡ Wrong → run ≡ none
-  run_gone e = subst (ReadsRun text count run dst) e s
 
 beyond_before : (xs : List ℕ) (o : Option Taken) → beyond o ≡ beyond (before xs o)
 beyond_before xs none = refl

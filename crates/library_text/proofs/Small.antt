@@ -6,6 +6,7 @@ use mathlib.Core.Path.{◌≡◌, refl, sym, ap, subst, ◌∙◌}
 use mathlib.Core.Logic.{inr}
 use mathlib.Core.Bool.{Bool, true, false}
 use mathlib.Core.Option.{Option, none, some}
+use Rattle.std.specs.Prelude.{Some, None, Ok, Err}
 use mathlib.Core.List.{List, [], ◌∷◌, ◌++◌}
 use lib.ListN.{length, get_or, drop, replicate, length-append, length-replicate}
 use lib.Seq.{get_or-append-add}
@@ -18,33 +19,26 @@ use Rattle.theory.proofs.Small.{below_at, words_below}
 use Rattle.blocks.specs.Block.{block_size, whichever, pair_at, intact, block_of}
 use Rattle.blocks.specs.Byte.{Bytes}
 use Rattle.blocks.proofs.Whole.{bytes_drop, bytes_take, whichever_true}
-use Rattle.library.specs.Index.{least_words, room_of, entry_good, index_good, index_of}
-use Rattle.library.specs.Read.{words_from, words_found, words_by, words_asked, fetch_answer, area_after}
+use Rattle.library.specs.Index.{Index, least_words, room_of, entry_good, index_good, index_of}
+use Rattle.library.specs.Read.{Fetched, words_from, words_found, words_by, words_asked, fetch_answer, area_after}
 use Rattle.library.specs.Contents.{listing}
-use Rattle.library.specs.List.{list_answer_of, list_answer_by, list_answer, list_by}
+use Rattle.library.specs.List.{Listed, list_answer_of, list_answer_by, list_answer, list_by}
 use Rattle.library.specs.Told.{list_number, list_extent, fetch_number, fetch_extent}
 use Rattle.library.specs.Rules.{count_in, GoodStart, FindsAt}
 use Rattle.library.specs.Rules.{Why, odd, spoilt, broken, absent, damaged, malformed, short, fine}
 use Rattle.library.specs.Rules.{WhyListed, odd_list, spoilt_list, broken_list, short_list, fine_list}
-use Rattle.library.specs.Check.{block_among, holder_of, checked_in, held_checked, checked_by, block_checked}
-use Rattle.library.specs.declared.index.Index.{Index}
-use Rattle.library.specs.declared.index.Index.TheVariants as index
-use Rattle.library.specs.declared.index.Found.{Found}
-use Rattle.library.specs.declared.list.Listed.{Listed}
-use Rattle.library.specs.declared.list.Listed.TheVariants as listed
-use Rattle.library.specs.declared.read.Fetched.{Fetched}
+use Rattle.library.specs.Check.{Checked, block_among, holder_of, checked_in, held_checked, checked_by, block_checked}
+use Rattle.library.specs.declared.index.IndexError.TheVariants.{BadLength, BadStart, BadIndex}
+use Rattle.library.specs.declared.index.Place.{Place}
+use Rattle.library.specs.declared.list.ListError.TheVariants as listing_error
 use Rattle.library.specs.declared.survey.Holder.{Holder}
-use Rattle.library.specs.declared.survey.Holder.TheVariants.{Of, Nobody}
-use Rattle.library.specs.declared.survey.Checked.{Checked}
-use Rattle.library.specs.declared.survey.Checked.TheVariants.{Whole, Costs, NoBlock, NoIndex}
 use Rattle.library.proofs.Order.{few_is, good_is, why, list_why}
 use Rattle.library.proofs.Reading.{words_length}
 use Rattle.library.proofs.Single.{fetch_small}
 use Rattle.library.specs.File.{file}
-use Rattle.library_writing.specs.Write.{split, need, write_answer}
+use Rattle.library_writing.specs.Write.{Written, split, need, write_answer}
 use Rattle.library_writing.specs.Reasons.{WhyWritten}
 use Rattle.library_writing.specs.Reasons as reason
-use Rattle.library_writing.specs.declared.write.Written as made
 use Rattle.library_writing.proofs.Causes.{write_why}
 use Rattle.call_text.specs.Token.{largest, Start, is, over, bad, token}
 use Rattle.call_text.specs.Call.{Taken, words_in, done}
@@ -159,7 +153,7 @@ module _ (f : List ℕ) (id : ℕ) where
   asked_is : (k n : ℕ) → FindsAt f id k n → words_asked f id ≡ words_from k 0 n f
   unfolding words_asked words_by words_found
   asked_is k n h =
-      ap (λ (x : Index). words_by x id f) (sym (good_is f h.begins)) ∙ ap (λ (x : Found). words_found x f) h.found
+      ap (λ (x : Index). words_by x id f) (sym (good_is f h.begins)) ∙ ap (λ (x : Rattle.std.specs.Prelude.Option Place). words_found x f) h.found
 
   fetch_few : (room : ℕ) → fetch_extent (fetch_answer f id room) ≤ input_limit
   fetch_few room =
@@ -199,15 +193,14 @@ cost_most k id low small =
     omega arith
 
 -- an identifier has 16 bits
-abbrev LowHolder : Holder → Type 0
-LowHolder (Of id used) = id ≤ largest
-LowHolder Nobody = Unit {0}
+abbrev LowHolder : Rattle.std.specs.Prelude.Option Holder → Type 0
+LowHolder (Some h) = h.identifier ≤ largest
+LowHolder None = Unit {0}
 
 abbrev LowCost : Checked → Type 0
-LowCost Whole = Unit {0}
-LowCost (Costs id) = id ≤ largest
-LowCost NoBlock = Unit {0}
-LowCost NoIndex = Unit {0}
+LowCost (Ok (Some id)) = id ≤ largest
+LowCost (Ok None) = Unit {0}
+LowCost (Err e) = Unit {0}
 
 holder_low : (b : List ℕ) → Bytes b → (k c p : ℕ) → LowHolder (holder_of k c p b)
 unfolding holder_of
@@ -216,40 +209,37 @@ holder_low b byte k (suc c) p =
     let low = pair_low b byte p in
     go (block_among (pair_at b (p + 2)) (pair_at b (p + 4)) k) _ _ (omega arith) (holder_low b byte k c (p + 8))
   where
-    go : (t : Bool) (x y : Holder) → LowHolder x → LowHolder y → LowHolder (whichever t x y)
+    go : (t : Bool) (x y : Rattle.std.specs.Prelude.Option Holder) → LowHolder x → LowHolder y → LowHolder (whichever t x y)
     go true x y h g = h
     go false x y h g = g
 
 module _ (f : List ℕ) (byte : Bytes f) (k : ℕ) where
-  in_low : (h : Holder) → LowHolder h → LowCost (checked_in h k f)
+  in_low : (h : Rattle.std.specs.Prelude.Option Holder) → LowHolder h → LowCost (checked_in h k f)
   unfolding checked_in
-  in_low (Of id used) h = go (intact used k (block_of k f))
+  in_low (Some h) low = go h.identifier low (intact h.used k (block_of k f))
     where
-      go : (t : Bool) → LowCost (whichever t Whole (Costs id))
-      go true = tt
-      go false = h
-  in_low Nobody h = tt
+      go : (id : ℕ) → id ≤ largest → (t : Bool) → LowCost (whichever {A = Checked} t (Ok None) (Ok (Some id)))
+      go id low true = tt
+      go id low false = low
+  in_low None low = tt
 
   held_low : (count : ℕ) → LowCost (held_checked k count f)
   unfolding held_checked
   held_low count = go (eqb k 0) _ (in_low (holder_of k count 2 (block_of 0 f)) (holder_low (block_of 0 f) (start_bytes f byte) k count 2))
     where
-      go : (t : Bool) (x : Checked) → LowCost x → LowCost (whichever t Whole x)
+      go : (t : Bool) (x : Checked) → LowCost x → LowCost (whichever t (Ok None) x)
       go true x h = tt
       go false x h = h
 
   by_low : (x : Index) → LowCost (checked_by x k f)
   unfolding checked_by
-  by_low (index.Good count) = held_low count
-  by_low index.BadLength = tt
-  by_low index.BadStart = tt
-  by_low index.BadIndex = tt
+  by_low (Ok count) = held_low count
+  by_low (Err e) = tt
 
   checked_most : (x : Checked) → LowCost x → k ≤ largest → length (checked_line k x) ≤ 34
-  checked_most Whole h l = omega arith
-  checked_most (Costs id) h l = cost_most k id l h
-  checked_most NoBlock h l = omega arith
-  checked_most NoIndex h l = omega arith
+  checked_most (Ok (Some id)) h l = cost_most k id l h
+  checked_most (Ok None) h l = omega arith
+  checked_most (Err e) h l = omega arith
 
   line_most : k ≤ largest → length (block_line k f) ≤ 34
   unfolding block_line block_checked
@@ -300,11 +290,9 @@ blocks_few f o =
 
 -- where there is a list, the index is good
 abbrev Begins : List ℕ → Listed → Type 0
-Begins f (listed.Entries n) = GoodStart f
-Begins f (listed.NoRoom n) = GoodStart f
-Begins f listed.BadIndex = Unit {0}
-Begins f listed.BadStart = Unit {0}
-Begins f listed.BadLength = Unit {0}
+Begins f (Ok n) = GoodStart f
+Begins f (Err (listing_error.NoRoom n)) = GoodStart f
+Begins f (Err (listing_error.Index e)) = Unit {0}
 
 begins : (f : List ℕ) (room : ℕ) (r : Listed) → WhyListed f room r → Begins f r
 begins f room _ (odd_list h) = tt
@@ -313,12 +301,12 @@ begins f room _ (broken_list h s g) = tt
 begins f room _ (short_list o l) = o
 begins f room _ (fine_list o l) = o
 
-good_begins : (f : List ℕ) (count : ℕ) → index.Good count ≡ index_of f → GoodStart f
+good_begins : (f : List ℕ) (count : ℕ) → Ok count ≡ index_of f → GoodStart f
 unfolding list_answer list_answer_by list_answer_of
 good_begins f count e =
     go (leb (2 * count) 0) (subst (λ (x : Index). Begins f (list_answer_by x 0)) (sym e) (begins f 0 (list_answer f 0) (list_why f 0)))
   where
-    go : (t : Bool) → Begins f (whichever t (listed.Entries (2 * count)) (listed.NoRoom (2 * count))) → GoodStart f
+    go : (t : Bool) → Begins f (whichever {A = Listed} t (Ok (2 * count)) (Err (listing_error.NoRoom (2 * count)))) → GoodStart f
     go true o = o
     go false o = o
 
@@ -333,10 +321,10 @@ module _ (f : List ℕ) (byte : Bytes f) where
       omega arith
 
   check_most : (x : Index) → x ≡ index_of f → length (check_by x f) ≤ 18500
-  check_most (index.Good count) e = good_most (good_begins f count e)
-  check_most index.BadLength e = let h = number_most 40 (omega arith) in omega arith
-  check_most index.BadStart e = let h = number_most 41 (omega arith) in omega arith
-  check_most index.BadIndex e = let h = number_most 42 (omega arith) in omega arith
+  check_most (Ok count) e = good_most (good_begins f count e)
+  check_most (Err BadLength) e = let h = number_most 40 (omega arith) in omega arith
+  check_most (Err BadStart) e = let h = number_most 41 (omega arith) in omega arith
+  check_most (Err BadIndex) e = let h = number_most 42 (omega arith) in omega arith
 
   check_short : length (check_text f) ≤ 18500
   unfolding check_text
@@ -344,7 +332,7 @@ module _ (f : List ℕ) (byte : Bytes f) where
 
 -- ---- 4
 module _ (es ws : List ℕ) where
-  made_most : (r : made.Written) → WhyWritten es ws file_room r → length (made_by r (file (split es ws))) ≤ 280000
+  made_most : (r : Written) → WhyWritten es ws file_room r → length (made_by r (file (split es ws))) ≤ 280000
   made_most _ (reason.unlisted o) = let h = number_most 47 (omega arith) in omega arith
   made_most _ (reason.malformed o d) = let h = number_most 45 (omega arith) in omega arith
   made_most _ (reason.short o d l) = let h = number_most 46 (omega arith) in omega arith

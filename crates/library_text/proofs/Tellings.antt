@@ -5,27 +5,24 @@ use native.Mathlib.Omega.{arith}
 use mathlib.Core.Path.{◌≡◌, refl, sym, ap, ◌∙◌}
 use mathlib.Core.Bool.{Bool, true, false}
 use mathlib.Core.Option.{none, some}
+use Rattle.std.specs.Prelude.{Some, Ok, Err}
 use mathlib.Core.List.{List, [], ◌++◌}
 use lib.ListN.{length, get_or, take, drop, length-append, length-drop}
 use lib.Seq.{take_at}
 use borrow.Author.Tests.{ne_eqb, lt-ltb, le-ltb}
-use Rattle.library.specs.Index.{index_of}
-use Rattle.library.specs.Read.{fetch_answer, Fetches, words_asked}
-use Rattle.library.specs.List.{list_answer, ListsLibrary, list_by}
+use Rattle.library.specs.Index.{Index, index_of}
+use Rattle.library.specs.Read.{Fetched, fetch_answer, Fetches, words_asked}
+use Rattle.library.specs.List.{Listed, list_answer, ListsLibrary, list_by}
 use Rattle.library.specs.Told.{list_number, list_extent, fetch_number, fetch_extent}
-use Rattle.library.specs.Check.{block_checked}
+use Rattle.library.specs.Check.{Checked, block_checked}
 use Rattle.library.specs.File.{file}
-use Rattle.library.specs.declared.index.Index.{Index}
-use Rattle.library.specs.declared.survey.Checked.{Checked}
-use Rattle.library.specs.declared.list.Listed.{Listed}
-use Rattle.library.specs.declared.list.Listed.TheVariants as listed
-use Rattle.library.specs.declared.read.Fetched.{Fetched}
-use Rattle.library.specs.declared.read.Fetched.TheVariants as fetched
+use Rattle.library.specs.declared.list.ListError.TheVariants as listing
+use Rattle.library.specs.declared.read.ReadError.TheVariants as reading
+use Rattle.library.specs.declared.index.IndexError.TheVariants.{BadLength, BadStart, BadIndex}
+use Rattle.library_writing.specs.declared.write.WriteError.{WriteError}
 use Rattle.library.proofs.Single.{list_small, fetch_small}
-use Rattle.library_writing.specs.Write.{split, write_answer, WritesLibrary}
-use Rattle.library_writing.specs.Told.{write_number, write_extent}
-use Rattle.library_writing.specs.declared.write.Written as made
-use Rattle.library_writing.specs.declared.write.Written.TheVariants as outcome
+use Rattle.library_writing.specs.Write.{Written, split, write_answer, WritesLibrary}
+use Rattle.library_writing.specs.Told.{write_number}
 use Rattle.library_writing.proofs.Single.{write_small}
 use Rattle.call_text.specs.Token.{is, token}
 use Rattle.call_text.specs.Call.{words_in, done}
@@ -34,7 +31,6 @@ use Rattle.call_text.proofs.Tokens.{meant}
 use Rattle.call_text.proofs.Runs.{Other}
 use Rattle.answer_text.specs.Answer.{words_label, bad_text}
 use Rattle.answer_text.specs.Going.{Appends}
-use Rattle.answer_text.specs.declared.line.Written.TheVariants.{Bytes}
 use Rattle.answer_text.proofs.Goings.{named, nothing}
 use Rattle.answer_text.proofs.Answers.{second_none}
 use Rattle.library_text.specs.Lines.{bytes_label, number_line, extent_line, words_text}
@@ -79,11 +75,11 @@ module _ {A : Type 0} (number_of_lem extent-of : A → ℕ) (ws area area' : Lis
 module _ (f area area' : List ℕ) where
   list_leaves : (r : Listed) → ListsLibrary f area area' r → list_number r ≡ 0
       → area' ≡ list_by (index_of f) f ++ drop (list_extent r) area
-  list_leaves (listed.Entries n) p e = p.leaves
-  list_leaves (listed.NoRoom n) p e = absurd (omega arith)
-  list_leaves listed.BadIndex p e = absurd (omega arith)
-  list_leaves listed.BadStart p e = absurd (omega arith)
-  list_leaves listed.BadLength p e = absurd (omega arith)
+  list_leaves (Ok n) p e = p.leaves
+  list_leaves (Err (listing.NoRoom n)) p e = absurd (omega arith)
+  list_leaves (Err (listing.Index BadIndex)) p e = absurd (omega arith)
+  list_leaves (Err (listing.Index BadStart)) p e = absurd (omega arith)
+  list_leaves (Err (listing.Index BadLength)) p e = absurd (omega arith)
 
   module _ (size : length area ≡ list_room) (r : Listed) (p : ListsLibrary f area area' r) where
     pub list_within : list_extent r ≤ length area
@@ -100,14 +96,14 @@ module _ (f area area' : List ℕ) where
 module _ (f : List ℕ) (id : ℕ) (area area' : List ℕ) where
   fetch_leaves : (r : Fetched) → Fetches f id area area' r → fetch_number r ≡ 0
       → area' ≡ words_asked f id ++ drop (fetch_extent r) area
-  fetch_leaves (fetched.Words n) p e = p.leaves
-  fetch_leaves (fetched.NoRoom n) p e = absurd (omega arith)
-  fetch_leaves fetched.Malformed p e = absurd (omega arith)
-  fetch_leaves fetched.Damaged p e = absurd (omega arith)
-  fetch_leaves fetched.Absent p e = absurd (omega arith)
-  fetch_leaves fetched.BadIndex p e = absurd (omega arith)
-  fetch_leaves fetched.BadStart p e = absurd (omega arith)
-  fetch_leaves fetched.BadLength p e = absurd (omega arith)
+  fetch_leaves (Ok n) p e = p.leaves
+  fetch_leaves (Err (reading.NoRoom n)) p e = absurd (omega arith)
+  fetch_leaves (Err reading.Malformed) p e = absurd (omega arith)
+  fetch_leaves (Err reading.Damaged) p e = absurd (omega arith)
+  fetch_leaves (Err reading.Absent) p e = absurd (omega arith)
+  fetch_leaves (Err (reading.Index BadIndex)) p e = absurd (omega arith)
+  fetch_leaves (Err (reading.Index BadStart)) p e = absurd (omega arith)
+  fetch_leaves (Err (reading.Index BadLength)) p e = absurd (omega arith)
 
   module _ (size : length area ≡ description_room) (r : Fetched) (p : Fetches f id area area' r) where
     pub fetch_within : fetch_extent r ≤ length area
@@ -128,8 +124,8 @@ module _ (k : ℕ) (f : List ℕ) where
 
   -- nothing is written of a block that is not damaged
   pub line_none : (x : Checked) → x ≡ block_checked k f → checked_line k x ≡ [] → (dst : List ℕ) (at : ℕ)
-      → Appends (block_line k f) dst at dst (Bytes at)
-  line_none x e quiet dst at = named [] (block_line k f) dst at dst (Bytes at) (sym quiet ∙ line_checked x e) (nothing dst at)
+      → Appends (block_line k f) dst at dst (Some at)
+  line_none x e quiet dst at = named [] (block_line k f) dst at dst (Some at) (sym quiet ∙ line_checked x e) (nothing dst at)
 
 module _ (f : List ℕ) where
   pub lines_next : (total k : ℕ) → k < total → block_lines (total - k) k f ≡ block_line k f ++ block_lines (total - (k + 1)) (k + 1) f
@@ -149,49 +145,24 @@ module _ (f : List ℕ) where
   check_printed x e = ap (λ (y : Index). check_by y f) e
 
 -- ---- 4
-made_zero : (r : made.Written) (bytes : List ℕ) → write_number r ≡ 0 → extent_line 0 bytes_label (write_extent r) ++ bytes ≡ made_by r bytes
-made_zero (outcome.Bytes n) bytes e = refl
-made_zero (outcome.NoRoom n) bytes e = absurd (omega arith)
-made_zero outcome.Malformed bytes e = absurd (omega arith)
-made_zero outcome.BadEntries bytes e = absurd (omega arith)
+module _ (es ws area area' : List ℕ) (size : length area ≡ file_room) where
+  abbrev bytes : List ℕ
+  bytes = file (split es ws)
 
-made_other : (r : made.Written) (bytes : List ℕ) → (write_number r ≡ 0 → ⊥) → number_line (write_number r) ≡ made_by r bytes
-made_other (outcome.Bytes n) bytes h = absurd (h refl)
-made_other (outcome.NoRoom n) bytes h = refl
-made_other outcome.Malformed bytes h = refl
-made_other outcome.BadEntries bytes h = refl
+  made_is : (r : Written) → WritesLibrary es ws area area' r → made_by r bytes ≡ made_text es ws
+  unfolding made_text
+  made_is r p = ap (λ (x : Written). made_by x bytes) (p.answer ∙ ap (write_answer es ws) size)
 
-module _ (es ws area area' : List ℕ) where
-  made_leaves : (r : made.Written) → WritesLibrary es ws area area' r → write_number r ≡ 0
-      → area' ≡ file (split es ws) ++ drop (write_extent r) area
-  made_leaves (outcome.Bytes n) p e = p.leaves
-  made_leaves (outcome.NoRoom n) p e = absurd (omega arith)
-  made_leaves outcome.Malformed p e = absurd (omega arith)
-  made_leaves outcome.BadEntries p e = absurd (omega arith)
+  pub made_refused : (e : WriteError) → WritesLibrary es ws area area' (Err e) → number_line (write_number (Err e)) ≡ made_text es ws
+  made_refused e p = made_is (Err e) p
 
-  module _ (size : length area ≡ file_room) (r : made.Written) (p : WritesLibrary es ws area area' r) where
-    abbrev bytes : List ℕ
-    bytes = file (split es ws)
+  module _ (n : ℕ) (p : WritesLibrary es ws area area' (Ok n)) where
+    pub made_within : n ≤ length area
+    made_within = let h = write_small es ws area area' (Ok n) p in omega arith
 
-    made_is : made_by r bytes ≡ made_text es ws
-    unfolding made_text
-    made_is = ap (λ (x : made.Written). made_by x bytes) (p.answer ∙ ap (write_answer es ws) size)
-
-    pub made_refused : (number : ℕ) → number ≡ write_number r → (number ≡ 0 → ⊥) → number_line number ≡ made_text es ws
-    made_refused number e h = ap number_line e ∙ made_other r bytes (λ z. h (e ∙ z)) ∙ made_is
-
-    module _ (extent : ℕ) (g : extent ≡ write_extent r) where
-      pub made_within : extent ≤ length area
-      made_within = let h = write_small es ws area area' r p in omega arith
-
-      pub made_printed : length area' ≡ length area → (number : ℕ) → number ≡ write_number r → number ≡ 0
-          → extent_line 0 bytes_label extent ++ take extent area' ≡ made_text es ws
-      made_printed kept number e z =
-          let zero_is : write_number r ≡ 0 = sym e ∙ z in
-          let front : take extent area' ≡ bytes =
-          front_of bytes area area' extent (made_leaves r p zero_is ∙ ap (λ (n : ℕ). bytes ++ drop n area) (sym g)) made_within kept in
-          ap (λ (l : List ℕ). extent_line 0 bytes_label extent ++ l) front
-          ∙ ap (λ (n : ℕ). extent_line 0 bytes_label n ++ bytes) g ∙ made_zero r bytes zero_is ∙ made_is
+    pub made_printed : length area' ≡ length area → extent_line 0 bytes_label n ++ take n area' ≡ made_text es ws
+    made_printed kept =
+        ap (λ (l : List ℕ). extent_line 0 bytes_label n ++ l) (front_of bytes area area' n p.leaves made_within kept) ∙ made_is (Ok n) p
 
 module _ (n m : ℕ) (cs entries rest : List ℕ) (one : words_in n cs ≡ some (entries, rest)) where
   pub runs_stop : words_in m rest ≡ none → bad_text ≡ runs_text n m cs

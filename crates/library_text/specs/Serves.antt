@@ -1,25 +1,17 @@
 -- What is printed for a text that asks something of a library. The text is two numbers, a command and an identifier; right after the
 -- second a newline; and after that newline the rest, any bytes.
 -- Assumes nothing: these are definitions.
-use Rattle.std.specs.Prelude.{ℕ, zero, suc, ◌+◌, ◌/◌, true, false, List, [], ◌∷◌, ◌++◌, length, eqb, ltb}
+use Rattle.std.specs.Prelude.{ℕ, zero, suc, ◌+◌, ◌/◌, true, false, List, [], ◌∷◌, ◌++◌, Some, None, Ok, Err, length, eqb, ltb}
 use Rattle.std.proofs.Math.Option.{none, some}
 use Rattle.blocks.specs.Block.{block_size}
-use Rattle.library.specs.Index.{index_of}
-use Rattle.library.specs.Read.{fetch_answer, words_asked}
-use Rattle.library.specs.List.{list_answer, list_by}
-use Rattle.library.specs.Told.{list_number, list_extent, fetch_number, fetch_extent}
-use Rattle.library.specs.Check.{block_checked}
+use Rattle.library.specs.Index.{Index, index_of}
+use Rattle.library.specs.Read.{Fetched, fetch_answer, words_asked}
+use Rattle.library.specs.List.{Listed, list_answer, list_by}
+use Rattle.library.specs.Told.{index_number, list_number, list_extent, fetch_number, fetch_extent}
+use Rattle.library.specs.Check.{Checked, block_checked}
 use Rattle.library.specs.File.{file}
-use Rattle.library.specs.declared.index.Index.{Index}
-use Rattle.library.specs.declared.index.Index.TheVariants.{Good, BadLength, BadStart, BadIndex}
-use Rattle.library.specs.declared.survey.Checked.{Checked}
-use Rattle.library.specs.declared.survey.Checked.TheVariants.{Whole, Costs, NoBlock, NoIndex}
-use Rattle.library.specs.declared.list.Listed.{Listed}
-use Rattle.library.specs.declared.read.Fetched.{Fetched}
-use Rattle.library_writing.specs.Write.{split, write_answer}
+use Rattle.library_writing.specs.Write.{Written, split, write_answer}
 use Rattle.library_writing.specs.Told.{write_number}
-use Rattle.library_writing.specs.declared.write.Written.TheVariants as outcome
-use Rattle.library_writing.specs.declared.write.Written as made
 use Rattle.call_text.specs.Token.{is, over, bad, token}
 use Rattle.call_text.specs.Call.{words_in, done}
 use Rattle.answer_text.specs.Answer.{bad_text}
@@ -65,10 +57,9 @@ description_text id f = fetched_text (fetch_answer f id description_room) (words
 -- ---- 3: every block of a library is checked
 -- a line for a damaged block, none for another
 abbrev pub checked_line : ℕ → Checked → List ℕ
-checked_line k Whole = []
-checked_line k (Costs id) = cost_line k id
-checked_line k NoBlock = []
-checked_line k NoIndex = []
+checked_line k (Ok (Some id)) = cost_line k id
+checked_line k (Ok None) = []
+checked_line k (Err e) = []
 
 unfoldable pub block_line : ℕ → List ℕ → List ℕ
 block_line k f = checked_line k (block_checked k f)
@@ -84,10 +75,8 @@ good_text f = number_line 0 ++ block_lines (length f / block_size) 0 f
 
 -- "40 length no multiple of 512 or zero, 41 block 0 damaged, 42 index breaks a rule"
 abbrev pub check_by : Index → List ℕ → List ℕ
-check_by (Good count) f = good_text f
-check_by BadLength f = number_line 40
-check_by BadStart f = number_line 41
-check_by BadIndex f = number_line 42
+check_by (Ok count) f = good_text f
+check_by (Err e) f = number_line (index_number e)
 
 unfoldable pub check_text : List ℕ → List ℕ
 check_text f = check_by (index_of f) f
@@ -105,11 +94,9 @@ abbrev pub file_room : ℕ
 file_room = 276992
 
 -- `answer 0 bytes N` and the bytes of the file as they are, or a number alone
-abbrev pub made_by : made.Written → List ℕ → List ℕ
-made_by (outcome.Bytes n) bytes = extent_line 0 bytes_label n ++ bytes
-made_by (outcome.NoRoom n) bytes = number_line (write_number (outcome.NoRoom n))
-made_by outcome.Malformed bytes = number_line (write_number outcome.Malformed)
-made_by outcome.BadEntries bytes = number_line (write_number outcome.BadEntries)
+abbrev pub made_by : Written → List ℕ → List ℕ
+made_by (Ok n) bytes = extent_line 0 bytes_label n ++ bytes
+made_by (Err e) bytes = number_line (write_number (Err e))
 
 unfoldable pub made_text : List ℕ → List ℕ → List ℕ
 made_text entries words = made_by (write_answer entries words file_room) (file (split entries words))

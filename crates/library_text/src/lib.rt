@@ -13,11 +13,10 @@ use crate::checking::write_check;
 use crate::reading::{write_fetched, write_listed};
 use crate::writing::write_order;
 use answer_text::answer::write_bad;
-use answer_text::line::Written;
 use call_text::number::{Token, read_token};
 
-// Writes what is printed for a command over the rest of its text to the start of out.
-fn obey(command: u32, identifier: u32, rest: &[u8], out: &mut [u8]) -> Written
+// Writes what is printed for a command over the rest of its text to the start of out. A text names its command by a number.
+fn obey(command: u32, identifier: u32, rest: &[u8], out: &mut [u8]) -> Option<usize>
     ensures { Wrote (obeys command identifier rest.now) out.old out.new result }
 {
     match command {
@@ -30,29 +29,27 @@ fn obey(command: u32, identifier: u32, rest: &[u8], out: &mut [u8]) -> Written
 }
 
 // Writes what is printed for the text to the start of out.
-pub fn serve(text: &[u8], out: &mut [u8]) -> Written
+pub fn serve(text: &[u8], out: &mut [u8]) -> Option<usize>
     ensures { Wrote (serves text.now) out.old out.new result }
 {
-    let one = read_token(text, 0);
     let Token::Is {
         value: command,
         next,
-    } = one
+    } = read_token(text, 0)
     else {
         return write_bad(out);
     };
-    let two = read_token(text, next);
     let Token::Is {
         value: identifier,
         next: end,
-    } = two
+    } = read_token(text, next)
     else {
         return write_bad(out);
     };
     if text.len() <= end {
         return write_bad(out);
     }
-    if text[end] != 10 {
+    if text[end] != b'\n' {
         return write_bad(out);
     }
     obey(command, identifier, &text[end + 1..], out)

@@ -16,7 +16,8 @@ use Rattle.library.specs.File.{index_bytes, bodies, file}
 use Rattle.library.specs.Read.{imaged}
 use Rattle.library.proofs.Sizes.{rooms, file_size}
 use Rattle.library_writing.specs.Write.{split, listable, sound, need, write_answer, WritesLibrary, InPairs, blocks_asked, index_asked}
-use Rattle.library_writing.specs.declared.write.Written.TheVariants.{Bytes, NoRoom, Malformed, BadEntries}
+use Rattle.std.specs.Prelude.{Ok, Err}
+use Rattle.library_writing.specs.declared.write.WriteError.TheVariants.{NoRoom, Malformed, BadEntries}
 
 -- ---- what is asked, and its entries
 -- the words of the first entry are there, and so are the others'
@@ -71,24 +72,24 @@ module _ (es ws : List ℕ) (pairs : InPairs es) (good : sound es ws ≡ true) w
 
 -- ---- the answers
 module _ (es ws area area' : List ℕ) where
-  pub writes-unlisted : listable entry_limit 0 es ≡ false → area' ≡ area → WritesLibrary es ws area area' BadEntries
+  pub writes-unlisted : listable entry_limit 0 es ≡ false → area' ≡ area → WritesLibrary es ws area area' (Err BadEntries)
   unfolding write_answer
   writes-unlisted l a = record { answer = rw l; leaves = a }
 
   module _ (listed : listable entry_limit 0 es ≡ true) where
-    pub writes-malformed : sound es ws ≡ false → area' ≡ area → WritesLibrary es ws area area' Malformed
+    pub writes-malformed : sound es ws ≡ false → area' ≡ area → WritesLibrary es ws area area' (Err Malformed)
     unfolding write_answer
     writes-malformed s a = record { answer = rw listed (rw s); leaves = a }
 
     module _ (good : sound es ws ≡ true) (n : ℕ) (size : n ≡ need es ws) where
-      pub writes_short : length area < n → area' ≡ area → WritesLibrary es ws area area' (NoRoom n)
+      pub writes_short : length area < n → area' ≡ area → WritesLibrary es ws area area' (Err (NoRoom n))
       unfolding write_answer
       writes_short h a =
           let short = lt-leb (need es ws) (length area) (omega arith) in
-          record { answer = rw listed (rw good (rw short (ap NoRoom size))); leaves = a }
+          record { answer = rw listed (rw good (rw short (ap (λ (m : ℕ). Err (NoRoom m)) size))); leaves = a }
 
-      pub writes-file : n ≤ length area → area' ≡ file (split es ws) ++ drop n area → WritesLibrary es ws area area' (Bytes n)
+      pub writes-file : n ≤ length area → area' ≡ file (split es ws) ++ drop n area → WritesLibrary es ws area area' (Ok n)
       unfolding write_answer
       writes-file h a =
           let room = le-leb (need es ws) (length area) (omega arith) in
-          record { answer = rw listed (rw good (rw room (ap Bytes size))); leaves = a }
+          record { answer = rw listed (rw good (rw room (ap (λ (m : ℕ). Ok m) size))); leaves = a }

@@ -14,10 +14,10 @@ use Rattle.blocks.proofs.Whole.{whichever_true}
 use Rattle.library.specs.Index.{entry_limit, identifier_limit}
 use Rattle.library.specs.Read.{imaged}
 use Rattle.library.proofs.Order.{imaged_image, image_imaged}
-use Rattle.library_writing.specs.Write.{listable, sound, need, write_answer}
+use Rattle.library_writing.specs.Write.{Written, listable, sound, need, write_answer}
 use Rattle.library_writing.specs.Reasons.{Rises, Orderly, DescribesEach, WhyWritten, unlisted, malformed, short, fine}
-use Rattle.library_writing.specs.declared.write.Written.{Written}
-use Rattle.library_writing.specs.declared.write.Written.TheVariants.{Bytes, NoRoom, Malformed, BadEntries}
+use Rattle.std.specs.Prelude.{Ok, Err}
+use Rattle.library_writing.specs.declared.write.WriteError.TheVariants.{NoRoom, Malformed, BadEntries}
 use Rattle.library_writing.proofs.Asked.{listable_pairs}
 
 false_true : false ≡ true → ⊥
@@ -90,7 +90,7 @@ module _ (es ws : List ℕ) (room : ℕ) where
     where
       go : (l : Bool) → listable entry_limit 0 es ≡ l → (s : Bool) → sound es ws ≡ s → (m : Bool) → leb (need es ws) room ≡ m
           → WhyWritten es ws room
-          (whichever l (whichever s (whichever m (Bytes (need es ws)) (NoRoom (need es ws))) Malformed) BadEntries)
+          (whichever l (whichever s (whichever m (Ok (need es ws)) (Err (NoRoom (need es ws)))) (Err Malformed)) (Err BadEntries))
       go false l s t m n = unlisted (λ o. false_true (sym l ∙ orderly_listable es o))
       go true l false t m n = malformed (listable_orderly es l) (λ d. false_true (sym t ∙ describes_sound es ws d))
       go true l true t false n =

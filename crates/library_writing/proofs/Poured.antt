@@ -6,8 +6,8 @@ use native.Mathlib.Numerals.{add-one}
 use mathlib.Core.Path.{◌≡◌, refl, sym, ap, ◌∙◌}
 use mathlib.Core.Bool.{Bool, true, false}
 use mathlib.Core.List.{List, [], ◌∷◌, ◌++◌, append_assoc, append-nil}
-use lib.ListN.{length, get_or, take, drop, set, length-append, length-drop, drop_of_length-le}
-use lib.Seq.{sets, sets-eq, length-sets, take_at, take_all, take-suc, length-take-le, take-length}
+use lib.ListN.{length, get_or, take, drop, length-append, length-drop, drop_of_length-le}
+use lib.Seq.{drop-drop, sets-eq, sets, sets-eq, length-sets, take_at, take_all, take-suc, length-take-le, take-length}
 use lib.Dec.{leb}
 use borrow.Author.Tests.{leb-true, leb-false}
 use Rattle.blocks.specs.Block.{pair, block, filled}
@@ -45,14 +45,9 @@ pub all_words : (b ws : List ℕ) (i : ℕ) → i ≡ length ws → take (4 * i)
 all_words b ws i n e =
     ap (λ (k : ℕ). take (4 * k) b) (sym n) ∙ e ∙ ap (λ (k : ℕ). word_bytes (take k ws)) n ∙ ap word_bytes (take-length ws)
 
--- four bytes that were stored one after the other
-pub four_stored : (b : List ℕ) (i x y z w : ℕ)
-    → set (set (set (set b i x) (i + 1) y) (i + 2) z) (i + 3) w ≡ sets b i (x ∷ y ∷ z ∷ w ∷ [])
-four_stored b i x y z w =
-    let one : i + 1 ≡ suc i = add-one i in
-    let two : i + 2 ≡ suc (suc i) = omega arith in
-    let three : i + 3 ≡ suc (suc (suc i)) = omega arith in
-    rw one (rw two (rw three))
+-- a word that was stored
+pub stored : (b : List ℕ) (i w : ℕ) → i + 3 < length b → take i b ++ (quad w ++ drop 4 (drop i b)) ≡ sets b i (quad w)
+stored b i w h = rw (drop-drop 4 i b) (sym (sets-eq (quad w) b i (omega arith) ∙ append_assoc (take i b) (quad w) (drop (i + 4) b)))
 
 -- ---- index entries
 pub four_pairs : (b₀ b₁ b₂ b₃ b₄ : List ℕ) (i p q r s : ℕ) → i + 7 < length b₀ → b₁ ≡ sets b₀ i (pair p) → b₂ ≡ sets b₁ (i + 2) (pair q)

@@ -6,11 +6,10 @@ use mathlib.Core.Path.{◌≡◌, refl, sym, ap, subst, ◌∙◌}
 use mathlib.Core.List.{List, [], ◌∷◌}
 use lib.ListN.{length}
 use Rattle.library.specs.File.{file}
-use Rattle.library_writing.specs.Write.{split, need, written_after, WritesLibrary, InPairs, blocks_asked}
+use Rattle.library_writing.specs.Write.{Written, split, need, written_after, WritesLibrary, InPairs, blocks_asked}
 use Rattle.library_writing.specs.Reasons.{Orderly, DescribesEach, WhyWritten, unlisted, malformed, short, fine}
 use Rattle.library_writing.specs.Told.{write_number, write_extent, WriteTold}
-use Rattle.library_writing.specs.declared.write.Written.{Written}
-use Rattle.library_writing.specs.declared.write.Written.TheVariants.{Bytes, NoRoom, Malformed, BadEntries}
+use Rattle.std.specs.Prelude.{Ok, Err}
 use Rattle.library_writing.proofs.Asked.{listable_pairs}
 use Rattle.library_writing.proofs.Answers.{need-is}
 use Rattle.library_writing.proofs.Causes.{orderly_listable, describes_sound, write_why}
@@ -33,10 +32,8 @@ module _ (es ws area : List ℕ) where
 
   -- "A refusal writes nothing"
   pub write_refusal : (r : Written) (x : List ℕ) → WritesLibrary es ws area x r → ¬ (write_number r ≡ 0) → x ≡ area
-  write_refusal (Bytes n) x p h = absurd (h refl)
-  write_refusal (NoRoom n) x p h = p.leaves
-  write_refusal Malformed x p h = p.leaves
-  write_refusal BadEntries x p h = p.leaves
+  write_refusal (Ok n) x p h = absurd (h refl)
+  write_refusal (Err e) x p h = p.leaves
 
 blocks_few : (es : List ℕ) → InPairs es → 2 * blocks_asked es ≤ 9 * length es
 unfolding blocks_asked

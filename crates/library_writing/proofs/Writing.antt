@@ -18,8 +18,9 @@ use Rattle.blocks.proofs.Whole.{whichever_true}
 use Rattle.library.specs.File.{LibraryEntry, Narrow, Sorted, Library, file, list_of}
 use Rattle.library.specs.Read.{imaged}
 use Rattle.library.specs.Contents.{words_in_order}
-use Rattle.library_writing.specs.Write.{split, listable, sound, need, write_answer}
-use Rattle.library_writing.specs.declared.write.Written.TheVariants.{Bytes, NoRoom, Malformed, BadEntries}
+use Rattle.library_writing.specs.Write.{Written, split, listable, sound, need, write_answer}
+use Rattle.std.specs.Prelude.{Ok, Err}
+use Rattle.library_writing.specs.declared.write.WriteError.TheVariants.{NoRoom, Malformed, BadEntries}
 use Rattle.library.proofs.Chunks.{narrow_take, narrow_drop}
 use Rattle.library.proofs.Order.{imaged_image, image_imaged}
 
@@ -54,7 +55,7 @@ list_sound low (e ∷ l) s =
     rw n (rw t (rw i (rw d (list_sound (e.0 + 1) l s.1))))
 
 -- every library is written, as its file, where there is room
-pub library_written : (l : List LibraryEntry) → Library l → (room : ℕ) → length (file l) ≤ room → write_answer (list_of l) (words_in_order l) room ≡ Bytes (length (file l))
+pub library_written : (l : List LibraryEntry) → Library l → (room : ℕ) → length (file l) ≤ room → write_answer (list_of l) (words_in_order l) room ≡ Ok (length (file l))
 unfolding write_answer
 library_written l library room h =
     let a = list_listable 60 0 l library.sorted library.few in
@@ -105,12 +106,12 @@ accepted (suc c) low (id ∷ (n ∷ es)) ws s l g =
     )
 
 -- what is written is the file of a library
-pub written_library : (es ws : List ℕ) (room n : ℕ) → Narrow ws → write_answer es ws room ≡ Bytes n → Library (split es ws)
+pub written_library : (es ws : List ℕ) (room n : ℕ) → Narrow ws → write_answer es ws room ≡ Ok n → Library (split es ws)
 unfolding write_answer
 written_library es ws room n s e = go (listable 60 0 es) refl (sound es ws) refl e
   where
     go : (t : Bool) → listable 60 0 es ≡ t → (u : Bool) → sound es ws ≡ u
-        → whichever t (whichever u (whichever (leb (need es ws) room) (Bytes (need es ws)) (NoRoom (need es ws))) Malformed) BadEntries ≡ Bytes n → Library (split es ws)
+        → ◌≡◌ {A = Written} (whichever t (whichever u (whichever (leb (need es ws) room) (Ok (need es ws)) (Err (NoRoom (need es ws)))) (Err Malformed)) (Err BadEntries)) (Ok n) → Library (split es ws)
     go false t u g e = absurd (let z : ◌≡◌ {A = ℕ} 0 1 = cc in omega arith)
     go true t false g e = absurd (let z : ◌≡◌ {A = ℕ} 0 1 = cc in omega arith)
     go true t true g e = let a = accepted 60 0 es ws s t g in record { few = a.1; sorted = a.0 }

@@ -1,12 +1,11 @@
 -- Request Eight's refusals of the writer, each with its rule: "the writer gives 47 …, 45, 46".
 -- Assumes nothing: these are definitions.
-use Rattle.std.specs.Prelude.{ℕ, ◌+◌, ◌*◌, ◌≤◌, ◌<◌, List, [], ◌∷◌, length, take, drop}
+use Rattle.std.specs.Prelude.{ℕ, ◌+◌, ◌*◌, ◌≤◌, ◌<◌, List, [], ◌∷◌, Ok, Err, length, take, drop}
 use Rattle.theory.specs.Limits.{input_limit}
 use Rattle.theory.specs.LayoutOne.{Image}
 use Rattle.library.specs.Index.{entry_limit, identifier_limit}
-use Rattle.library_writing.specs.Write.{need}
-use Rattle.library_writing.specs.declared.write.Written.{Written}
-use Rattle.library_writing.specs.declared.write.Written.TheVariants.{Bytes, NoRoom, Malformed, BadEntries}
+use Rattle.library_writing.specs.Write.{Written, need}
+use Rattle.library_writing.specs.declared.write.WriteError.TheVariants.{NoRoom, Malformed, BadEntries}
 
 -- identifiers rise, here from low on, and are at most 65,535; no entry has over 1,024 words, and none is half there
 abbrev pub Rises : ℕ → List ℕ → Type 0
@@ -27,7 +26,7 @@ DescribesEach (id ∷ (n ∷ es)) ws = (n ≤ length ws) × Image (take n ws) ×
 
 -- the rule of an answer of the writer holds, and no earlier one
 pub data WhyWritten (es ws : List ℕ) (room : ℕ) : Written → Type 0 where
-  unlisted : ¬ (Orderly es) → WhyWritten es ws room BadEntries
-  malformed : Orderly es → ¬ (DescribesEach es ws) → WhyWritten es ws room Malformed
-  short : Orderly es → DescribesEach es ws → room < need es ws → WhyWritten es ws room (NoRoom (need es ws))
-  fine : Orderly es → DescribesEach es ws → need es ws ≤ room → WhyWritten es ws room (Bytes (need es ws))
+  unlisted : ¬ (Orderly es) → WhyWritten es ws room (Err BadEntries)
+  malformed : Orderly es → ¬ (DescribesEach es ws) → WhyWritten es ws room (Err Malformed)
+  short : Orderly es → DescribesEach es ws → room < need es ws → WhyWritten es ws room (Err (NoRoom (need es ws)))
+  fine : Orderly es → DescribesEach es ws → need es ws ≤ room → WhyWritten es ws room (Ok (need es ws))

@@ -1,13 +1,18 @@
 -- What writing a library gives: "the writer gives 47 (over 60, identifiers not rising or over 65,535, over 1,024 words), 45, 46".
 -- Assumes nothing: these are definitions.
 use Rattle.std.specs.Prelude.{ℕ, zero, suc, ◌+◌, ◌≤◌, ◌≡◌, Bool, true, false, List, [], ◌∷◌, ◌++◌, length, take, drop, leb, ltb}
+use Rattle.std.specs.Prelude.{Result, Ok, Err}
 use Rattle.theory.specs.Limits.{input_limit}
 use Rattle.blocks.specs.Block.{whichever, pair}
 use Rattle.library.specs.Index.{room_of, entry_limit, identifier_limit}
 use Rattle.library.specs.File.{LibraryEntry, file}
 use Rattle.library.specs.Read.{imaged}
-use Rattle.library_writing.specs.declared.write.Written.{Written}
-use Rattle.library_writing.specs.declared.write.Written.TheVariants.{Bytes, NoRoom, Malformed, BadEntries}
+use Rattle.library_writing.specs.declared.write.WriteError.{WriteError}
+use Rattle.library_writing.specs.declared.write.WriteError.TheVariants.{NoRoom, Malformed, BadEntries}
+
+-- so many bytes are written, or why none are
+abbrev pub Written : Type 0
+Written = Result ℕ WriteError
 
 -- what is asked to be written: entries of two words, identifier and number of words, and an area in which the descriptions follow
 -- each other
@@ -42,15 +47,13 @@ need es ws = length (file (split es ws))
 unfoldable pub write_answer : List ℕ → List ℕ → ℕ → Written
 write_answer es ws room =
     whichever (listable entry_limit 0 es)
-    (whichever (sound es ws) (whichever (leb (need es ws) room) (Bytes (need es ws)) (NoRoom (need es ws))) Malformed)
-    BadEntries
+    (whichever (sound es ws) (whichever (leb (need es ws) room) (Ok (need es ws)) (Err (NoRoom (need es ws)))) (Err Malformed))
+    (Err BadEntries)
 
 -- "A refusal writes nothing"
 abbrev pub written_after : Written → List ℕ → List ℕ → List ℕ
-written_after (Bytes n) bs area = bs ++ drop n area
-written_after (NoRoom n) bs area = area
-written_after Malformed bs area = area
-written_after BadEntries bs area = area
+written_after (Ok n) bs area = bs ++ drop n area
+written_after (Err e) bs area = area
 
 -- the writer's contract: number, need and every byte of the area
 pub record WritesLibrary (es ws area area' : List ℕ) (r : Written) : Type 0 where

@@ -2,7 +2,7 @@
 ghost use Rattle.std.specs.Prelude.{◌≡◌, ◌*◌, ◌≤◌, length};
 ghost use Rattle.library_writing.specs.Write.{listable, sound, InPairs, blocks_asked};
 
-use layout::reading::{Judgement, judge};
+use layout::reading::judge;
 use library::index::blocks_for;
 use limits::{INPUT_LIMIT, wide};
 
@@ -46,11 +46,7 @@ pub(crate) fn is_sound(entries: &[u32], words: &[u32]) -> bool
     if words.len() < count {
         return false;
     }
-    let judgement = judge(&words[..count]);
-    match judgement {
-        Judgement::Accepted => is_sound(&entries[2..], &words[count..]),
-        Judgement::Malformed => false,
-    }
+    judge(&words[..count]) && is_sound(&entries[2..], &words[count..])
 }
 
 // How many blocks the descriptions take.

@@ -13,10 +13,7 @@ fn put_word(bytes: &mut [u8], at: usize, value: u32)
     requires { at + 3 < length bytes.old }
     ensures { bytes.new ≡ sets bytes.old at (quad value) }
 {
-    bytes[at] = (value % 256) as u8;
-    bytes[at + 1] = (value / 256 % 256) as u8;
-    bytes[at + 2] = (value / 65536 % 256) as u8;
-    bytes[at + 3] = (value / 16777216 % 256) as u8;
+    bytes[at..at + 4].copy_from_slice(&value.to_le_bytes());
 }
 
 // Writes words to the start of some bytes.
@@ -24,10 +21,8 @@ fn put_words(bytes: &mut [u8], words: &[u32])
     requires { 4 * length words.now ≤ length bytes.old }
     ensures { take (4 * length words.now) bytes.new ≡ word_bytes words.now }
 {
-    let mut i: usize = 0;
-    while i < words.len() {
-        put_word(bytes, 4 * i, words[i]);
-        i += 1;
+    for (i, word) in words.iter().enumerate() {
+        put_word(bytes, 4 * i, *word);
     }
 }
 

@@ -1,5 +1,5 @@
 // Writing a library.
-ghost use Rattle.std.specs.Prelude.{◌≡◌, true, ◌++◌, ◌+◌, ◌*◌, ◌/◌, ◌<◌, ◌≤◌, length, take};
+ghost use Rattle.std.specs.Prelude.{◌≡◌, true, Err, ◌++◌, ◌+◌, ◌*◌, ◌/◌, ◌<◌, ◌≤◌, length, take};
 ghost use Rattle.blocks.specs.Block.{pair, block, filled};
 ghost use Rattle.library.specs.File.{bodies, file};
 ghost use Rattle.library_writing.specs.Write.{split, sound, InReach, blocks_asked, index_asked, WritesLibrary};
@@ -9,16 +9,28 @@ use crate::entries::{count_blocks, is_listable, is_sound};
 use crate::filling::write_description;
 use blocks::{BLOCK, finish, put_pair};
 use library::index::{ENTRIES, blocks_for};
-use library::row::{Row, refused};
+use library::row::{Row, done, no_room, refused};
 use limits::wide;
 
-// So many bytes are written; or why none are: the numbers 46 (with the need), 45, 47.
-#[derive(Clone, Copy)]
-pub enum Written {
-    Bytes(usize),
-    NoRoom(usize),
-    Malformed,
+// Why no library is written: the entries keep no index's rules; a description is malformed; or the file is too short for the bytes
+// that are needed.
+#[derive(Clone, Copy, Debug, PartialEq, Eq)]
+pub enum WriteError {
     BadEntries,
+    Malformed,
+    NoRoom { need: usize },
+}
+
+impl From<WriteError> for Row {
+    ghost from_gives = { λ error row. (row.number ≡ write_number (Err error)) × (row.extent ≡ write_extent (Err error)) };
+
+    fn from(error: WriteError) -> Row {
+        match error {
+            WriteError::BadEntries => refused(47),
+            WriteError::Malformed => refused(45),
+            WriteError::NoRoom { need } => no_room(need),
+        }
+    }
 }
 
 // Writes the four numbers of an index entry from `at` on.
@@ -87,40 +99,28 @@ fn write_file(out: &mut [u8], entries: &[u32], words: &[u32])
     write_bodies(&mut out[BLOCK..], 1, entries, words);
 }
 
-// Writes a library of the entries, whose descriptions follow each other in `words`, to the start of the file.
-pub fn write(entries: &[u32], words: &[u32], file: &mut [u8]) -> Written
+// Writes a library of the entries, whose descriptions follow each other in `words`, to the start of the file. So many bytes are
+// written.
+pub fn write(entries: &[u32], words: &[u32], file: &mut [u8]) -> Result<usize, WriteError>
     ensures { WritesLibrary entries.now words.now file.old file.new result }
 {
-    let listable = is_listable(entries, ENTRIES, 0);
-    if !listable {
-        return Written::BadEntries;
+    if !is_listable(entries, ENTRIES, 0) {
+        return Err(WriteError::BadEntries);
     }
     let need = BLOCK * (1 + count_blocks(entries));
-    let sound = is_sound(entries, words);
-    if !sound {
-        return Written::Malformed;
+    if !is_sound(entries, words) {
+        return Err(WriteError::Malformed);
     }
     if file.len() < need {
-        return Written::NoRoom(need);
+        return Err(WriteError::NoRoom { need });
     }
     write_file(&mut file[..need], entries, words);
-    Written::Bytes(need)
+    Ok(need)
 }
 
 // The row of an answer.
-pub fn write_told(a: Written) -> Row
-    ensures { (result.number ≡ write_number a) × (result.extent ≡ write_extent a) }
+pub fn write_told(answer: Result<usize, WriteError>) -> Row
+    ensures { (result.number ≡ write_number answer) × (result.extent ≡ write_extent answer) }
 {
-    match a {
-        Written::Bytes(n) => Row {
-            number: 0,
-            extent: n,
-        },
-        Written::NoRoom(n) => Row {
-            number: 46,
-            extent: n,
-        },
-        Written::Malformed => refused(45),
-        Written::BadEntries => refused(47),
-    }
+    answer.map_or_else(Row::from, done)
 }

@@ -1,6 +1,6 @@
 -- One thing only is told of two inputs, and one part handed back; where words end the part is empty; the number is that of the table.
 -- Assumes nothing.
-use mathlib.Core.Path.{◌≡◌, refl, sym, ap, ap₂, subst, ◌∙◌}
+use mathlib.Core.Path.{◌≡◌, refl, sym, ap, subst, ◌∙◌}
 use mathlib.Core.Bool.{Bool, true, false}
 use mathlib.Core.Logic.{◌⊎◌, inl, inr, ◌≢◌}
 use mathlib.Core.Option.{Option, none, some}
@@ -20,15 +20,15 @@ use Rattle.roles.specs.Faults.{too_deep, Expected, expect, node_count, node_head
 use Rattle.roles.specs.Faults.{alternative_count, the_end, broken_if, breaks, expected_at, role, Faulty}
 use Rattle.roles.specs.Coded.{cause_of}
 use Rattle.roles.specs.Causes.{cause_number}
-use Rattle.roles.specs.declared.cause.Cause as Coded
-use Rattle.roles.specs.declared.cause.Cause.TheVariants.{WordsEnd}
 use Rattle.faults.specs.declared.verdict.Fault.{Fault}
-use Rattle.faults.specs.declared.verdict.Fault.TheVariants.{None, At}
+use Rattle.std.proofs.lemmas.Option.{same_Some}
+use Rattle.std.specs.Prelude as P
+use Rattle.std.specs.Prelude.{Some, None}
 use Rattle.faults.proofs.Exact.{faulty_iff, told_once}
 use Rattle.malformed.specs.Malformed.{BothShort, MalformedIn}
 use Rattle.malformed.specs.Part.{Lent, Tail, PartBy, Part}
 use Rattle.malformed.specs.declared.judging.Malformed.{Malformed}
-use Rattle.malformed.specs.declared.judging.Malformed.TheVariants.{Neither, TooLong, First, Second}
+use Rattle.malformed.specs.declared.judging.Malformed.TheVariants.{TooLong, First, Second}
 
 abbrev W : Type 0
 W = List ℕ
@@ -41,34 +41,26 @@ not_both : (a b : W) → BothShort a b → (input_limit < length a) ⊎ (input_l
 not_both a b s (inl h) = absurd (omega (arith, s.0))
 not_both a b s (inr h) = absurd (omega (arith, s.1))
 
-abbrev fault_cause : Fault → Coded.Cause
-fault_cause (At c p) = c
-fault_cause None = WordsEnd
+same_fault : (ws : W) (x y : Fault) → Faulty ws (cause_of x.cause) x.at → Faulty ws (cause_of y.cause) y.at → x ≡ y
+same_fault ws x y f g = same_Some x y (told_once ws (Some x) (Some y) f g)
 
-abbrev fault_place : Fault → ℕ
-fault_place (At c p) = p
-fault_place None = 0
-
-same_fault : (ws : W) (c c' : Coded.Cause) (p p' : ℕ) → Faulty ws (cause_of c) p → Faulty ws (cause_of c') p' → (c ≡ c') × (p ≡ p')
-same_fault ws c c' p p' f g = let e = told_once ws (At c p) (At c' p') f g in (ap fault_cause e, ap fault_place e)
-
-pub one_malformed : (a b : W) (m m' : Malformed) → MalformedIn a b m → MalformedIn a b m' → m ≡ m'
-one_malformed a b Neither Neither h k = refl
-one_malformed a b Neither TooLong h k = absurd (not_both a b h.0 k)
-one_malformed a b Neither (First c p) h k = absurd (no_image a _ p k.1 h.1)
-one_malformed a b Neither (Second c p) h k = absurd (no_image b _ p k.2 h.2)
-one_malformed a b TooLong Neither h k = absurd (not_both a b k.0 h)
-one_malformed a b TooLong TooLong h k = refl
-one_malformed a b TooLong (First c p) h k = absurd (not_both a b k.0 h)
-one_malformed a b TooLong (Second c p) h k = absurd (not_both a b k.0 h)
-one_malformed a b (First c p) Neither h k = absurd (no_image a _ p h.1 k.1)
-one_malformed a b (First c p) TooLong h k = absurd (not_both a b h.0 k)
-one_malformed a b (First c p) (First c' p') h k = let e = same_fault a c c' p p' h.1 k.1 in ap₂ {C = Malformed} First e.0 e.1
-one_malformed a b (First c p) (Second c' p') h k = absurd (no_image a _ p h.1 k.1)
-one_malformed a b (Second c p) Neither h k = absurd (no_image b _ p h.2 k.2)
-one_malformed a b (Second c p) TooLong h k = absurd (not_both a b h.0 k)
-one_malformed a b (Second c p) (First c' p') h k = absurd (no_image a _ p' k.1 h.1)
-one_malformed a b (Second c p) (Second c' p') h k = let e = same_fault b c c' p p' h.2 k.2 in ap₂ {C = Malformed} Second e.0 e.1
+pub one_malformed : (a b : W) (m m' : P.Option Malformed) → MalformedIn a b m → MalformedIn a b m' → m ≡ m'
+one_malformed a b None None h k = refl
+one_malformed a b None (Some TooLong) h k = absurd (not_both a b h.0 k)
+one_malformed a b None (Some (First x)) h k = absurd (no_image a _ x.at k.1 h.1)
+one_malformed a b None (Some (Second x)) h k = absurd (no_image b _ x.at k.2 h.2)
+one_malformed a b (Some TooLong) None h k = absurd (not_both a b k.0 h)
+one_malformed a b (Some TooLong) (Some TooLong) h k = refl
+one_malformed a b (Some TooLong) (Some (First x)) h k = absurd (not_both a b k.0 h)
+one_malformed a b (Some TooLong) (Some (Second x)) h k = absurd (not_both a b k.0 h)
+one_malformed a b (Some (First x)) None h k = absurd (no_image a _ x.at h.1 k.1)
+one_malformed a b (Some (First x)) (Some TooLong) h k = absurd (not_both a b h.0 k)
+one_malformed a b (Some (First x)) (Some (First y)) h k = ap (λ (f : Fault). Some (First f)) (same_fault a x y h.1 k.1)
+one_malformed a b (Some (First x)) (Some (Second y)) h k = absurd (no_image a _ x.at h.1 k.1)
+one_malformed a b (Some (Second x)) None h k = absurd (no_image b _ x.at h.2 k.2)
+one_malformed a b (Some (Second x)) (Some TooLong) h k = absurd (not_both a b h.0 k)
+one_malformed a b (Some (Second x)) (Some (First y)) h k = absurd (no_image a _ y.at k.1 h.1)
+one_malformed a b (Some (Second x)) (Some (Second y)) h k = ap (λ (f : Fault). Some (Second f)) (same_fault b x y h.2 k.2)
 
 -- ---- one part is handed back: its words, and where they stand
 abbrev Alike : (part part' : Lent) → Type 0
@@ -79,16 +71,16 @@ tails_alike input part part' p t t' =
     (t.is ∙ sym t'.is, t.block ∙ sym t'.block, t.offset ∙ sym t'.offset)
 
 module _ (first second part part' : Lent) where
-  by_alike : (m : Malformed) → PartBy m first second part → PartBy m first second part' → Alike part part'
-  by_alike Neither t t' = tails_alike first part part' _ t t'
-  by_alike TooLong t t' = tails_alike first part part' _ t t'
-  by_alike (First c p) t t' = tails_alike first part part' p t t'
-  by_alike (Second c p) t t' = tails_alike second part part' p t t'
+  by_alike : (m : P.Option Malformed) → PartBy m first second part → PartBy m first second part' → Alike part part'
+  by_alike None t t' = tails_alike first part part' _ t t'
+  by_alike (Some TooLong) t t' = tails_alike first part part' _ t t'
+  by_alike (Some (First f)) t t' = tails_alike first part part' f.at t t'
+  by_alike (Some (Second f)) t t' = tails_alike second part part' f.at t t'
 
   pub one_part : Part first second part → Part first second part' → Alike part part'
   one_part h k =
       let e = one_malformed first.now second.now h.what k.what h.is_so k.is_so in
-      by_alike k.what (subst (λ (m : Malformed). PartBy m first second part) e h.starts) k.starts
+      by_alike k.what (subst (λ (m : P.Option Malformed). PartBy m first second part) e h.starts) k.starts
 
 -- ---- "Where an input is merely cut short, that part is empty."
 abbrev code : Option Cause → ℕ
@@ -132,18 +124,18 @@ cut_short_empty input part p f t =
     let e = ends_last input.now p f in t.is ∙ drop_of_length-le input.now {i = p} (omega (arith, e))
 
 -- ---- the number is the one that a call in a good mode and a large enough working area is answered
-abbrev SameNumber : Malformed → ℕ → Type 0
-SameNumber Neither n = (n ≢ 3) × (n ≢ 4) × (n ≢ 5)
-SameNumber TooLong n = n ≡ 3
-SameNumber (First c p) n = n ≡ 4
-SameNumber (Second c p) n = n ≡ 5
+abbrev SameNumber : P.Option Malformed → ℕ → Type 0
+SameNumber None n = (n ≢ 3) × (n ≢ 4) × (n ≢ 5)
+SameNumber (Some TooLong) n = n ≡ 3
+SameNumber (Some (First f)) n = n ≡ 4
+SameNumber (Some (Second f)) n = n ≡ 5
 
 module _ (asked : Call) (room work : ℕ) (mode_fine : asked.mode ≤ 2) (area_fine : working_size ≤ work) where
   is_number : (n : ℕ) → Given asked room work (refuse n) → (r : Answer) → Given asked room work r → r.number ≡ n
   is_number n h r g = ap (λ (x : Answer). x.number) (one_answer reads asked room work r (refuse n) g h)
 
   accepted_number : BothShort asked.first asked.second → Image asked.first → Image asked.second →
-      (r : Answer) → Given asked room work r → SameNumber Neither r.number
+      (r : Answer) → Given asked room work r → SameNumber None r.number
   accepted_number s i j r (one h) = absurd (omega arith)
   accepted_number s i j r (two m h) = absurd (omega arith)
   accepted_number s i j r (three m w h) = absurd (not_both asked.first asked.second s h)
@@ -156,11 +148,11 @@ module _ (asked : Call) (room work : ℕ) (mode_fine : asked.mode ≤ 2) (area_f
   accepted_number s i j r (eight d e x A c t f l) = (λ z. omega arith, λ z. omega arith, λ z. omega arith)
   accepted_number s i j r (done d e x A c t f l) = (λ z. omega arith, λ z. omega arith, λ z. omega arith)
 
-  pub same_number : (m : Malformed) → MalformedIn asked.first asked.second m →
+  pub same_number : (m : P.Option Malformed) → MalformedIn asked.first asked.second m →
       (r : Answer) → Given asked room work r → SameNumber m r.number
-  same_number Neither h = accepted_number h.0 h.1 h.2
-  same_number TooLong h = is_number 3 (three mode_fine area_fine h)
-  same_number (First c p) h =
-      is_number 4 (four mode_fine area_fine h.0.0 h.0.1 (λ i. no_image asked.first (cause_of c) p h.1 i))
-  same_number (Second c p) h =
-      is_number 5 (five mode_fine area_fine h.0.0 h.0.1 h.1 (λ i. no_image asked.second (cause_of c) p h.2 i))
+  same_number None h = accepted_number h.0 h.1 h.2
+  same_number (Some TooLong) h = is_number 3 (three mode_fine area_fine h)
+  same_number (Some (First f)) h =
+      is_number 4 (four mode_fine area_fine h.0.0 h.0.1 (λ i. no_image asked.first (cause_of f.cause) f.at h.1 i))
+  same_number (Some (Second f)) h =
+      is_number 5 (five mode_fine area_fine h.0.0 h.0.1 h.1 (λ i. no_image asked.second (cause_of f.cause) f.at h.2 i))

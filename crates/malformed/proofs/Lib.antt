@@ -1,3 +1,2 @@
--- `Laws` has what the functions cite. `Exact` says that one thing is told and one part handed back, and that the number is the table's.
-pub mod Laws
+-- `Exact` says that one thing is told and one part handed back, and that the number is the table's.
 pub mod Exact

@@ -1,10 +1,10 @@
 -- The part of whichever of two lent inputs starts at the word that decides.
 -- Assumes nothing: these are definitions.
-use Rattle.std.specs.Prelude.{ℕ, ◌+◌, ◌*◌, ◌≡◌, List, length, drop}
+use Rattle.std.specs.Prelude.{ℕ, ◌+◌, ◌*◌, ◌≡◌, List, length, drop, Option, Some, None}
 use Rattle.std.specs.Borrow.{Bor}
 use Rattle.malformed.specs.Malformed.{MalformedIn}
 use Rattle.malformed.specs.declared.judging.Malformed.{Malformed}
-use Rattle.malformed.specs.declared.judging.Malformed.TheVariants.{Neither, TooLong, First, Second}
+use Rattle.malformed.specs.declared.judging.Malformed.TheVariants.{TooLong, First, Second}
 
 abbrev pub Lent : Type 0
 Lent = Bor (List ℕ)
@@ -16,14 +16,14 @@ pub record Tail (input : Lent) (p : ℕ) (part : Lent) : Type 0 where
   pub offset : part.ref_ptr.1 ≡ input.ref_ptr.1 + 4 * p
 
 -- "Where neither is malformed, or either is over 1,024 words, it is the empty end of the first."
-abbrev pub PartBy : Malformed → (first second part : Lent) → Type 0
-PartBy (First c p) first second part = Tail first p part
-PartBy (Second c p) first second part = Tail second p part
-PartBy Neither first second part = Tail first (length first.now) part
-PartBy TooLong first second part = Tail first (length first.now) part
+abbrev pub PartBy : Option Malformed → (first second part : Lent) → Type 0
+PartBy (Some (First f)) first second part = Tail first f.at part
+PartBy (Some (Second f)) first second part = Tail second f.at part
+PartBy None first second part = Tail first (length first.now) part
+PartBy (Some TooLong) first second part = Tail first (length first.now) part
 
 -- "the part of whichever of the two lent inputs starts at that word"
 pub record Part (first second part : Lent) : Type 0 where
-  pub what : Malformed
+  pub what : Option Malformed
   pub is_so : MalformedIn first.now second.now what
   pub starts : PartBy what first second part

@@ -7,42 +7,39 @@ ghost use Rattle.malformed.specs.Malformed.{BothShort, MalformedIn, capped, repo
 use faults::fault::fault;
 use faults::verdict::Fault;
 use limits::INPUT_LIMIT;
-use roles::cause::{Cause, cause_data, cause_number};
+use roles::cause::{cause_data, cause_number};
 
 // An input is over 1,024 words; or the first is malformed, or only the second, with the cause and the place of the word that decides.
-#[derive(Clone, Copy)]
+#[derive(Clone, Copy, Debug, PartialEq, Eq)]
 pub enum Malformed {
-    Neither,
     TooLong,
-    First(Cause, usize),
-    Second(Cause, usize),
+    First(Fault),
+    Second(Fault),
 }
 
 // Of two malformed inputs the first.
-fn find_in_short(first: &[u32], second: &[u32]) -> Malformed
+fn find_in_short(first: &[u32], second: &[u32]) -> Option<Malformed>
     requires { BothShort first.now second.now }
     ensures { MalformedIn first.now second.now result }
 {
-    let one = fault(first);
-    if let Fault::At(cause, at) = one {
-        return Malformed::First(cause, at);
+    if let Some(fault) = fault(first) {
+        return Some(Malformed::First(fault));
     }
-    let two = fault(second);
-    if let Fault::At(cause, at) = two {
-        return Malformed::Second(cause, at);
+    if let Some(fault) = fault(second) {
+        return Some(Malformed::Second(fault));
     }
-    Malformed::Neither
+    None
 }
 
-// What is malformed of two inputs.
-pub fn find_malformed(first: &[u32], second: &[u32]) -> Malformed
+// What is malformed of two inputs, if any.
+pub fn find_malformed(first: &[u32], second: &[u32]) -> Option<Malformed>
     ensures { MalformedIn first.now second.now result }
 {
     if INPUT_LIMIT < first.len() {
-        return Malformed::TooLong;
+        return Some(Malformed::TooLong);
     }
     if INPUT_LIMIT < second.len() {
-        return Malformed::TooLong;
+        return Some(Malformed::TooLong);
     }
     find_in_short(first, second)
 }
@@ -60,50 +57,43 @@ pub struct Report {
 fn capped(n: usize) -> u32
     ensures { result ≡ capped n }
 {
-    if n < 4294967296 {
-        return n as u32;
-    }
-    4294967295
+    u32::try_from(n).unwrap_or(u32::MAX)
 }
 
 // No cause, and the length of the first input.
 fn causeless(number: u32, length: usize) -> Report
     ensures { (result.number ≡ number) × (result.cause ≡ 0) × (result.value ≡ 0) × (result.place ≡ capped length) }
 {
-    let place = capped(length);
     Report {
         number,
         cause: 0,
         value: 0,
-        place,
+        place: capped(length),
     }
 }
 
 // A cause, and the place of the word that decides.
-fn caused(number: u32, cause: Cause, at: usize) -> Report
-    ensures { (result.number ≡ number) × (result.cause ≡ cause_number (cause_of cause)) × (result.value ≡ cause_data (cause_of cause))
-        × (result.place ≡ capped at) }
+fn caused(number: u32, fault: Fault) -> Report
+    ensures { (result.number ≡ number) × (result.cause ≡ cause_number (cause_of fault.cause))
+        × (result.value ≡ cause_data (cause_of fault.cause)) × (result.place ≡ capped fault.at) }
 {
-    let told = cause_number(cause);
-    let value = cause_data(cause);
-    let place = capped(at);
     Report {
         number,
-        cause: told,
-        value,
-        place,
+        cause: cause_number(fault.cause),
+        value: cause_data(fault.cause),
+        place: capped(fault.at),
     }
 }
 
 // What is told of two inputs, of which the first has such a length.
-pub fn told(what: Malformed, length: usize) -> Report
+pub fn told(what: Option<Malformed>, length: usize) -> Report
     ensures { (result.number ≡ (report_of length what).number) × (result.cause ≡ (report_of length what).cause)
         × (result.value ≡ (report_of length what).value) × (result.place ≡ (report_of length what).place) }
 {
     match what {
-        Malformed::Neither => causeless(0, length),
-        Malformed::TooLong => causeless(3, length),
-        Malformed::First(cause, at) => caused(4, cause, at),
-        Malformed::Second(cause, at) => caused(5, cause, at),
+        None => causeless(0, length),
+        Some(Malformed::TooLong) => causeless(3, length),
+        Some(Malformed::First(fault)) => caused(4, fault),
+        Some(Malformed::Second(fault)) => caused(5, fault),
     }
 }

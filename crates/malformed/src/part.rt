@@ -16,19 +16,17 @@ fn tail<'a>(input: &'a [u32], at: usize) -> &'a [u32]
 fn end<'a>(input: &'a [u32]) -> &'a [u32]
     ensures { Tail input.entry (length input.now) result }
 {
-    let at = input.len();
-    tail(input, at)
+    tail(input, input.len())
 }
 
 // "the part of whichever of the two lent inputs starts at that word"
 pub fn part<'a>(first: &'a [u32], second: &'a [u32]) -> &'a [u32]
     ensures { Part first.entry second.entry result }
 {
-    let what = find_malformed(first, second);
-    match what {
-        Malformed::First(_, at) => tail(first, at),
-        Malformed::Second(_, at) => tail(second, at),
-        Malformed::Neither => end(first),
-        Malformed::TooLong => end(first),
+    match find_malformed(first, second) {
+        Some(Malformed::First(fault)) => tail(first, fault.at),
+        Some(Malformed::Second(fault)) => tail(second, fault.at),
+        Some(Malformed::TooLong) => end(first),
+        None => end(first),
     }
 }

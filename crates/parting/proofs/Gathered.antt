@@ -5,41 +5,19 @@ use native.Mathlib.Omega.{arith}
 use native.Mathlib.Numerals.{add-one}
 use borrow.Author.Count.{below_more}
 use mathlib.Core.Path.{◌≡◌, refl, sym, ap, ap₂, subst, ◌∙◌}
-use mathlib.Core.Logic.{inl, inr, ⊎_elim, ◌≢◌}
-use mathlib.Core.Bool.{Bool, true}
+use mathlib.Core.Logic.{⊎_elim}
+use mathlib.Core.Bool.{Bool}
 use mathlib.Core.List.Memᴰ
 use mathlib.Core.List.{List, [], ◌∷◌, ◌++◌, Memᴰ}
 use lib.ListN.{length, get_or, set, take, length-set}
-use lib.Dec.{eqb}
-use borrow.Author.Tests.{eqb-true, eqb-false}
 use lib.Seq.{take-suc-set, length-take-le}
 use Rattle.theory.specs.Join.{Edge}
 use Rattle.formulas.specs.Tables.{parted, edge}
 use Rattle.closing.specs.Rows.{spot_of, spot_mark, in_edges, in_pairs}
-use Rattle.parting.specs.Gathered.{AmongRows, row_in, home_in, RowCame, RowComes, Gathers, arc_table, Belong, Belongs, GathersArcs}
-
--- ---- the tests
-module _ (rows hm : List ℕ) (k i : ℕ) where
-  pub comes_told : (home r : ℕ) → home ≡ home_in rows i → r ≡ get_or hm home 0 → RowComes rows hm k i (eqb r k)
-  comes_told home r e f = record {
-    holds = λ t. subst At e (sym f ∙ eqb-true r k t);
-    fails = λ t p. eqb-false r k t (f ∙ subst At (sym e) p);
-  }
-    where
-      At : ℕ → Type 0
-      At h = get_or hm h 0 ≡ k
-
-  pub belongs_marked : (on : List ℕ) → get_or on i 0 ≢ 0 → Belongs rows hm on k i true
-  belongs_marked on n = record { holds = λ t. inl n; fails = λ t p. absurd (let z : ◌≡◌ {A = ℕ} 0 1 = cc in omega arith) }
-
-  pub belongs_told : (on : List ℕ) (r : Bool) → get_or on i 0 ≡ 0 → RowComes rows hm k i r → Belongs rows hm on k i r
-  belongs_told on r z c = record { holds = λ t. inr (c.holds t); fails = λ t p. ⊎_elim (λ n. n z) (c.fails t) p }
+use Rattle.parting.specs.Gathered.{AmongRows, row_in, RowCame, Gathers, arc_table, Belong, GathersArcs}
 
 -- ---- lists of what is among the first numbers
 module _ {A : Type 0} (P : ℕ → Type 0) (f : ℕ → A) where
-  among_none : AmongRows P f 0 []
-  among_none = record { in_list = λ i h p. absurd (omega arith); of_list = λ x m. absurd (Memᴰ.not-nil m) }
-
   among_more : (i : ℕ) (l : List A) → P i → AmongRows P f i l → AmongRows P f (i + 1) (l ++ f i ∷ [])
   among_more i l p a = record {
     in_list = below_more (λ j. P j → Memᴰ (f j) (l ++ f i ∷ [])) i (λ j h q. Memᴰ.append_left (f i ∷ []) (a.in_list j h q))
@@ -71,9 +49,6 @@ front out n x h = ap (λ (m : ℕ). take m (set out n x)) (add-one n) ∙ take-s
 
 -- ---- atoms and ties
 module _ (rows hm : List ℕ) (k : ℕ) (out₀ : List ℕ) where
-  pub gathers_none : Gathers rows hm k 0 out₀ 0 out₀
-  gathers_none = record { same = refl; few = omega arith; rows_are = among_none (RowCame rows hm k) (row_in rows) }
-
   module _ (i n n' : ℕ) (out out' : List ℕ) (g : Gathers rows hm k i out₀ n out) where
     pub gathers_more : n < length out → RowCame rows hm k i → out' ≡ set out n (get_or rows (2 * i) 0) → n' ≡ n + 1 →
         Gathers rows hm k (i + 1) out₀ n' out'
@@ -95,15 +70,12 @@ module _ (rows hm : List ℕ) (k : ℕ) (out₀ : List ℕ) where
     })
 
 -- ---- arcs
-module _ (arcs hm on : List ℕ) (k : ℕ) (out₀ ends₀ : List ℕ) where
+module _ (arcs hm : List ℕ) (on : List Bool) (k : ℕ) (out₀ ends₀ : List ℕ) where
   abbrev arc : ℕ → Edge
   arc = edge (arc_table arcs)
 
   abbrev Mine : ℕ → Type 0
   Mine = Belong arcs hm on k
-
-  pub arcs_none : GathersArcs arcs hm on k 0 out₀ ends₀ 0 out₀ ends₀
-  arcs_none = record { same = refl; same_ends = refl; few = omega arith; arcs_are = among_none Mine arc }
 
   module _ (i n n' : ℕ) (out out' ends ends' : List ℕ) (g : GathersArcs arcs hm on k i out₀ ends₀ n out ends) where
     abbrev old : List Edge

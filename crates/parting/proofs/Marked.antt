@@ -15,16 +15,16 @@ use Rattle.theory.specs.Join.{Edge}
 use Rattle.formulas.specs.Tables.{Tables, edge, Trail, at_root, further}
 use Rattle.parting.specs.Gathered.{TrailMarked, TrailMarking, TrailMarks}
 
-module _ (T : Tables) (s₀ : ℕ) (on₀ : List ℕ) where
+module _ (T : Tables) (s₀ : ℕ) (on₀ : List Bool) where
   -- what is left of each trail, up to the spot s; the rest is marked
-  pub record Half (s : ℕ) (on : List ℕ) (es : List Edge) : Type 0 where
+  pub record Half (s : ℕ) (on : List Bool) (es : List Edge) : Type 0 where
     pub ahead : List Edge
     pub behind : List Edge
     pub trails : Trail T s ahead
     pub whole : es ≡ ahead ++ behind
     pub marked : TrailMarked T on behind
 
-  pub record Halves (s : ℕ) (on : List ℕ) : Type 0 where
+  pub record Halves (s : ℕ) (on : List Bool) : Type 0 where
     pub same : length on ≡ length on₀
     pub each : (es : List Edge) → Trail T s₀ es → Half s on es
 
@@ -40,36 +40,27 @@ module _ (T : Tables) (s₀ : ℕ) (on₀ : List ℕ) where
     };
   }
 
-  module _ (s : ℕ) (on : List ℕ) where
-    -- the arc of the spot that is reached
-    pub halves_inside : TrailMarking T s₀ on₀ → Halves s on → s ≢ 0 → s - 1 < T.arcs
-    halves_inside c v n = let h = v.each c.trail c.trails in go h.ahead h.trails
-      where
-        go : (ds : List Edge) → Trail T s ds → s - 1 < T.arcs
-        go ds (at_root z e) = absurd (n z)
-        go ds (further i bs e l q t) = omega arith
+  module _ (s : ℕ) (on : List Bool) where
+    abbrev Told : List Bool → List Edge → ℕ → Type 0
+    Told m es j = ((get_or m j false ≡ true) × Memᴰ (edge T j) es) ⊎ ((get_or m j false ≡ false) × (Memᴰ (edge T j) es → ⊥))
 
-    abbrev Told : List ℕ → List Edge → ℕ → Type 0
-    Told m es j = ((get_or m j 0 ≢ 0) × Memᴰ (edge T j) es) ⊎ ((get_or m j 0 ≡ 0) × (Memᴰ (edge T j) es → ⊥))
-
-    marks_arc : (i : ℕ) (es : List Edge) → i < length on → TrailMarked T on es → TrailMarked T (set on i 1) (edge T i ∷ es)
+    marks_arc : (i : ℕ) (es : List Edge) → i < length on → TrailMarked T on es → TrailMarked T (set on i true) (edge T i ∷ es)
     marks_arc i es l m j h = go (eqb j i) refl (m j h)
       where
-        go : (b : Bool) → eqb j i ≡ b → Told on es j → Told (set on i 1) (edge T i ∷ es) j
+        go : (b : Bool) → eqb j i ≡ b → Told on es j → Told (set on i true) (edge T i ∷ es) j
         go true e o =
             let same = eqb-true j i e in
-            let one = get_or-set_same on i 1 0 l in
-            inl (λ z. absurd (omega (arith, ap (λ (n : ℕ). get_or (set on i 1) n 0) same)), Memᴰ.head (ap (edge T) same))
+            inl (ap (λ (n : ℕ). get_or (set on i true) n false) same ∙ get_or-set_same on i true false l, Memᴰ.head (ap (edge T) same))
         go false e o =
-            let kept = get_or-set_other on i j 1 0 (eqb-false j i e) in
+            let kept = get_or-set_other on i j true false (eqb-false j i e) in
             let other : (Memᴰ (edge T j) es → ⊥) → Memᴰ (edge T j) (edge T i ∷ es) → ⊥
             = λ p q. ⊎_elim (λ d. eqb-false j i e (omega (arith, ap (λ (x : Edge). x.2) d))) p (Memᴰ.cases_cons q) in
-            ⊎_elim (λ (n, p). inl (λ z. n (sym kept ∙ z), Memᴰ.tail p)) (λ (n, p). inr (kept ∙ n, other p)) o
+            ⊎_elim (λ (n, p). inl (kept ∙ n, Memᴰ.tail p)) (λ (n, p). inr (kept ∙ n, other p)) o
 
-    half_more : (es : List Edge) → s ≢ 0 → T.arcs ≤ length on → Half s on es → Half (T.arc (s - 1)).0 (set on (s - 1) 1) es
+    half_more : (es : List Edge) → s ≢ 0 → T.arcs ≤ length on → Half s on es → Half (T.arc (s - 1)).0 (set on (s - 1) true) es
     half_more es n r h = go h.ahead h.trails h.whole
       where
-        go : (ds : List Edge) → Trail T s ds → es ≡ ds ++ h.behind → Half (T.arc (s - 1)).0 (set on (s - 1) 1) es
+        go : (ds : List Edge) → Trail T s ds → es ≡ ds ++ h.behind → Half (T.arc (s - 1)).0 (set on (s - 1) true) es
         go ds (at_root z e) w = absurd (n z)
         go ds (further i bs e l q t) w =
             let here : i ≡ s - 1 = omega arith in
@@ -82,12 +73,12 @@ module _ (T : Tables) (s₀ : ℕ) (on₀ : List ℕ) where
               marked = marks_arc (s - 1) h.behind (omega arith) h.marked;
             }
 
-    pub halves_more : TrailMarking T s₀ on₀ → Halves s on → s ≢ 0 → (s' : ℕ) → s' ≡ (T.arc (s - 1)).0 → Halves s' (set on (s - 1) 1)
+    pub halves_more : TrailMarking T s₀ on₀ → Halves s on → s ≢ 0 → (s' : ℕ) → s' ≡ (T.arc (s - 1)).0 → Halves s' (set on (s - 1) true)
     halves_more c v n s' e =
         let room = c.room in
         let size = v.same in
-        subst (λ (r : ℕ). Halves r (set on (s - 1) 1)) (sym e) (record {
-          same = length-set on (s - 1) 1 ∙ size;
+        subst (λ (r : ℕ). Halves r (set on (s - 1) true)) (sym e) (record {
+          same = length-set on (s - 1) true ∙ size;
           each = λ es t. half_more es n (omega arith) (v.each es t);
         })
 

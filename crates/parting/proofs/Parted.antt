@@ -3,7 +3,8 @@
 use Prim.Native.Nat.{ℕ, ◌/◌, ◌≤◌, ◌<◌}
 use native.Mathlib.Omega.{arith}
 use mathlib.Core.Path.{◌≡◌, refl, sym, ap, subst, ◌∙◌}
-use mathlib.Core.Logic.{inl, inr, ⊎_elim, ◌≢◌}
+use mathlib.Core.Logic.{inl, inr, ⊎_elim}
+use mathlib.Core.Bool.{Bool, true, false}
 use mathlib.Core.List.Memᴰ
 use mathlib.Core.List.{List, Memᴰ}
 use mathlib.Core.Option.{Option}
@@ -19,12 +20,13 @@ use Rattle.formulas.proofs.Order.{Within, sheet_order}
 use Rattle.formulas.proofs.Homes.{sound_same}
 use Rattle.closing.specs.Rows.{spot_limit, in_edges, in_pairs, in_sheet}
 use Rattle.closing.proofs.Lists.{edge_at, edge_in}
-use Rattle.sheets.specs.Draws.{Drawing, DrawnAs, Draws}
+use Rattle.sheets.specs.Draws.{DrawnAs, Draws}
 use Rattle.parting.specs.Gathered.{AmongRows, Members, row_in, home_in, Gathers, arc_table, TrailMarked, TrailMarking, TrailMarks}
 use Rattle.parting.specs.Gathered.{GathersArcs}
 use Rattle.parting.specs.Parted.{Part, Parting, Drawn_as, PartDrawn, Half_part, HalfParting, HalfParts}
-use Rattle.sheets.specs.declared.drawing.Drawn.{Drawn}
-use Rattle.sheets.specs.declared.drawing.Drawn.TheVariants.{Clash, Long, Words}
+use Rattle.std.specs.Prelude.{Result, Ok, Err}
+use Rattle.sheets.specs.declared.drawing.Undrawn.{Undrawn}
+use Rattle.sheets.specs.declared.drawing.Undrawn.TheVariants.{Clash, Long}
 
 -- ---- what is drawn
 stands_front : (out ws : List ℕ) → take (length ws) out ≡ ws → Stands out 0 ws (length ws)
@@ -34,12 +36,12 @@ stands_front out ws e =
     = subst (λ (q : ℕ). Stands (take n out) 0 ws q) (ap length e) ((stands_whole (take n out) ws).0 e) in
     stands_frame (take n out) out ws 0 n (λ j l u t. (omega (arith, length-take n out), sym (get_or-take n out j 0 u))) front
 
-drawn_turned : (A : Sheet) (out out' : List ℕ) (r : Drawn) → length out' ≡ length out → DrawnAs A out out' r →
+drawn_turned : (A : Sheet) (out out' : List ℕ) (r : Result ℕ Undrawn) → length out' ≡ length out → DrawnAs A out out' r →
     Drawn_as (sheet_graph A) r out'
-drawn_turned A out out' Clash s e = rw e refl
-drawn_turned A out out' Long s (G, e, l) = rw e (inl (refl, omega arith))
-drawn_turned A out out' (Words n) s (G, e, q, w) =
-    rw e (inr (ap Words q, stands_front out' (graph_words G) (subst (λ (m : ℕ). take m out' ≡ graph_words G) q w)))
+drawn_turned A out out' (Err Clash) s e = rw e refl
+drawn_turned A out out' (Err Long) s (G, e, l) = rw e (inl (refl, omega arith))
+drawn_turned A out out' (Ok n) s (G, e, q, w) =
+    rw e (inr (ap Ok q, stands_front out' (graph_words G) (subst (λ (m : ℕ). take m out' ≡ graph_words G) q w)))
 
 -- ---- a part whose arcs are gathered
 module _ {A : Type 0} (P : ℕ → Type 0) (f : ℕ → A) (count : ℕ) (l m : List A) where
@@ -77,10 +79,7 @@ module _ (arcs ends atoms ties hm : List ℕ) (k : ℕ) where
       same_graph : Sound A → sheet_graph drawn_from ≡ sheet_graph A
       same_graph u = sheet_order drawn_from A (sound_from u) u fro to
 
-    pub half_drawing : HalfParting arcs ends atoms ties hm k → Drawing arcs ends (take n bears') (take m shares')
-    half_drawing c = record { rows = c.rows; sound = sound_from c.A c.part c.sound }
-
-    pub half_drawn : (out : List ℕ) (r : Drawn) (out' : List ℕ) → Draws arcs ends (take n bears') (take m shares') out r out' →
+    pub half_drawn : (out : List ℕ) (r : Result ℕ Undrawn) (out' : List ℕ) → Draws arcs ends (take n bears') (take m shares') out r out' →
         HalfParts arcs ends atoms ties hm k out r out'
     half_drawn out r out' d = record {
       same = d.len;
@@ -106,16 +105,16 @@ module _ (arcs atoms ties alts : List ℕ) where
       (Memᴰ.append_cases ds (subst (Memᴰ e) q m))
 
   module _ (hm : List ℕ) (k : ℕ) (c : Parting T hm k) (s : ℕ) (at : s ≡ T.spot k) where
-    pub part_marks : (many : ℕ) → T.arcs ≤ many → TrailMarking (arc_table arcs) s (replicate many 0)
+    pub part_marks : (many : ℕ) → T.arcs ≤ many → TrailMarking (arc_table arcs) s (replicate many false)
     part_marks many r = rw at (record {
       low = c.fit.tabled.low;
       trail = c.part.trail;
       trails = trail_arcs c.part.trails;
-      room = rw (length-replicate {A = ℕ} many 0) r;
-      clear = λ i h. get_or-replicate many i 0 0 (omega arith);
+      room = rw (length-replicate {A = Bool} many false) r;
+      clear = λ i h. get_or-replicate many i false false (omega arith);
     })
 
-    module _ (on₀ on out₀ ends₀ out ends : List ℕ) (n : ℕ) (v : TrailMarks (arc_table arcs) s on₀ on)
+    module _ (on₀ on : List Bool) (out₀ ends₀ out ends : List ℕ) (n : ℕ) (v : TrailMarks (arc_table arcs) s on₀ on)
         (g : GathersArcs arcs hm on k (length arcs / 2) out₀ ends₀ n out ends) where
       abbrev taken : List Edge
       taken = in_edges (take n out) (take n ends)
@@ -131,16 +130,16 @@ module _ (arcs atoms ties alts : List ℕ) where
           marked : TrailMarked (arc_table arcs) on p.trail
           marked = v.marked p.trail (rw at (trail_arcs p.trails))
 
-          from_trail : (i : ℕ) → i < T.arcs → get_or on i 0 ≢ 0 → Memᴰ (edge T i) A.edges
-          from_trail i h z = ⊎_elim (λ (x, m). p.on_trail (edge T i) m) (λ (x, m). absurd (z x)) (marked i h)
+          from_trail : (i : ℕ) → i < T.arcs → get_or on i false ≡ true → Memᴰ (edge T i) A.edges
+          from_trail i h z = ⊎_elim (λ (x, m). p.on_trail (edge T i) m) (λ (x, m). absurd (let y : ◌≡◌ {A = ℕ} 0 1 = cc in omega arith)) (marked i h)
 
           on_trail : (e : Edge) → Memᴰ e p.trail → Memᴰ e taken
           on_trail e m =
               let (i, h, q) = trail_arc p.trails e m in
-              let is : get_or on i 0 ≢ 0 = ⊎_elim (λ (x, u). x) (λ (x, u). absurd (u (Memᴰ.cast (sym q) m))) (marked i h) in
+              let is : get_or on i false ≡ true = ⊎_elim (λ (x, u). x) (λ (x, u). absurd (u (Memᴰ.cast (sym q) m))) (marked i h) in
               Memᴰ.cast q (g.arcs_are.in_list i h (inl is))
 
-      pub part_drawn : (res : List ℕ) (r : Drawn) (res' : List ℕ) → HalfParts (take n out) (take n ends) atoms ties hm k res r res' →
+      pub part_drawn : (res : List ℕ) (r : Result ℕ Undrawn) (res' : List ℕ) → HalfParts (take n out) (take n ends) atoms ties hm k res r res' →
           PartDrawn T hm k res r res'
       part_drawn res r res' d = (d.same, λ A u p. d.drawn A u (part_half A p))
 

@@ -1,6 +1,6 @@
 -- The rows of one part, gathered from the tables.
 -- Assumes nothing: these are definitions.
-use Rattle.std.specs.Prelude.{ℕ, ◌+◌, ◌*◌, ◌/◌, ◌<◌, ◌≤◌, ◌≡◌, ◌⊎◌, ◌≢◌, Bool, true, false, length, get_or, take}
+use Rattle.std.specs.Prelude.{ℕ, ◌+◌, ◌*◌, ◌/◌, ◌<◌, ◌≤◌, ◌≡◌, ◌⊎◌, Bool, true, false, length, get_or, take}
 use mathlib.Core.List.{List, [], Memᴰ}
 use Rattle.theory.specs.Join.{Edge}
 use Rattle.formulas.specs.Tables.{Tables, parted, tables, edge, Trail}
@@ -51,37 +51,37 @@ abbrev pub arc_table : List ℕ → Tables
 arc_table arcs = tables arcs [] [] []
 
 -- of the arcs of T exactly those of es are marked
-abbrev pub TrailMarked : Tables → List ℕ → List Edge → Type 0
+abbrev pub TrailMarked : Tables → List Bool → List Edge → Type 0
 TrailMarked T on es =
-    (i : ℕ) → i < T.arcs → ((get_or on i 0 ≢ 0) × Memᴰ (edge T i) es)
-    ⊎ ((get_or on i 0 ≡ 0) × (Memᴰ (edge T i) es → ⊥))
+    (i : ℕ) → i < T.arcs → ((get_or on i false ≡ true) × Memᴰ (edge T i) es)
+    ⊎ ((get_or on i false ≡ false) × (Memᴰ (edge T i) es → ⊥))
 
 -- nothing is marked yet
-pub record TrailMarking (T : Tables) (s : ℕ) (on : List ℕ) : Type 0 where
+pub record TrailMarking (T : Tables) (s : ℕ) (on : List Bool) : Type 0 where
   pub low : (i : ℕ) → i < T.arcs → (T.arc i).0 ≤ i
   pub trail : List Edge
   pub trails : Trail T s trail
   pub room : T.arcs ≤ length on
-  pub clear : (i : ℕ) → i < T.arcs → get_or on i 0 ≡ 0
+  pub clear : (i : ℕ) → i < T.arcs → get_or on i false ≡ false
 
-pub record TrailMarks (T : Tables) (s : ℕ) (on on' : List ℕ) : Type 0 where
+pub record TrailMarks (T : Tables) (s : ℕ) (on on' : List Bool) : Type 0 where
   pub same : length on' ≡ length on
   pub marked : (es : List Edge) → Trail T s es → TrailMarked T on' es
 
 -- ---- arcs
 -- arc i is marked, or has come to k
-abbrev pub Belong : (arcs hm on : List ℕ) (k i : ℕ) → Type 0
-Belong arcs hm on k i = (get_or on i 0 ≢ 0) ⊎ RowCame arcs hm k i
+abbrev pub Belong : (arcs hm : List ℕ) (on : List Bool) (k i : ℕ) → Type 0
+Belong arcs hm on k i = (get_or on i false ≡ true) ⊎ RowCame arcs hm k i
 
-pub record Belonging (arcs hm on : List ℕ) (i : ℕ) : Type 0 where
+pub record Belonging (arcs hm : List ℕ) (on : List Bool) (i : ℕ) : Type 0 where
   pub coming : RowComing arcs hm i
   pub marks : i < length on
 
-pub record Belongs (arcs hm on : List ℕ) (k i : ℕ) (r : Bool) : Type 0 where
+pub record Belongs (arcs hm : List ℕ) (on : List Bool) (k i : ℕ) (r : Bool) : Type 0 where
   pub holds : r ≡ true → Belong arcs hm on k i
   pub fails : r ≡ false → Belong arcs hm on k i → ⊥
 
-pub record GatheringArcs (arcs hm on out ends : List ℕ) : Type 0 where
+pub record GatheringArcs (arcs hm : List ℕ) (on : List Bool) (out ends : List ℕ) : Type 0 where
   pub homes : (i : ℕ) → i < length arcs / 2 → home_in arcs i < length hm
   pub few_arcs : length arcs / 2 < spot_limit
   pub marks : length arcs / 2 ≤ length on
@@ -89,7 +89,7 @@ pub record GatheringArcs (arcs hm on out ends : List ℕ) : Type 0 where
   pub room_ends : length arcs / 2 ≤ length ends
 
 -- the first n words of `out` and of `ends` are those of the first `count` arcs that belong to k
-pub record GathersArcs (arcs hm on : List ℕ) (k count : ℕ) (out ends : List ℕ) (n : ℕ) (out' ends' : List ℕ) : Type 0 where
+pub record GathersArcs (arcs hm : List ℕ) (on : List Bool) (k count : ℕ) (out ends : List ℕ) (n : ℕ) (out' ends' : List ℕ) : Type 0 where
   pub same : length out' ≡ length out
   pub same_ends : length ends' ≡ length ends
   pub few : n ≤ count

@@ -1,6 +1,6 @@
 -- One definite part among the tables, and what it comes to.
 -- Assumes nothing: these are definitions.
-use Rattle.std.specs.Prelude.{ℕ, ◌/◌, ◌<◌, ◌≤◌, ◌≡◌, ◌⊎◌, length, get_or}
+use Rattle.std.specs.Prelude.{ℕ, ◌/◌, ◌<◌, ◌≤◌, ◌≡◌, ◌⊎◌, Result, Ok, Err, length, get_or}
 use Rattle.std.proofs.Math.Option.{Option, none, some}
 use mathlib.Core.List.{List, Memᴰ}
 use Rattle.theory.specs.Net.{Graph}
@@ -11,8 +11,8 @@ use Rattle.formulas.specs.Flat.{Item}
 use Rattle.formulas.specs.Tables.{Tables, edge, Trail, TablesFit}
 use Rattle.closing.specs.Rows.{in_edges}
 use Rattle.closing.specs.Chains.{Arcs}
-use Rattle.sheets.specs.declared.drawing.Drawn.{Drawn}
-use Rattle.sheets.specs.declared.drawing.Drawn.TheVariants.{Clash, Long, Words}
+use Rattle.sheets.specs.declared.drawing.Undrawn.{Undrawn}
+use Rattle.sheets.specs.declared.drawing.Undrawn.TheVariants.{Clash, Long}
 use Rattle.parting.specs.Gathered.{Members, row_in, home_in}
 
 -- the sheet A has the arcs from the root to the spot of k, and the rows that have come to k
@@ -35,14 +35,14 @@ pub record Parting (T : Tables) (hm : List ℕ) (k : ℕ) : Type 0 where
   pub part : Part T hm k A
 
 -- the graph of a part in words, unless it clashes or is longer than the room for it
-abbrev pub Drawn_as : Option Graph → Drawn → List ℕ → Type 0
-Drawn_as none r out = r ≡ Clash
+abbrev pub Drawn_as : Option Graph → Result ℕ Undrawn → List ℕ → Type 0
+Drawn_as none r out = r ≡ Err Clash
 Drawn_as (some g) r out =
-    ((r ≡ Long) × (length out < length (graph_words g)))
-    ⊎ ((r ≡ Words (length (graph_words g))) × Stands out 0 (graph_words g) (length (graph_words g)))
+    ((r ≡ Err Long) × (length out < length (graph_words g)))
+    ⊎ ((r ≡ Ok (length (graph_words g))) × Stands out 0 (graph_words g) (length (graph_words g)))
 
 -- what is promised
-abbrev pub PartDrawn : (T : Tables) (hm : List ℕ) (k : ℕ) (out : List ℕ) (r : Drawn) (out' : List ℕ) → Type 0
+abbrev pub PartDrawn : (T : Tables) (hm : List ℕ) (k : ℕ) (out : List ℕ) (r : Result ℕ Undrawn) (out' : List ℕ) → Type 0
 PartDrawn T hm k out r out' = (length out' ≡ length out)
     × ((A : Sheet) → Sound A → Part T hm k A → Drawn_as (sheet_graph A) r out')
 
@@ -64,6 +64,6 @@ pub record HalfParting (arcs ends atoms ties hm : List ℕ) (k : ℕ) : Type 0 w
   pub atom_homes : (i : ℕ) → i < length atoms / 2 → home_in atoms i < length hm
   pub tie_homes : (i : ℕ) → i < length ties / 2 → home_in ties i < length hm
 
-pub record HalfParts (arcs ends atoms ties hm : List ℕ) (k : ℕ) (out : List ℕ) (r : Drawn) (out' : List ℕ) : Type 0 where
+pub record HalfParts (arcs ends atoms ties hm : List ℕ) (k : ℕ) (out : List ℕ) (r : Result ℕ Undrawn) (out' : List ℕ) : Type 0 where
   pub same : length out' ≡ length out
   pub drawn : (A : Sheet) → Sound A → Half_part arcs ends atoms ties hm k A → Drawn_as (sheet_graph A) r out'

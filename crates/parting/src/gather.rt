@@ -21,47 +21,41 @@ pub fn gather_rows(rows: &[u32], homes: &[u32], k: usize, out: &mut [u32]) -> us
     ensures { Gathers rows.now homes.now k (length rows.now / 2)
         out.old result out.new }
 {
-    let count = rows.len() / 2;
-    let mut i = 0;
     let mut n = 0;
-    while i < count {
+    for i in 0..rows.len() / 2 {
         if comes(rows, homes, k, i) {
             out[n] = rows[2 * i];
             n += 1;
         }
-        i += 1;
     }
     n
 }
 
 // Marks the arcs from the root to the spot.
-pub fn mark_trail(arcs: &[u32], from: usize, on: &mut [u32])
+pub fn mark_trail(arcs: &[u32], from: usize, on: &mut [bool])
     requires { TrailMarking (arc_table arcs.now) from on.old }
     ensures { TrailMarks (arc_table arcs.now) from on.old on.new }
 {
     let mut s = from;
     while s != 0 {
-        on[s - 1] = 1;
+        on[s - 1] = true;
         s = spot(arcs[2 * (s - 1)]);
     }
 }
 
 // Is arc i marked, or has it come to k?
-fn belongs(arcs: &[u32], homes: &[u32], on: &[u32], k: usize, i: usize) -> bool
+fn belongs(arcs: &[u32], homes: &[u32], on: &[bool], k: usize, i: usize) -> bool
     requires { Belonging arcs.now homes.now on.now i }
     ensures { Belongs arcs.now homes.now on.now k i result }
 {
-    if on[i] != 0 {
-        return true;
-    }
-    comes(arcs, homes, k, i)
+    on[i] || comes(arcs, homes, k, i)
 }
 
 // Gathers the arcs that are marked and those that have come to k, with their ends. Their number.
 pub fn gather_arcs(
     arcs: &[u32],
     homes: &[u32],
-    on: &[u32],
+    on: &[bool],
     k: usize,
     out: &mut [u32],
     ends: &mut [u32],
@@ -70,16 +64,13 @@ pub fn gather_arcs(
     ensures { GathersArcs arcs.now homes.now on.now k (length arcs.now / 2)
         out.old ends.old result out.new ends.new }
 {
-    let count = arcs.len() / 2;
-    let mut i = 0;
     let mut n = 0;
-    while i < count {
+    for i in 0..arcs.len() / 2 {
         if belongs(arcs, homes, on, k, i) {
             out[n] = arcs[2 * i];
             ends[n] = (i + 1) as u32;
             n += 1;
         }
-        i += 1;
     }
     n
 }

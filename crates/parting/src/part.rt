@@ -6,7 +6,7 @@ ghost use Rattle.parting.specs.Parted.{Parting, PartDrawn, HalfParting, HalfPart
 use crate::gather::{gather_arcs, gather_rows, mark_trail};
 use closing::rows::SPOT_LIMIT;
 use limits::wide;
-use sheets::drawing::{Drawn, draw};
+use sheets::drawing::{Undrawn, draw};
 
 // There are at most so many atoms, and so many ties.
 const ROW_LIMIT: usize = 4096;
@@ -20,13 +20,13 @@ fn draw_part(
     homes: &[u32],
     k: usize,
     out: &mut [u32],
-) -> Drawn
+) -> Result<usize, Undrawn>
     requires { HalfParting arcs.now ends.now atoms.now ties.now homes.now k }
     ensures { HalfParts arcs.now ends.now atoms.now ties.now homes.now k
         out.old result out.new }
 {
-    let mut bears: [u32; ROW_LIMIT] = [0; ROW_LIMIT];
-    let mut shares: [u32; ROW_LIMIT] = [0; ROW_LIMIT];
+    let mut bears = [0; ROW_LIMIT];
+    let mut shares = [0; ROW_LIMIT];
     let n = gather_rows(atoms, homes, k, &mut bears);
     let m = gather_rows(ties, homes, k, &mut shares);
     draw(arcs, ends, &bears[..n], &shares[..m], out)
@@ -41,17 +41,17 @@ pub fn part(
     homes: &[u32],
     k: usize,
     out: &mut [u32],
-) -> Drawn
+) -> Result<usize, Undrawn>
     requires parting { Parting (tables arcs.now atoms.now ties.now alts.now) homes.now k }
     requires k_in_bounds { (k < length homes.now) × (4 * length homes.now ≤ length alts.now) }
     ensures { PartDrawn (tables arcs.now atoms.now ties.now alts.now)
         homes.now k
         out.old result out.new }
 {
-    let mut on: [u32; SPOT_LIMIT] = [0; SPOT_LIMIT];
+    let mut on = [false; SPOT_LIMIT];
     mark_trail(arcs, wide(alts[4 * k + 3]), &mut on);
-    let mut rows: [u32; SPOT_LIMIT] = [0; SPOT_LIMIT];
-    let mut ends: [u32; SPOT_LIMIT] = [0; SPOT_LIMIT];
+    let mut rows = [0; SPOT_LIMIT];
+    let mut ends = [0; SPOT_LIMIT];
     let n = gather_arcs(arcs, homes, &on, k, &mut rows, &mut ends);
     draw_part(&rows[..n], &ends[..n], atoms, ties, homes, k, out)
 }

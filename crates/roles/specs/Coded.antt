@@ -1,6 +1,8 @@
--- What the values of the code stand for: causes, rules and roles.
+-- What the values of the code stand for: causes, what is broken, and roles.
 -- Assumes nothing: these are definitions.
-use Rattle.std.proofs.Math.Option.{Option, none, some}
+use Rattle.std.specs.Prelude.{Option, Some, None}
+use Rattle.std.proofs.Math.Option as M
+use Rattle.std.proofs.Math.Option.{none, some}
 use Rattle.roles.specs.Faults as F
 use Rattle.roles.specs.Faults.{words_end, words_left_over, no_nodes, bad_head, bad_feature, bad_target, not_met, few_alternatives}
 use Rattle.roles.specs.Faults.{too_deep, node_count, node_head, arc_feature, arc_target, disjunction_count}
@@ -10,8 +12,6 @@ use Rattle.roles.specs.declared.cause.Cause.TheVariants.{WordsEnd, WordsLeftOver
 use Rattle.roles.specs.declared.cause.Cause.TheVariants.{FewAlternatives, TooDeep}
 use Rattle.roles.specs.declared.role.Role.{Role}
 use Rattle.roles.specs.declared.role.Role.TheVariants.{NodeCount, Head, Feature, Target, DisjunctionCount, AlternativeCount, End}
-use Rattle.roles.specs.declared.role.Rule.{Rule}
-use Rattle.roles.specs.declared.role.Rule.TheVariants.{Kept, Broken}
 
 abbrev pub cause_of : Cause → F.Cause
 cause_of WordsEnd = words_end
@@ -24,9 +24,9 @@ cause_of NotMet = not_met
 cause_of FewAlternatives = few_alternatives
 cause_of TooDeep = too_deep
 
-abbrev pub rule_of : Rule → Option F.Cause
-rule_of Kept = none
-rule_of (Broken c) = some (cause_of c)
+abbrev pub broken_of : Option Cause → M.Option F.Cause
+broken_of None = none
+broken_of (Some c) = some (cause_of c)
 
 abbrev pub role_of : Role → F.Role
 role_of NodeCount = node_count

@@ -4,7 +4,7 @@ ghost use Rattle.roles.specs.Coded.{cause_of};
 ghost use Rattle.roles.specs.Causes.{cause_number, cause_data};
 
 // The nine causes, in request Two's order; some have data of their own.
-#[derive(Clone, Copy)]
+#[derive(Clone, Copy, Debug, PartialEq, Eq)]
 pub enum Cause {
     WordsEnd,
     WordsLeftOver,
@@ -39,14 +39,7 @@ pub fn cause_data(cause: Cause) -> u32
     ensures { result ≡ cause_data (cause_of cause) }
 {
     match cause {
-        Cause::WordsEnd => 0,
-        Cause::WordsLeftOver => 0,
-        Cause::NoNodes => 0,
-        Cause::BadHead(head) => head,
-        Cause::BadFeature => 0,
-        Cause::BadTarget(target) => target,
-        Cause::NotMet => 0,
-        Cause::FewAlternatives => 0,
-        Cause::TooDeep => 0,
+        Cause::BadHead(word) | Cause::BadTarget(word) => word,
+        _ => 0,
     }
 }

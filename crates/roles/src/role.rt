@@ -1,7 +1,7 @@
-// What a word has to be, and whether it breaks a rule.
+// What a word has to be, and the rule that it breaks.
 ghost use Rattle.std.specs.Prelude.{◌≡◌, length};
 ghost use Rattle.roles.specs.Faults.{Nesting, expect, breaks};
-ghost use Rattle.roles.specs.Coded.{role_of, rule_of};
+ghost use Rattle.roles.specs.Coded.{role_of, broken_of};
 
 use crate::cause::Cause;
 use limits::{CODE_LIMIT, DEPTH_LIMIT};
@@ -29,76 +29,67 @@ pub enum Role {
     End,
 }
 
-// Whether a word breaks a rule, and by which cause.
-#[derive(Clone, Copy)]
-pub enum Rule {
-    Kept,
-    Broken(Cause),
-}
-
 // "a node not yet met shows at its own head, before a bad head"
-fn head_breaks(nodes: Nodes, head: u32) -> Rule
-    ensures { (s : Nesting) → rule_of result ≡ breaks (expect (role_of (Role.Head nodes)) s) head }
+fn head_breaks(nodes: Nodes, head: u32) -> Option<Cause>
+    ensures { (s : Nesting) → broken_of result ≡ breaks (expect (role_of (Role.Head nodes)) s) head }
 {
-    let node = nodes.node;
-    let met = nodes.met;
-    if met <= node {
-        return Rule::Broken(Cause::NotMet);
+    if nodes.met <= nodes.node {
+        return Some(Cause::NotMet);
     }
     if HEAD_LIMIT <= head {
-        return Rule::Broken(Cause::BadHead(head));
+        return Some(Cause::BadHead(head));
     }
-    Rule::Kept
+    None
 }
 
-fn feature_breaks(nodes: Nodes, left: u32, low: u32, feature: u32) -> Rule
-    ensures { (s : Nesting) → rule_of result ≡ breaks (expect (role_of (Role.Feature nodes left low)) s) feature }
+fn feature_breaks(nodes: Nodes, left: u32, low: u32, feature: u32) -> Option<Cause>
+    ensures { (s : Nesting) → broken_of result ≡ breaks (expect (role_of (Role.Feature nodes left low)) s) feature }
 {
     if feature < low {
-        return Rule::Broken(Cause::BadFeature);
+        return Some(Cause::BadFeature);
     }
     if CODE_LIMIT <= feature {
-        return Rule::Broken(Cause::BadFeature);
+        return Some(Cause::BadFeature);
     }
-    Rule::Kept
+    None
 }
 
-fn target_breaks(nodes: Nodes, left: u32, low: u32, target: u32) -> Rule
-    ensures { (s : Nesting) → rule_of result ≡ breaks (expect (role_of (Role.Target nodes left low)) s) target }
+fn target_breaks(nodes: Nodes, left: u32, low: u32, target: u32) -> Option<Cause>
+    ensures { (s : Nesting) → broken_of result ≡ breaks (expect (role_of (Role.Target nodes left low)) s) target }
 {
     if nodes.met < target {
-        return Rule::Broken(Cause::BadTarget(target));
+        return Some(Cause::BadTarget(target));
     }
     if nodes.count <= target {
-        return Rule::Broken(Cause::BadTarget(target));
+        return Some(Cause::BadTarget(target));
     }
-    Rule::Kept
+    None
 }
 
 // "too deep a nesting at the number of disjunctions"
-fn disjunctions_break(depth: u32, count: u32) -> Rule
+fn disjunctions_break(depth: u32, count: u32) -> Option<Cause>
     ensures { (s : Nesting) → length s ≡ depth →
-        rule_of result ≡ breaks (expect (role_of Role.DisjunctionCount) s) count }
+        broken_of result ≡ breaks (expect (role_of Role.DisjunctionCount) s) count }
 {
     if count == 0 {
-        return Rule::Kept;
+        return None;
     }
     if DEPTH_LIMIT <= depth {
-        return Rule::Broken(Cause::TooDeep);
+        return Some(Cause::TooDeep);
     }
-    Rule::Kept
+    None
 }
 
-// A word in its role, where alternatives are open so deep.
-pub fn breaks(role: Role, depth: u32, word: u32) -> Rule
-    ensures { (s : Nesting) → length s ≡ depth → rule_of result ≡ breaks (expect (role_of role) s) word }
+// The cause that is broken by a word in its role, if any, where alternatives are open so deep.
+pub fn breaks(role: Role, depth: u32, word: u32) -> Option<Cause>
+    ensures { (s : Nesting) → length s ≡ depth → broken_of result ≡ breaks (expect (role_of role) s) word }
 {
     match role {
         Role::NodeCount => {
             if word == 0 {
-                return Rule::Broken(Cause::NoNodes);
+                return Some(Cause::NoNodes);
             }
-            Rule::Kept
+            None
         }
         Role::Head(nodes) => head_breaks(nodes, word),
         Role::Feature(nodes, left, low) => feature_breaks(nodes, left, low, word),
@@ -106,10 +97,10 @@ pub fn breaks(role: Role, depth: u32, word: u32) -> Rule
         Role::DisjunctionCount => disjunctions_break(depth, word),
         Role::AlternativeCount(_) => {
             if word < 2 {
-                return Rule::Broken(Cause::FewAlternatives);
+                return Some(Cause::FewAlternatives);
             }
-            Rule::Kept
+            None
         }
-        Role::End => Rule::Broken(Cause::WordsLeftOver),
+        Role::End => Some(Cause::WordsLeftOver),
     }
 }

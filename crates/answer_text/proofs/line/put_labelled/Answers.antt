@@ -1,19 +1,14 @@
 -- `answer_text::line::put_labelled` meets its contract.
 -- Assumes nothing.
-use mathlib.Core.Path.{◌≡◌}
-use Rattle.answer_text.specs.Answer.{decimal, labelled}
-use Rattle.answer_text.specs.declared.line.Written.TheVariants.{NoRoom}
-use Rattle.answer_text.proofs.Goings.{both, first_stops}
+use mathlib.Core.List.{append_assoc}
+use Rattle.answer_text.specs.Answer.{labelled}
 use Rattle.answer_text.proofs.line.put_labelled.Goals as goal
 
-pub returns-in_default : goal.returns-in_default
+pub returns-in_err-next : goal.returns-in_err-next
 unfolding labelled
-returns-in_default c =
-    let gone : NoRoom ≡ c.put_run-front.result = cc in
-    first_stops c.args.label.now (decimal c.args.value) c.args.dst.now c.put_run-front.new.dst c.args.at c.put_run-front.result c.put_run-front.ensures gone
+returns-in_err-next c = λ old whole left g.
+    rw c.from_residual.ensures (c.in_err-next.ensures old whole _ (rw append_assoc at g))
 
 pub returns : goal.returns
 unfolding labelled
-returns c =
-    both c.args.label.now (decimal c.args.value) c.args.dst.now c.put_run-front.new.dst c.args.at c.put_run-front.result c.put_run-front.ensures c.in-Bytes.next c.in-Bytes.is c.put_decimal.new.dst
-    c.put_decimal.result c.put_decimal.ensures
+returns c = λ old whole left g. c.put_decimal.ensures old whole left (c.in_ok-next.ensures old whole _ (rw append_assoc at g))

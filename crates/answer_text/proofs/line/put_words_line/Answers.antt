@@ -1,17 +1,11 @@
 -- `answer_text::line::put_words_line` meets its contract.
 -- Assumes nothing.
-use mathlib.Core.Path.{◌≡◌}
-use Rattle.answer_text.specs.Answer.{spaced, newline}
-use Rattle.answer_text.specs.declared.line.Written.TheVariants.{NoRoom}
-use Rattle.answer_text.proofs.Goings.{both, first_stops}
+use mathlib.Core.List.{append_assoc}
 use Rattle.answer_text.proofs.line.put_words_line.Goals as goal
 
-pub returns-in_default : goal.returns-in_default
-returns-in_default c =
-    let gone : NoRoom ≡ c.put_words-front.result = cc in
-    first_stops (spaced c.args.words.now) newline c.args.dst.now c.put_words-front.new.dst c.args.at c.put_words-front.result c.put_words-front.ensures gone
+pub returns-in_err-next : goal.returns-in_err-next
+returns-in_err-next c = λ old whole left g.
+    rw c.from_residual.ensures (c.in_err-next.ensures old whole _ (rw append_assoc at g))
 
 pub returns : goal.returns
-returns c =
-    both (spaced c.args.words.now) newline c.args.dst.now c.put_words-front.new.dst c.args.at c.put_words-front.result c.put_words-front.ensures c.in-Bytes.next c.in-Bytes.is c.put.new.dst
-    c.put.result c.put.ensures
+returns c = λ old whole left g. c.put.ensures old whole left (c.in_ok-next.ensures old whole _ (rw append_assoc at g))

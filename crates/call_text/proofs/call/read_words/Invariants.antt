@@ -1,4 +1,3 @@
-use Prim.Native.Nat.{◌-◌}
 use lib.ListN.{drop}
 use Rattle.call_text.specs.Call.{words_in}
 use Rattle.call_text.proofs.Runs.{Going}
@@ -6,6 +5,3 @@ use Rattle.call_text.proofs.call.read_words.Given as goal
 
 abbrev pub invariant-loop-i : goal.invariant-loop-i
 invariant-loop-i l = Going l.text (words_in l.count (drop l.p l.text)) l.initial.dst l.count l.dst l.at l.i
-
-abbrev pub decreases-loop-i : goal.decreases-loop-i
-decreases-loop-i l = l.count - l.i

@@ -8,6 +8,6 @@ pub returns-then-c-eq32 : goal.returns-then-c-eq32
 unfolding space_or_newline
 returns-then-c-eq32 c = rw (eq-eqb c.args.c 32 c.if-c-eq32.true, space_or_newline)
 
-pub returns : goal.returns
+pub returns-else-c-eq32 : goal.returns-else-c-eq32
 unfolding space_or_newline
-returns c = rw (ne_eqb c.args.c 32 c.if-c-eq32.false, space_or_newline)
+returns-else-c-eq32 c = rw (ne_eqb c.args.c 32 c.if-c-eq32.false, space_or_newline)

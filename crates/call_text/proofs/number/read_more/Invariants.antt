@@ -1,11 +1,8 @@
-use Prim.Native.Nat.{◌-◌, ◌≤◌}
+use Prim.Native.Nat.{◌≤◌}
 use mathlib.Core.Path.{◌≡◌}
-use lib.ListN.{length, drop}
+use lib.ListN.{drop}
 use Rattle.call_text.specs.Token.{largest, more}
 use Rattle.call_text.proofs.number.read_more.Given as goal
 
 abbrev pub invariant-loop-at : goal.invariant-loop-at
-invariant-loop-at l = (l.value ≤ largest) × (more l.value (drop l.at l.text) ≡ more l.first (drop l.p l.text)) × (l.at ≤ length l.text)
-
-abbrev pub decreases-loop-at : goal.decreases-loop-at
-decreases-loop-at l = length l.text - l.at
+invariant-loop-at l = (l.value ≤ largest) × (more l.value (drop l.at l.text) ≡ more l.first (drop l.p l.text))

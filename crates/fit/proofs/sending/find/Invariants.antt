@@ -3,6 +3,3 @@ use Rattle.fit.proofs.sending.find.Given as goal
 
 abbrev pub invariant-loop-left : goal.invariant-loop-left
 invariant-loop-left l = Looking l.structure l.end l.count l.feature l.left
-
-abbrev pub decreases-loop-left : goal.decreases-loop-left
-decreases-loop-left l = l.left

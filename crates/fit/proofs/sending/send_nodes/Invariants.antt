@@ -1,9 +1,5 @@
-use Prim.Native.Nat.{◌-◌}
 use Rattle.fit.proofs.Nodewise.{Nodewise}
 use Rattle.fit.proofs.sending.send_nodes.Given as goal
 
 abbrev pub invariant-loop-i : goal.invariant-loop-i
-invariant-loop-i l = Nodewise l.structure l.ws l.p l.nodes l.initial.map l.i l.at l.map l.met
-
-abbrev pub decreases-loop-i : goal.decreases-loop-i
-decreases-loop-i l = l.nodes - l.i
+invariant-loop-i l = Nodewise l.structure l.ws l.p l.nodes l.initial.map l.i l.walk.next l.map l.walk.met

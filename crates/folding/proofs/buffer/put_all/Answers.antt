@@ -1,34 +1,25 @@
--- `folding::buffer::put_all` meets its contract. Assumes nothing.
-use Prim.Native.Nat.{ℕ, suc, ◌-◌, ◌<◌, ◌≤◌}
+-- `folding::buffer::put_all` meets its contract: the words that the iterator has given are written. Assumes nothing.
 use native.Mathlib.Omega.{arith}
-use mathlib.Core.Path.{◌≡◌, sym, subst}
-use lib.ListN.{length}
-use Rattle.folding.proofs.Ending.{Back, back_start, back_more}
+use Rattle.folding.proofs.Ending.{backwards_start, backwards_more, backwards_done}
 use Rattle.folding.proofs.buffer.put_all.Goals as goal
 
-pub loop-left-init : goal.loop-left-init
-loop-left-init c =
-    let few : c.args.count ≤ length c.args.xs.now = omega arith in
-    (omega arith, omega arith, omega arith, back_start _ _ _ _ few (omega arith))
+pub loop-x-init : goal.loop-x-init
+loop-x-init c = (
+  tt,
+  tt,
+  backwards_start _ _ _ _ (omega arith)
+      (rw (c.into_iter-x-iterator.ensures.into_iter_gives, c.rev-x-items.ensures.source) c.iter.ensures.rest),
+)
 
 pub put-at-requires : goal.put-at-requires
-put-at-requires c = (omega arith, omega arith)
+put-at-requires c = let g = c.loop-x.invariant.2.puts.grows in let same = g.same in let most = g.most in (omega arith, omega arith)
 
-pub loop-left-preserved : goal.loop-left-preserved
-loop-left-preserved c =
-    let more : ◌<◌ 0 c.loop-left.left = omega arith in
-    let e : suc (c.loop-left.left - 1) ≡ c.loop-left.left = omega arith in
-    let few : c.args.count ≤ length c.args.xs.now = omega arith in (
-      omega arith,
-      omega arith,
-      omega arith,
-      back_more _ _ _ _ few _ _ _ _ _ (omega arith)
-          (subst (λ (z : ℕ). Back c.args.b.now c.args.len c.args.xs.now c.args.count z
-          c.loop-left.b c.loop-left.at) (sym e) c.loop-left.invariant.3) c.put-at.ensures,
-    )
+pub loop-x-preserved : goal.loop-x-preserved
+loop-x-preserved c = (
+  tt,
+  tt,
+  backwards_more _ _ _ _ _ _ c.loop-x.invariant.2 _ _ _ _ c.in-Some.ensures.steps c.put-at.ensures,
+)
 
 pub returns : goal.returns
-returns c =
-    let none_left : c.loop-left.left ≡ 0 = omega arith in
-    subst (λ (z : ℕ). Back c.args.b.now c.args.len c.args.xs.now c.args.count z c.loop-left.b c.loop-left.at) none_left
-    c.loop-left.invariant.3
+returns c = backwards_done _ _ _ _ _ _ c.loop-x.invariant.2 c.in-None.ensures.steps.0

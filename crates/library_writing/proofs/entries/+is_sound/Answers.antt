@@ -23,12 +23,12 @@ is_sound-requires t c =
     let n = tail_length 2 c.args.entries.now in
     (omega arith, tt)
 
-pub returns-in-Accepted : goal.returns-in-Accepted
-returns-in-Accepted t c =
-    let good = imaged_yes (take c.wide-count.result c.args.words.now) c.judge-judgement.result c.judge-judgement.ensures c.in-Accepted.is in
+pub returns-then-judge : goal.returns-then-judge
+returns-then-judge t c =
+    let good = imaged_yes (take c.wide-count.result c.args.words.now) c.judge.result c.judge.ensures c.if-judge.true in
     c.is_sound.ensures ∙ rw c.wide-count.ensures (sound_step c.args.entries.now c.args.words.now c.if-entries-lt2.false (omega arith) (rw c.wide-count.ensures at good))
 
-pub returns-in-Malformed : goal.returns-in-Malformed
-returns-in-Malformed t c =
-    let bad = imaged_not (take c.wide-count.result c.args.words.now) c.judge-judgement.result c.judge-judgement.ensures c.in-Malformed.is in
-    sound_stop c.args.entries.now c.args.words.now c.if-entries-lt2.false (omega arith) (rw c.wide-count.ensures at bad)
+pub returns-else-judge : goal.returns-else-judge
+returns-else-judge t c =
+    let bad = imaged_not (take c.wide-count.result c.args.words.now) c.judge.result c.judge.ensures c.if-judge.false in
+    c.if-judge.false ∙ sound_stop c.args.entries.now c.args.words.now c.if-entries-lt2.false (omega arith) (rw c.wide-count.ensures at bad)

@@ -1,20 +1,12 @@
 -- `library_writing::filling::put_word` meets its contract.
 -- Assumes nothing.
+use Prim.Native.Nat.{◌+◌, ◌-◌}
 use native.Mathlib.Omega.{arith}
-use Prim.Native.Nat.{◌+◌, ◌%◌}
-use lib.ListN.{set}
-use lib.Seq.{lt-length-set}
-use Rattle.library_writing.proofs.Poured.{four_stored}
+use mathlib.Core.Path.{◌≡◌}
+use Rattle.library_writing.proofs.Poured.{stored}
 use Rattle.library_writing.proofs.filling.put_word.Goals as goal
 
-pub bounds-bytes-at-2 : goal.bounds-bytes-at-2
-bounds-bytes-at-2 c =
-    lt-length-set c.args.bytes.now c.args.at _ (omega arith)
-
-pub bounds-bytes-at-3 : goal.bounds-bytes-at-3
-bounds-bytes-at-3 c =
-    lt-length-set (set c.args.bytes.now c.args.at (c.args.value % 256)) (c.args.at + 1) _
-    (lt-length-set c.args.bytes.now c.args.at (c.args.value % 256) (omega arith))
-
 pub returns : goal.returns
-returns c = four_stored c.args.bytes.now c.args.at _ _ _ _
+returns c =
+    let four : (c.args.at + 4) - c.args.at ≡ 4 = omega arith in
+    rw c.copy_from_slice.ensures.after (rw c.to_le_bytes.ensures (rw four (stored c.args.bytes.now c.args.at c.args.value (omega arith))))

@@ -1,7 +1,5 @@
 -- `parting::part::part` meets its contract. Assumes nothing.
 use native.Mathlib.Omega.{arith}
-use mathlib.Core.Path.{sym}
-use lib.Seq.{length-take-le}
 use Rattle.closing.specs.Rows.{spot_limit}
 use Rattle.parting.proofs.Parted.{part_marks, part_asks, part_drawn}
 use Rattle.parting.proofs.part.part.Goals as goal
@@ -10,14 +8,6 @@ pub mark_trail-requires : goal.mark_trail-requires
 mark_trail-requires c =
     part_marks c.args.arcs.now c.args.atoms.now c.args.ties.now c.args.alts.now c.args.homes.now _ c.requires.parting _
     c.wide.ensures spot_limit (omega arith)
-
-pub slice_bounds-draw_part-end : goal.slice_bounds-draw_part-end
-slice_bounds-draw_part-end c =
-    sym (length-take-le c.gather_arcs-n.result c.gather_arcs-n.new.out (omega (arith, c.gather_arcs-n.ensures)))
-
-pub slice_bounds-draw_part-end-2 : goal.slice_bounds-draw_part-end-2
-slice_bounds-draw_part-end-2 c =
-    sym (length-take-le c.gather_arcs-n.result c.gather_arcs-n.new.ends (omega (arith, c.gather_arcs-n.ensures)))
 
 pub draw_part-requires : goal.draw_part-requires
 draw_part-requires c =

@@ -1,2 +1,0 @@
--- `Laws` has what the functions cite: the rule that a word breaks, by its role.
-pub mod Laws
