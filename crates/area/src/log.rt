@@ -24,9 +24,7 @@ pub fn undo(w: &mut [u32], n: usize, m: usize)
     requires m_le_n { m ≤ n }
     ensures { Undone m n w.old w.new }
 {
-    let mut k = n;
-    while m < k {
-        k -= 1;
+    for k in (m..n).rev() {
         let e = w[LOG + k];
         let i = wide(e % ENTRY_STEP);
         w[i] = e / ENTRY_STEP;
