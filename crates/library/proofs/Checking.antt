@@ -17,14 +17,6 @@ use Rattle.library.specs.declared.index.IndexError.{IndexError}
 use Rattle.library.specs.declared.survey.CheckError.TheVariants as error
 
 module _ (first n k : ℕ) where
-  pub among_before : k < first → false ≡ block_among first n k
-  unfolding block_among
-  among_before h = simp (lt-leb _ _ h)
-
-  pub among_test : first ≤ k → ltb (k - first) (room_of n) ≡ block_among first n k
-  unfolding block_among
-  among_test h = sym (ap (λ (t : Bool). whichever t (ltb (k - first) (room_of n)) false) (le-leb first k h))
-
   pub among_means : block_among first n k ≡ true → (first ≤ k) × (k - first < room_of n)
   unfolding block_among
   among_means e =
@@ -48,25 +40,6 @@ module _ (k : ℕ) where
   unfolding holder_of
   holder_none zero p b h = refl
   holder_none (suc c) p b h = absurd (not-suc-le-zero h)
-
-module _ (k count : ℕ) (f : List ℕ) where
-  pub held_start : k ≡ 0 → Ok None ≡ held_checked k count f
-  unfolding held_checked
-  held_start h = simp (eq-eqb _ _ h)
-
-  module _ (later : k ≡ 0 → ⊥) where
-    pub held_nobody : holder_of k count 2 (block_of 0 f) ≡ None → Err error.NoBlock ≡ held_checked k count f
-    unfolding held_checked checked_in
-    held_nobody e = sym (simp (ne_eqb _ _ later) (rw e))
-
-    module _ (id used : ℕ) (held : holder_of k count 2 (block_of 0 f) ≡ held_by id used) where
-      pub held_whole : intact used k (block_of k f) ≡ true → Ok None ≡ held_checked k count f
-      unfolding held_checked checked_in
-      held_whole e = sym (simp (ne_eqb _ _ later) (rw held (rw e)))
-
-      pub held_costs : intact used k (block_of k f) ≡ false → Ok (Some id) ≡ held_checked k count f
-      unfolding held_checked checked_in
-      held_costs e = sym (simp (ne_eqb _ _ later) (rw held (rw e)))
 
 module _ (k : ℕ) (f : List ℕ) where
   pub checked_good : (count : ℕ) → Ok count ≡ index_of f → held_checked k count f ≡ block_checked k f

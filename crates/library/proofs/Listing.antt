@@ -57,15 +57,6 @@ module _ (b : List ℕ) where
       ap (λ (l : List ℕ). set l (2 * i + 1) y) (one ∙ apart) ∙ two ∙ append_assoc front (x ∷ []) (y ∷ tail)
       ∙ sym (append_assoc front (x ∷ y ∷ []) tail) ∙ ap (λ (l : List ℕ). l ++ tail) (sym more)
 
-module _ (count : ℕ) (f area area' : List ℕ) where
-  pub lists_short : length area < 2 * count → area' ≡ area → ListsEntries count f area area' (Err (error.NoRoom (2 * count)))
-  unfolding list_answer_of
-  lists_short h a = record { answer = rw (lt-leb _ _ h); leaves = a }
-
-  pub lists_all : 2 * count ≤ length area → area' ≡ listing count 2 (block_of 0 f) ++ drop (2 * count) area → ListsEntries count f area area' (Ok (2 * count))
-  unfolding list_answer_of
-  lists_all h a = record { answer = rw (le-leb _ _ h); leaves = a }
-
 module _ (f area area' : List ℕ) where
   pub lists_good : (count : ℕ) (r : Listed) → Ok count ≡ index_of f → ListsEntries count f area area' r → ListsLibrary f area area' r
   unfolding list_answer list_answer_by list_by

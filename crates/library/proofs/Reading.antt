@@ -83,10 +83,6 @@ module _ (ws : List ℕ) (j : Bool) (judged : Judged ws j) where
   imaged_not e = ap has_read ((refused_decodes ws j judged).0 (λ a. let z : ◌≡◌ {A = ℕ} 0 1 = cc in omega arith))
 
 module _ (k n : ℕ) (f area area' : List ℕ) where
-  pub fetches_damaged : whole_blocks (room_of n) k n f ≡ false → area' ≡ area → FetchesAt k n f area area' (Err error.Damaged)
-  unfolding fetch_answer_at
-  fetches_damaged e a = record { answer = rw e; leaves = a }
-
   module _ (whole : whole_blocks (room_of n) k n f ≡ true) where
     pub fetches_malformed : imaged (words_from k 0 n f) ≡ false → area' ≡ area → FetchesAt k n f area area' (Err error.Malformed)
     unfolding fetch_answer_at

@@ -93,6 +93,7 @@ fn read_description(
 }
 
 // Reads the description of an identifier in a library whose index is good.
+#[tactic(auto, unfolding(crate::specs::Read::fetch_answer_found, crate::specs::Read::words_found))]
 fn read_indexed(
     file: &[u8],
     count: usize,

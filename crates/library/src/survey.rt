@@ -57,6 +57,7 @@ fn find_holder(start: &[u8], count: usize, k: usize) -> Option<Holder>
 }
 
 // Checks block k of a library whose index is good.
+#[tactic(auto, unfolding(crate::specs::Check::held_checked, crate::specs::Check::checked_in))]
 fn check_held(file: &[u8], count: usize, k: usize) -> Result<Option<usize>, CheckError>
     requires { Ok count ≡ index_of file.now }
     ensures { result ≡ held_checked k count file.now }
