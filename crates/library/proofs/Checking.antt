@@ -3,18 +3,16 @@
 use Prim.Native.Nat.{ℕ, zero, suc, ◌+◌, ◌*◌, ◌-◌, ◌≤◌, ◌<◌}
 use native.Mathlib.Numerals.{sub-one}
 use native.Mathlib.Nat.{not-suc-le-zero}
-use mathlib.Core.Path.{◌≡◌, refl, sym, ap}
-use mathlib.Core.Bool.{Bool, true, false}
+use mathlib.Core.Path.{◌≡◌, refl}
+use mathlib.Core.Bool.{true, false}
 use mathlib.Core.List.{List}
 use lib.Dec.{leb, ltb}
-use borrow.Author.Tests.{eq-eqb, ne_eqb, le-leb, lt-leb, leb-true, ltb-true}
-use Rattle.blocks.specs.Block.{whichever, pair_at, intact, block_of}
+use borrow.Author.Tests.{leb-true, ltb-true}
+use Rattle.blocks.specs.Block.{pair_at}
 use Rattle.blocks.proofs.Whole.{whichever_true}
-use Rattle.library.specs.Index.{room_of, first_part, Index, index_of}
-use Rattle.library.specs.Check.{held_by, block_among, holder_of, checked_in, held_checked, checked_by, block_checked}
-use Rattle.std.specs.Prelude.{Some, None, Ok, Err}
-use Rattle.library.specs.declared.index.IndexError.{IndexError}
-use Rattle.library.specs.declared.survey.CheckError.TheVariants as error
+use Rattle.library.specs.Index.{room_of, first_part}
+use Rattle.library.specs.Check.{held_by, block_among, holder_of}
+use Rattle.std.specs.Prelude.{None}
 
 module _ (first n k : ℕ) where
   pub among_means : block_among first n k ≡ true → (first ≤ k) × (k - first < room_of n)
@@ -40,12 +38,3 @@ module _ (k : ℕ) where
   unfolding holder_of
   holder_none zero p b h = refl
   holder_none (suc c) p b h = absurd (not-suc-le-zero h)
-
-module _ (k : ℕ) (f : List ℕ) where
-  pub checked_good : (count : ℕ) → Ok count ≡ index_of f → held_checked k count f ≡ block_checked k f
-  unfolding block_checked checked_by
-  checked_good count e = ap (λ (x : Index). checked_by x k f) e
-
-  pub checked_refused : (e : IndexError) → Err e ≡ index_of f → Err (error.Index e) ≡ block_checked k f
-  unfolding block_checked checked_by
-  checked_refused error e = ap (λ (x : Index). checked_by x k f) e

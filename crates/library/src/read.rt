@@ -111,7 +111,7 @@ fn read_indexed(
 }
 
 // Reads the description of an identifier of a library to the start of the area. So many words are read.
-#[tactic(auto, using(crate::proofs::Reading::fetches_good, crate::proofs::Reading::fetches_refused))]
+#[tactic(auto, using(crate::proofs::Reading::fetches_refused))]
 pub fn fetch(file: &[u8], identifier: u32, area: &mut [u32]) -> Result<usize, ReadError>
     ensures { Fetches file.now identifier area.old area.new result }
 {

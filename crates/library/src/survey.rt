@@ -76,7 +76,7 @@ fn check_held(file: &[u8], count: usize, k: usize) -> Result<Option<usize>, Chec
 }
 
 // Checks block k of a library: the identifier of the description that its damage costs, or none where it is whole.
-#[tactic(auto, using(crate::proofs::Checking::checked_good, crate::proofs::Checking::checked_refused))]
+#[tactic(auto, unfolding(crate::specs::Check::block_checked, crate::specs::Check::checked_by))]
 pub fn check_block(file: &[u8], k: usize) -> Result<Option<usize>, CheckError>
     ensures { result ≡ block_checked k file.now }
 {
