@@ -14,13 +14,6 @@ use Rattle.theory.proofs.Number.{TestLt, less, geq, test_lt}
 use Rattle.closing.specs.Chains.{Clears}
 use Rattle.closing.specs.Rows.{spot_limit, spot_of, spot_mark, in_edges, in_pairs}
 
-pub below_or : (i n : ℕ) → (i < n) ⊎ (n ≤ i)
-below_or i n = go (ltb i n) (test_lt i n)
-  where
-    go : (t : Bool) → TestLt i n t → (i < n) ⊎ (n ≤ i)
-    go true (less h) = inl h
-    go false (geq h) = inr h
-
 -- the default does not count within a list
 pub getD_within : (l : List ℕ) (i d e : ℕ) → i < length l → get_or l i d ≡ get_or l i e
 getD_within [] i d e h = absurd (omega arith)
