@@ -37,13 +37,13 @@ fn resume(w: &mut [u32], k: usize, n: usize, a: Agenda) -> u32
     if a.frames == 0 {
         return 1;
     }
-    let at = a.at0;
-    let more = a.more0;
+    let nearest = a.stack[a.frames - 1];
+    let at = nearest.at;
+    let more = nearest.more;
     let count = alternatives_at(w, at);
     let tally = count_kept(w, at + 1, count);
     let end = tally.after;
-    let which = tally.remnant;
-    match which {
+    match tally.remnant {
         Remnant::Nothing => 0,
         Remnant::One(first) => {
             let later = after(a);
@@ -67,10 +67,9 @@ fn choose(w: &mut [u32], k: usize, n: usize, p: usize, count: usize, a: Agenda) 
     requires { Branching n k w.old p count a }
     ensures { Branches n k w.old p count a result w.new }
 {
-    let mut left = count;
     let mut at = p;
     let mut sum: u32 = 0;
-    while 0 < left {
+    for _ in 0..count {
         let x = mark_at(w, at);
         let next = after_at(w, at);
         if kept(w, x) {
@@ -78,7 +77,6 @@ fn choose(w: &mut [u32], k: usize, n: usize, p: usize, count: usize, a: Agenda) 
             sum = capped(sum + found);
         }
         at = next;
-        left -= 1;
     }
     sum
 }

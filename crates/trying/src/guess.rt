@@ -24,11 +24,10 @@ fn suit(w: &[u32], n: usize, x: usize, f: u32, v: u32, t: &[u32]) -> Guess
     requires atom_code { AtomCode v }
     ensures { Suits n w.now f v result }
 {
-    let r = look_through(w, x, f, t);
-    if r == 0 {
+    let Some(arc) = look_through(w, x, f, t) else {
         return Guess::Agrees;
-    }
-    let y = target(w, r - 1);
+    };
+    let y = target(w, arc);
     let c = class_of(w, n, y);
     let held = held_by(w, c);
     match held {

@@ -1,6 +1,7 @@
 -- The cycle of `choose`, `resume` and `take` meets its contracts: each step goes on to the whole, and the position of what is left rises.
 -- Assumes nothing.
 use native.Mathlib.Omega.{arith}
+use native.Mathlib.Nat.{sub-zero, sub-add-eq}
 use mathlib.Core.Path.{refl, ◌∙◌}
 use mathlib.Core.Logic.{⊎_elim}
 use Rattle.search.proofs.Finding.{finds_small}
@@ -13,55 +14,49 @@ use Rattle.search.proofs.Resuming.{one_opens, one_asks, one_falls, one_notes, re
 use Rattle.search.proofs.search.+choose_resume_take.Goals as goal
 use Rattle.search.proofs.search.+choose_resume_take.Goals.{choose-then-kept, choose-else-kept}
 
-pub choose-loop-left-init : goal.choose-loop-left-init
-choose-loop-left-init t c = (choose_moved _ _ _ _ _ _ c.requires, λ d. choose_start _ _ _ _ _ _ d)
+pub choose-loop-init : goal.choose-loop-init
+choose-loop-init t c = (choose_moved _ _ _ _ _ _ c.requires, λ d. rw sub-zero (choose_start _ _ _ _ _ _ d))
 
 pub choose-mark_at-x-requires : goal.choose-mark_at-x-requires
-choose-mark_at-x-requires t c = let old : _ × _ = choose_here _ _ _ _ _ _ c.requires _ _ _ _ c.loop-left.invariant.0 (c.loop-left.invariant.1 c.requires) (omega arith) in record { p_bound = old.0; p_bound_2 = old.1 }
+choose-mark_at-x-requires t c = let old : _ × _ = choose_here _ _ _ _ _ _ c.requires _ _ _ _ c.loop.invariant.0 (c.loop.invariant.1 c.requires) (omega arith) in record { p_bound = old.0; p_bound_2 = old.1 }
 
 pub choose-after_at-next-requires : goal.choose-after_at-next-requires
-choose-after_at-next-requires t c = let old : _ × _ = choose_here _ _ _ _ _ _ c.requires _ _ _ _ c.loop-left.invariant.0 (c.loop-left.invariant.1 c.requires) (omega arith) in record { p_bound = old.0; p_bound_2 = old.1 }
+choose-after_at-next-requires t c = let old : _ × _ = choose_here _ _ _ _ _ _ c.requires _ _ _ _ c.loop.invariant.0 (c.loop.invariant.1 c.requires) (omega arith) in record { p_bound = old.0; p_bound_2 = old.1 }
 
 pub choose-kept-requires : goal.choose-kept-requires
 choose-kept-requires t c =
-    (c.mark_at-x.ensures.1, omega (arith, c.loop-left.invariant.0.len, c.requires.s.holds.long))
+    (c.mark_at-x.ensures.1, omega (arith, c.loop.invariant.0.len, c.requires.s.holds.long))
 
 pub choose-take-found-requires : goal.choose-take-found-requires
 choose-take-found-requires t c =
-    let on = (c.loop-left.invariant.1 c.requires).on in (
+    let on = (c.loop.invariant.1 c.requires).on in (
       omega arith,
-      choose_asks _ _ _ _ _ _ c.requires _ _ _ _ c.loop-left.invariant.0 (c.loop-left.invariant.1 c.requires) (omega arith) _ c.mark_at-x.ensures (cc),
+      choose_asks _ _ _ _ _ _ c.requires _ _ _ _ c.loop.invariant.0 (c.loop.invariant.1 c.requires) (omega arith) _ c.mark_at-x.ensures (cc),
     )
 
 pub choose-overflow_add-sum : goal.choose-overflow_add-sum
 choose-overflow_add-sum t c =
-    let x = choose_small _ _ _ _ _ _ c.requires _ _ _ _ (c.loop-left.invariant.1 c.requires) in
+    let x = choose_small _ _ _ _ _ _ c.requires _ _ _ _ (c.loop.invariant.1 c.requires) in
     let y = finds_small _ _ _ _ _ _ _ (c.take-found.ensures.found
-    (choose_asks _ _ _ _ _ _ c.requires _ _ _ _ c.loop-left.invariant.0 (c.loop-left.invariant.1 c.requires) (omega arith) _ c.mark_at-x.ensures (cc))) in
+    (choose_asks _ _ _ _ _ _ c.requires _ _ _ _ c.loop.invariant.0 (c.loop.invariant.1 c.requires) (omega arith) _ c.mark_at-x.ensures (cc))) in
     omega arith
 
-pub choose-overflow_sub-left : goal.choose-overflow_sub-left
-choose-overflow_sub-left t c = omega arith
-
-pub choose-loop-left-smaller : goal.choose-loop-left-smaller
-choose-loop-left-smaller t c = omega arith
-
-pub choose-loop-left-preserved : goal.choose-loop-left-preserved
-choose-loop-left-preserved t c =
-    let turned : Turn c.args.n c.args.k c.loop-left.w c.loop-left.at
-    c.mark_at-x.result c.args.a c.loop-left.sum c.if-kept.sum c.if-kept.w = elim c.if-kept.branch [
+pub choose-loop-preserved : goal.choose-loop-preserved
+choose-loop-preserved t c =
+    let turned : Turn c.args.n c.args.k c.loop.w c.loop.at
+    c.mark_at-x.result c.args.a c.loop.sum c.if-kept.sum c.if-kept.w = elim c.if-kept.branch [
       | choose-then-kept u ↦ took _ _ (cc) u.take-found.ensures u.w-is (u.sum-is ∙ u.capped-sum.ensures)
       | choose-else-kept u ↦ skipped (cc) u.w-is u.sum-is
     ] in (
-      turn_moved _ _ _ _ _ _ c.requires _ _ _ _ c.loop-left.invariant.0 (c.loop-left.invariant.1 c.requires) (omega arith) _ c.mark_at-x.ensures _ _ (turned),
-      λ d. turn_on _ _ _ _ _ _ d _ _ _ _ c.loop-left.invariant.0 (c.loop-left.invariant.1 d) (omega arith) _ c.mark_at-x.ensures _ _ (turned) _ c.after_at-next.ensures,
+      turn_moved _ _ _ _ _ _ c.requires _ _ _ _ c.loop.invariant.0 (c.loop.invariant.1 c.requires) (omega arith) _ c.mark_at-x.ensures _ _ (turned),
+      λ d. rw sub-add-eq (turn_on _ _ _ _ _ _ d _ _ _ _ c.loop.invariant.0 (c.loop.invariant.1 d) (omega arith) _ c.mark_at-x.ensures _ _ (turned) _ c.after_at-next.ensures),
     )
 
 pub choose-shape_of-w : goal.choose-shape_of-w
-choose-shape_of-w t c = c.loop-left.invariant.0.len
+choose-shape_of-w t c = c.loop.invariant.0.len
 
 pub choose-returns : goal.choose-returns
-choose-returns t c = record { moved = c.loop-left.invariant.0; found = λ d. choose_done _ _ _ _ _ _ d _ _ _ _ (c.loop-left.invariant.1 d) (omega arith) }
+choose-returns t c = record { moved = c.loop.invariant.0; found = λ d. choose_done _ _ _ _ _ _ d _ _ _ _ (c.loop.invariant.1 d) (omega arith) }
 
 pub resume-returns-then-a-eq0 : goal.resume-returns-then-a-eq0
 resume-returns-then-a-eq0 t c = resumes_leaf _ _ _ _ c.requires (omega arith)
