@@ -16,8 +16,8 @@ use vectors::lent::zeros;
 // At most so many calls are run.
 const MOST_TURNS: u32 = 4000000000;
 
-// A call was run, alike or not, and its text has so many bytes; or nothing is left; or what is left is no call. Each is an answer, which the
-// report tells.
+// A call was run, alike or not, and its text has so many bytes; or nothing is left; or what is left is no call. Each is an answer, which
+// the report tells.
 #[derive(Clone, Copy)]
 enum Turn {
     Ran { same: bool, bytes: usize },
