@@ -55,9 +55,6 @@ module _ (o : Option Typed) (out out' : List ℕ) (r : P.Option ℕ) where
 
   -- ---- in 24,000 bytes there is always room
   module _ (w : ExplainWrote o out out' r) where
-    pub explained_bytes : (n : ℕ) → r ≡ Some n → ExplainWrote o out out' (Some n)
-    explained_bytes n e = subst (ExplainWrote o out out') e w
-
     pub never_without : 24000 ≤ length out → r ≡ None → ⊥
     never_without h e =
         let k = w.small in
