@@ -33,6 +33,7 @@ fn complete(engine: Engine, w: &mut [u32], k: usize, n: usize) -> Made
     ensures { Completes n k w.old result w.new }
 {
     douse(w);
+    // No `?` here: `leaving` knows nothing of how a call ends, and `answering` nothing of the full step.
     match full(engine, w, k, n) {
         Err(NoneLeft::TooMany) => Err(Failure::TooMany),
         Err(NoneLeft::NoChoice) => Err(Failure::NoChoice),
