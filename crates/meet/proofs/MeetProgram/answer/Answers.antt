@@ -1,7 +1,5 @@
 -- There is always room.
 use Rattle.std.proofs.Common.{◌≡◌, refl, arith}
-use Rattle.std.specs.Prelude.{Option, Some, None}
-use Rattle.meet.proofs.Printing.{never_without}
 use Rattle.programs.proofs.Written.{answered}
 use Rattle.reply.specs.Printed.{printed}
 use Rattle.reply.proofs.Lengths.{printed_small}
