@@ -118,7 +118,8 @@ pub extern "C" fn bublastyr_suite(
           working = working.new;
         }) }
 {
-    suite::suite(tests, words, res, working, running, counts)
+    let refused = suite::suite(tests, words, res, working, running, counts);
+    suite::checks::number(refused)
 }
 
 // Writes a library: entries of two words, identifier and number of words, whose descriptions follow each other in `words`. Answers the
