@@ -22,16 +22,16 @@ fn root_word(c: usize, nodes: usize) -> u32
 }
 
 // How many nodes the class of the root c has.
-fn class_size(w: &[u32], c: usize) -> usize
-    requires { (c < NODES) × (SIZE ≤ length w.now) }
+fn class_size(w: &Area, c: usize) -> usize
+    requires { (c < NODES) }
     ensures { result ≡ size_of (get_or w.now (PARENT + c) 0) }
 {
     wide(w[PARENT + c] / SIZE_STEP) + 1
 }
 
 // The parent of x.
-fn parent(w: &[u32], n: usize, x: usize) -> usize
-    requires x_lt_n { (x < n) × ((n ≤ NODES) × (SIZE ≤ length w.now)) }
+fn parent(w: &Area, n: Nodes, x: usize) -> usize
+    requires x_lt_n { (x < n) }
     requires shape { Shape (parents n w.now) }
     ensures { (result ≡ get_or (parents n w.now) x 0) × (result < n) }
 {
@@ -39,8 +39,8 @@ fn parent(w: &[u32], n: usize, x: usize) -> usize
 }
 
 // The root of i, ten steps up at most.
-pub fn find(w: &[u32], n: usize, i: usize) -> usize
-    requires i_lt_n { (i < n) × ((n ≤ NODES) × (SIZE ≤ length w.now)) }
+pub fn find(w: &Area, n: Nodes, i: usize) -> usize
+    requires i_lt_n { (i < n) }
     requires shape { Shape (parents n w.now) }
     ensures { Root n w.now i result }
 {
@@ -54,8 +54,8 @@ pub fn find(w: &[u32], n: usize, i: usize) -> usize
 }
 
 // Whether the root b is to go under the root a: its class has fewer nodes, or as many and the greater number.
-pub fn yields(w: &[u32], b: usize, a: usize) -> bool
-    requires a_bound { (a < NODES) × ((b < NODES) × (SIZE ≤ length w.now)) }
+pub fn yields(w: &Area, b: usize, a: usize) -> bool
+    requires a_bound { (a < NODES) × ((b < NODES)) }
     requires fact { a ≡ b → ⊥ }
     ensures { YieldTold w.now b a result }
 {
@@ -68,17 +68,16 @@ pub fn yields(w: &[u32], b: usize, a: usize) -> bool
 }
 
 // The word of the root a becomes v.
-fn put_root(w: &mut [u32], k: usize, a: usize, v: u32) -> usize
+fn put_root(w: &mut Area, k: usize, a: usize, v: u32) -> usize
     requires logged { Logged k w.old }
-    requires a_bound { (a < NODES) × ((k < ENTRIES) × ((v < ENTRY_MOST) × (SIZE ≤ length w.old))) }
+    requires a_bound { (a < NODES) × ((k < ENTRIES) × ((v < ENTRY_MOST))) }
     ensures { Stores k w.old (PARENT + a) v result w.new }
 {
     put(w, k, PARENT + a, v)
 }
 
 // The root b goes under the root a, whose word then tells the nodes of both classes.
-pub fn link(w: &mut [u32], k: usize, n: usize, a: usize, b: usize) -> usize
-    requires n_bound { (n ≤ NODES) × (SIZE ≤ length w.old) }
+pub fn link(w: &mut Area, k: usize, n: Nodes, a: usize, b: usize) -> usize
     requires linking { Linking n k w.old a b }
     ensures { Linked n k w.old a b result w.new }
 {
@@ -90,8 +89,7 @@ pub fn link(w: &mut [u32], k: usize, n: usize, a: usize, b: usize) -> usize
 }
 
 // The node b, a class by itself, goes under the root a, whose word then tells one node more.
-pub fn adopt(w: &mut [u32], k: usize, n: usize, a: usize, b: usize) -> usize
-    requires n_bound { (n ≤ NODES) × (SIZE ≤ length w.old) }
+pub fn adopt(w: &mut Area, k: usize, n: Nodes, a: usize, b: usize) -> usize
     requires linking { Linking n k w.old a b × ByItself w.old b }
     ensures { Linked n k w.old a b result w.new }
 {

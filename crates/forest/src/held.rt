@@ -18,8 +18,8 @@ pub enum Held {
 const LAST_ARC: u32 = 2048;
 
 // What the class c holds.
-pub fn held_by(w: &[u32], c: usize) -> Held
-    requires { (c < NODES) × (SIZE ≤ length w.now) }
+pub fn held_by(w: &Area, c: usize) -> Held
+    requires { (c < NODES) }
     ensures { result ≡ held_by w.now c }
 {
     let h = w[HELD + c];
@@ -33,8 +33,8 @@ pub fn held_by(w: &[u32], c: usize) -> Held
 }
 
 // Whether the class c holds an atom.
-pub fn bears_atom(w: &[u32], c: usize) -> bool
-    requires { (c < NODES) × (SIZE ≤ length w.now) }
+pub fn bears_atom(w: &Area, c: usize) -> bool
+    requires { (c < NODES) }
     ensures { result ≡ bears (held_by w.now c) }
 {
     w[HELD + c] > LAST_ARC

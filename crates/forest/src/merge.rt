@@ -43,8 +43,7 @@ fn covered(came: Held, there: Held) -> bool
 }
 
 // The class b goes under the class a, which holds what b holds. The log's entries after it.
-fn tuck(w: &mut [u32], k: usize, s: usize, n: usize, a: usize, b: usize) -> usize
-    requires n_bound { (n ≤ NODES) × (SIZE ≤ length w.old) }
+fn tuck(w: &mut Area, k: usize, s: usize, n: Nodes, a: usize, b: usize) -> usize
     requires fusing { Fusing n w.old a b }
     requires covered { Covered (held_by w.old b) (held_by w.old a) }
     requires some_state { SomeState n k s w.old }
@@ -54,8 +53,7 @@ fn tuck(w: &mut [u32], k: usize, s: usize, n: usize, a: usize, b: usize) -> usiz
 }
 
 // The node b, a class by itself that holds nothing, goes under the class a. The log's entries after it.
-fn take_in(w: &mut [u32], k: usize, s: usize, n: usize, a: usize, b: usize) -> usize
-    requires n_bound { (n ≤ NODES) × (SIZE ≤ length w.old) }
+fn take_in(w: &mut Area, k: usize, s: usize, n: Nodes, a: usize, b: usize) -> usize
     requires fusing { Fusing n w.old a b × ByItself w.old b }
     requires some_state { SomeState n k s w.old }
     ensures { Merged n k s w.old a b result s false w.new }
@@ -65,16 +63,15 @@ fn take_in(w: &mut [u32], k: usize, s: usize, n: usize, a: usize, b: usize) -> u
 
 // The class b goes under the class a, where both have chains, from p and from q.
 fn knit(
-    w: &mut [u32],
+    w: &mut Area,
     k: usize,
     s: usize,
-    n: usize,
+    n: Nodes,
     a: usize,
     b: usize,
     p: usize,
     q: usize,
 ) -> Progress
-    requires n_bound { (n ≤ NODES) × (SIZE ≤ length w.old) }
     requires fusing { Fusing n w.old a b }
     requires b_value { (held_by w.old b ≡ Arcs p) × (held_by w.old a ≡ Arcs q) }
     requires some_state { SomeState n k s w.old }
@@ -91,8 +88,7 @@ fn knit(
 }
 
 // The class b goes under the class a.
-fn fuse(w: &mut [u32], k: usize, s: usize, n: usize, a: usize, b: usize) -> Result<Progress, Clash>
-    requires n_bound { (n ≤ NODES) × (SIZE ≤ length w.old) }
+fn fuse(w: &mut Area, k: usize, s: usize, n: Nodes, a: usize, b: usize) -> Result<Progress, Clash>
     requires fusing { Fusing n w.old a b }
     requires some_state { SomeState n k s w.old }
     ensures { Merged n k s w.old a b (entries_of result) (frames_of s result) (clashes result) w.new }
@@ -128,14 +124,14 @@ fn fuse(w: &mut [u32], k: usize, s: usize, n: usize, a: usize, b: usize) -> Resu
 
 // The classes of x and y become one, whichever they are.
 pub fn blend(
-    w: &mut [u32],
+    w: &mut Area,
     k: usize,
     s: usize,
-    n: usize,
+    n: Nodes,
     x: usize,
     y: usize,
 ) -> Result<Progress, Clash>
-    requires x_lt_n { (x < n) × ((y < n) × ((n ≤ NODES) × (SIZE ≤ length w.old))) }
+    requires x_lt_n { (x < n) × ((y < n)) }
     requires some_state { SomeState n k s w.old }
     ensures { Merged n k s w.old x y (entries_of result) (frames_of s result) (clashes result) w.new }
 {
@@ -151,8 +147,8 @@ pub fn blend(
 }
 
 // Whether y is a class by itself that holds nothing, as a node is that has just come.
-fn is_by_itself(w: &[u32], y: usize) -> bool
-    requires { (y < NODES) × (SIZE ≤ length w.now) }
+fn is_by_itself(w: &Area, y: usize) -> bool
+    requires { (y < NODES) }
     ensures { result ≡ true → ByItself w.now y }
 {
     w[PARENT + y] == y as u32 && w[HELD + y] == 0
@@ -160,8 +156,8 @@ fn is_by_itself(w: &[u32], y: usize) -> bool
 
 // Of x and y, one that is a class by itself goes under the other's class at once where that has the lower number. The log's entries after
 // it; or None, where none of them did.
-pub fn adopt_new(w: &mut [u32], k: usize, s: usize, n: usize, x: usize, y: usize) -> Option<usize>
-    requires x_lt_n { (x < n) × ((y < n) × ((n ≤ NODES) × (SIZE ≤ length w.old))) }
+pub fn adopt_new(w: &mut Area, k: usize, s: usize, n: Nodes, x: usize, y: usize) -> Option<usize>
+    requires x_lt_n { (x < n) × ((y < n)) }
     requires some_state { SomeState n k s w.old }
     ensures { AdoptedNew n k s w.old x y result w.new }
 {
@@ -182,14 +178,14 @@ pub fn adopt_new(w: &mut [u32], k: usize, s: usize, n: usize, x: usize, y: usize
 
 // The classes of x and y become one.
 pub fn join(
-    w: &mut [u32],
+    w: &mut Area,
     k: usize,
     s: usize,
-    n: usize,
+    n: Nodes,
     x: usize,
     y: usize,
 ) -> Result<Progress, Clash>
-    requires x_lt_n { (x < n) × ((y < n) × ((n ≤ NODES) × (SIZE ≤ length w.old))) }
+    requires x_lt_n { (x < n) × ((y < n)) }
     requires some_state { SomeState n k s w.old }
     ensures { Merged n k s w.old x y (entries_of result) (frames_of s result) (clashes result) w.new }
 {

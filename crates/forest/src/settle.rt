@@ -11,8 +11,7 @@ use area::map::{FRAME_STEP, STACK};
 use limits::wide;
 
 // The first arc of what is left of a frame: its target joins that of the first arc from `to` on with its feature.
-fn step(w: &mut [u32], k: usize, s: usize, n: usize, x: usize, to: usize) -> Result<Progress, Clash>
-    requires n_bound { (n ≤ NODES) × (SIZE ≤ length w.old) }
+fn step(w: &mut Area, k: usize, s: usize, n: Nodes, x: usize, to: usize) -> Result<Progress, Clash>
     requires fact { x ≡ to → ⊥ }
     requires working { Working (loaded_words w.old) (targets w.old) n k s x to w.old }
     ensures { Turned (loaded_words w.old) (targets w.old) n k s w.old x to (entries_of result)
@@ -32,14 +31,13 @@ fn step(w: &mut [u32], k: usize, s: usize, n: usize, x: usize, to: usize) -> Res
 
 // A frame, to its end.
 fn drain(
-    w: &mut [u32],
+    w: &mut Area,
     k: usize,
     s: usize,
-    n: usize,
+    n: Nodes,
     from: usize,
     to: usize,
 ) -> Result<Progress, Clash>
-    requires n_bound { (n ≤ NODES) × (SIZE ≤ length w.old) }
     requires working { Working (loaded_words w.old) (targets w.old) n k s from to w.old }
     ensures { Drained (loaded_words w.old) (targets w.old) n k s w.old from to (entries_of result)
         (frames_of s result) (clashes result) w.new }
@@ -54,8 +52,7 @@ fn drain(
 }
 
 // All frames, until none is left. The log's entries then.
-fn settle(w: &mut [u32], k: usize, s: usize, n: usize) -> Result<usize, Clash>
-    requires n_bound { (n ≤ NODES) × (SIZE ≤ length w.old) }
+fn settle(w: &mut Area, k: usize, s: usize, n: Nodes) -> Result<usize, Clash>
     requires stacked { Stacked (loaded_words w.old) (targets w.old) n k s w.old }
     ensures { Settled (loaded_words w.old) (targets w.old) n k s w.old (log_of result)
         (clashes result) w.new }
@@ -72,8 +69,7 @@ fn settle(w: &mut [u32], k: usize, s: usize, n: usize) -> Result<usize, Clash>
 }
 
 // The classes of x and y become one, with all that follows. The log's entries then.
-pub fn unite(w: &mut [u32], k: usize, n: usize, x: usize, y: usize) -> Result<usize, Clash>
-    requires n_bound { (n ≤ NODES) × (SIZE ≤ length w.old) }
+pub fn unite(w: &mut Area, k: usize, n: Nodes, x: usize, y: usize) -> Result<usize, Clash>
     requires x_lt_n { (x < n) × (y < n) }
     requires uniting { Uniting (loaded_words w.old) (targets w.old) n k w.old x y }
     ensures { United (loaded_words w.old) (targets w.old) n k w.old x y (log_of result) (clashes result)
