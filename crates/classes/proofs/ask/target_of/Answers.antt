@@ -14,13 +14,13 @@ use Rattle.classes.proofs.ask.target_of.Goals as goal
 
 pub held_by-requires : goal.held_by-requires
 held_by-requires c =
-    let l = asked_low c.args.n c.args.w.now c.args.x c.requires.x_lt_n c.class_of-c.result c.class_of-c.ensures c.requires.labelled in
+    let l = asked_low c.args.n.count c.args.w.now c.args.x c.requires.x_lt_n c.class_of-c.result c.class_of-c.ensures c.requires.labelled in
     (omega arith, c.requires.labelled.holds.long)
 
 pub returns-in_default : goal.returns-in_default
 returns-in_default c =
-    ⊎_elim (target-void c.args.n c.args.w.now c.args.x c.requires.x_lt_n c.class_of-c.result c.class_of-c.ensures c.args.f)
-    (target-bare c.args.n c.args.w.now c.args.x c.requires.x_lt_n c.class_of-c.result c.class_of-c.ensures c.args.f)
+    ⊎_elim (target-void c.args.n.count c.args.w.now c.args.x c.requires.x_lt_n c.class_of-c.result c.class_of-c.ensures c.args.f)
+    (target-bare c.args.n.count c.args.w.now c.args.x c.requires.x_lt_n c.class_of-c.result c.class_of-c.ensures c.args.f)
     (told_other _ _ _ c.held_by.ensures c.in_default.not-Arcs)
 
 pub look-r-requires : goal.look-r-requires
@@ -29,7 +29,7 @@ look-r-requires c =
     record {
       in_bounds = c.requires.labelled.holds.long;
       runs = subst (Runs c.args.w.now) (sym chain.0)
-          (asked-runs c.args.n c.args.w.now c.args.x c.requires.x_lt_n
+          (asked-runs c.args.n.count c.args.w.now c.args.x c.requires.x_lt_n
           c.class_of-c.result c.class_of-c.ensures
           c.requires.labelled (omega arith));
     }
@@ -40,7 +40,7 @@ returns-then-r-eq0 c =
     let k : Looked (loaded_words c.args.w.now) c.args.w.now c.args.f (get_or c.args.w.now c.class_of-c.result 0)
     c.look-r.result = subst (λ (z : ℕ). Looked (loaded_words c.args.w.now) c.args.w.now c.args.f z c.look-r.result)
     chain.0 c.look-r.ensures in
-    target_none c.args.n c.args.w.now c.args.x c.requires.x_lt_n
+    target_none c.args.n.count c.args.w.now c.args.x c.requires.x_lt_n
     c.class_of-c.result c.class_of-c.ensures c.args.f
     (omega arith)
     (subst (Looked (loaded_words c.args.w.now) c.args.w.now c.args.f (get_or c.args.w.now c.class_of-c.result 0)) c.if-r-eq0.true k)
@@ -53,7 +53,7 @@ target-y-requires c =
     let k : Looked (loaded_words c.args.w.now) c.args.w.now c.args.f (get_or c.args.w.now c.class_of-c.result 0)
     c.look-r.result = subst (λ (z : ℕ). Looked (loaded_words c.args.w.now) c.args.w.now c.args.f z c.look-r.result)
     chain.0 c.look-r.ensures in (
-      (target_low c.args.n c.args.w.now c.args.x c.requires.x_lt_n
+      (target_low c.args.n.count c.args.w.now c.args.x c.requires.x_lt_n
           c.class_of-c.result c.class_of-c.ensures c.args.f
           (omega arith) (c.look-r.result - 1)
           (subst (Looked (loaded_words c.args.w.now) c.args.w.now c.args.f (get_or c.args.w.now c.class_of-c.result 0)) e k)
@@ -70,7 +70,7 @@ class_of-requires c =
     c.look-r.result =
     subst (λ (z : ℕ). Looked (loaded_words c.args.w.now) c.args.w.now c.args.f z c.look-r.result) chain.0
     c.look-r.ensures in
-    let l = (target_low c.args.n c.args.w.now c.args.x c.requires.x_lt_n
+    let l = (target_low c.args.n.count c.args.w.now c.args.x c.requires.x_lt_n
     c.class_of-c.result
     c.class_of-c.ensures c.args.f (omega arith)
     (c.look-r.result - 1)
@@ -90,8 +90,8 @@ returns c =
     c.look-r.result =
     subst (λ (z : ℕ). Looked (loaded_words c.args.w.now) c.args.w.now c.args.f z c.look-r.result)
     chain.0 c.look-r.ensures in
-    let v = subst (λ (z : ℕ). Classed c.args.n c.args.w.now z c.class_of.result) c.target-y.ensures c.class_of.ensures in
-    target-there c.args.n c.args.w.now c.args.x c.requires.x_lt_n
+    let v = subst (λ (z : ℕ). Classed c.args.n.count c.args.w.now z c.class_of.result) c.target-y.ensures c.class_of.ensures in
+    target-there c.args.n.count c.args.w.now c.args.x c.requires.x_lt_n
     c.class_of-c.result
     c.class_of-c.ensures c.args.f
     (omega arith) (c.look-r.result - 1)
