@@ -3,8 +3,8 @@ ghost use Rattle.std.specs.Prelude.{◌<◌};
 ghost use Rattle.classes.specs.Holds.{Labelled};
 ghost use Rattle.classes.specs.Ask.{AtomOf, TargetOf};
 
-use area::map::{Area, Nodes};
 use crate::push::class_of;
+use area::map::{Area, Nodes};
 use forest::chain::{look, target};
 use forest::held::{Held, held_by};
 use limits::CODE_LIMIT;

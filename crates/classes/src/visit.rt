@@ -1,7 +1,7 @@
 // The arcs and atoms of a graph meet the classes of its nodes.
 ghost use Rattle.std.specs.Prelude.{◌≡◌, true, false, ◌+◌, ◌*◌, ◌-◌, ◌≤◌, ◌<◌, get_or};
 ghost use Rattle.theory.specs.Limits.{code_limit};
-ghost use Rattle.area.specs.Map.{NODES, LOADED, NEXT, LOG, ENTRIES, TARGETS, ENTRY_MOST};
+ghost use Rattle.area.specs.Map.{LOADED, NEXT, LOG, ENTRIES, TARGETS, ENTRY_MOST};
 ghost use Rattle.area.specs.Log.{Logged};
 ghost use Rattle.area.specs.Region.{loaded_words};
 ghost use Rattle.forest.specs.Held.{AtomCode};
@@ -129,7 +129,7 @@ fn visit(w: &mut Area, k: usize, n: Nodes, x: usize, t: usize, at: usize) -> Res
 
 // The atom's head v of the node x meets what its class holds. The log's entries then.
 fn mark(w: &mut Area, k: usize, n: Nodes, x: usize, v: u32) -> Result<usize, Clash>
-    requires n_bound { (n.count ≤ NODES) × (x < n.count) }
+    requires x_lt_n { x < n.count }
     requires atom_code { AtomCode v × (v < ENTRY_MOST) }
     requires heading { Heading (loaded_words w.old) (targets w.old) n.count k w.old x v }
     ensures { Headed (loaded_words w.old) (targets w.old) n.count k w.old x v (log_of result) (clashes result)
@@ -179,14 +179,7 @@ pub fn span(h: u32) -> usize
 }
 
 // The c nodes from x on, the first of which has its head at p. The log's entries then.
-pub fn nodes(
-    w: &mut Area,
-    k: usize,
-    n: Nodes,
-    x: usize,
-    p: usize,
-    c: usize,
-) -> Result<usize, Clash>
+pub fn nodes(w: &mut Area, k: usize, n: Nodes, x: usize, p: usize, c: usize) -> Result<usize, Clash>
     requires listing { Listing (loaded_words w.old) (targets w.old) n.count k w.old x p c }
     ensures { Listed (loaded_words w.old) (targets w.old) n.count k w.old x p c (log_of result)
         (clashes result) w.new }

@@ -12,7 +12,7 @@ use Rattle.classes.proofs.ask.atom_of.Goals as goal
 pub held_by-requires : goal.held_by-requires
 held_by-requires c =
     let l = asked_low c.args.n.count c.args.w.now c.args.x c.requires.x_lt_n c.class_of-c.result c.class_of-c.ensures c.requires.labelled in
-    (omega arith, c.requires.labelled.holds.long)
+    omega arith
 
 pub overflow_sub-result : goal.overflow_sub-result
 overflow_sub-result c =

@@ -15,7 +15,7 @@ use Rattle.classes.proofs.ask.target_of.Goals as goal
 pub held_by-requires : goal.held_by-requires
 held_by-requires c =
     let l = asked_low c.args.n.count c.args.w.now c.args.x c.requires.x_lt_n c.class_of-c.result c.class_of-c.ensures c.requires.labelled in
-    (omega arith, c.requires.labelled.holds.long)
+    omega arith
 
 pub returns-in_default : goal.returns-in_default
 returns-in_default c =
@@ -27,7 +27,6 @@ pub look-r-requires : goal.look-r-requires
 look-r-requires c =
     let chain = told_arcs _ _ _ (sym c.held_by.ensures ∙ c.in-Arcs.is) in
     record {
-      in_bounds = c.requires.labelled.holds.long;
       runs = subst (Runs c.args.w.now) (sym chain.0)
           (asked-runs c.args.n.count c.args.w.now c.args.x c.requires.x_lt_n
           c.class_of-c.result c.class_of-c.ensures
@@ -52,14 +51,12 @@ target-y-requires c =
     let e : c.look-r.result ≡ suc (c.look-r.result - 1) = omega arith in
     let k : Looked (loaded_words c.args.w.now) c.args.w.now c.args.f (get_or c.args.w.now c.class_of-c.result 0)
     c.look-r.result = subst (λ (z : ℕ). Looked (loaded_words c.args.w.now) c.args.w.now c.args.f z c.look-r.result)
-    chain.0 c.look-r.ensures in (
-      (target_low c.args.n.count c.args.w.now c.args.x c.requires.x_lt_n
-          c.class_of-c.result c.class_of-c.ensures c.args.f
-          (omega arith) (c.look-r.result - 1)
-          (subst (Looked (loaded_words c.args.w.now) c.args.w.now c.args.f (get_or c.args.w.now c.class_of-c.result 0)) e k)
-          c.requires.labelled).0,
-      c.requires.labelled.holds.long,
-    )
+    chain.0 c.look-r.ensures in
+    (target_low c.args.n.count c.args.w.now c.args.x c.requires.x_lt_n
+    c.class_of-c.result c.class_of-c.ensures c.args.f
+    (omega arith) (c.look-r.result - 1)
+    (subst (Looked (loaded_words c.args.w.now) c.args.w.now c.args.f (get_or c.args.w.now c.class_of-c.result 0)) e k)
+    c.requires.labelled).0
 
 pub class_of-requires : goal.class_of-requires
 class_of-requires c =

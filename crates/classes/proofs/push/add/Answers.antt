@@ -10,9 +10,6 @@ pub unite-requires : goal.unite-requires
 unite-requires c =
     let lo = add_low c.args.n.count c.args.k c.args.w.now c.args.g c.args.base c.args.c c.requires in
     let l0 = lo.0 in
-    let l1 = lo.1.0 in
-    let l2 = lo.1.1.0 in
-    let l3 = lo.1.1.1 in
     record {
       x_lt_n = (omega arith, l0);
       uniting = add_asked c.args.n.count c.args.k c.args.w.now c.args.g c.args.base c.args.c c.requires;
@@ -25,24 +22,14 @@ returns-in_err-e c =
 
 pub nodes-requires : goal.nodes-requires
 nodes-requires c =
-    let lo = add_low c.args.n.count c.args.k c.args.w.now c.args.g c.args.base c.args.c c.requires in
-    let l0 = lo.0 in
-    let l1 = lo.1.0 in
-    let l2 = lo.1.1.0 in
-    let l3 = lo.1.1.1 in
-    let wl = words_later c.args.k c.args.w.now _ c.unite.new.w l2 c.unite.ensures.later in
-    let tl = targets_later c.args.k c.args.w.now _ c.unite.new.w l2 c.unite.ensures.later in record {
+    let wl = words_later c.args.k c.args.w.now _ c.unite.new.w (omega arith) c.unite.ensures.later in
+    let tl = targets_later c.args.k c.args.w.now _ c.unite.new.w (omega arith) c.unite.ensures.later in record {
       listing = rw (wl, tl) (add_listing c.args.n.count c.args.k c.args.w.now c.args.g c.args.base c.args.c _ _ _ c.in_ok-e.ensures refl c.requires);
     }
 
 pub returns : goal.returns
 returns c =
-    let lo = add_low c.args.n.count c.args.k c.args.w.now c.args.g c.args.base c.args.c c.requires in
-    let l0 = lo.0 in
-    let l1 = lo.1.0 in
-    let l2 = lo.1.1.0 in
-    let l3 = lo.1.1.1 in
-    let wl = words_later c.args.k c.args.w.now _ c.unite.new.w l2 c.unite.ensures.later in
-    let tl = targets_later c.args.k c.args.w.now _ c.unite.new.w l2 c.unite.ensures.later in
+    let wl = words_later c.args.k c.args.w.now _ c.unite.new.w (omega arith) c.unite.ensures.later in
+    let tl = targets_later c.args.k c.args.w.now _ c.unite.new.w (omega arith) c.unite.ensures.later in
     adds c.args.n.count c.args.k c.args.w.now c.args.g c.args.base c.args.c _ _ _ c.in_ok-e.ensures refl _ _ _
     (rw (wl, tl) at c.nodes.ensures)

@@ -12,7 +12,6 @@ use Rattle.classes.proofs.visit.afresh.Goals as goal
 pub rises-requires : goal.rises-requires
 rises-requires c =
     let chain = told_arcs _ _ _ (sym c.held_by.ensures ∙ c.in-Arcs.is) in record {
-      in_bounds = omega arith;
       runs = subst (Runs c.args.w.now) (sym chain.0)
           (class_runs c.requires.steady.F c.requires.steady.T c.args.n.count c.args.k c.args.w.now (omega arith) (omega arith) c.args.x (omega arith) c.find-c.result
           c.find-c.ensures c.requires.steady.G c.requires.steady.H c.requires.steady.state (omega arith));

@@ -56,7 +56,7 @@ loaded-requires c =
     let lo = node_low F nd.G c.args.n.count c.loop-y.y c.loop-y.at nd.v nd.node in
     let lp = lo.0 in
     let lx = lo.1 in
-    (omega arith, omega (arith, c.node.ensures.later.len))
+    omega arith
 
 pub overflow_add-at : goal.overflow_add-at
 overflow_add-at c =

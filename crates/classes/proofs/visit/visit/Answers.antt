@@ -35,7 +35,7 @@ pub locate-s-requires : goal.locate-s-requires
 locate-s-requires c =
     let chained = told_bare _ _ _ c.bears_atom.ensures c.if-bears_atom.false in
     record {
-      c_bound = (omega arith, omega arith);
+      c_bound = omega arith;
       runs = class_runs (loaded_words c.args.w.now) (targets c.args.w.now) c.args.n.count c.args.k c.args.w.now c.args.n.in_area (omega arith) c.args.x c.requires.x_lt_n.0
           c.find-c.result c.find-c.ensures c.requires.coming.G c.requires.coming.H
           c.requires.coming.state chained;
@@ -72,7 +72,7 @@ target-q-requires c =
     let there : (get_or (targets c.args.w.now) (c.locate-s.result.arc - 1) 0 < c.args.n.count) × (c.locate-s.result.arc - 1 < 2047) = let g = c.requires.coming in
     found_arc _ _ _ _ _ c.args.n.in_area (omega arith) _ c.requires.x_lt_n.0 _ c.find-c.ensures _ c.locate-s.result.arc (c.locate-s.result.arc - 1)
     chained looked (omega (arith, found)) g.G g.H g.state in
-    (omega arith, omega arith)
+    omega arith
 
 pub unite-requires : goal.unite-requires
 unite-requires c =
@@ -124,7 +124,7 @@ onward-a-requires c =
     let rq = g.state.room in
     let wl = words_later _ c.args.w.now _ _ (omega arith) c.unite.ensures.later in
     record {
-      x_lt_n = (omega arith, (omega arith, omega (arith, c.unite.ensures.later.len)));
+      x_lt_n = omega arith;
       r_nonzero = (found, (omega arith, omega arith));
       turning = rw wl (record {
         steady = record {
