@@ -17,8 +17,7 @@ fn beside_other(which: Remnant, new: bool) -> bool
     ensures { result ≡ told_beside which new }
 {
     match which {
-        Remnant::Nothing => new,
-        Remnant::One(_) => new,
+        Remnant::Nothing | Remnant::One(_) => new,
         Remnant::Several(_) => true,
     }
 }
@@ -30,24 +29,22 @@ fn choose(w: &mut [u32], g: usize, left: u32, c: u32, total: u32, new: bool, at:
     ensures { ChoosesIn w.old g left c total new at result w.new }
 {
     let e = tail_at(w, g);
-    let mut more = disjunctions_at(w, e);
+    let more = disjunctions_at(w, e);
     let mut p = e + 1;
     let mut rest = total;
     let mut index = c;
     let mut to = at;
-    while 0 < more {
+    for _ in 0..more {
         let count = alternatives_at(w, p);
         let first = p + 1;
         let inside = left - 1;
         let tally = count_kept(w, first, count);
-        let which = tally.remnant;
-        let beside = beside_other(which, new);
+        let beside = beside_other(tally.remnant, new);
         let sum = sum_choices(w, first, count, inside);
         rest /= sum;
         to = pick(w, first, count, inside, index / rest, beside, to);
         index %= rest;
         p = tally.after;
-        more -= 1;
     }
     to
 }
@@ -58,10 +55,9 @@ fn pick(w: &mut [u32], p: usize, count: usize, left: u32, i: u32, new: bool, at:
     requires { Picking w.old p count left at }
     ensures { Picks w.old p count left i new at result w.new }
 {
-    let mut more = count;
     let mut g = p;
     let mut index = i;
-    while 0 < more {
+    for _ in 0..count {
         if kept(w, mark_at(w, g)) {
             let total = count_choices(w, g, left);
             if index < total {
@@ -71,7 +67,6 @@ fn pick(w: &mut [u32], p: usize, count: usize, left: u32, i: u32, new: bool, at:
             index -= total;
         }
         g = after_at(w, g);
-        more -= 1;
     }
     at
 }

@@ -10,16 +10,14 @@ pub fn sum_choices(w: &[u32], p: usize, count: usize, left: u32) -> u32
     requires { Summing w.now p count left }
     ensures { Sums w.now p count left result }
 {
-    let mut more = count;
     let mut at = p;
     let mut sum: u32 = 0;
-    while 0 < more {
+    for _ in 0..count {
         if kept(w, mark_at(w, at)) {
             let one = count_choices(w, at, left);
             sum = capped(sum + one);
         }
         at = after_at(w, at);
-        more -= 1;
     }
     sum
 }

@@ -19,7 +19,7 @@ use Rattle.marks.specs.Positions.{tail_at, disjunctions_at}
 use Rattle.marks.specs.Marked.{marking}
 use Rattle.marks.specs.Readable.{Readable}
 use Rattle.marks.proofs.Reading.{readable, tail_of, disjunctions_of}
-use Rattle.classes.specs.declared.push.Pushed.TheVariants.{Clashed}
+use Rattle.std.specs.Prelude.{None}
 use Rattle.classes.proofs.Laws.{since_refl}
 use Rattle.trying.specs.Guessed.{Guesses}
 use Rattle.trying.specs.declared.told.Guess.TheVariants.{Agrees, Clashes}
@@ -31,8 +31,8 @@ use Rattle.entering.proofs.Within.{fine}
 
 module _ (n k : ℕ) (w : List ℕ) (g left : ℕ) (c : Entering n k w g left) where
   -- it clashes
-  pub told_enters : Guesses n k w g Clashes → Enters n k w g left Clashed w
-  told_enters s = enters_own n k w g left Clashed w (record {
+  pub told_enters : Guesses n k w g Clashes → Enters n k w g left None w
+  told_enters s = enters_own n k w g left None w (record {
     len = refl;
     rest = λ j h. refl;
     inside = λ j y. let x : ◌≡◌ {A = ℕ} 0 1 = cc in absurd (omega arith);

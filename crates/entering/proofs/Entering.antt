@@ -33,8 +33,7 @@ use Rattle.marks.proofs.Marks.{marking_frame}
 use Rattle.loading.specs.Nesting.{Nests, NestsAll, NestsAny}
 use Rattle.classes.specs.Entry.{Comes}
 use Rattle.classes.specs.Holds.{Holds, Since, Pushing, Pushes}
-use Rattle.classes.specs.declared.push.Pushed.{Pushed}
-use Rattle.classes.specs.declared.push.Pushed.TheVariants.{In, Clashed}
+use Rattle.std.specs.Prelude.{Option, Some, None}
 use Rattle.classes.proofs.Laws.{since_trans}
 use Rattle.classes.proofs.Comings.{graphs_append}
 use Rattle.entering.specs.Taken.{taken_any, AmongAny, taken_here, taken_of, AmongHere, Inside, Free}
@@ -129,7 +128,7 @@ module _ (n k : ℕ) (w : List ℕ) (g left : ℕ) (c : Entering n k w g left) w
     pub starts : (g < 2048) × (tail_at w₁ g < 2048)
     starts = let s = reads read₁ in (s.here, s.inside)
 
-    pub walk_start : (o : Pushed) → Pushes n k w g o w₁ → o ≡ In log → (e more : ℕ) → e ≡ tail_at w₁ g → more ≡ disjunctions_at w₁ e →
+    pub walk_start : (o : Option ℕ) → Pushes n k w g o w₁ → o ≡ Some log → (e more : ℕ) → e ≡ tail_at w₁ g → more ≡ disjunctions_at w₁ e →
         Walking more (e + 1) log w₁
     walk_start o u z e more f h = go c.lies.d c.lies.at read₁.lies.at c.among c.lies.nests refl
       where
@@ -326,15 +325,15 @@ module _ (n k : ℕ) (w : List ℕ) (g left : ℕ) (c : Entering n k w g left) w
             unfolding walk_inner
             walk_entered = inner_entered n log w₁ (at + 1) count (left - 1) these which after told first one ∙ settled_is
 
-            module _ (o : Pushed) (w₂ : List ℕ) (u : Enters n log w₁ first (left - 1) o w₂) where
-              pub walk_clash : o ≡ Clashed → Clash (graphs (entered c))
+            module _ (o : Option ℕ) (w₂ : List ℕ) (u : Enters n log w₁ first (left - 1) o w₂) where
+              pub walk_clash : o ≡ None → Clash (graphs (entered c))
               walk_clash z =
                   let k = subst (λ (l : List Entry). Clash (graphs l)) walk_entered ((u.clashed z).1 walk_inner).0 in
                   subst (λ (l : List Entry). Clash (graphs l)) (sym total_alone)
                   (clash_more n c.s.t c.s.U (v.es ++ list) rest_list c.s.ground
                   (subst (Inside c.s.U) total_alone inside_all) k)
 
-              pub walk_in : (i : ℕ) → o ≡ In i → Walking (more - 1) after i w₂
+              pub walk_in : (i : ℕ) → o ≡ Some i → Walking (more - 1) after i w₂
               walk_in i z = subst (λ (p : ℕ). Walking (more - 1) p i w₂) (sym told.after_is)
                   (past i w₂ (subst (λ (l : List Entry). Holds n l i w₂) walk_entered ((u.pushed i z).1 walk_inner)))
 
@@ -345,12 +344,12 @@ reach_on k w log w₁ i w₂ r len rest s =
     record { len = len ∙ r.len; rest = λ j h. rest j h ∙ r.rest j h; since = since_trans k w log w₁ i w₂ r.since s }
 
 -- the description's own graph is in
-pub reach_own : (n k : ℕ) (w : List ℕ) (g : ℕ) (o : Pushed) (j : ℕ) (w₁ : List ℕ) → Pushes n k w g o w₁ → o ≡ In j → Reached k w j w₁
+pub reach_own : (n k : ℕ) (w : List ℕ) (g : ℕ) (o : Option ℕ) (j : ℕ) (w₁ : List ℕ) → Pushes n k w g o w₁ → o ≡ Some j → Reached k w j w₁
 reach_own n k w g o j w₁ u z = record { len = u.len; rest = u.rest; since = (u.inside j z).0 }
 
 -- it clashes
-pub enters_own : (n k : ℕ) (w : List ℕ) (g left : ℕ) (o : Pushed) (w₁ : List ℕ) → Pushes n k w g o w₁ → o ≡ Clashed →
-    Enters n k w g left Clashed w₁
+pub enters_own : (n k : ℕ) (w : List ℕ) (g left : ℕ) (o : Option ℕ) (w₁ : List ℕ) → Pushes n k w g o w₁ → o ≡ None →
+    Enters n k w g left None w₁
 enters_own n k w g left o w₁ u z = record {
   len = u.len;
   rest = u.rest;
@@ -380,7 +379,7 @@ Onward n k g left more₀ at₀ log₀ w₀ more at log w = (v : List ℕ) (c : 
 
 -- what a turn does: the alternative that stands alone is entered, or there is none
 pub data Turn (n log : ℕ) (w₁ : List ℕ) (left : ℕ) (which : Remnant) (i : ℕ) (w₂ : List ℕ) : Type 0 where
-  one : (first : ℕ) (o : Pushed) (j : ℕ) (w' : List ℕ) → which ≡ One first → Enters n log w₁ first (left - 1) o w' → o ≡ In j → w₂ ≡ w' →
+  one : (first : ℕ) (o : Option ℕ) (j : ℕ) (w' : List ℕ) → which ≡ One first → Enters n log w₁ first (left - 1) o w' → o ≡ Some j → w₂ ≡ w' →
       i ≡ j → Turn n log w₁ left which i w₂
   none : ((x : ℕ) → which ≡ One x → ⊥) → w₂ ≡ w₁ → i ≡ log → Turn n log w₁ left which i w₂
 
@@ -401,7 +400,7 @@ walk_on n k w g left c log w₁ r more at v h count e which after tally i w₂ (
 
 -- all are in
 pub enters_all : (n k : ℕ) (w : List ℕ) (g left log : ℕ) (w₁ : List ℕ) → Reached k w log w₁ →
-    ((c : Entering n k w g left) → Holds n (entered c) log w₁) → Enters n k w g left (In log) w₁
+    ((c : Entering n k w g left) → Holds n (entered c) log w₁) → Enters n k w g left (Some log) w₁
 enters_all n k w g left log w₁ r all = record {
   len = r.len;
   rest = r.rest;

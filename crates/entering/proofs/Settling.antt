@@ -26,8 +26,7 @@ use Rattle.marks.specs.declared.tally.Remnant.{Remnant}
 use Rattle.marks.specs.declared.tally.Remnant.TheVariants.{Nothing, One, Several}
 use Rattle.marks.proofs.Remnant.{kept_none, kept_alone, kept_several}
 use Rattle.classes.specs.Holds.{Holds, Since}
-use Rattle.classes.specs.declared.push.Pushed.{Pushed}
-use Rattle.classes.specs.declared.push.Pushed.TheVariants.{In, Clashed}
+use Rattle.std.specs.Prelude.{Some, None}
 use Rattle.classes.proofs.Comings.{graphs_append}
 use Rattle.classes.proofs.Laws.{holds_agree, since_refl}
 use Rattle.entering.specs.Taken.{taken, taken_of, taken_any_of, Inside}
@@ -101,7 +100,7 @@ module _ (n k : ℕ) (w : List ℕ) (p count left : ℕ) where
         (any_inside_of (marking w) c.lies c.s.U c.among)
 
   module _ (which : Remnant) (after : ℕ) (tally : (s : Alternatives w p count) → Tallied w s which after) where
-    pub settles_none : Alternating n k w p count left → which ≡ Nothing → Settles n k w p count left Clashed w
+    pub settles_none : Alternating n k w p count left → which ≡ Nothing → Settles n k w p count left None w
     settles_none c₀ z = record {
       len = refl;
       rest = λ j h. refl;
@@ -116,7 +115,7 @@ module _ (n k : ℕ) (w : List ℕ) (p count left : ℕ) where
       );
     }
 
-    pub settles_several : Alternating n k w p count left → (many : ℕ) → which ≡ Several many → Settles n k w p count left (In k) w
+    pub settles_several : Alternating n k w p count left → (many : ℕ) → which ≡ Several many → Settles n k w p count left (Some k) w
     settles_several c₀ many z = record {
       len = refl;
       rest = λ j h. refl;
@@ -164,7 +163,7 @@ module _ (n k : ℕ) (w : List ℕ) (p count left : ℕ) where
                 (canonical_all n c.s.t c.s.U (settled c) c.s.ground (settled_inside c)),
           )
 
-      module _ (r : Pushed) (w' : List ℕ) (u : Enters n k w first left r w') where
+      module _ (r : Rattle.std.specs.Prelude.Option ℕ) (w' : List ℕ) (u : Enters n k w first left r w') where
         pub settles_one : Settles n k w p count left r w'
         settles_one = record {
           len = u.len;

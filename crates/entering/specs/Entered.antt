@@ -7,8 +7,7 @@ use Rattle.loading.specs.Entry.{Entry, graphs}
 use Rattle.loading.specs.Lying.{Lying}
 use Rattle.marks.specs.Marked.{marking}
 use Rattle.classes.specs.Holds.{Holds, Since}
-use Rattle.classes.specs.declared.push.Pushed.{Pushed}
-use Rattle.classes.specs.declared.push.Pushed.TheVariants.{In, Clashed}
+use Rattle.std.specs.Prelude.{Option, Some, None}
 use Rattle.entering.specs.Taken.{taken_of, AmongOf, FreeOf}
 use Rattle.entering.specs.Footing.{Footing}
 
@@ -25,8 +24,8 @@ abbrev pub entered : {n k : ℕ} {w : List ℕ} {g left : ℕ} → Entering n k 
 entered {n} {k} {w} {g} {left} c = c.es ++ taken_of (marking w) c.lies
 
 -- all are pushed; or they clash, and all is as it was
-pub record Enters (n k : ℕ) (w : List ℕ) (g left : ℕ) (r : Pushed) (w' : List ℕ) : Type 0 where
+pub record Enters (n k : ℕ) (w : List ℕ) (g left : ℕ) (r : Option ℕ) (w' : List ℕ) : Type 0 where
   pub len : length w' ≡ length w
   pub rest : (j : ℕ) → WORDS ≤ j → get_or w' j 0 ≡ get_or w j 0
-  pub pushed : (k' : ℕ) → r ≡ In k' → Since k w k' w' × ((c : Entering n k w g left) → Holds n (entered c) k' w')
-  pub clashed : r ≡ Clashed → Since k w k w' × ((c : Entering n k w g left) → Clash (graphs (entered c)) × Holds n c.es k w')
+  pub pushed : (k' : ℕ) → r ≡ Some k' → Since k w k' w' × ((c : Entering n k w g left) → Holds n (entered c) k' w')
+  pub clashed : r ≡ None → Since k w k w' × ((c : Entering n k w g left) → Clash (graphs (entered c)) × Holds n c.es k w')

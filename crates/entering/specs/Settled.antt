@@ -7,8 +7,7 @@ use Rattle.loading.specs.Entry.{Entry, graphs}
 use Rattle.loading.specs.Lying.{LyingAny}
 use Rattle.marks.specs.Marked.{marking}
 use Rattle.classes.specs.Holds.{Holds, Since}
-use Rattle.classes.specs.declared.push.Pushed.{Pushed}
-use Rattle.classes.specs.declared.push.Pushed.TheVariants.{In, Clashed}
+use Rattle.std.specs.Prelude.{Option, Some, None}
 use Rattle.entering.specs.Taken.{taken_any_of, AmongAnyOf, FreeAnyOf}
 use Rattle.entering.specs.Footing.{Footing}
 
@@ -25,12 +24,12 @@ abbrev pub settled : {n k : ℕ} {w : List ℕ} {p count left : ℕ} → Alterna
 settled {n} {k} {w} {p} {count} {left} c = c.es ++ taken_any_of (marking w) c.lies
 
 -- "A disjunction with none left fails the description. One with exactly one left is folded": engine's `settle_at`
-pub record Settles (n k : ℕ) (w : List ℕ) (p count left : ℕ) (r : Pushed) (w' : List ℕ) : Type 0 where
+pub record Settles (n k : ℕ) (w : List ℕ) (p count left : ℕ) (r : Option ℕ) (w' : List ℕ) : Type 0 where
   pub len : length w' ≡ length w
   pub rest : (j : ℕ) → WORDS ≤ j → get_or w' j 0 ≡ get_or w j 0
-  pub pushed : (k' : ℕ) → r ≡ In k' → Since k w k' w'
+  pub pushed : (k' : ℕ) → r ≡ Some k' → Since k w k' w'
       × ((c : Alternating n k w p count left) →
       Holds n (settled c) k' w' × (settle_at (graphs c.es) (marking w) c.lies.a ≡ stands (graphs (settled c)) (marking w)))
-  pub clashed : r ≡ Clashed → Since k w k w'
+  pub clashed : r ≡ None → Since k w k w'
       × ((c : Alternating n k w p count left) → Holds n c.es k w'
       × (settle_at (graphs c.es) (marking w) c.lies.a ≡ fails (marking w)))

@@ -1,38 +1,31 @@
 // A description is entered: its graph and all that is certain in it are pushed.
 ghost use Rattle.entering.specs.Entered.{Entering, Enters};
 
-use classes::push::{Pushed, back, push};
+use classes::push::{back, push};
 use marks::positions::{alternatives_at, disjunctions_at, tail_at};
 use marks::tally::{Remnant, count_kept};
 
-// Pushes the graph at g and, of each disjunction after it with one alternative left, that alternative in the same way. A clash takes
-// all of it back.
-pub fn enter(w: &mut [u32], k: usize, n: usize, g: usize, left: u32) -> Pushed
+// Pushes the graph at g and, of each disjunction after it with one alternative left, that alternative in the same way. How many entries
+// the log has then; a clash takes all of it back.
+pub fn enter(w: &mut [u32], k: usize, n: usize, g: usize, left: u32) -> Option<usize>
     requires { Entering n k w.old g left }
     ensures { Enters n k w.old g left result w.new }
 {
-    let own = push(w, k, n, g);
-    let Pushed::In(j) = own else {
-        return Pushed::Clashed;
-    };
+    let mut log = push(w, k, n, g)?;
     let e = tail_at(w, g);
-    let mut more = disjunctions_at(w, e);
+    let more = disjunctions_at(w, e);
     let mut at = e + 1;
-    let mut log = j;
-    while 0 < more {
+    for _ in 0..more {
         let count = alternatives_at(w, at);
         let tally = count_kept(w, at + 1, count);
-        let which = tally.remnant;
-        if let Remnant::One(first) = which {
-            let inner = enter(w, log, n, first, left - 1);
-            let Pushed::In(i) = inner else {
+        if let Remnant::One(first) = tally.remnant {
+            let Some(inner) = enter(w, log, n, first, left - 1) else {
                 back(w, log, k);
-                return Pushed::Clashed;
+                return None;
             };
-            log = i;
+            log = inner;
         }
         at = tally.after;
-        more -= 1;
     }
-    Pushed::In(log)
+    Some(log)
 }

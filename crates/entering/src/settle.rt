@@ -2,19 +2,17 @@
 ghost use Rattle.entering.specs.Settled.{Alternating, Settles};
 
 use crate::enter::enter;
-use classes::push::Pushed;
 use marks::tally::{Remnant, count_kept};
 
 // Of the `count` alternatives from p on: with none left it fails, one that stands alone is entered, and several stay.
-pub fn settle(w: &mut [u32], k: usize, n: usize, p: usize, count: usize, left: u32) -> Pushed
+pub fn settle(w: &mut [u32], k: usize, n: usize, p: usize, count: usize, left: u32) -> Option<usize>
     requires { Alternating n k w.old p count left }
     ensures { Settles n k w.old p count left result w.new }
 {
     let tally = count_kept(w, p, count);
-    let which = tally.remnant;
-    match which {
-        Remnant::Nothing => Pushed::Clashed,
+    match tally.remnant {
+        Remnant::Nothing => None,
         Remnant::One(first) => enter(w, k, n, first, left),
-        Remnant::Several(_) => Pushed::In(k),
+        Remnant::Several(_) => Some(k),
     }
 }

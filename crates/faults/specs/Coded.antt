@@ -1,6 +1,6 @@
 -- What the values of the code stand for, and what is so of them between two words.
 -- Assumes nothing: these are definitions.
-use Rattle.std.specs.Prelude.{◌≡◌, List, [], ◌∷◌, ℕ, zero, suc, ◌<◌, ◌≤◌, length, get_or, Option, Some, None}
+use Rattle.std.specs.Prelude.{List, [], ◌∷◌, ℕ, zero, suc, ◌<◌, ◌≤◌, length, get_or, Option, Some, None}
 use Rattle.theory.specs.Limits.{depth_limit}
 use Rattle.roles.specs.Faults as F
 use Rattle.roles.specs.Faults.{node_count, node_head, arc_feature, arc_target, disjunction_count, alternative_count, the_end, expect}
@@ -8,21 +8,22 @@ use Rattle.roles.specs.Coded.{role_of}
 use Rattle.roles.specs.declared.cause.Cause.TheVariants.{WordsEnd}
 use Rattle.roles.specs.declared.role.Role.{Role}
 use Rattle.roles.specs.declared.role.Role.TheVariants.{NodeCount, Head, Feature, Target, DisjunctionCount, AlternativeCount, End}
+use Rattle.faults.specs.declared.nesting.Open.{Open}
 use Rattle.faults.specs.declared.nesting.Nesting.{Nesting}
 use Rattle.faults.specs.declared.nesting.Expected.{Expected}
 use Rattle.faults.specs.declared.verdict.Fault.{Fault}
 
+-- how many alternatives follow an open one, and how many disjunctions follow its disjunction
+abbrev pub open_one : Open → ℕ × ℕ
+open_one x = (x.alternatives, x.disjunctions)
+
 -- the first k of the open alternatives, the innermost first
-abbrev pub open_of : List ℕ → List ℕ → ℕ → F.Nesting
-open_of a d zero = []
-open_of a d (suc k) = (get_or a k 0, get_or d k 0) ∷ open_of a d k
+abbrev pub open_of : List Open → ℕ → F.Nesting
+open_of xs zero = []
+open_of xs (suc k) = open_one (get_or xs k (record { alternatives = 0; disjunctions = 0 })) ∷ open_of xs k
 
 abbrev pub nesting_of : Nesting → F.Nesting
-nesting_of s = open_of s.alternatives s.disjunctions s.depth
-
--- there is room for alternatives nested four deep
-abbrev pub RoomForFour : Nesting → Type 0
-RoomForFour s = (length s.alternatives ≡ depth_limit) × (length s.disjunctions ≡ depth_limit)
+nesting_of s = open_of s.open s.depth
 
 abbrev pub expected_of : Expected → F.Expected
 expected_of e = expect (role_of e.role) (nesting_of e.nesting)

@@ -1,21 +1,26 @@
 // What the words before determine: the role of the next one, and the open alternatives.
-ghost use Rattle.std.specs.Prelude.{◌≡◌, ◌∷◌, ◌<◌, ◌≤◌};
+ghost use Rattle.std.specs.Prelude.{◌≡◌, [], ◌∷◌, ◌<◌, ◌≤◌};
 ghost use Rattle.std.proofs.Math.Option.{none};
 ghost use Rattle.theory.specs.Limits.{depth_limit};
 ghost use Rattle.roles.specs.Faults.{breaks, completed, disjunctions_from, expected_after};
-ghost use Rattle.faults.specs.Coded.{nesting_of, RoomForFour, expected_of, Bounded};
+ghost use Rattle.faults.specs.Coded.{nesting_of, expected_of, Bounded};
 
 use crate::next::{after_head, after_target};
 use limits::wide;
 use roles::role::{Nodes, Role};
 
-// How many alternatives are open, one in the other; for each, from the outermost, how many alternatives follow it and how many
-// disjunctions follow its disjunction.
+// An open alternative: how many alternatives follow it, and how many disjunctions follow its disjunction.
+#[derive(Clone, Copy)]
+pub struct Open {
+    pub alternatives: u32,
+    pub disjunctions: u32,
+}
+
+// How many alternatives are open, one in the other, and these from the outermost on.
 #[derive(Clone, Copy)]
 pub struct Nesting {
     pub depth: u32,
-    pub alternatives: [u32; 4],
-    pub disjunctions: [u32; 4],
+    pub open: [Open; 4],
 }
 
 // The role of the next word, and the open alternatives.
@@ -25,41 +30,52 @@ pub struct Expected {
     pub nesting: Nesting,
 }
 
-// An alternative is open besides.
-fn opened(nesting: Nesting, alternatives: u32, disjunctions: u32) -> Nesting
-    requires { (nesting.depth < depth_limit) × RoomForFour nesting }
-    ensures { (nesting_of result ≡ (alternatives, disjunctions) ∷ nesting_of nesting) × RoomForFour result }
+// Nothing is open before the first word.
+pub(crate) fn nothing_open() -> Nesting
+    ensures { nesting_of result ≡ [] }
 {
-    let at = wide(nesting.depth);
+    Nesting {
+        depth: 0,
+        open: [Open {
+            alternatives: 0,
+            disjunctions: 0,
+        }; 4],
+    }
+}
+
+// An alternative is open besides.
+fn opened(nesting: Nesting, open: Open) -> Nesting
+    requires { nesting.depth < depth_limit }
+    ensures { nesting_of result ≡ (open.alternatives, open.disjunctions) ∷ nesting_of nesting }
+{
     let mut next = nesting;
-    next.alternatives[at] = alternatives;
-    next.disjunctions[at] = disjunctions;
+    next.open[wide(nesting.depth)] = open;
     next.depth = nesting.depth + 1;
     next
 }
 
 // A description is complete: the next alternative, or the next disjunction; else what follows the description around it.
 fn completed(nesting: Nesting) -> Expected
-    requires { (nesting.depth ≤ depth_limit) × RoomForFour nesting }
-    ensures { (expected_of result ≡ completed (nesting_of nesting)) × RoomForFour result.nesting }
+    requires { nesting.depth ≤ depth_limit }
+    ensures { expected_of result ≡ completed (nesting_of nesting) }
 {
     let mut left = nesting;
-    while 0 < left.depth {
-        let last = left.depth - 1;
-        let at = wide(last);
-        let alternatives = left.alternatives[at];
-        let disjunctions = left.disjunctions[at];
+    for last in (0..nesting.depth).rev() {
         left.depth = last;
-        if 0 < alternatives {
-            let nesting = opened(left, alternatives - 1, disjunctions);
+        let open = left.open[wide(last)];
+        if 0 < open.alternatives {
+            let next = Open {
+                alternatives: open.alternatives - 1,
+                ..open
+            };
             return Expected {
                 role: Role::NodeCount,
-                nesting,
+                nesting: opened(left, next),
             };
         }
-        if 0 < disjunctions {
+        if 0 < open.disjunctions {
             return Expected {
-                role: Role::AlternativeCount(disjunctions - 1),
+                role: Role::AlternativeCount(open.disjunctions - 1),
                 nesting: left,
             };
         }
@@ -72,8 +88,8 @@ fn completed(nesting: Nesting) -> Expected
 
 // So many disjunctions more.
 fn disjunctions_from(nesting: Nesting, count: u32) -> Expected
-    requires { (nesting.depth ≤ depth_limit) × RoomForFour nesting }
-    ensures { (expected_of result ≡ disjunctions_from count (nesting_of nesting)) × RoomForFour result.nesting }
+    requires { nesting.depth ≤ depth_limit }
+    ensures { expected_of result ≡ disjunctions_from count (nesting_of nesting) }
 {
     if count == 0 {
         return completed(nesting);
@@ -86,8 +102,8 @@ fn disjunctions_from(nesting: Nesting, count: u32) -> Expected
 
 // What is expected after a word that breaks no rule.
 pub(crate) fn expected_after(expected: Expected, word: u32) -> Expected
-    requires { Bounded (expected_of expected) × (breaks (expected_of expected) word ≡ none) × RoomForFour expected.nesting }
-    ensures { (expected_of result ≡ expected_after (expected_of expected) word) × RoomForFour result.nesting }
+    requires { Bounded (expected_of expected) × (breaks (expected_of expected) word ≡ none) }
+    ensures { expected_of result ≡ expected_after (expected_of expected) word }
 {
     let role = expected.role;
     let nesting = expected.nesting;
@@ -116,10 +132,16 @@ pub(crate) fn expected_after(expected: Expected, word: u32) -> Expected
             nesting,
         },
         Role::DisjunctionCount => disjunctions_from(nesting, word),
-        Role::AlternativeCount(more) => Expected {
-            role: Role::NodeCount,
-            nesting: opened(nesting, word - 1, more),
-        },
+        Role::AlternativeCount(more) => {
+            let first = Open {
+                alternatives: word - 1,
+                disjunctions: more,
+            };
+            Expected {
+                role: Role::NodeCount,
+                nesting: opened(nesting, first),
+            }
+        }
         Role::End => expected,
     }
 }

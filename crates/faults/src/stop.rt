@@ -2,7 +2,7 @@
 ghost use Rattle.roles.specs.Coded.{role_of, broken_of};
 ghost use Rattle.faults.specs.Stops.{Stopped};
 
-use crate::nesting::{Expected, Nesting, expected_after};
+use crate::nesting::{Expected, expected_after, nothing_open};
 use roles::cause::Cause;
 use roles::role::{Role, breaks};
 
@@ -20,11 +20,7 @@ pub(crate) fn first_stop(ws: &[u32]) -> Stop
 {
     let mut expected = Expected {
         role: Role::NodeCount,
-        nesting: Nesting {
-            depth: 0,
-            alternatives: [0; 4],
-            disjunctions: [0; 4],
-        },
+        nesting: nothing_open(),
     };
     for (at, word) in ws.iter().enumerate() {
         if let Some(cause) = breaks(expected.role, expected.nesting.depth, *word) {

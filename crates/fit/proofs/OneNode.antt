@@ -37,9 +37,6 @@ module _ (s P ws : List ℕ) (p i : ℕ) (M : List ℕ) (k : ℕ) (noted : Noted
   low : x < length H
   low = asked.low i asked.known
 
-  pub given_low : (u v : ℕ) → u ≡ i → v ≡ get_or M u 0 → v < node_limit
-  given_low u v e d = let l = low in omega (arith, d ∙ ap (λ (x : ℕ). get_or M x 0) e, noted.few)
-
   module _ (q : ℕ) (place : q ≡ get_or P (get_or M i 0) 0) where
     pub inside : after_node s q ≤ length s
     inside = rw place (noted.noted x low).0

@@ -2,9 +2,9 @@
 -- Assumes nothing.
 use Prim.Native.Nat.{ℕ, suc, ◌+◌, ◌-◌, ◌≤◌, ◌<◌}
 use native.Mathlib.Omega.{arith}
-use mathlib.Core.Path.{◌≡◌, refl, sym, subst, ◌∙◌}
-use mathlib.Core.List.{List, [], ◌∷◌, ◌++◌, append_assoc}
-use lib.ListN.{length, set, drop, length-set}
+use mathlib.Core.Path.{◌≡◌, refl, ap, sym, subst, ◌∙◌}
+use mathlib.Core.List.{List, [], ◌∷◌, ◌++◌, append_assoc, append-nil}
+use lib.ListN.{length, set, length-set}
 use lib.Seq.{get_or-set_same, get_or-set_other}
 use Rattle.layout.specs.Standing.{Stands}
 use Rattle.layout.proofs.Standing.{stands_cons, stands_frame}
@@ -92,9 +92,35 @@ put_out b n len x s h l = record {
   before = λ ws e. let many = e.many in record { many = omega arith; words = λ k. absurd (omega arith) };
 }
 
--- the words of xs from i on are written, the last of them first
-abbrev pub Back : (b : List ℕ) (len : ℕ) (xs : List ℕ) (i : ℕ) (c : List ℕ) (at : ℕ) → Type 0
-Back b len xs i c at = PutsBefore b len (drop i xs) c at
+-- while the words xs are written, the last of them first: those of `rest` are not
+pub record Backwards (b : List ℕ) (len : ℕ) (xs rest c : List ℕ) (at : ℕ) : Type 0 where
+  pub written : List ℕ
+  pub whole : rest ++ written ≡ xs
+  pub puts : PutsBefore b len written c at
+
+module _ (b : List ℕ) (len : ℕ) (xs rest : List ℕ) where
+  pub backwards_start : len ≤ suc (length b) → rest ≡ xs → Backwards b len xs rest b len
+  backwards_start h e = record {
+    written = [];
+    whole = append-nil rest ∙ e;
+    puts = record { grows = grows_none b len h; before = λ ws u. u };
+  }
+
+  module _ (c : List ℕ) (at : ℕ) (v : Backwards b len xs rest c at) where
+    pub backwards_more : (x : ℕ) (rest' c' : List ℕ) (at' : ℕ) → rest ≡ rest' ++ x ∷ [] → PutsBefore c at (x ∷ []) c' at' →
+        Backwards b len xs rest' c' at'
+    backwards_more x rest' c' at' e u = record {
+      written = x ∷ v.written;
+      whole = sym (append_assoc rest' (x ∷ []) v.written) ∙ ap (λ (z : List ℕ). z ++ v.written) (sym e) ∙ v.whole;
+      puts = puts_on b c c' len at at' v.written (x ∷ []) v.puts u;
+    }
+
+    pub backwards_done : length rest ≡ 0 → PutsBefore b len xs c at
+    backwards_done z = subst (λ (y : List ℕ). PutsBefore b len y c at) (go rest z v.whole) v.puts
+      where
+        go : (l : List ℕ) → length l ≡ 0 → l ++ v.written ≡ xs → v.written ≡ xs
+        go [] e w = w
+        go (y ∷ l) e w = absurd (omega arith)
 
 -- what goes on writing has the room that was there
 pub room_on : {hm₀ alts b₀ hm b : List ℕ} {len at : ℕ} → SettlingRoom hm₀ alts b₀ len → length hm ≡ length hm₀ → Grows b₀ len b at →

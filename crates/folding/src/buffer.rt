@@ -24,8 +24,8 @@ pub fn put_all(b: &mut [u32], len: usize, xs: &[u32]) -> usize
     ensures { PutsBefore b.old len xs.now b.new result }
 {
     let mut at = len;
-    for i in (0..xs.len()).rev() {
-        at = put(b, at, xs[i]);
+    for &x in xs.iter().rev() {
+        at = put(b, at, x);
     }
     at
 }

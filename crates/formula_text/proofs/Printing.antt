@@ -3,6 +3,7 @@
 -- Assumes nothing.
 use Prim.Native.Nat.{ℕ, ◌+◌, ◌≤◌, ◌<◌}
 use native.Mathlib.Omega.{arith}
+use Rattle.std.specs.Prelude.{Ok, Err, Option, Some}
 use mathlib.Core.Path.{◌≡◌, refl, sym, ap, ap₂, subst, ◌∙◌}
 use mathlib.Core.List.{List, [], ◌++◌}
 use lib.ListN.{length, get_or, take, drop, length-append, length-take}
@@ -13,14 +14,12 @@ use Rattle.theory.specs.Layout.{words, WellFormed}
 use Rattle.theory.proofs.Small.{below_at, words_below}
 use Rattle.translate.specs.Row.{number_in, length_in}
 use Rattle.translate.specs.Translated.{Translated}
-use Rattle.translate.specs.declared.answer.Answer.{Answer}
-use Rattle.translate.specs.declared.answer.Answer.TheVariants.{Done, BadText, TooDeep, Clash, TooLong, NoRoom, LongText}
+use Rattle.translate.specs.Answer.{Answer}
+use Rattle.translate.specs.declared.answer.Refusal.TheVariants.{BadText, TooDeep, Clash, TooLong, NoRoom, LongText}
 use Rattle.translate.proofs.Outcome.{one_translation}
 use Rattle.translate.proofs.Means.{done_means}
 use Rattle.call_text.specs.Token.{largest}
 use Rattle.answer_text.specs.Answer.{newline, answer_label, words_label, labelled, second_line, Wrote}
-use Rattle.answer_text.specs.declared.line.Written.{Written}
-use Rattle.answer_text.specs.declared.line.Written.TheVariants.{Bytes}
 use Rattle.answer_text.proofs.Answers.{labelled-most, second-most, wrote-fits}
 use Rattle.formula_text.specs.Printed.{byte_label, after_number, told_line, formula_text, Prints, Replied}
 
@@ -28,19 +27,19 @@ use Rattle.formula_text.specs.Printed.{byte_label, after_number, told_line, form
 -- where the area has 1,024 words they are there, and 24 does not come
 pub words_there : (t area : List ℕ) (r : Answer) (out : List ℕ) → Translated t area r out → length area ≡ input_limit →
     length_in r ≤ length out
-words_there t area LongText out h s = omega arith
-words_there t area (BadText i) out h s = omega arith
-words_there t area TooDeep out h s = omega arith
-words_there t area Clash out h s = omega arith
-words_there t area TooLong out h s = omega arith
-words_there t area (NoRoom n) out ((φ, d, c, h, i, l), e) s = absurd (omega arith)
-words_there t area (Done n) out (φ, d, c, h, i, l, e) s =
+words_there t area (Err LongText) out h s = omega arith
+words_there t area (Err (BadText i)) out h s = omega arith
+words_there t area (Err TooDeep) out h s = omega arith
+words_there t area (Err Clash) out h s = omega arith
+words_there t area (Err TooLong) out h s = omega arith
+words_there t area (Err (NoRoom n)) out ((φ, d, c, h, i, l), e) s = absurd (omega arith)
+words_there t area (Ok n) out (φ, d, c, h, i, l, e) s =
     let k : length out ≡ length (words d) + length (drop n area) = ap length e ∙ length-append (words d) (drop n area) in
     omega arith
 
 -- what is written of an answer is what is printed
 pub replied : (t area : List ℕ) → length area ≡ input_limit → (r : Answer) (out : List ℕ) → Translated t area r out → (n : ℕ)
-    → n ≡ length_in r → (dst dst' : List ℕ) (q : Written) → Wrote (formula_text r (take n out)) dst dst' q → Replied t dst dst' q
+    → n ≡ length_in r → (dst dst' : List ℕ) (q : Option ℕ) → Wrote (formula_text r (take n out)) dst dst' q → Replied t dst dst' q
 replied t area s r out h n e dst dst' q w = record {
   text = formula_text r (take n out);
   prints = record {
@@ -59,13 +58,13 @@ replied t area s r out h n e dst dst' q w = record {
 module _ (t area other : List ℕ) (s : length area ≡ input_limit) (e : length area ≡ length other) where
   moved : (r : Answer) (out : List ℕ) → Translated t area r out →
       (end : List ℕ) × Translated t other r end × (take (length_in r) out ≡ take (length_in r) end)
-  moved LongText out (h, q) = (other, (h, refl), refl)
-  moved (BadText i) out (h, b, q) = (other, (h, b, refl), refl)
-  moved TooDeep out (h, x, q) = (other, (h, x, refl), refl)
-  moved Clash out (x, q) = (other, (x, refl), refl)
-  moved TooLong out (x, q) = (other, (x, refl), refl)
-  moved (NoRoom n) out ((φ, d, c, h, i, l), q) = absurd (omega arith)
-  moved (Done n) out (φ, d, c, h, i, l, q) = (
+  moved (Err LongText) out (h, q) = (other, (h, refl), refl)
+  moved (Err (BadText i)) out (h, b, q) = (other, (h, b, refl), refl)
+  moved (Err TooDeep) out (h, x, q) = (other, (h, x, refl), refl)
+  moved (Err Clash) out (x, q) = (other, (x, refl), refl)
+  moved (Err TooLong) out (x, q) = (other, (x, refl), refl)
+  moved (Err (NoRoom n)) out ((φ, d, c, h, i, l), q) = absurd (omega arith)
+  moved (Ok n) out (φ, d, c, h, i, l, q) = (
     words d ++ drop n other,
     (φ, d, c, h, i, omega arith, refl),
     ap (take n) q ∙ take_at (words d) (drop n area) n (sym i) ∙ sym (take_at (words d) (drop n other) n (sym i)),
@@ -89,7 +88,7 @@ record Brief (r : Answer) (ws : List ℕ) : Type 0 where
 bare : (r : Answer) → number_in r ≤ largest → length (after_number r) ≤ 17 → Brief r []
 bare r h k = record { few = h; short = k; count = omega arith; fits = λ i l. absurd (omega arith) }
 
-done_brief : (n : ℕ) (d : Desc) (ws : List ℕ) → n ≤ 1024 → WellFormed d depth_limit → ws ≡ words d → length ws ≤ 1024 → Brief (Done n) ws
+done_brief : (n : ℕ) (d : Desc) (ws : List ℕ) → n ≤ 1024 → WellFormed d depth_limit → ws ≡ words d → length ws ≤ 1024 → Brief (Ok n) ws
 done_brief n d ws h w e l =
     let m = labelled-most words_label n (omega arith) in
     let q = ap length e in
@@ -104,16 +103,16 @@ done_brief n d ws h w e l =
 
 brief : (t area : List ℕ) (r : Answer) (out : List ℕ) → Translated t area r out → length area ≡ input_limit →
     Brief r (take (length_in r) out)
-brief t area LongText out h s = bare LongText (omega arith) (omega arith)
-brief t area (BadText i) out (h, b, e) s =
+brief t area (Err LongText) out h s = bare (Err LongText) (omega arith) (omega arith)
+brief t area (Err (BadText i)) out (h, b, e) s =
     let k = b.inside in
     let m = labelled-most byte_label i (omega arith) in
-    bare (BadText i) (omega arith) (omega arith)
-brief t area TooDeep out h s = bare TooDeep (omega arith) (omega arith)
-brief t area Clash out h s = bare Clash (omega arith) (omega arith)
-brief t area TooLong out h s = bare TooLong (omega arith) (omega arith)
-brief t area (NoRoom n) out ((φ, d, c, h, i, l), e) s = absurd (omega arith)
-brief t area (Done n) out x s =
+    bare (Err (BadText i)) (omega arith) (omega arith)
+brief t area (Err TooDeep) out h s = bare (Err TooDeep) (omega arith) (omega arith)
+brief t area (Err Clash) out h s = bare (Err Clash) (omega arith) (omega arith)
+brief t area (Err TooLong) out h s = bare (Err TooLong) (omega arith) (omega arith)
+brief t area (Err (NoRoom n)) out ((φ, d, c, h, i, l), e) s = absurd (omega arith)
+brief t area (Ok n) out x s =
     let l = x.5 in
     let k = length-take n out in
     let (φ, d, f) = done_means t area out n x in
@@ -143,8 +142,8 @@ prints_small t text p =
     omega arith
 
 -- in 16,384 bytes there is always room, and what is written there is what is printed
-pub always_printed : (t out out' : List ℕ) (r : Written) → 16384 ≤ length out → (k : Replied t out out' r)
-    → (r ≡ Bytes (length k.text)) × (take (length k.text) out' ≡ k.text)
+pub always_printed : (t out out' : List ℕ) (r : Option ℕ) → 16384 ≤ length out → (k : Replied t out out' r)
+    → (r ≡ Some (length k.text)) × (take (length k.text) out' ≡ k.text)
 always_printed t out out' r h k =
     let s = prints_small t k.text k.prints in
     let e = wrote-fits k.text out out' r k.wrote (omega arith) in

@@ -4,44 +4,39 @@ ghost use Rattle.answer_text.specs.Answer.{newline, Wrote};
 ghost use Rattle.answer_text.specs.Going.{Appends};
 ghost use Rattle.formula_text.specs.Printed.{after_number, told_line, formula_text};
 
-use answer_text::line::{Written, put, put_labelled, put_last, put_words_line, wide};
-use translate::answer::{Answer, told};
+use answer_text::line::{put, put_labelled, put_last, put_words_line};
+use translate::answer::{Refusal, told};
 
 // Writes what is told after the number, and ends the line.
-fn put_told(dst: &mut [u8], at: usize, answer: Answer) -> Written
+fn put_told(dst: &mut [u8], at: usize, answer: Result<usize, Refusal>) -> Option<usize>
     ensures { Appends (after_number answer ++ newline) dst.old at dst.new result }
 {
     match answer {
-        Answer::Done(n) => put_last(dst, at, b" words ", n as u64),
-        Answer::BadText(i) => put_last(dst, at, b" byte ", i as u64),
-        Answer::NoRoom(n) => put_last(dst, at, b" words ", n as u64),
-        _ => put(dst, at, 10),
+        Ok(n) | Err(Refusal::NoRoom(n)) => put_last(dst, at, b" words ", n as u64),
+        Err(Refusal::BadText(i)) => put_last(dst, at, b" byte ", i as u64),
+        _ => put(dst, at, b'\n'),
     }
 }
 
 // Writes the first line.
-fn put_told_line(dst: &mut [u8], number: u32, answer: Answer) -> Written
+#[tactic(auto, unfolding(crate::specs::Printed::told_line))]
+fn put_told_line(dst: &mut [u8], number: u32, answer: Result<usize, Refusal>) -> Option<usize>
     ensures { Appends (told_line number answer) dst.old 0 dst.new result }
 {
-    let front = put_labelled(dst, 0, b"answer ", wide(number));
-    let Written::Bytes(at) = front else {
-        return Written::NoRoom;
-    };
+    let at = put_labelled(dst, 0, b"answer ", u64::from(number))?;
     put_told(dst, at, answer)
 }
 
 // Writes an answer to the start of dst, and after 0 these words.
-pub fn write_formula(dst: &mut [u8], answer: Answer, words: &[u32]) -> Written
+#[tactic(auto, unfolding(crate::specs::Printed::formula_text))]
+pub fn write_formula(dst: &mut [u8], answer: Result<usize, Refusal>, words: &[u32]) -> Option<usize>
     ensures { Wrote (formula_text answer words.now) dst.old dst.new result }
 {
-    let row = told(answer);
-    let number = row.number;
-    let first = put_told_line(dst, number, answer);
-    let Written::Bytes(at) = first else {
-        return Written::NoRoom;
-    };
+    let number = told(answer).number;
+    let at = put_told_line(dst, number, answer)?;
     if number == 0 {
-        return put_words_line(dst, at, words);
+        put_words_line(dst, at, words)
+    } else {
+        Some(at)
     }
-    Written::Bytes(at)
 }

@@ -2,18 +2,18 @@
 ghost use Rattle.leaving.specs.Fulled.{Fulling, Fulls};
 
 use counting::choices::count_both;
-use leaving::leave::{Fully, leave};
+use leaving::leave::{Left, NoneLeft, leave};
 use limits::{CHOICE_LIMIT, DEPTH_LIMIT};
 use search::search::search;
 
 // Drops every alternative that stands in no consistent choice, where k entries in the log are what is certain after the quick step.
-pub fn full(w: &mut [u32], k: usize, n: usize) -> Fully
+pub fn full(w: &mut [u32], k: usize, n: usize) -> Result<Left, NoneLeft>
     requires { Fulling n k w.old }
     ensures { Fulls n k w.old result w.new }
 {
     let choices = count_both(w, DEPTH_LIMIT);
     if CHOICE_LIMIT < choices {
-        return Fully::Over;
+        return Err(NoneLeft::TooMany);
     }
     let readings = search(w, k, n);
     leave(w, k, n, readings)

@@ -23,9 +23,7 @@ use Rattle.laying.specs.Table.{FourPut, AlternativePut}
 use Rattle.laying.specs.Laying.{Tabs, Roomy, FewRows, LaidSoFar, SignComing, SignPassed, begun_at, WholeBegins, all_given}
 use Rattle.laying.specs.Laying.{LaysOut, LaidAs}
 use Rattle.laying.specs.declared.sign.At.{At}
-use Rattle.laying.specs.declared.sign.Stepped.{Stepped}
-use Rattle.laying.specs.declared.sign.Stepped.TheVariants.{On, TooDeep}
-use Rattle.laying.specs.declared.laying.Laid.TheVariants as laid
+use Rattle.std.specs.Prelude.{Option, Some, None}
 use Rattle.laying.proofs.Held.{with_alts, hold_alternative, hold_root, memory_of, memory_held}
 
 -- the signs from i on are still to come, and with what they give all is given
@@ -142,16 +140,16 @@ module _ (signs : List ℕ) (n i : ℕ) (all : Out) (T : Tabs) (at : At) (a : Al
       subst (λ (y : ℕ). SignComing T at (y / kind_unit, y % kind_unit)) (sym e)
       (subst (SignComing T at) (sym next.token) (coming few short room))
 
-  pub along_next : FewRows all → n ≤ row_limit → Roomy T → (x : ℕ) → x ≡ word_of signs i → (T' : Tabs) (r : At) (s : Stepped) →
-      s ≡ On r → SignPassed T at (x / kind_unit, x % kind_unit) s T' → Along signs n (i + 1) all T' r
+  pub along_next : FewRows all → n ≤ row_limit → Roomy T → (x : ℕ) → x ≡ word_of signs i → (T' : Tabs) (r : At) (s : Option At) →
+      s ≡ Some r → SignPassed T at (x / kind_unit, x % kind_unit) s T' → Along signs n (i + 1) all T' r
   unfolding coming
   along_next few short room x e T' r s on passed =
       let t = next.sign in
       let c = a.core in
       let p = a.pen in
-      let by_word_lem = subst (λ (y : ℕ). SignPassed T at (y / kind_unit, y % kind_unit) (On r) T') e
-      (subst (λ (y : Stepped). SignPassed T at (x / kind_unit, x % kind_unit) y T') on passed) in
-      let by_sign_lem = subst (λ (s : Token). SignPassed T at s (On r) T') next.token by_word_lem in
+      let by_word_lem = subst (λ (y : ℕ). SignPassed T at (y / kind_unit, y % kind_unit) (Some r) T') e
+      (subst (λ (y : Option At). SignPassed T at (x / kind_unit, x % kind_unit) y T') on passed) in
+      let by_sign_lem = subst (λ (s : Token). SignPassed T at s (Some r) T') next.token by_word_lem in
       let count = a.count in
       let long = ap (λ (l : List Token). length l) next.is in
       let high = a.high in
@@ -171,16 +169,16 @@ module _ (signs : List ℕ) (n i : ℕ) (all : Out) (T : Tabs) (at : At) (a : Al
         high = omega (arith, high, more);
       }
 
-  pub along_deep : FewRows all → n ≤ row_limit → Roomy T → (x : ℕ) → x ≡ word_of signs i → (T' : Tabs) (s : Stepped) →
-      s ≡ TooDeep → SignPassed T at (x / kind_unit, x % kind_unit) s T' → ShallowAlts depth_limit all.alts → ⊥
+  pub along_deep : FewRows all → n ≤ row_limit → Roomy T → (x : ℕ) → x ≡ word_of signs i → (T' : Tabs) (s : Option At) →
+      s ≡ None → SignPassed T at (x / kind_unit, x % kind_unit) s T' → ShallowAlts depth_limit all.alts → ⊥
   unfolding coming
   along_deep few short room x e T' s deep passed shallow =
       let t = next.sign in
       let c = a.core in
       let p = a.pen in
-      let by_word_lem = subst (λ (y : ℕ). SignPassed T at (y / kind_unit, y % kind_unit) TooDeep T') e
-      (subst (λ (y : Stepped). SignPassed T at (x / kind_unit, x % kind_unit) y T') deep passed) in
-      let by_sign_lem = subst (λ (s : Token). SignPassed T at s TooDeep T') next.token by_word_lem in
+      let by_word_lem = subst (λ (y : ℕ). SignPassed T at (y / kind_unit, y % kind_unit) None T') e
+      (subst (λ (y : Option At). SignPassed T at (x / kind_unit, x % kind_unit) y T') deep passed) in
+      let by_sign_lem = subst (λ (s : Token). SignPassed T at s None T') next.token by_word_lem in
       let given = a.done then sign_gives t c p in
       let others = emit next.others (sign_moves t c p) (sign_turns t c p) in
       by_sign_lem (coming few short room) (shallow_left depth_limit given.alts others.alts
@@ -188,9 +186,9 @@ module _ (signs : List ℕ) (n i : ℕ) (all : Out) (T : Tabs) (at : At) (a : Al
 
 -- all signs were gone through
 pub along_done : (signs : List ℕ) (n i : ℕ) (all : Out) (T : Tabs) (at : At) → Along signs n i all T at → n ≤ i →
-    LaidAs all (laid.Rows (at.spots - 1) at.bears at.ties at.alts) T
+    LaidAs all (Some (record { arcs = at.spots - 1; atoms = at.bears; ties = at.ties; alts = at.alts })) T
 along_done signs n i all T at a most = go a.rest refl where
-  go : (l : List Token) → a.rest ≡ l → LaidAs all (laid.Rows (at.spots - 1) at.bears at.ties at.alts) T
+  go : (l : List Token) → a.rest ≡ l → LaidAs all (Some (record { arcs = at.spots - 1; atoms = at.bears; ties = at.ties; alts = at.alts })) T
   go (t ∷ ts) e = let count = a.count in let long = ap (λ (l : List Token). length l) e in absurd (omega (arith, count, long, most))
   go [] e =
       let s = a.so_far in
@@ -201,7 +199,7 @@ along_done signs n i all T at a most = go a.rest refl where
       let number = s.stands.alts in
       let is : a.done ≡ all =
       sym (then_nothing a.done) ∙ ap (λ (l : List Token). a.done then emit l a.core a.pen) (sym e) ∙ a.total in
-      subst (λ (y : Out). LaidAs y (laid.Rows (at.spots - 1) at.bears at.ties at.alts) T) is (
+      subst (λ (y : Out). LaidAs y (Some (record { arcs = at.spots - 1; atoms = at.bears; ties = at.ties; alts = at.alts })) T) is (
         s.shallow,
         omega (arith, spots, count),
         v.bears,

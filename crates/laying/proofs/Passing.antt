@@ -11,10 +11,9 @@ use lib.Dec.{eqb, ltb}
 use borrow.Author.Tests.{eq-eqb, ne_eqb, eqb-true, eqb-false, ltb-true, ltb-false}
 use Rattle.theory.specs.Limits.{depth_limit}
 use Rattle.formulas.specs.Sheet.{of_atom, of_tie}
-use Rattle.signs.specs.Limits.{kind_unit}
 use Rattle.signs.specs.Machine.{if_so}
 use Rattle.rows.specs.Tokens.{Token}
-use Rattle.rows.specs.Machine.{ShallowAlts, Out, no_rows, ◌then◌, homed, begins, OpenFrame, framed, Core, cored, Pen, penned, outer, further_out}
+use Rattle.rows.specs.Machine.{ShallowAlts, Out, no_rows, ◌then◌, homed, begins, OpenFrame, framed, Core, cored, Pen, penned, outer}
 use Rattle.rows.specs.Machine.{sign_gives, sign_moves, sign_turns}
 use Rattle.rows.specs.Memory.{row_limit}
 use Rattle.rows.specs.Laid.{spot_unit}
@@ -22,23 +21,22 @@ use Rattle.rows.specs.Standing.{FramesInside}
 use Rattle.rows.proofs.Depth.{shallow_right}
 use Rattle.rows.proofs.Given.{then_nothing, then_assoc}
 use Rattle.laying.specs.Table.{RowPut, FourPut, AlternativePut}
-use Rattle.laying.specs.Step.{after_arc, after_atom, after_pen, Shares, after_opening, after_deeper, after_close, owner_of, after_beside}
+use Rattle.laying.specs.Step.{after_arc, after_atom, after_pen, Shares, after_opening, after_deeper, owner_of, after_beside}
 use Rattle.laying.specs.Step.{GroupOpening, GroupOpens, after_moving}
 use Rattle.laying.specs.Laying.{Tabs, LaidSoFar, SignComing, SignPassed}
 use Rattle.laying.specs.declared.sign.At.{At}
-use Rattle.laying.specs.declared.sign.Stepped.{Stepped}
-use Rattle.laying.specs.declared.sign.Stepped.TheVariants.{On, TooDeep}
+use Rattle.std.specs.Prelude.{Option, Some, None}
 use Rattle.laying.proofs.States.{if_is, if_not}
 use Rattle.laying.proofs.Held.{with_arcs, with_atoms, with_ties, with_alts, with_frames}
-use Rattle.laying.proofs.Signs.{arc_laid, atom_laid, tie_laid, pen_laid, open_laid, begun_laid, outer_is, close_laid}
+use Rattle.laying.proofs.Signs.{arc_laid, atom_laid, tie_laid, pen_laid, open_laid, begun_laid, outer_is}
 
 -- nothing was given
 none_given : (T : Tabs) (at : At) (c : Core) (p : Pen) (x : Out) → LaidSoFar T at c p x → LaidSoFar T at c p (x then no_rows)
 none_given T at c p x s = subst (LaidSoFar T at c p) (sym (then_nothing x)) s
 
 -- a state by another name
-next_as : (T : Tabs) (at : At) (t : Token) (T' : Tabs) (next r : At) → r ≡ next → SignPassed T at t (On next) T' → SignPassed T at t (On r) T'
-next_as T at t T' next r e p = subst (λ (y : At). SignPassed T at t (On y) T') (sym e) p
+next_as : (T : Tabs) (at : At) (t : Token) (T' : Tabs) (next r : At) → r ≡ next → SignPassed T at t (Some next) T' → SignPassed T at t (Some r) T'
+next_as T at t T' next r e p = subst (λ (y : At). SignPassed T at t (Some y) T') (sym e) p
 
 -- the alternative that all this stands in is an earlier one
 owner_low : (fs : List OpenFrame) (n k : ℕ) → 0 < k → FramesInside n k fs → (outer fs).home < k
@@ -47,26 +45,11 @@ owner_low (f ∷ fs) n k l p = p.1
 
 module _ (T : Tabs) (at : At) where
   -- ---- `fN`
-  pub arc_asks : (k f : ℕ) → k ≡ 102 → SignComing T at (k, f) →
-      (0 < at.spots) × (at.spots < spot_unit) × (2 * at.spots ≤ length T.arcs) × (at.cur < spot_unit) × (f < kind_unit)
-  arc_asks k f e c₀ =
-      let c = subst (λ (n : ℕ). SignComing T at (n, f)) e c₀ in
-      let few = c.few.arcs in
-      let long = length-append c.done.arcs ((c.core.frame.home, (c.pen.cur, f, c.core.spot)) ∷ []) in
-      let spots = c.so_far.views.spots in
-      let cur = c.so_far.views.cur in
-      let count = c.so_far.stands.spots in
-      let low = c.so_far.stands.cur in
-      let room = c.room.arcs in
-      let number = c.number in
-      let less : at.spots < spot_unit = omega (arith, few, long, spots, count) in
-      (omega (arith, spots, count), less, omega (arith, room), omega (arith, cur, low, spots), number)
-
   pub arc_passed : (k f : ℕ) (w' : List ℕ) (r : At) → k ≡ 102 → r ≡ after_arc at →
-      RowPut T.arcs (at.spots - 1) (at.cur + spot_unit * f) at.home w' → SignPassed T at (k, f) (On r) (with_arcs T w')
+      RowPut T.arcs (at.spots - 1) (at.cur + spot_unit * f) at.home w' → SignPassed T at (k, f) (Some r) (with_arcs T w')
   arc_passed k f w' r e q put =
       next_as T at (k, f) (with_arcs T w') (after_arc at) r q
-      (subst (λ (n : ℕ). SignPassed T at (n, f) (On (after_arc at)) (with_arcs T w')) (sym e)
+      (subst (λ (n : ℕ). SignPassed T at (n, f) (Some (after_arc at)) (with_arcs T w')) (sym e)
       (λ c. arc_laid T at c.core c.pen c.done c.so_far f w' put))
 
   -- ---- `aN`
@@ -82,58 +65,20 @@ module _ (T : Tabs) (at : At) where
       let high = c.so_far.stands.end in
       (omega (arith, few, long, cur, count, low), omega (arith, few, long, end, count, high))
 
-  pub atom_asks : (k a : ℕ) → k ≡ 97 → SignComing T at (k, a) →
-      (at.bears < row_limit) × (2 * at.bears + 1 < length T.atoms) × (at.cur < spot_unit) × (a < kind_unit)
-  atom_asks k a e c₀ =
-      let c = subst (λ (n : ℕ). SignComing T at (n, a)) e c₀ in
-      let few = c.few.bears in
-      let long = length-append c.done.bears ((c.core.frame.home, (c.pen.cur, a)) ∷ []) in
-      let bears = c.so_far.views.bears in
-      let room = c.room.atoms in
-      let number = c.number in
-      let less : at.bears < row_limit = omega (arith, few, long, bears) in
-      (less, omega (arith, room), (few_spots (97, a) c).0, number)
-
   pub atom_passed : (k a : ℕ) (w' : List ℕ) (r : At) → k ≡ 97 → r ≡ after_atom at →
-      RowPut T.atoms at.bears (at.cur + spot_unit * a) at.home w' → SignPassed T at (k, a) (On r) (with_atoms T w')
+      RowPut T.atoms at.bears (at.cur + spot_unit * a) at.home w' → SignPassed T at (k, a) (Some r) (with_atoms T w')
   atom_passed k a w' r e q put =
       next_as T at (k, a) (with_atoms T w') (after_atom at) r q
-      (subst (λ (n : ℕ). SignPassed T at (n, a) (On (after_atom at)) (with_atoms T w')) (sym e)
+      (subst (λ (n : ℕ). SignPassed T at (n, a) (Some (after_atom at)) (with_atoms T w')) (sym e)
       (λ c. atom_laid T at c.core c.pen c.done c.so_far a w' put))
 
   -- ---- `TOP`: two atoms
-  top_few : (n : ℕ) → SignComing T at (80, n) → at.bears + 1 < row_limit
-  top_few n c =
-      let h = c.core.frame.home in
-      let few = c.few.bears in
-      let long = length-append c.done.bears ((h, (c.pen.cur, 0)) ∷ (h, (c.pen.cur, 1)) ∷ []) in
-      let bears = c.so_far.views.bears in
-      omega (arith, few, long, bears)
-
-  pub top_asks : (k n : ℕ) → k ≡ 80 → SignComing T at (k, n) →
-      (at.bears < row_limit) × (2 * at.bears + 1 < length T.atoms) × (at.cur < spot_unit) × (0 < kind_unit)
-  top_asks k n e c₀ =
-      let c = subst (λ (m : ℕ). SignComing T at (m, n)) e c₀ in
-      let few = top_few n c in
-      let room = c.room.atoms in
-      (omega (arith, few), omega (arith, few, room), (few_spots (80, n) c).0, omega arith)
-
-  pub top_asks_more : (k n : ℕ) (one : At) (w : List ℕ) → k ≡ 80 → one ≡ after_atom at → length w ≡ length T.atoms →
-      SignComing T at (k, n) → (one.bears < row_limit) × (2 * one.bears + 1 < length w) × (one.cur < spot_unit) × (1 < kind_unit)
-  top_asks_more k n one w e q l c₀ =
-      let c = subst (λ (m : ℕ). SignComing T at (m, n)) e c₀ in
-      let few = top_few n c in
-      let room = c.room.atoms in
-      let spots = (few_spots (80, n) c).0 in
-      subst (λ (y : At). (y.bears < row_limit) × (2 * y.bears + 1 < length w) × (y.cur < spot_unit) × (1 < kind_unit)) (sym q)
-      (omega (arith, few), omega (arith, few, room, l), spots, omega arith)
-
   pub top_passed : (k n : ℕ) (one r : At) (w w' : List ℕ) → k ≡ 80 → one ≡ after_atom at → r ≡ after_atom one →
       RowPut T.atoms at.bears (at.cur + spot_unit * 0) at.home w →
-      RowPut w one.bears (one.cur + spot_unit * 1) one.home w' → SignPassed T at (k, n) (On r) (with_atoms T w')
+      RowPut w one.bears (one.cur + spot_unit * 1) one.home w' → SignPassed T at (k, n) (Some r) (with_atoms T w')
   top_passed k n one r w w' e q q' put put' =
       next_as T at (k, n) (with_atoms T w') (after_atom (after_atom at)) r (q' ∙ ap after_atom q)
-      (subst (λ (m : ℕ). SignPassed T at (m, n) (On (after_atom (after_atom at))) (with_atoms T w')) (sym e)
+      (subst (λ (m : ℕ). SignPassed T at (m, n) (Some (after_atom (after_atom at))) (with_atoms T w')) (sym e)
       (λ c.
       let core = c.core in
       let pen = c.pen in
@@ -145,31 +90,15 @@ module _ (T : Tabs) (at : At) where
       subst (LaidSoFar (with_atoms T w') (after_atom (after_atom at)) core pen) (then_assoc c.done A B) both))
 
   -- ---- `>`
-  pub share_asks : (k n : ℕ) → k ≡ 62 → SignComing T at (k, n) → at.first ≡ false →
-      (at.ties < row_limit) × (2 * at.ties + 1 < length T.ties) × (at.cur < spot_unit) × (at.end < spot_unit)
-  share_asks k n e c₀ f =
-      let c = subst (λ (m : ℕ). SignComing T at (m, n)) e c₀ in
-      let first : c.pen.first ≡ false = sym c.so_far.views.first ∙ f in
-      let h = c.core.frame.home in
-      let tie = homed h (of_tie [] c.pen.end c.pen.cur) in
-      let gives : sign_gives (62, n) c.core c.pen ≡ tie = ap (λ (b : Bool). if_so b no_rows tie) first in
-      let few = c.few.shares in
-      let long = length-append c.done.shares (sign_gives (62, n) c.core c.pen).shares in
-      let one = ap (λ (y : Out). length y.shares) gives in
-      let ties = c.so_far.views.ties in
-      let room = c.room.ties in
-      let less : at.ties < row_limit = omega (arith, few, long, one, ties) in
-      (less, omega (arith, room), (few_spots (62, n) c).0, (few_spots (62, n) c).1)
-
-  pub share_passed : (k n : ℕ) (r : At) (w' : List ℕ) → k ≡ 62 → Shares T.ties at r w' → SignPassed T at (k, n) (On r) (with_ties T w')
+  pub share_passed : (k n : ℕ) (r : At) (w' : List ℕ) → k ≡ 62 → Shares T.ties at r w' → SignPassed T at (k, n) (Some r) (with_ties T w')
   share_passed k n r w' e h = go at.first refl where
-    go : (b : Bool) → at.first ≡ b → SignPassed T at (k, n) (On r) (with_ties T w')
+    go : (b : Bool) → at.first ≡ b → SignPassed T at (k, n) (Some r) (with_ties T w')
     go true f =
         let (q, w) = h.kept f in
         next_as T at (k, n) (with_ties T w') (after_pen at at.start at.start at.cur false at.ties) r q
-        (subst (λ (l : List ℕ). SignPassed T at (k, n) (On (after_pen at at.start at.start at.cur false at.ties)) (with_ties T l))
+        (subst (λ (l : List ℕ). SignPassed T at (k, n) (Some (after_pen at at.start at.start at.cur false at.ties)) (with_ties T l))
         (sym w)
-        (subst (λ (m : ℕ). SignPassed T at (m, n) (On (after_pen at at.start at.start at.cur false at.ties)) T) (sym e)
+        (subst (λ (m : ℕ). SignPassed T at (m, n) (Some (after_pen at at.start at.start at.cur false at.ties)) T) (sym e)
         (λ c.
         let core = c.core in
         let pen = c.pen in
@@ -187,7 +116,7 @@ module _ (T : Tabs) (at : At) where
         let (q, put) = h.tied f in
         let next = after_pen at at.start at.start at.end false (at.ties + 1) in
         next_as T at (k, n) (with_ties T w') next r q
-        (subst (λ (m : ℕ). SignPassed T at (m, n) (On next) (with_ties T w')) (sym e)
+        (subst (λ (m : ℕ). SignPassed T at (m, n) (Some next) (with_ties T w')) (sym e)
         (λ c.
         let core = c.core in
         let pen = c.pen in
@@ -227,7 +156,7 @@ module _ (T : Tabs) (at : At) where
 
   -- a group without alternatives
   open_plain : (n : ℕ) (w' : List ℕ) → n ≢ 1 → FourPut T.frames at.height at.base at.home at.group at.depth w' →
-      SignPassed T at (40, n) (On (after_opening at)) (with_frames T w')
+      SignPassed T at (40, n) (Some (after_opening at)) (with_frames T w')
   open_plain n w' d put c =
       let core = c.core in
       let pen = c.pen in
@@ -241,7 +170,7 @@ module _ (T : Tabs) (at : At) where
       (sym (ne_eqb n 1 d)) (none_given (with_frames T w') (after_opening at) same pen c.done laid)
 
   -- a group whose alternatives are nested too deep
-  open_deep : (n : ℕ) (T' : Tabs) → n ≡ 1 → depth_limit ≤ at.depth → SignPassed T at (40, n) TooDeep T'
+  open_deep : (n : ℕ) (T' : Tabs) → n ≡ 1 → depth_limit ≤ at.depth → SignPassed T at (40, n) None T'
   open_deep n T' e l c shallow =
       let core = c.core in
       let begun = begins core.frame.home core.alt c.pen.cur (suc core.frame.depth) in
@@ -254,7 +183,7 @@ module _ (T : Tabs) (at : At) where
   open_begun : (n : ℕ) (ks' fs' : List ℕ) → n ≡ 1 → at.depth < depth_limit →
       FourPut T.frames at.height at.base at.home at.group at.depth fs' →
       AlternativePut T.alts at.alts at.home at.alts at.cur ks' →
-      SignPassed T at (40, n) (On (after_deeper (after_opening at))) (with_alts (with_frames T fs') ks')
+      SignPassed T at (40, n) (Some (after_deeper (after_opening at))) (with_alts (with_frames T fs') ks')
   open_begun n ks' fs' e l put alt c =
       let core = c.core in
       let pen = c.pen in
@@ -278,7 +207,7 @@ module _ (T : Tabs) (at : At) where
       (c.done then if_so b begun no_rows))
       (sym (eq-eqb n 1 e)) all
 
-  pub open_passed : (k n : ℕ) (r : Stepped) (ks' fs' : List ℕ) → k ≡ 40 → GroupOpens T.alts T.frames at n r ks' fs' →
+  pub open_passed : (k n : ℕ) (r : Option At) (ks' fs' : List ℕ) → k ≡ 40 → GroupOpens T.alts T.frames at n r ks' fs' →
       SignPassed T at (k, n) r (with_alts (with_frames T fs') ks')
   open_passed k n r ks' fs' e o =
       subst (λ (m : ℕ). SignPassed T at (m, n) r (with_alts (with_frames T fs') ks')) (sym e) (by_flag (eqb n 1) refl)
@@ -287,11 +216,11 @@ module _ (T : Tabs) (at : At) where
       by_depth f true l =
           let less = ltb-true at.depth depth_limit l in
           let (q, alt) = o.begun f less in
-          subst (λ (y : Stepped). SignPassed T at (40, n) y (with_alts (with_frames T fs') ks')) (sym q)
+          subst (λ (y : Option At). SignPassed T at (40, n) y (with_alts (with_frames T fs') ks')) (sym q)
           (open_begun n ks' fs' f less o.frame alt)
       by_depth f false l =
           let most = ltb-false at.depth depth_limit l in
-          subst (λ (y : Stepped). SignPassed T at (40, n) y (with_alts (with_frames T fs') ks')) (sym (o.deep f (omega (arith, most))))
+          subst (λ (y : Option At). SignPassed T at (40, n) y (with_alts (with_frames T fs') ks')) (sym (o.deep f (omega (arith, most))))
           (open_deep n (with_alts (with_frames T fs') ks') f (omega (arith, most)))
 
       by_flag : (b : Bool) → eqb n 1 ≡ b → SignPassed T at (40, n) r (with_alts (with_frames T fs') ks')
@@ -299,44 +228,17 @@ module _ (T : Tabs) (at : At) where
       by_flag false f =
           let d = eqb-false n 1 f in
           let (q, w) = o.plain d in
-          subst (λ (y : Stepped). SignPassed T at (40, n) y (with_alts (with_frames T fs') ks')) (sym q)
-          (subst (λ (l : List ℕ). SignPassed T at (40, n) (On (after_opening at)) (with_alts (with_frames T fs') l)) (sym w)
+          subst (λ (y : Option At). SignPassed T at (40, n) y (with_alts (with_frames T fs') ks')) (sym q)
+          (subst (λ (l : List ℕ). SignPassed T at (40, n) (Some (after_opening at)) (with_alts (with_frames T fs') l)) (sym w)
           (open_plain n fs' d o.frame))
-
-  -- ---- `)`
-  pub close_passed : (k n : ℕ) (r : At) → k ≡ 41 → r ≡ after_close T.frames at → SignPassed T at (k, n) (On r) T
-  close_passed k n r e q =
-      next_as T at (k, n) T (after_close T.frames at) r q
-      (subst (λ (m : ℕ). SignPassed T at (m, n) (On (after_close T.frames at)) T) (sym e)
-      (λ c.
-      let core = c.core in
-      none_given T (after_close T.frames at) (cored core.spot core.alt (outer core.around) (further_out core.around))
-      (penned (outer core.around).base c.pen.start c.pen.end c.pen.first) c.done
-      (close_laid T at core c.pen c.done c.so_far)))
 
   -- ---- `|`
   -- what is begun stands in the alternative that all this stands in
-  pub beside_asks : (k n of : ℕ) → k ≡ 124 → of ≡ owner_of T.frames at.height → SignComing T at (k, n) →
-      (at.alts < spot_unit) × (4 * at.alts + 3 < length T.alts) × (4 * of + 3 < length T.alts)
-  beside_asks k n of e o c₀ =
-      let c = subst (λ (m : ℕ). SignComing T at (m, n)) e c₀ in
-      let few = c.few.alts in
-      let f = c.core.frame in
-      let begun = begins (outer c.core.around).home f.group f.base f.depth in
-      let long = length-append c.done.alts begun.alts in
-      let alts = c.so_far.views.alts in
-      let count = c.so_far.stands.alts in
-      let room = c.room.alts in
-      let owner = o ∙ (outer_is T at c.core c.pen c.done c.so_far).owner in
-      let low = owner_low c.core.around c.core.spot c.core.alt (omega (arith, count)) c.so_far.stands.around in
-      let less : at.alts < spot_unit = omega (arith, few, long, alts, count) in
-      (less, omega (arith, room), omega (arith, room, owner, low, alts))
-
   pub beside_passed : (k n of : ℕ) (r : At) (w' : List ℕ) → k ≡ 124 → of ≡ owner_of T.frames at.height → r ≡ after_beside at →
-      AlternativePut T.alts at.alts of at.group at.base w' → SignPassed T at (k, n) (On r) (with_alts T w')
+      AlternativePut T.alts at.alts of at.group at.base w' → SignPassed T at (k, n) (Some r) (with_alts T w')
   beside_passed k n of r w' e o q put =
       next_as T at (k, n) (with_alts T w') (after_beside at) r q
-      (subst (λ (m : ℕ). SignPassed T at (m, n) (On (after_beside at)) (with_alts T w')) (sym e)
+      (subst (λ (m : ℕ). SignPassed T at (m, n) (Some (after_beside at)) (with_alts T w')) (sym e)
       (λ c.
       let core = c.core in
       let pen = c.pen in
@@ -356,7 +258,7 @@ module _ (T : Tabs) (at : At) where
 
   -- ---- `[`, `&`, and the signs that do nothing
   pub moved_passed : (k n : ℕ) (r : At) → k ≢ 102 → k ≢ 97 → k ≢ 80 → k ≢ 62 → k ≢ 40 → k ≢ 41 → k ≢ 124 → r ≡ after_moving k at →
-      SignPassed T at (k, n) (On r) T
+      SignPassed T at (k, n) (Some r) T
   moved_passed k n r d₁ d₂ d₃ d₄ d₅ d₆ d₇ q =
       next_as T at (k, n) T (after_moving k at) r q
       (λ c.

@@ -14,10 +14,10 @@ use Rattle.rows.specs.Memory.{Memory}
 use Rattle.rows.specs.Laid.{spot_unit}
 use Rattle.rows.specs.Held.{FramesStand, with_row, with_alternative, with_frame}
 use Rattle.rows.proofs.Depth.{shallow_both}
-use Rattle.rows.proofs.Steps.{stand_arc, stand_atom, stand_tie, stand_moved, stand_open, stand_close, stand_begun}
+use Rattle.rows.proofs.Steps.{stand_arc, stand_atom, stand_tie, stand_moved, stand_open, stand_begun}
 use Rattle.laying.specs.Table.{RowPut, FourPut, AlternativePut}
-use Rattle.laying.specs.Step.{after_arc, after_atom, after_pen, after_frame, after_opening, closed_to, after_close, owner_of}
-use Rattle.laying.specs.Laying.{Tabs, Hold, ShallowFrames, LaidSoFar}
+use Rattle.laying.specs.Step.{after_arc, after_atom, after_pen, after_frame, after_opening, closed_to, owner_of}
+use Rattle.laying.specs.Laying.{Tabs, Hold, LaidSoFar}
 use Rattle.laying.specs.declared.sign.At.{At}
 use Rattle.laying.proofs.Held.{with_arcs, with_atoms, with_ties, with_alts, with_frames, row_as, hold_arc, hold_atom, hold_tie}
 use Rattle.laying.proofs.Held.{hold_alternative, hold_frame}
@@ -282,39 +282,7 @@ outer_read T M at h (g ∷ gs) e f l =
       same = (refl, refl, refl, refl, refl, refl, refl);
     })
 
-shallow_outer : (fs : List OpenFrame) → ShallowFrames fs → ShallowFrames (outer fs ∷ further_out fs)
-shallow_outer [] p = (omega arith, tt)
-shallow_outer (f ∷ fs) p = p
-
 module _ (T : Tabs) (at : At) (c : Core) (p : Pen) (x : Out) (s : LaidSoFar T at c p x) where
   pub outer_is : OuterRead T.frames at at.height c.around
   outer_is = outer_read T s.memory at at.height c.around s.holds s.stands.frames s.views.height
-
   -- `)`
-  pub close_laid : LaidSoFar T (after_close T.frames at) (cored c.spot c.alt (outer c.around) (further_out c.around))
-      (penned (outer c.around).base p.start p.end p.first) x
-  close_laid =
-      let v = s.views in
-      let r = outer_is in
-      record {
-        memory = s.memory;
-        holds = s.holds;
-        stands = stand_close s.memory c p x s.stands;
-        views = record {
-          spots = r.same.0 ∙ v.spots;
-          alts = r.same.1 ∙ v.alts;
-          base = r.base;
-          home = r.home;
-          group = r.group;
-          depth = r.depth;
-          cur = r.cur;
-          start = r.same.2 ∙ v.start;
-          end = r.same.3 ∙ v.end;
-          first = r.same.4 ∙ v.first;
-          bears = r.same.5 ∙ v.bears;
-          ties = r.same.6 ∙ v.ties;
-          height = r.height;
-        };
-        frames = shallow_outer c.around s.frames.1;
-        shallow = s.shallow;
-      }

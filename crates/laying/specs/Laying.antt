@@ -1,6 +1,6 @@
 -- What laying out a formula's signs asks and promises, sign by sign and over all of them.
 -- Assumes nothing: these are definitions.
-use Rattle.std.specs.Prelude.{ℕ, suc, ◌*◌, ◌<◌, ◌≤◌, ◌≡◌, Bool, true, false, List, [], ◌∷◌, length}
+use Rattle.std.specs.Prelude.{ℕ, suc, ◌*◌, ◌<◌, ◌≤◌, ◌≡◌, Bool, true, false, List, [], ◌∷◌, length, Option, Some, None}
 use Rattle.theory.specs.Limits.{depth_limit}
 use Rattle.signs.specs.Limits.{kind_unit}
 use Rattle.rows.specs.Tokens.{Token, token_words, AllSmall}
@@ -13,10 +13,7 @@ use Rattle.rows.specs.Held.{Held}
 use Rattle.rows.specs.Standing.{Standing}
 use Rattle.laying.specs.Table.{FourPut, AlternativePut}
 use Rattle.laying.specs.declared.sign.At.{At}
-use Rattle.laying.specs.declared.sign.Stepped.{Stepped}
-use Rattle.laying.specs.declared.sign.Stepped.TheVariants.{On, TooDeep}
-use Rattle.laying.specs.declared.laying.Laid.{Laid}
-use Rattle.laying.specs.declared.laying.Laid.TheVariants as laid
+use Rattle.laying.specs.declared.laying.Rows.{Rows}
 
 -- the tables, and what stands open
 pub record Tabs : Type 0 where
@@ -85,10 +82,10 @@ pub record SignComing (T : Tabs) (at : At) (t : Token) : Type 0 where
   pub high : length core.around < row_limit
 
 -- it was gone through, or begins an alternative that is nested too deep
-abbrev pub SignPassed : (T : Tabs) (at : At) (t : Token) → Stepped → Tabs → Type 0
-SignPassed T at t (On next) T' = (c : SignComing T at t) →
+abbrev pub SignPassed : (T : Tabs) (at : At) (t : Token) → Option At → Tabs → Type 0
+SignPassed T at t (Some next) T' = (c : SignComing T at t) →
     LaidSoFar T' next (sign_moves t c.core c.pen) (sign_turns t c.core c.pen) (c.done then sign_gives t c.core c.pen)
-SignPassed T at t TooDeep T' = (c : SignComing T at t) →
+SignPassed T at t None T' = (c : SignComing T at t) →
     ShallowAlts depth_limit (c.done then sign_gives t c.core c.pen).alts → ⊥
 
 -- before the first sign
@@ -144,10 +141,10 @@ pub record LaysOut (signs : List ℕ) (n : ℕ) (flagged : Bool) : Type 0 where
   pub few : FewRows (all_given flagged marks)
 
 -- the tables hold all of it, in so many rows; or it has alternatives that are nested too deep
-abbrev pub LaidAs : Out → Laid → Tabs → Type 0
-LaidAs x laid.TooDeep T' = ShallowAlts depth_limit x.alts → ⊥
-LaidAs x (laid.Rows n b t k) T' = ShallowAlts depth_limit x.alts × (n ≡ length x.arcs) × (b ≡ length x.bears)
-    × (t ≡ length x.shares) × (k ≡ suc (length x.alts)) × ((M : Memory) × Hold T' M × Held M x k)
+abbrev pub LaidAs : Out → Option Rows → Tabs → Type 0
+LaidAs x None T' = ShallowAlts depth_limit x.alts → ⊥
+LaidAs x (Some rows) T' = ShallowAlts depth_limit x.alts × (rows.arcs ≡ length x.arcs) × (rows.atoms ≡ length x.bears)
+    × (rows.ties ≡ length x.shares) × (rows.alts ≡ suc (length x.alts)) × ((M : Memory) × Hold T' M × Held M x rows.alts)
 
-abbrev pub LaidOut : (signs : List ℕ) (n : ℕ) (flagged : Bool) → Laid → Tabs → Type 0
+abbrev pub LaidOut : (signs : List ℕ) (n : ℕ) (flagged : Bool) → Option Rows → Tabs → Type 0
 LaidOut signs n flagged r T' = (c : LaysOut signs n flagged) → LaidAs (all_given flagged c.marks) r T'

@@ -1,13 +1,11 @@
 -- The state after each sign, by what it was.
 -- Assumes nothing: these are definitions.
-use Rattle.std.specs.Prelude.{ℕ, zero, suc, ◌+◌, ◌*◌, ◌<◌, ◌≤◌, ◌≡◌, ◌≢◌, Bool, true, false, List, eqb, length, get_or}
+use Rattle.std.specs.Prelude.{ℕ, zero, suc, ◌+◌, ◌*◌, ◌<◌, ◌≤◌, ◌≡◌, ◌≢◌, Bool, true, false, List, eqb, length, get_or, Option, Some, None}
 use Rattle.theory.specs.Limits.{depth_limit}
 use Rattle.signs.specs.Machine.{if_so}
 use Rattle.rows.specs.Laid.{spot_unit}
 use Rattle.laying.specs.Table.{RowPut, FourPut, AlternativePut}
 use Rattle.laying.specs.declared.sign.At.{At}
-use Rattle.laying.specs.declared.sign.Stepped.{Stepped}
-use Rattle.laying.specs.declared.sign.Stepped.TheVariants.{On, TooDeep}
 
 -- `fN`
 abbrev pub after_arc : At → At
@@ -121,11 +119,11 @@ pub record GroupOpening (ks : List ℕ) (at : At) (flag : ℕ) : Type 0 where
   pub owner : flag ≡ 1 → 4 * at.home + 3 < length ks
 
 -- `(`: of a group without alternatives, of one that is nested too deep, and of any other
-pub record GroupOpens (ks fs : List ℕ) (at : At) (flag : ℕ) (r : Stepped) (ks' fs' : List ℕ) : Type 0 where
+pub record GroupOpens (ks fs : List ℕ) (at : At) (flag : ℕ) (r : Option At) (ks' fs' : List ℕ) : Type 0 where
   pub frame : FourPut fs at.height at.base at.home at.group at.depth fs'
-  pub plain : flag ≢ 1 → (r ≡ On (after_opening at)) × (ks' ≡ ks)
-  pub deep : flag ≡ 1 → depth_limit ≤ at.depth → r ≡ TooDeep
-  pub begun : flag ≡ 1 → at.depth < depth_limit → (r ≡ On (after_deeper (after_opening at)))
+  pub plain : flag ≢ 1 → (r ≡ Some (after_opening at)) × (ks' ≡ ks)
+  pub deep : flag ≡ 1 → depth_limit ≤ at.depth → r ≡ None
+  pub begun : flag ≡ 1 → at.depth < depth_limit → (r ≡ Some (after_deeper (after_opening at)))
       × AlternativePut ks at.alts at.home at.alts at.cur ks'
 
 -- `[` begins shared paths, `&` goes back to the conjunction's spot, other signs do nothing

@@ -10,6 +10,7 @@ ghost use Rattle.laying.specs.Step.{after_beside, GroupOpening, GroupOpens, afte
 
 use crate::table::{put_alternative, put_four, put_row};
 use limits::{DEPTH_LIMIT, wide};
+use signs::word::{AND, BRACKET};
 
 // Spots and alternatives are below it; a row's word is a spot, and this times a feature, an atom or a spot.
 const SPOT_UNIT: u32 = 2048;
@@ -33,13 +34,6 @@ pub struct At {
     pub height: u32,
 }
 
-// The state after a sign; or alternatives nested too deep.
-#[derive(Clone, Copy)]
-pub enum Stepped {
-    On(At),
-    TooDeep,
-}
-
 // `fN`
 pub(crate) fn arc(arcs: &mut [u32], at: At, feature: u32) -> At
     requires { (0 < at.spots) × (at.spots < spot_unit) × (2 * at.spots ≤ length arcs.old) × (at.cur < spot_unit)
@@ -47,12 +41,12 @@ pub(crate) fn arc(arcs: &mut [u32], at: At, feature: u32) -> At
     ensures { (result ≡ after_arc at)
         × RowPut arcs.old (at.spots - 1) (at.cur + spot_unit * feature) at.home arcs.new }
 {
-    let spot = at.spots;
-    put_row(arcs, spot - 1, at.cur + SPOT_UNIT * feature, at.home);
-    let mut next = at;
-    next.spots = spot + 1;
-    next.cur = spot;
-    next
+    put_row(arcs, at.spots - 1, at.cur + SPOT_UNIT * feature, at.home);
+    At {
+        spots: at.spots + 1,
+        cur: at.spots,
+        ..at
+    }
 }
 
 // `aN`
@@ -61,11 +55,11 @@ pub(crate) fn bear(atoms: &mut [u32], at: At, atom: u32) -> At
     ensures { (result ≡ after_atom at)
         × RowPut atoms.old at.bears (at.cur + spot_unit * atom) at.home atoms.new }
 {
-    let row = at.bears;
-    put_row(atoms, row, at.cur + SPOT_UNIT * atom, at.home);
-    let mut next = at;
-    next.bears = row + 1;
-    next
+    put_row(atoms, at.bears, at.cur + SPOT_UNIT * atom, at.home);
+    At {
+        bears: at.bears + 1,
+        ..at
+    }
 }
 
 // `>`
@@ -74,17 +68,23 @@ pub(crate) fn share(ties: &mut [u32], at: At) -> At
         (at.ties < row_limit) × (2 * at.ties + 1 < length ties.old) × (at.cur < spot_unit) × (at.end < spot_unit) }
     ensures { Shares ties.old at result ties.new }
 {
-    let mut next = at;
-    next.cur = at.start;
-    next.first = false;
+    let back = At {
+        cur: at.start,
+        first: false,
+        ..at
+    };
     if at.first {
-        next.end = at.cur;
-        return next;
+        At {
+            end: at.cur,
+            ..back
+        }
+    } else {
+        put_row(ties, at.ties, at.end + SPOT_UNIT * at.cur, at.home);
+        At {
+            ties: at.ties + 1,
+            ..back
+        }
     }
-    let row = at.ties;
-    put_row(ties, row, at.end + SPOT_UNIT * at.cur, at.home);
-    next.ties = row + 1;
-    next
 }
 
 // `(`
@@ -94,10 +94,11 @@ pub(crate) fn open(frames: &mut [u32], at: At) -> At
         × FourPut frames.old at.height at.base at.home at.group at.depth frames.new }
 {
     put_four(frames, at.height, at.base, at.home, at.group, at.depth);
-    let mut next = at;
-    next.height = at.height + 1;
-    next.base = at.cur;
-    next
+    At {
+        height: at.height + 1,
+        base: at.cur,
+        ..at
+    }
 }
 
 // `(` of a group with alternatives, after `open`: the first begins.
@@ -109,12 +110,13 @@ pub(crate) fn deepen(alts: &mut [u32], at: At) -> At
 {
     let k = at.alts;
     put_alternative(alts, k, at.home, k, at.cur);
-    let mut next = at;
-    next.alts = k + 1;
-    next.home = k;
-    next.group = k;
-    next.depth = at.depth + 1;
-    next
+    At {
+        alts: k + 1,
+        home: k,
+        group: k,
+        depth: at.depth + 1,
+        ..at
+    }
 }
 
 // `)`
@@ -122,25 +124,27 @@ pub(crate) fn close(frames: &[u32], at: At) -> At
     requires { 4 * at.height ≤ length frames.now }
     ensures { result ≡ after_close frames.now at }
 {
-    let mut next = at;
     if at.height == 0 {
-        next.base = 0;
-        next.home = 0;
-        next.group = 0;
-        next.depth = 0;
-        next.cur = 0;
-        return next;
+        return At {
+            base: 0,
+            home: 0,
+            group: 0,
+            depth: 0,
+            cur: 0,
+            ..at
+        };
     }
     let top = at.height - 1;
     let i = 4 * wide(top);
-    let base = frames[i];
-    next.height = top;
-    next.base = base;
-    next.home = frames[i + 1];
-    next.group = frames[i + 2];
-    next.depth = frames[i + 3];
-    next.cur = base;
-    next
+    At {
+        height: top,
+        base: frames[i],
+        home: frames[i + 1],
+        group: frames[i + 2],
+        depth: frames[i + 3],
+        cur: frames[i],
+        ..at
+    }
 }
 
 // The alternative that all this stands in.
@@ -149,9 +153,10 @@ pub(crate) fn owner(frames: &[u32], height: u32) -> u32
     ensures { result ≡ owner_of frames.now height }
 {
     if height == 0 {
-        return 0;
+        0
+    } else {
+        frames[4 * wide(height - 1) + 1]
     }
-    frames[4 * wide(height - 1) + 1]
 }
 
 // `|`, where all this stands in the alternative `of`.
@@ -162,41 +167,41 @@ pub(crate) fn beside(alts: &mut [u32], at: At, of: u32) -> At
 {
     let k = at.alts;
     put_alternative(alts, k, of, at.group, at.base);
-    let mut next = at;
-    next.alts = k + 1;
-    next.home = k;
-    next.cur = at.base;
-    next
+    At {
+        alts: k + 1,
+        home: k,
+        cur: at.base,
+        ..at
+    }
 }
 
-// `(`, by whether its group has alternatives: "over 4 disjunctions nested in the text" is too deep.
-pub(crate) fn open_group(alts: &mut [u32], frames: &mut [u32], at: At, flag: u32) -> Stepped
+// `(`, by whether its group has alternatives: none where "over 4 disjunctions nested in the text" would stand open.
+pub(crate) fn open_group(alts: &mut [u32], frames: &mut [u32], at: At, flag: u32) -> Option<At>
     requires height_lt_row_limit { (at.height < row_limit) × (4 * at.height + 3 < length frames.old) }
     requires group_opening { GroupOpening alts.old at flag }
     ensures { GroupOpens alts.old frames.old at flag result alts.new frames.new }
 {
     let next = open(frames, at);
     if flag != 1 {
-        return Stepped::On(next);
+        Some(next)
+    } else if DEPTH_LIMIT <= at.depth {
+        None
+    } else {
+        Some(deepen(alts, next))
     }
-    if DEPTH_LIMIT <= at.depth {
-        return Stepped::TooDeep;
-    }
-    Stepped::On(deepen(alts, next))
 }
 
 // `[`, `&`, and the signs that do nothing.
 pub(crate) fn move_on(at: At, kind: u32) -> At
     ensures { result ≡ after_moving kind at }
 {
-    let mut next = at;
-    if kind == 91 {
-        next.start = at.cur;
-        next.first = true;
-        return next;
+    match kind {
+        BRACKET => At {
+            start: at.cur,
+            first: true,
+            ..at
+        },
+        AND => At { cur: at.base, ..at },
+        _ => at,
     }
-    if kind == 38 {
-        next.cur = at.base;
-    }
-    next
 }

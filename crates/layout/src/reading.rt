@@ -6,6 +6,9 @@ ghost use Rattle.layout.specs.Judged.{Judged};
 use graphs::graph::read_graph;
 use limits::DEPTH_LIMIT;
 
+// A disjunction has at least so many alternatives.
+const FEWEST_ALTERNATIVES: u32 = 2;
+
 // Reads a description whose alternatives may nest `left` deep, a graph and its disjunctions: the position after it.
 #[cycle(read_description_read_disjunction)]
 fn read_description(ws: &[u32], p: usize, left: u32) -> Option<usize>
@@ -35,7 +38,7 @@ fn read_disjunction(ws: &[u32], p: usize, left: u32) -> Option<usize>
         return None;
     }
     let count = ws[p];
-    if count < 2 {
+    if count < FEWEST_ALTERNATIVES {
         return None;
     }
     let mut at = p + 1;

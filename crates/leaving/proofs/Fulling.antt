@@ -30,12 +30,14 @@ use Rattle.counting.specs.Counted.{CountedBoth}
 use Rattle.counting.proofs.Both.{counted_joined}
 use Rattle.classes.specs.Holds.{Undoable}
 use Rattle.classes.proofs.Laws.{undoable_on, undoable_frame}
-use Rattle.classes.specs.declared.push.Pushed.{Pushed}
-use Rattle.classes.specs.declared.push.Pushed.TheVariants.{In, Clashed}
+use Rattle.std.specs.Prelude.{Some, None}
 use Rattle.leaving.specs.Found.{Finds, Searching, Searches}
-use Rattle.leaving.specs.declared.leave.Fully.TheVariants.{Over, Nothing, Left}
+use Rattle.std.specs.Prelude.{Result, Ok, Err}
+use Rattle.leaving.specs.declared.leave.Left.{Left}
+use Rattle.leaving.specs.declared.leave.NoneLeft.{NoneLeft}
+use Rattle.leaving.specs.declared.leave.NoneLeft.TheVariants.{TooMany, NoChoice}
 use Rattle.leaving.specs.Restarted.{Restarting, Restarts}
-use Rattle.leaving.specs.Fulled.{Fulling, few_enough, Leaving, Fulls}
+use Rattle.leaving.specs.Fulled.{Fulling, few_enough, remaining, Leaving, Fulls}
 use Rattle.leaving.specs.Kept.{Ended, Keeping, Keeps}
 use Rattle.leaving.proofs.Premises.{pair_full, readings_few}
 use Rattle.leaving.proofs.Stages.{pair_keeps, both_agrees, both_stage}
@@ -50,6 +52,9 @@ left_some : (m : Marking) (d : Placed) (k : ℕ) → length (engine.search (keep
 unfolding Rattle.modes_by_marks.specs.Search.full_left
 left_some m d k e = ap {B = Option Desc}
     (λ (c : ℕ). elim c [ zero ↦ none | suc k ↦ some (strip (keep (lit (engine.search (keep m d))) d)) ]) e
+
+same_left : (a b : Left) → ◌≡◌ {A = Result Left NoneLeft} (Ok a) (Ok b) → a ≡ b
+same_left a b e = cc
 
 over_true : (L x : ℕ) → L < x → ltb L x ≡ true
 over_true L x h = go (ltb L x) refl
@@ -87,7 +92,7 @@ module _ (n k : ℕ) (w : List ℕ) where
     count_is c = counted_joined w depth_limit count counted (first c) (second c) c.p.j c.p.joined
 
     -- too many choices
-    pub fulls_over : choice_limit < count → Fulls n k w Over w
+    pub fulls_over : choice_limit < count → Fulls n k w (Err TooMany) w
     fulls_over h = record {
       len = refl;
       rest = λ j h. refl;
@@ -107,7 +112,7 @@ module _ (n k : ℕ) (w : List ℕ) where
       readings_is c = omega (arith, (finds c).count, readings_few n c.t c.p (marking w) (omega (arith, count_is c)))
 
       -- no consistent choice
-      fulls_nothing : r ≡ 0 → Fulls n k w Nothing w₁
+      fulls_nothing : r ≡ 0 → Fulls n k w (Err NoChoice) w₁
       fulls_nothing z = record {
         len = v.len;
         rest = v.rest;
@@ -161,12 +166,12 @@ module _ (n k : ℕ) (w : List ℕ) where
             folds = subst (λ (d : Placed). Can (strip d) × Sane (strip d)) (sym keeps)
                 (pair_full n c.t c.p (marking w) c.left (one_more c).0 (one_more c).1)
 
-          module _ (o : Pushed) (w₃ : List ℕ) (q : Restarts n k w₂ o w₃) where
+          module _ (o : Rattle.std.specs.Prelude.Option ℕ) (w₃ : List ℕ) (q : Restarts n k w₂ o w₃) where
             -- every consistent choice takes what is certain: there is no clash
-            never : o ≡ Clashed → Fulling n k w → ⊥
+            never : o ≡ None → Fulling n k w → ⊥
             never z c = both_agrees n c.t c.p (marking w₂) (folds c).0 (folds c).1 (q.clashed z (restarting c))
 
-            module _ (log : ℕ) (z : o ≡ In log) where
+            module _ (log : ℕ) (z : o ≡ Some log) where
               left : (c : Fulling n k w) → Leaving n c.t c.p (marking w) log r w₃
               unfolding Rattle.modes_by_marks.specs.Search.full_readings_by
               left c =
@@ -184,15 +189,15 @@ module _ (n k : ℕ) (w : List ℕ) where
                     sane = subst (λ (d : Placed). Sane (strip d)) (sym same) (folds c).1;
                   }
 
-              fulls_left : n ≤ 1024 → Fulls n k w (Left log r) w₃
+              fulls_left : n ≤ 1024 → Fulls n k w (Ok (remaining log r)) w₃
               fulls_left small = record {
                 len = q.len ∙ l.len ∙ v.len;
                 rest = λ j h. q.rest j (omega arith) ∙ l.rest j (inr (omega arith)) ∙ v.rest j h;
                 over = λ y c. let x : ◌≡◌ {A = ℕ} 0 1 = cc in absurd (omega arith);
                 nothing = λ y c. let x : ◌≡◌ {A = ℕ} 0 1 = cc in absurd (omega arith);
                 leaves = λ a b y c.
-                    let e : log ≡ a = cc in
-                    let f : r ≡ b = cc in (
+                    let e : log ≡ a = ap (λ (l : Left). l.log) (same_left _ _ y) in
+                    let f : r ≡ b = ap (λ (l : Left). l.readings) (same_left _ _ y) in (
                       few_is c,
                       subst (λ (a : ℕ). Leaving n c.t c.p (marking w) a b w₃) e
                           (subst (λ (b : ℕ). Leaving n c.t c.p (marking w) log b w₃) f (left c)),
@@ -201,7 +206,7 @@ module _ (n k : ℕ) (w : List ℕ) where
 
 -- ---- what is kept of what was found
 module _ (n k : ℕ) (w₁ : List ℕ) (r : ℕ) where
-  pub keeps_nothing : r ≡ 0 → Keeps n k w₁ r Nothing w₁
+  pub keeps_nothing : r ≡ 0 → Keeps n k w₁ r (Err NoChoice) w₁
   keeps_nothing z = record {
     len = refl;
     told = λ w e. fulls_nothing n k w e.count e.counted e.few r w₁ e.searches z;
@@ -212,12 +217,11 @@ module _ (n k : ℕ) (w₁ : List ℕ) (r : ℕ) where
     keep_restarts c = let e = c.ended in
         full_restarts n k c.w e.count e.counted e.few r w₁ e.searches more w₂ l c.fulling
 
-    module _ (o : Pushed) (w₃ : List ℕ) (q : Restarts n k w₂ o w₃) where
-      pub keeps_never : o ≡ Clashed → Keeping n k w₁ r → Keeps n k w₁ r Nothing w₃
-      keeps_never z c = let e = c.ended in
-          absurd (never n k c.w e.count e.counted e.few r w₁ e.searches more w₂ l o w₃ q z c.fulling)
+    module _ (o : Rattle.std.specs.Prelude.Option ℕ) (w₃ : List ℕ) (q : Restarts n k w₂ o w₃) where
+      pub keep_never : o ≡ None → Keeping n k w₁ r → ⊥
+      keep_never z c = let e = c.ended in never n k c.w e.count e.counted e.few r w₁ e.searches more w₂ l o w₃ q z c.fulling
 
-      pub keeps_left : (log : ℕ) → o ≡ In log → Keeping n k w₁ r → Keeps n k w₁ r (Left log r) w₃
+      pub keeps_left : (log : ℕ) → o ≡ Some log → Keeping n k w₁ r → Keeps n k w₁ r (Ok (remaining log r)) w₃
       keeps_left log z c = record {
         len = q.len ∙ l.len;
         told = λ w e. fulls_left n k w e.count e.counted e.few r w₁ e.searches more w₂ l o w₃ q log z

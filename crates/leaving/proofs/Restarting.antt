@@ -18,8 +18,7 @@ use Rattle.marks.specs.Marked.{marking}
 use Rattle.marks.proofs.Marks.{marking_frame}
 use Rattle.classes.specs.Holds.{Holds, Remembers, Backs, Undoable}
 use Rattle.classes.proofs.Laws.{undoable_start, undoable_on, undoable_asks, undoable_back}
-use Rattle.classes.specs.declared.push.Pushed.{Pushed}
-use Rattle.classes.specs.declared.push.Pushed.TheVariants.{In, Clashed}
+use Rattle.std.specs.Prelude.{Option, Some, None}
 use Rattle.entering.specs.Taken.{taken_of, Inside}
 use Rattle.entering.specs.Entered.{Entering, entered, Enters}
 use Rattle.entering.specs.Inputs.{Inputs}
@@ -78,8 +77,8 @@ module _ (n k : ℕ) (w w₁ : List ℕ) (s : Backs 0 k w w₁) where
     first_is : entered first ≡ one
     first_is = ap (λ (m : Marking). taken_of m c.inputs.first) marks₁
 
-  module _ (o : Pushed) (w₂ : List ℕ) (u : Enters n 0 w₁ 0 depth_limit o w₂) where
-    pub restarts_clash : o ≡ Clashed → Restarts n k w Clashed w₂
+  module _ (o : Option ℕ) (w₂ : List ℕ) (u : Enters n 0 w₁ 0 depth_limit o w₂) where
+    pub restarts_clash : o ≡ None → Restarts n k w None w₂
     restarts_clash z = record {
       len = u.len ∙ s.len;
       rest = λ j h. u.rest j h ∙ s.rest j h;
@@ -89,7 +88,7 @@ module _ (n k : ℕ) (w w₁ : List ℕ) (s : Backs 0 k w w₁) where
           (subst (λ (l : List Entry). Clash (graphs l)) (first_is c) ((u.clashed z).1 (first c)).0);
     }
 
-    module _ (j : ℕ) (z : o ≡ In j) where
+    module _ (j : ℕ) (z : o ≡ Some j) where
       module _ (c : Restarting n k w) where
         room₁ : 16384 ≤ length w₁
         room₁ = omega (arith, s.len, c.room)
@@ -128,7 +127,7 @@ module _ (n k : ℕ) (w w₁ : List ℕ) (s : Backs 0 k w w₁) where
         second_is = ap (λ (m : Marking). one c
             ++ taken_of m c.inputs.second) marks₂
 
-      pub restarts : (r : Pushed) (w₃ : List ℕ) → Enters n j w₂ SECOND depth_limit r w₃ → Restarts n k w r w₃
+      pub restarts : (r : Option ℕ) (w₃ : List ℕ) → Enters n j w₂ SECOND depth_limit r w₃ → Restarts n k w r w₃
       restarts r w₃ v = record {
         len = v.len ∙ u.len ∙ s.len;
         rest = λ i h. v.rest i h ∙ u.rest i h ∙ s.rest i h;

@@ -18,13 +18,15 @@ use Rattle.engine.specs.Search.{full_left, full_readings_by}
 use Rattle.engine.proofs.Shown.{shown_some}
 use Rattle.engine.proofs.Whole as engine
 use Rattle.marks.specs.Marked.{marking}
-use Rattle.leaving.specs.declared.leave.Fully.{Fully}
-use Rattle.leaving.specs.declared.leave.Fully.TheVariants.{Over, Nothing, Left}
-use Rattle.leaving.specs.Fulled.{Fulling, few_enough, Fulls}
+use Rattle.std.specs.Prelude.{Result, Ok, Err}
+use Rattle.leaving.specs.declared.leave.Left.{Left}
+use Rattle.leaving.specs.declared.leave.NoneLeft.{NoneLeft}
+use Rattle.leaving.specs.declared.leave.NoneLeft.TheVariants.{TooMany, NoChoice}
+use Rattle.leaving.specs.Fulled.{Fulling, few_enough, remaining, Fulls}
 use Rattle.entering.proofs.Pairs.{strip_first, strip_second, first_can, second_can, first_proper, second_proper, first_distinct}
 use Rattle.entering.proofs.Pairs.{second_distinct, both_apart}
 
-module _ (n k : ℕ) (w : List ℕ) (r : Fully) (w' : List ℕ) (u : Fulls n k w r w') (c : Fulling n k w) where
+module _ (n k : ℕ) (w : List ℕ) (r : Result Left NoneLeft) (w' : List ℕ) (u : Fulls n k w r w') (c : Fulling n k w) where
   -- of the strips, of the two inputs
   inputs_are : (P : Desc → Desc → Type 0) → P (strip c.p.inputs.first.d) (strip c.p.inputs.second.d) → P c.p.d c.p.e
   inputs_are P x = subst (λ (b : Desc). P c.p.d b) (strip_second n c.t c.p)
@@ -43,11 +45,11 @@ module _ (n k : ℕ) (w : List ℕ) (r : Fully) (w' : List ℕ) (u : Fulls n k w
       (both_apart n c.t c.p) c.p.j c.p.joined (marking w) c.left)
 
   -- "if there is no consistent choice, clash"
-  pub nothing_whole : r ≡ Nothing → full c.p.d c.p.e ≡ none
+  pub nothing_whole : r ≡ Err NoChoice → full c.p.d c.p.e ≡ none
   nothing_whole e = full_shown ∙ ap shown_some (u.nothing e c).1
 
   -- the result of mode 2, and "consistent choices of the joined description"
-  pub left_whole : (log readings : ℕ) → r ≡ Left log readings →
+  pub left_whole : (log readings : ℕ) → r ≡ Ok (remaining log readings) →
       (full c.p.d c.p.e ≡ some (shown (strip (keep (marking w') c.p.j)))) × (readings ≡ consistent c.p.d c.p.e)
   left_whole log readings e = let s = (u.leaves log readings e c).1 in
       (full_shown ∙ ap shown_some s.left_is, s.readings_are ∙ consistent_is)
@@ -61,13 +63,13 @@ module _ (n k : ℕ) (w : List ℕ) (r : Fully) (w' : List ℕ) (u : Fulls n k w
         (second_distinct n c.t c.p) (both_apart n c.t c.p) c.p.j c.p.joined (marking w) c.left q
         (ap₂ {C = Option Desc} quick (strip_first n c.t c.p) (strip_second n c.t c.p) ∙ is)
 
-    pub over_whole : r ≡ Over → ltb choice_limit (number q) ≡ true
+    pub over_whole : r ≡ Err TooMany → ltb choice_limit (number q) ≡ true
     over_whole e = sym limit_is ∙ u.over e c
 
-    pub few_whole : (r ≡ Over → ⊥) → ltb choice_limit (number q) ≡ false
+    pub few_whole : (r ≡ Err TooMany → ⊥) → ltb choice_limit (number q) ≡ false
     few_whole not = sym limit_is ∙ go r refl
       where
-        go : (x : Fully) → r ≡ x → few_enough (marking w) c.p.j
-        go Over e = absurd (not e)
-        go Nothing e = (u.nothing e c).0
-        go (Left log readings) e = (u.leaves log readings e c).0
+        go : (x : Result Left NoneLeft) → r ≡ x → few_enough (marking w) c.p.j
+        go (Err TooMany) e = absurd (not e)
+        go (Err NoChoice) e = (u.nothing e c).0
+        go (Ok l) e = (u.leaves l.log l.readings e c).0

@@ -1,6 +1,6 @@
 -- What the full step asks, and what it does: engine's full step, on the area.
 -- Assumes nothing: these are definitions.
-use Rattle.std.specs.Prelude.{ℕ, ◌≤◌, ◌≡◌, true, false, List, ltb, length, get_or}
+use Rattle.std.specs.Prelude.{Result, Ok, Err, ℕ, ◌≤◌, ◌≡◌, true, false, List, ltb, length, get_or}
 use Rattle.std.proofs.Math.Option.{none, some}
 use Rattle.theory.specs.Limits.{choice_limit, choice_stop}
 use Rattle.theory.specs.Canonical.{Can}
@@ -13,8 +13,9 @@ use Rattle.engine.specs.Search.{full_left, full_readings_by}
 use Rattle.engine.specs.Sane.{Sane}
 use Rattle.marks.specs.Marked.{marking, lights}
 use Rattle.entering.specs.Stage.{Pair, Stage}
-use Rattle.leaving.specs.declared.leave.Fully.{Fully}
-use Rattle.leaving.specs.declared.leave.Fully.TheVariants.{Over, Nothing, Left}
+use Rattle.leaving.specs.declared.leave.Left.{Left}
+use Rattle.leaving.specs.declared.leave.NoneLeft.{NoneLeft}
+use Rattle.leaving.specs.declared.leave.NoneLeft.TheVariants.{TooMany, NoChoice}
 
 -- the marks are those of the quick step, none of them found, and what is certain then is pushed
 pub record Fulling (n k : ℕ) (w : List ℕ) : Type 0 where
@@ -40,10 +41,14 @@ pub record Leaving (n : ℕ) (t : List ℕ) (p : Pair n t) (m : Marking) (log re
   pub can : Can (strip (keep (marking w') p.j))
   pub sane : Sane (strip (keep (marking w') p.j))
 
-pub record Fulls (n k : ℕ) (w : List ℕ) (r : Fully) (w' : List ℕ) : Type 0 where
+-- what is left, with so many entries in the log and so many readings
+abbrev pub remaining : ℕ → ℕ → Left
+remaining log readings = record { log = log; readings = readings }
+
+pub record Fulls (n k : ℕ) (w : List ℕ) (r : Result Left NoneLeft) (w' : List ℕ) : Type 0 where
   pub len : length w' ≡ length w
   pub rest : (j : ℕ) → SIZE ≤ j → get_or w' j 0 ≡ get_or w j 0
-  pub over : r ≡ Over → (c : Fulling n k w) → too_many (marking w) c.p.j
-  pub nothing : r ≡ Nothing → (c : Fulling n k w) → few_enough (marking w) c.p.j × (full_left (marking w) c.p.j ≡ none)
-  pub leaves : (log readings : ℕ) → r ≡ Left log readings → (c : Fulling n k w) →
+  pub over : r ≡ Err TooMany → (c : Fulling n k w) → too_many (marking w) c.p.j
+  pub nothing : r ≡ Err NoChoice → (c : Fulling n k w) → few_enough (marking w) c.p.j × (full_left (marking w) c.p.j ≡ none)
+  pub leaves : (log readings : ℕ) → r ≡ Ok (remaining log readings) → (c : Fulling n k w) →
       few_enough (marking w) c.p.j × Leaving n c.t c.p (marking w) log readings w'

@@ -8,8 +8,7 @@ use Rattle.loading.specs.Entry.{Entry, graphs}
 use Rattle.marks.specs.Marked.{marking}
 use Rattle.engine.specs.Marks.{Marking}
 use Rattle.classes.specs.Holds.{Holds, Undoable}
-use Rattle.classes.specs.declared.push.Pushed.{Pushed}
-use Rattle.classes.specs.declared.push.Pushed.TheVariants.{In, Clashed}
+use Rattle.std.specs.Prelude.{Option, Some, None}
 use Rattle.entering.specs.Taken.{taken_of}
 use Rattle.entering.specs.Inputs.{Inputs}
 
@@ -26,9 +25,9 @@ abbrev pub certain_both : {n : ℕ} {t : List ℕ} → Inputs n t → Marking �
 certain_both {n} {t} i m = taken_of m i.first ++ taken_of m i.second
 
 -- all of it is pushed and can be taken back, or it clashes
-pub record Restarts (n k : ℕ) (w : List ℕ) (r : Pushed) (w' : List ℕ) : Type 0 where
+pub record Restarts (n k : ℕ) (w : List ℕ) (r : Option ℕ) (w' : List ℕ) : Type 0 where
   pub len : length w' ≡ length w
   pub rest : (j : ℕ) → WORDS ≤ j → get_or w' j 0 ≡ get_or w j 0
-  pub pushed : (log : ℕ) → r ≡ In log → (c : Restarting n k w) → Holds n (certain_both c.inputs (marking w)) log w'
+  pub pushed : (log : ℕ) → r ≡ Some log → (c : Restarting n k w) → Holds n (certain_both c.inputs (marking w)) log w'
       × Undoable n log w'
-  pub clashed : r ≡ Clashed → (c : Restarting n k w) → Clash (graphs (certain_both c.inputs (marking w)))
+  pub clashed : r ≡ None → (c : Restarting n k w) → Clash (graphs (certain_both c.inputs (marking w)))

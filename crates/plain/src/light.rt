@@ -21,11 +21,9 @@ pub fn light_taken(w: &mut [u32], many: usize)
     requires { Lighting w.old many }
     ensures { Lights w.old many w.new }
 {
-    let mut i: usize = 0;
-    while i < many {
+    for i in 0..many {
         let g = place_of(listed(w, i));
         let x = mark_at(w, g);
         light(w, x);
-        i += 1;
     }
 }

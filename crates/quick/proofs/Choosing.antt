@@ -20,15 +20,14 @@ use Rattle.marks.proofs.Reading.{alternatives}
 use Rattle.marks.proofs.Marks.{marking_frame}
 use Rattle.marks.proofs.Remnant.{kept_none, kept_alone, alone_at, kept_several}
 use Rattle.classes.specs.Holds.{Holds, Since}
-use Rattle.classes.specs.declared.push.Pushed.{Pushed}
-use Rattle.classes.specs.declared.push.Pushed.TheVariants.{In, Clashed}
 use Rattle.classes.proofs.Laws.{since_refl}
 use Rattle.quick.specs.declared.step.Step.{Step}
-use Rattle.quick.specs.declared.step.Step.TheVariants.{Stands, Fails}
+use Rattle.std.specs.Prelude.{Option, Some, None}
 use Rattle.entering.specs.Taken.{taken_any_of, FreeAnyOf}
 use Rattle.entering.specs.Settled.{Alternating, settled, Settles}
 use Rattle.entering.specs.Clear.{ClearAnyOf}
-use Rattle.quick.specs.Stepped.{total, Fewer, Narrowing, Narrows, Choosing, ChooseStands, Chooses, Sifts}
+use Rattle.quick.specs.Stepped.{stepped, total, Fewer, Narrowing, Narrows, Choosing, ChooseStands, Chooses, Sifts}
+use Rattle.quick.proofs.Stepping.{same_log, same_drops}
 use Rattle.entering.specs.Moved.{Moved}
 use Rattle.entering.proofs.Certain.{any_between_of, LoneOf, lone_alone}
 use Rattle.entering.proofs.Clearing.{clear_any_of, clear_alone, alone_clear, clear_several}
@@ -41,7 +40,7 @@ module _ (n k : ℕ) (w : List ℕ) (p count left : ℕ) where
   chosen c = alternatives w c.s.holds.long c.s.loaded c.s.ground.few c.lies
 
   module _ (which : Remnant) (after : ℕ) (tally : (s : Alternatives w p count) → Tallied w s which after) where
-    pub chooses_none : Choosing n k w p count left → which ≡ Nothing → Chooses n k w p count left Fails w
+    pub chooses_none : Choosing n k w p count left → which ≡ Nothing → Chooses n k w p count left None w
     chooses_none c₀ z = record {
       standing = λ j i y. let x : ◌≡◌ {A = ℕ} 0 1 = cc in absurd (omega arith);
       failing = λ y. (
@@ -75,7 +74,7 @@ module _ (n k : ℕ) (w : List ℕ) (p count left : ℕ) where
       pub asks_alone : Choosing n k w p count left → Narrowing n k w first left
       asks_alone c = goes c
 
-      pub chooses_one : (r : Step) (w' : List ℕ) → Narrows n k w first left r w' → Chooses n k w p count left r w'
+      pub chooses_one : (r : Option Step) (w' : List ℕ) → Narrows n k w first left r w' → Chooses n k w p count left r w'
       chooses_one r w' v = record {
         standing = λ j i y. let f = v.standing j i y in (
           f.0,
@@ -144,11 +143,11 @@ module _ (n k : ℕ) (w : List ℕ) (p count left : ℕ) where
             ∙ ap (λ (m : Marking). settle_at (graphs c.es) m c.lies.a) (s.sifted (these c w refl c.s.holds)).is
 
         -- nothing was dropped, and several stay
-        pub chooses_still : drops ≡ 0 → Chooses n k w p count left (Stands k 0) w₁
+        pub chooses_still : drops ≡ 0 → Chooses n k w p count left (Some (stepped k 0)) w₁
         chooses_still z = record {
           standing = λ a i y.
-              let x : k ≡ a = cc in
-              let q : 0 ≡ i = cc in
+              let x : k ≡ a = same_log _ _ _ _ y in
+              let q : 0 ≡ i = same_drops _ _ _ _ y in
               subst (λ (a : ℕ). Moved k w a w₁ × Fewer i (marking w) (marking w₁)
               × ((c : Choosing n k w p count left) → ChooseStands n k w p count left a w₁ c)) x (
                 s.moved,
@@ -173,14 +172,14 @@ module _ (n k : ℕ) (w : List ℕ) (p count left : ℕ) where
                       (ap (λ (m : Marking). kept_of m c.lies.a) marks₁ ∙ (more c).1);
                 }
 
-        module _ (r : Pushed) (w₂ : List ℕ) (u : Settles n k w₁ p count left r w₂) where
+        module _ (r : Option ℕ) (w₂ : List ℕ) (u : Settles n k w₁ p count left r w₂) where
           marks₂ : marking w₂ ≡ marking w₁
           marks₂ = marking_frame w₁ w₂ (omega (arith, s.moved.len, c₀.s.holds.long)) u.len (λ j a b. u.rest j (omega arith))
 
           moved₂ : (j : ℕ) → Since k w₁ j w₂ → Moved k w j w₂
           moved₂ j x = moved_trans k w k w₁ j w₂ s.moved (record { len = u.len; rest = λ i h. u.rest i (omega arith); since = x })
 
-          pub chooses_fails : r ≡ Clashed → Chooses n k w p count left Fails w₂
+          pub chooses_fails : r ≡ None → Chooses n k w p count left None w₂
           chooses_fails z =
               let f = u.clashed z in
               record {
@@ -193,11 +192,11 @@ module _ (n k : ℕ) (w : List ℕ) (p count left : ℕ) where
                 );
               }
 
-          pub chooses_stands : (j : ℕ) → r ≡ In j → Chooses n k w p count left (Stands j drops) w₂
+          pub chooses_stands : (j : ℕ) → r ≡ Some j → Chooses n k w p count left (Some (stepped j drops)) w₂
           chooses_stands j z = record {
             standing = λ a i y.
-                let x : j ≡ a = cc in
-                let q : drops ≡ i = cc in
+                let x : j ≡ a = same_log _ _ _ _ y in
+                let q : drops ≡ i = same_drops _ _ _ _ y in
                 subst (λ (a : ℕ). Moved k w a w₂ × Fewer i (marking w) (marking w₂)
                 × ((c : Choosing n k w p count left) → ChooseStands n k w p count left a w₂ c)) x (
                   moved₂ j (u.pushed j z).0,

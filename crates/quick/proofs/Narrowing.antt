@@ -36,10 +36,11 @@ use Rattle.classes.proofs.Laws.{since_refl, since_trans}
 use Rattle.sieving.specs.Sieved.{Sieved}
 use Rattle.sieving.proofs.Keeping.{sieved_since}
 use Rattle.quick.specs.declared.step.Step.{Step}
-use Rattle.quick.specs.declared.step.Step.TheVariants.{Stands, Fails}
+use Rattle.std.specs.Prelude.{Option, Some, None}
 use Rattle.entering.specs.Taken.{AmongHere}
 use Rattle.entering.specs.Clear.{Outside, ClearHere, ClearOf}
-use Rattle.quick.specs.Stepped.{total, Fewer, Stood, Narrowing, NarrowStands, NarrowFails, Narrows, Choosing, ChooseStands}
+use Rattle.quick.specs.Stepped.{stepped, total, Fewer, Stood, Narrowing, NarrowStands, NarrowFails, Narrows, Choosing, ChooseStands}
+use Rattle.quick.proofs.Stepping.{same_log, same_drops}
 use Rattle.quick.specs.Stepped.{Chooses}
 use Rattle.entering.specs.Moved.{Moved}
 use Rattle.entering.proofs.Mirror.{any_only}
@@ -210,8 +211,8 @@ module _ (n k : ℕ) (w : List ℕ) (g left : ℕ) where
         pub asks_one : Choosing n log w₁ (at + 1) count (left - 1)
         asks_one = asks
 
-        module _ (r : Step) (w₂ : List ℕ) (v : Chooses n log w₁ (at + 1) count (left - 1) r w₂) where
-          module _ (j i : ℕ) (y : r ≡ Stands j i) where
+        module _ (r : Option Step) (w₂ : List ℕ) (v : Chooses n log w₁ (at + 1) count (left - 1) r w₂) where
+          module _ (j i : ℕ) (y : r ≡ Some (stepped j i)) where
             pub moved_on : Moved k w j w₂
             moved_on = moved_trans k w log w₁ j w₂ m (v.standing j i y).0
 
@@ -273,7 +274,7 @@ module _ (n k : ℕ) (w : List ℕ) (g left : ℕ) where
                 })
 
           -- it fails, and all is taken back
-          module _ (y : r ≡ Fails) (w₃ : List ℕ) (b : Backs k log w₂ w₃) where
+          module _ (y : r ≡ None) (w₃ : List ℕ) (b : Backs k log w₂ w₃) where
             marks₃ : marking w₃ ≡ marking w₂
             marks₃ = marking_frame w₂ w₃ (omega (arith, (v.failing y).0.len, m.len, c.s.holds.long)) b.len
                 (λ i h l. b.rest i (omega arith))
@@ -304,11 +305,11 @@ module _ (n k : ℕ) (w : List ℕ) (g left : ℕ) where
 
 -- ---- what the function answers
 pub narrows_stands : (n k : ℕ) (w : List ℕ) (g left log drops : ℕ) (w₁ : List ℕ) → Moved k w log w₁ → Fewer drops (marking w) (marking w₁) →
-    ((c : Narrowing n k w g left) → NarrowStands n k w g left log w₁ c) → Narrows n k w g left (Stands log drops) w₁
+    ((c : Narrowing n k w g left) → NarrowStands n k w g left log w₁ c) → Narrows n k w g left (Some (stepped log drops)) w₁
 narrows_stands n k w g left log drops w₁ m f all = record {
   standing = λ j i y.
-      let x : log ≡ j = cc in
-      let z : drops ≡ i = cc in
+      let x : log ≡ j = same_log _ _ _ _ y in
+      let z : drops ≡ i = same_drops _ _ _ _ y in
       subst (λ (j : ℕ). Moved k w j w₁ × Fewer i (marking w) (marking w₁)
       × ((c : Narrowing n k w g left) → NarrowStands n k w g left j w₁ c)) x (
         m,
@@ -319,12 +320,12 @@ narrows_stands n k w g left log drops w₁ m f all = record {
 }
 
 pub narrows_fails : (n k : ℕ) (w : List ℕ) (g left : ℕ) (w₁ : List ℕ) → Moved k w k w₁ → total (marking w₁) ≤ total (marking w) →
-    ((c : Narrowing n k w g left) → NarrowFails n k w g left w₁ c) → Narrows n k w g left Fails w₁
+    ((c : Narrowing n k w g left) → NarrowFails n k w g left w₁ c) → Narrows n k w g left None w₁
 narrows_fails n k w g left w₁ m f all = record {
   standing = λ j i y. let x : ◌≡◌ {A = ℕ} 0 1 = cc in absurd (omega arith);
   failing = λ y. (m, f, all);
 }
 
-pub narrows_len : (n k : ℕ) (w : List ℕ) (g left : ℕ) (r : Step) (w₁ : List ℕ) → Narrows n k w g left r w₁ → length w₁ ≡ length w
-narrows_len n k w g left (Stands j i) w₁ v = (v.standing j i refl).0.len
-narrows_len n k w g left Fails w₁ v = (v.failing refl).0.len
+pub narrows_len : (n k : ℕ) (w : List ℕ) (g left : ℕ) (r : Option Step) (w₁ : List ℕ) → Narrows n k w g left r w₁ → length w₁ ≡ length w
+narrows_len n k w g left (Some s) w₁ v = (v.standing s.log s.drops refl).0.len
+narrows_len n k w g left None w₁ v = (v.failing refl).0.len

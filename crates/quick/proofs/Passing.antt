@@ -20,8 +20,9 @@ use Rattle.counting.specs.Counted.{inner_both}
 use Rattle.classes.specs.Holds.{Since, Backs, Remembers}
 use Rattle.classes.proofs.Laws.{since_trans}
 use Rattle.quick.specs.declared.step.Step.{Step}
-use Rattle.quick.specs.declared.step.Step.TheVariants.{Stands, Fails}
-use Rattle.quick.specs.Stepped.{Fewer, Narrowing, NarrowStands, Narrows}
+use Rattle.std.specs.Prelude.{Option, Some, None}
+use Rattle.quick.specs.Stepped.{stepped, Fewer, Narrowing, NarrowStands, Narrows}
+use Rattle.quick.proofs.Stepping.{same_log, same_drops}
 use Rattle.entering.specs.Moved.{Moved}
 use Rattle.quick.specs.Passed.{Passing, PassStands, Passes}
 use Rattle.entering.proofs.Mirror.{inside_only}
@@ -62,8 +63,8 @@ module _ (n k : ℕ) (w : List ℕ) where
     clear = c.ready.clear_first;
   }
 
-  module _ (r : Step) (w₁ : List ℕ) (v : Narrows n k w 0 depth_limit r w₁) where
-    pub pass_fails : r ≡ Fails → Passes n k w Fails w₁
+  module _ (r : Option Step) (w₁ : List ℕ) (v : Narrows n k w 0 depth_limit r w₁) where
+    pub pass_fails : r ≡ None → Passes n k w None w₁
     unfolding after
     pass_fails y = let f = v.failing y in record {
       standing = λ j i z. let x : ◌≡◌ {A = ℕ} 0 1 = cc in absurd (omega arith);
@@ -80,7 +81,7 @@ module _ (n k : ℕ) (w : List ℕ) where
       );
     }
 
-    module _ (j i : ℕ) (y : r ≡ Stands j i) where
+    module _ (j i : ℕ) (y : r ≡ Some (stepped j i)) where
       pub told : (c : Passing n k w) → NarrowStands n k w 0 depth_limit j w₁ (first c)
       told c = (v.standing j i y).2 (first c)
 
@@ -106,21 +107,21 @@ module _ (n k : ℕ) (w : List ℕ) where
             c.ready.clear_second;
       }
 
-      module _ (r₂ : Step) (w₂ : List ℕ) (u : Narrows n j w₁ SECOND depth_limit r₂ w₂) where
+      module _ (r₂ : Option Step) (w₂ : List ℕ) (u : Narrows n j w₁ SECOND depth_limit r₂ w₂) where
         through : (c : Passing n k w) (s : quickly.Step) → inside_at (graphs (told c).es') (marking w₁) c.inputs.second.d ≡ s →
             narrow_at (graphs c.es) (marking w) (inner_both c.inputs.first.d c.inputs.second.d) ≡ s
         unfolding after
         through c s e = narrow_both (graphs c.es) (marking w) c.inputs.first.d c.inputs.second.d
             ∙ ap (λ (s : quickly.Step). after s (λ T n. inside_at T n c.inputs.second.d)) (told c).is ∙ e
 
-        module _ (z : r₂ ≡ Fails) where
+        module _ (z : r₂ ≡ None) where
           since₂ : Since k w j w₂
           since₂ = since_trans k w j w₁ j w₂ (v.standing j i y).0.since (u.failing z).0.since
 
           pub asks_undo : Remembers k j w₂
           asks_undo = record { w₀ = w; since = since₂ }
 
-          pub pass_fails_2 : (w₃ : List ℕ) → Backs k j w₂ w₃ → Passes n k w Fails w₃
+          pub pass_fails_2 : (w₃ : List ℕ) → Backs k j w₂ w₃ → Passes n k w None w₃
           pass_fails_2 w₃ b =
               let p = (v.standing j i y).0 in
               let q = (u.failing z).0 in
@@ -140,11 +141,11 @@ module _ (n k : ℕ) (w : List ℕ) where
                 );
               }
 
-        pub pass_stands : (l d : ℕ) → r₂ ≡ Stands l d → Passes n k w (Stands l (i + d)) w₂
+        pub pass_stands : (l d : ℕ) → r₂ ≡ Some (stepped l d) → Passes n k w (Some (stepped l (i + d))) w₂
         pass_stands l d z = record {
           standing = λ a e x.
-              let f : l ≡ a = cc in
-              let g : i + d ≡ e = cc in
+              let f : l ≡ a = same_log _ _ _ _ x in
+              let g : i + d ≡ e = same_drops _ _ _ _ x in
               subst (λ (a : ℕ). Moved k w a w₂ × Fewer e (marking w) (marking w₂) × ((c : Passing n k w) → PassStands n k w a w₂ c)) f (
                 moved_trans k w j w₁ l w₂ (v.standing j i y).0 (u.standing l d z).0,
                 subst (λ (e : ℕ). Fewer e (marking w) (marking w₂)) g

@@ -25,8 +25,8 @@ use Rattle.counting.specs.Counted.{inner_both}
 use Rattle.classes.specs.Holds.{Since, Backs, Remembers, Undoable}
 use Rattle.classes.proofs.Laws.{holds_agree, since_refl, since_trans, undoable_on}
 use Rattle.quick.specs.declared.step.Step.{Step}
-use Rattle.quick.specs.declared.step.Step.TheVariants.{Stands, Fails}
-use Rattle.quick.specs.Stepped.{total}
+use Rattle.std.specs.Prelude.{Option, Some, None}
+use Rattle.quick.specs.Stepped.{stepped, total}
 use Rattle.entering.specs.Moved.{Moved}
 use Rattle.quick.specs.Passed.{Passing, Passes}
 use Rattle.entering.specs.Inputs.{Ready}
@@ -87,13 +87,13 @@ module _ (n : ℕ) (t : List ℕ) (p : Pair n t) where
     abbrev pub asks : Passing n k w
     asks = record { t = t; inputs = p.inputs; es = o.es; ready = o.ready }
 
-    module _ (r : Step) (w' : List ℕ) (v : Passes n k w r w') where
-      pub fails : r ≡ Fails → quick_at p.j ≡ none
+    module _ (r : Option Step) (w' : List ℕ) (v : Passes n k w r w') where
+      pub fails : r ≡ None → quick_at p.j ≡ none
       fails y = let f = ((v.failing y).1 asks).1 in
           subst (λ (z : Placed). quick_at z ≡ none) (sym is)
           (loop_fails top both can distinct (graphs o.es) (marking w) o.loop f.0 f.1)
 
-      module _ (j i : ℕ) (y : r ≡ Stands j i) where
+      module _ (j i : ℕ) (y : r ≡ Some (stepped j i)) where
         pub on : Between j w'
         on = let q = (v.standing j i y).2 asks in
             record {
@@ -132,9 +132,9 @@ module _ (n k : ℕ) (w₀ : List ℕ) where
     ended = λ z. let x : ◌≡◌ {A = ℕ} 0 1 = cc in absurd (omega arith);
   }
 
-  pub quick_stands : (log : ℕ) (again : Bool) (w : List ℕ) → Rounds log again w → again ≡ false → Quickens n k w₀ (Stands log 0) w
+  pub quick_stands : (log : ℕ) (again : Bool) (w : List ℕ) → Rounds log again w → again ≡ false → Quickens n k w₀ (Some log) w
   quick_stands log again w v z = record {
-    standing = λ a b x. let f : log ≡ a = cc in
+    standing = λ a x. let f : log ≡ a = cc in
         subst (λ (a : ℕ). Moved k w₀ a w × Each (λ t p. Leaves p.j (marking w) × Stage n t p a w)) f (
           v.moved,
           λ t p s e. (
@@ -150,19 +150,19 @@ module _ (n k : ℕ) (w₀ : List ℕ) where
     pub rounds_asks : Passing n log w
     rounds_asks = asks n c.t c.p log w (v.between c.t c.p c.stage c.every)
 
-  module _ (log : ℕ) (again : Bool) (w : List ℕ) (v : Rounds log again w) (r : Step) (w₁ : List ℕ) (u : Passes n log w r w₁) where
-    module _ (y : r ≡ Fails) where
+  module _ (log : ℕ) (again : Bool) (w : List ℕ) (v : Rounds log again w) (r : Option Step) (w₁ : List ℕ) (u : Passes n log w r w₁) where
+    module _ (y : r ≡ None) where
       since₁ : Since k w₀ log w₁
       since₁ = since_trans k w₀ log w log w₁ v.moved.since (u.failing y).0.since
 
       pub rounds_undo : Remembers k log w₁
       rounds_undo = record { w₀ = w₀; since = since₁ }
 
-      pub quick_fails : (w₂ : List ℕ) → Backs k log w₁ w₂ → Quickens n k w₀ Fails w₂
+      pub quick_fails : (w₂ : List ℕ) → Backs k log w₁ w₂ → Quickens n k w₀ None w₂
       quick_fails w₂ b =
           let q = (u.failing y).0 in
           record {
-            standing = λ a b x. let z : ◌≡◌ {A = ℕ} 0 1 = cc in absurd (omega arith);
+            standing = λ a x. let z : ◌≡◌ {A = ℕ} 0 1 = cc in absurd (omega arith);
             failing = λ x. (
               record {
                 len = b.len ∙ q.len ∙ v.moved.len;
@@ -174,7 +174,7 @@ module _ (n k : ℕ) (w₀ : List ℕ) where
             );
           }
 
-    module _ (j i : ℕ) (y : r ≡ Stands j i) where
+    module _ (j i : ℕ) (y : r ≡ Some (stepped j i)) where
       pub rounds_on : Rounds j (ltb 0 i) w₁
       rounds_on = record {
         moved = moved_trans k w₀ log w j w₁ v.moved (u.standing j i y).0;

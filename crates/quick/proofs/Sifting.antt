@@ -29,11 +29,11 @@ use Rattle.loading.specs.Nesting.{NestsAny}
 use Rattle.classes.specs.Holds.{Holds}
 use Rattle.classes.proofs.Laws.{since_refl, holds_frame, since_frame}
 use Rattle.quick.specs.declared.step.Step.{Step}
-use Rattle.quick.specs.declared.step.Step.TheVariants.{Stands, Fails}
+use Rattle.std.specs.Prelude.{Option, Some, None}
 use Rattle.entering.specs.Taken.{AmongRestAny}
 use Rattle.entering.specs.Entered.{Entering}
 use Rattle.entering.specs.Settled.{Alternating}
-use Rattle.quick.specs.Stepped.{kept_below, total, Fewer, Tries, Sifted}
+use Rattle.quick.specs.Stepped.{stepped, kept_below, total, Fewer, Tries, Sifted}
 use Rattle.entering.specs.Moved.{Moved}
 use Rattle.entering.proofs.Certain.{free_narrow}
 use Rattle.entering.proofs.Mirror.{sift_dropped, sift_kept, try_only}
@@ -107,9 +107,9 @@ moved_dropped k w k' w' x w₃ low room m d = record {
 -- what a turn does at the alternative x
 pub data Turn (n k : ℕ) (w₁ : List ℕ) (at x left drops drops' : ℕ) (w₂ : List ℕ) : Type 0 where
   skipped : marking w₁ x ≡ false → w₂ ≡ w₁ → drops' ≡ drops → Turn n k w₁ at x left drops drops' w₂
-  stood : (r : Step) (j i : ℕ) (w' : List ℕ) → marking w₁ x ≡ true → Tries n k w₁ at left r w' → r ≡ Stands j i → w₂ ≡ w' →
+  stood : (r : Option Step) (j i : ℕ) (w' : List ℕ) → marking w₁ x ≡ true → Tries n k w₁ at left r w' → r ≡ Some (stepped j i) → w₂ ≡ w' →
       drops' ≡ drops + i → Turn n k w₁ at x left drops drops' w₂
-  failed : (r : Step) (w' w'' : List ℕ) → marking w₁ x ≡ true → Tries n k w₁ at left r w' → r ≡ Fails → Dropped w' x w'' → w₂ ≡ w'' →
+  failed : (r : Option Step) (w' w'' : List ℕ) → marking w₁ x ≡ true → Tries n k w₁ at left r w' → r ≡ None → Dropped w' x w'' → w₂ ≡ w'' →
       drops' ≡ drops + 1 → Turn n k w₁ at x left drops drops' w₂
 
 module _ (n k : ℕ) (w : List ℕ) (p count left : ℕ) where

@@ -17,14 +17,13 @@ use Rattle.loading.specs.Entry.{graphs}
 use Rattle.marks.specs.Marked.{marking}
 use Rattle.marks.proofs.Marks.{marking_frame}
 use Rattle.classes.specs.Holds.{Since, Remembers, Backs}
-use Rattle.classes.specs.declared.push.Pushed.{Pushed}
-use Rattle.classes.specs.declared.push.Pushed.TheVariants.{In, Clashed}
 use Rattle.classes.proofs.Laws.{holds_agree, since_trans}
 use Rattle.quick.specs.declared.step.Step.{Step}
-use Rattle.quick.specs.declared.step.Step.TheVariants.{Stands, Fails}
+use Rattle.std.specs.Prelude.{Option, Some, None}
 use Rattle.entering.specs.Entered.{Entering, entered, Enters}
 use Rattle.entering.specs.Clear.{ClearOf}
-use Rattle.quick.specs.Stepped.{total, Fewer, Narrowing, Narrows, Tries}
+use Rattle.quick.specs.Stepped.{stepped, total, Fewer, Narrowing, Narrows, Tries}
+use Rattle.quick.proofs.Stepping.{same_log, same_drops}
 use Rattle.entering.specs.Moved.{Moved}
 use Rattle.entering.proofs.Settling.{agrees_true, clash_false}
 use Rattle.entering.proofs.Within.{entered_graphs, entered_inside, fine, entered_clear}
@@ -36,14 +35,14 @@ unfolding Rattle.modes_by_marks.specs.Quickly.try_at
 try_by S m (place g ds) b e = ap (λ (b : Bool). elim b [ false ↦ fails m | true ↦ narrow_at (S ++ g ∷ certain m ds) m ds ]) e
 
 module _ (n k : ℕ) (w : List ℕ) (g left : ℕ) where
-  module _ (o : Pushed) (w₁ : List ℕ) (u : Enters n k w g left o w₁) (c₀ : Entering n k w g left) where
+  module _ (o : Option ℕ) (w₁ : List ℕ) (u : Enters n k w g left o w₁) (c₀ : Entering n k w g left) where
     marks₁ : marking w₁ ≡ marking w
     marks₁ = marking_frame w w₁ c₀.s.holds.long u.len (λ j a b. u.rest j (omega arith))
 
     loaded₁ : loaded_words w₁ ≡ loaded_words w
     loaded₁ = words_same w w₁ c₀.s.holds.long u.len (λ j a b. u.rest j a)
 
-    pub tries_clash : o ≡ Clashed → Tries n k w g left Fails w₁
+    pub tries_clash : o ≡ None → Tries n k w g left None w₁
     tries_clash z = record {
       moved = record { len = u.len; rest = λ j h. u.rest j (omega arith); since = (u.clashed z).0 };
       standing = λ j i y. let x : ◌≡◌ {A = ℕ} 0 1 = cc in absurd (omega arith);
@@ -59,7 +58,7 @@ module _ (n k : ℕ) (w : List ℕ) (g left : ℕ) where
       );
     }
 
-    module _ (e : ℕ) (z : o ≡ In e) where
+    module _ (e : ℕ) (z : o ≡ Some e) where
       abbrev goes : Entering n k w g left → Narrowing n e w₁ g left
       goes c = record {
         es = entered c;
@@ -92,7 +91,7 @@ module _ (n k : ℕ) (w : List ℕ) (g left : ℕ) where
           ∙ ap (λ (S : List Graph). inside_at S (marking w) c.lies.d) (sym (entered_graphs n k w g left c))
           ∙ ap (λ (m : Marking). inside_at (graphs (entered c)) m c.lies.d) (sym marks₁)
 
-      module _ (r : Step) (w₂ : List ℕ) (v : Narrows n e w₁ g left r w₂) where
+      module _ (r : Option Step) (w₂ : List ℕ) (v : Narrows n e w₁ g left r w₂) where
         -- back from j entries to those of the start
         module _ (j : ℕ) (m : Moved e w₁ j w₂) where
           abbrev since₂ : Since k w j w₂
@@ -113,7 +112,7 @@ module _ (n k : ℕ) (w : List ℕ) (g left : ℕ) where
             marks₃ : marking w₃ ≡ marking w₂
             marks₃ = marking_frame w₂ w₃ (omega (arith, m.len, u.len, c₀.s.holds.long)) b.len (λ i h l. b.rest i (omega arith))
 
-        pub tries_fails : (y : r ≡ Fails) (w₃ : List ℕ) → Backs k e w₂ w₃ → Tries n k w g left Fails w₃
+        pub tries_fails : (y : r ≡ None) (w₃ : List ℕ) → Backs k e w₂ w₃ → Tries n k w g left None w₃
         tries_fails y w₃ b =
             let f = v.failing y in
             record {
@@ -129,12 +128,12 @@ module _ (n k : ℕ) (w : List ℕ) (g left : ℕ) where
               );
             }
 
-        pub tries_stands : (j i : ℕ) (y : r ≡ Stands j i) (w₃ : List ℕ) → Backs k j w₂ w₃ → Tries n k w g left (Stands k i) w₃
+        pub tries_stands : (j i : ℕ) (y : r ≡ Some (stepped j i)) (w₃ : List ℕ) → Backs k j w₂ w₃ → Tries n k w g left (Some (stepped k i)) w₃
         tries_stands j i y w₃ b =
             let f = v.standing j i y in
             record {
               moved = moved₃ j f.0 w₃ b;
-              standing = λ a l q. let x : i ≡ l = cc in (
+              standing = λ a l q. let x : i ≡ l = same_drops _ _ _ _ q in (
                 subst (λ (l : ℕ). Fewer l (marking w) (marking w₃)) x (record {
                   same = λ p. marks₃ j f.0 w₃ b ∙ f.1.same p ∙ marks₁;
                   fewer = let p : total (marking w₁) ≡ total (marking w) = ap total marks₁ in

@@ -1,6 +1,6 @@
 -- What a pass over the disjunctions of both inputs asks, and what it does.
 -- Assumes nothing: these are definitions.
-use Rattle.std.specs.Prelude.{ℕ, ◌≡◌, List}
+use Rattle.std.specs.Prelude.{Option, Some, None, ℕ, ◌≡◌, List}
 use Rattle.engine.specs.Marks.{Marking}
 use Rattle.engine.specs.Quickly.{fails, stands, narrow_at}
 use Rattle.loading.specs.Entry.{Entry, graphs}
@@ -8,8 +8,7 @@ use Rattle.marks.specs.Marked.{marking}
 use Rattle.counting.specs.Counted.{inner_both}
 use Rattle.classes.specs.Holds.{Holds}
 use Rattle.quick.specs.declared.step.Step.{Step}
-use Rattle.quick.specs.declared.step.Step.TheVariants.{Stands, Fails}
-use Rattle.quick.specs.Stepped.{Fewer}
+use Rattle.quick.specs.Stepped.{stepped, Fewer}
 use Rattle.entering.specs.Moved.{Moved}
 use Rattle.entering.specs.Inputs.{Inputs, Ready}
 
@@ -26,9 +25,9 @@ pub record PassStands (n k : ℕ) (w : List ℕ) (k' : ℕ) (w' : List ℕ) (c :
       ≡ stands (graphs es') (marking w')
 
 -- "The disjunctions are those of the first input, then those of the second, in order.": engine's `narrow_at` on these
-pub record Passes (n k : ℕ) (w : List ℕ) (r : Step) (w' : List ℕ) : Type 0 where
-  pub standing : (k' i : ℕ) → r ≡ Stands k' i →
+pub record Passes (n k : ℕ) (w : List ℕ) (r : Option Step) (w' : List ℕ) : Type 0 where
+  pub standing : (k' i : ℕ) → r ≡ Some (stepped k' i) →
       Moved k w k' w' × Fewer i (marking w) (marking w') × ((c : Passing n k w) → PassStands n k w k' w' c)
-  pub failing : r ≡ Fails → Moved k w k w'
+  pub failing : r ≡ None → Moved k w k w'
       × ((c : Passing n k w) → Holds n c.es k w'
       × ((m : Marking) × (narrow_at (graphs c.es) (marking w) (inner_both c.inputs.first.d c.inputs.second.d) ≡ fails m)))

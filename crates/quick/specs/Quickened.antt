@@ -1,12 +1,10 @@
 -- What the quick step asks, and what it does.
 -- Assumes nothing: these are definitions.
-use Rattle.std.specs.Prelude.{ℕ, ◌≡◌, List}
+use Rattle.std.specs.Prelude.{Option, Some, None, ℕ, ◌≡◌, List}
 use Rattle.std.proofs.Math.Option.{none}
 use Rattle.engine.specs.Marks.{all_kept}
 use Rattle.engine.specs.Quickly.{quick_at, Leaves}
 use Rattle.marks.specs.Marked.{marking}
-use Rattle.quick.specs.declared.step.Step.{Step}
-use Rattle.quick.specs.declared.step.Step.TheVariants.{Stands, Fails}
 use Rattle.entering.specs.Moved.{Moved}
 use Rattle.entering.specs.Stage.{Pair, Stage}
 
@@ -19,9 +17,9 @@ pub record Quickening (n k : ℕ) (w : List ℕ) : Type 0 where
 
 -- "1, quick": the marks leave what engine's `quick_at` leaves of the joined description, and what is certain then is pushed; or it
 -- fails, and all that was pushed for it is taken back
-pub record Quickens (n k : ℕ) (w : List ℕ) (r : Step) (w' : List ℕ) : Type 0 where
-  pub standing : (k' i : ℕ) → r ≡ Stands k' i →
+pub record Quickens (n k : ℕ) (w : List ℕ) (r : Option ℕ) (w' : List ℕ) : Type 0 where
+  pub standing : (k' : ℕ) → r ≡ Some k' →
       Moved k w k' w' × ((t : List ℕ) (p : Pair n t) → Stage n t p k w → marking w ≡ all_kept →
       Leaves p.j (marking w') × Stage n t p k' w')
-  pub failing : r ≡ Fails → Moved k w k w'
+  pub failing : r ≡ None → Moved k w k w'
       × ((t : List ℕ) (p : Pair n t) → Stage n t p k w → marking w ≡ all_kept → quick_at p.j ≡ none)

@@ -1,6 +1,6 @@
 -- What narrowing asks and what it does: engine's steps, on the area.
 -- Assumes nothing: these are definitions.
-use Rattle.std.specs.Prelude.{ℕ, zero, suc, ◌+◌, ◌≤◌, ◌<◌, ◌≡◌, ◌⊎◌, true, false}
+use Rattle.std.specs.Prelude.{Option, Some, None, ℕ, zero, suc, ◌+◌, ◌≤◌, ◌<◌, ◌≡◌, ◌⊎◌, true, false}
 use mathlib.Core.List.{List, Memᴰ}
 use Rattle.area.specs.Map.{NODES}
 use Rattle.theory.specs.Net.{Graph}
@@ -13,13 +13,16 @@ use Rattle.marks.specs.Positions.{tail_at, disjunctions_at}
 use Rattle.marks.specs.Marked.{marking}
 use Rattle.classes.specs.Holds.{Holds}
 use Rattle.quick.specs.declared.step.Step.{Step}
-use Rattle.quick.specs.declared.step.Step.TheVariants.{Stands, Fails}
 use Rattle.entering.specs.Taken.{AmongOf, AmongAnyOf, Inside}
 use Rattle.entering.specs.Footing.{Footing}
 use Rattle.entering.specs.Entered.{Entering}
 use Rattle.entering.specs.Settled.{Alternating}
 use Rattle.entering.specs.Clear.{ClearOf, ClearAnyOf}
 use Rattle.entering.specs.Moved.{Moved}
+
+-- a step that stands, with k entries in the log and after i drops
+abbrev pub stepped : ℕ → ℕ → Step
+stepped k i = record { log = k; drops = i }
 
 -- ---- marks
 -- how many of the numbers below c are kept
@@ -64,10 +67,10 @@ pub record NarrowFails (n k : ℕ) (w : List ℕ) (g left : ℕ) (w' : List ℕ)
   pub is : inside_at (graphs c.es) (marking w) c.lies.d ≡ fails (marking w')
 
 -- engine's `inside_at`, which is `narrow_at` on the disjunctions
-pub record Narrows (n k : ℕ) (w : List ℕ) (g left : ℕ) (r : Step) (w' : List ℕ) : Type 0 where
-  pub standing : (k' i : ℕ) → r ≡ Stands k' i →
+pub record Narrows (n k : ℕ) (w : List ℕ) (g left : ℕ) (r : Option Step) (w' : List ℕ) : Type 0 where
+  pub standing : (k' i : ℕ) → r ≡ Some (stepped k' i) →
       Moved k w k' w' × Fewer i (marking w) (marking w') × ((c : Narrowing n k w g left) → NarrowStands n k w g left k' w' c)
-  pub failing : r ≡ Fails → Moved k w k w' × (total (marking w') ≤ total (marking w))
+  pub failing : r ≡ None → Moved k w k w' × (total (marking w') ≤ total (marking w))
       × ((c : Narrowing n k w g left) → NarrowFails n k w g left w' c)
 
 -- ---- one disjunction
@@ -89,10 +92,10 @@ pub record ChooseFails (n k : ℕ) (w : List ℕ) (p count left : ℕ) (w' : Lis
   pub is : any_at (graphs c.es) (marking w) c.lies.a ≡ fails (marking w')
 
 -- engine's `any_at`
-pub record Chooses (n k : ℕ) (w : List ℕ) (p count left : ℕ) (r : Step) (w' : List ℕ) : Type 0 where
-  pub standing : (k' i : ℕ) → r ≡ Stands k' i →
+pub record Chooses (n k : ℕ) (w : List ℕ) (p count left : ℕ) (r : Option Step) (w' : List ℕ) : Type 0 where
+  pub standing : (k' i : ℕ) → r ≡ Some (stepped k' i) →
       Moved k w k' w' × Fewer i (marking w) (marking w') × ((c : Choosing n k w p count left) → ChooseStands n k w p count left k' w' c)
-  pub failing : r ≡ Fails → Moved k w k w' × (total (marking w') ≤ total (marking w))
+  pub failing : r ≡ None → Moved k w k w' × (total (marking w') ≤ total (marking w))
       × ((c : Choosing n k w p count left) → ChooseFails n k w p count left w' c)
 
 -- ---- an alternative that is tried
@@ -101,16 +104,16 @@ pub record Tried (n k : ℕ) (w : List ℕ) (g left : ℕ) (w' : List ℕ) (c : 
   pub is : try_at (graphs c.es) (marking w) c.lies.d ≡ s
 
 -- engine's `try_at`; nothing that was pushed for it stays
-pub record Tries (n k : ℕ) (w : List ℕ) (g left : ℕ) (r : Step) (w' : List ℕ) : Type 0 where
+pub record Tries (n k : ℕ) (w : List ℕ) (g left : ℕ) (r : Option Step) (w' : List ℕ) : Type 0 where
   pub moved : Moved k w k w'
-  pub standing : (k' i : ℕ) → r ≡ Stands k' i →
+  pub standing : (k' i : ℕ) → r ≡ Some (stepped k' i) →
       Fewer i (marking w) (marking w')
       × ((c : Entering n k w g left) → (T : List Graph) × Tried n k w g left w' c (stands T (marking w')))
-  pub failing : r ≡ Fails → (total (marking w') ≤ total (marking w))
+  pub failing : r ≡ None → (total (marking w') ≤ total (marking w))
       × ((c : Entering n k w g left) → Tried n k w g left w' c (fails (marking w')))
 
 -- the same of an alternative without disjunctions, however deep it may nest
-pub record TriesBare (n k : ℕ) (w : List ℕ) (g : ℕ) (r : Step) (w' : List ℕ) : Type 0 where
+pub record TriesBare (n k : ℕ) (w : List ℕ) (g : ℕ) (r : Option Step) (w' : List ℕ) : Type 0 where
   pub tries : (left : ℕ) → Entering n k w g left → disjunctions_at w (tail_at w g) ≡ 0 → Tries n k w g left r w'
 
 -- ---- the alternatives of one disjunction are tried: engine's `sift_at`

@@ -4,33 +4,30 @@ ghost use Rattle.sieving.specs.Sieved.{Sieved};
 ghost use Rattle.quick.specs.Stepped.{TriesBare};
 
 use crate::step::Step;
-use classes::push::{Pushed, back, push};
+use classes::push::{back, push};
 use trying::guess::guess_through;
 use trying::told::Guess;
 
 // Tries the alternative at g by its graph, which is pushed and taken back.
-fn push_bare(w: &mut [u32], k: usize, n: usize, g: usize) -> Step
+fn push_bare(w: &mut [u32], k: usize, n: usize, g: usize) -> Option<Step>
     requires { Pushing n k w.old g }
     ensures { TriesBare n k w.old g result w.new }
 {
-    let own = push(w, k, n, g);
-    let Pushed::In(e) = own else {
-        return Step::Fails;
-    };
-    back(w, e, k);
-    Step::Stands(k, 0)
+    let log = push(w, k, n, g)?;
+    back(w, log, k);
+    Some(Step { log: k, drops: 0 })
 }
 
 // Tries the alternative at g. Mostly its graph need not be pushed for that.
-pub fn try_bare(w: &mut [u32], k: usize, n: usize, g: usize, t: &[u32]) -> Step
+pub fn try_bare(w: &mut [u32], k: usize, n: usize, g: usize, t: &[u32]) -> Option<Step>
     requires pushing { Pushing n k w.old g }
     requires sieved { Sieved n w.old t.now }
     ensures { TriesBare n k w.old g result w.new }
 {
     let told = guess_through(w, k, n, g, t);
     match told {
-        Guess::Agrees => Step::Stands(k, 0),
-        Guess::Clashes => Step::Fails,
+        Guess::Agrees => Some(Step { log: k, drops: 0 }),
+        Guess::Clashes => None,
         Guess::Unsure => push_bare(w, k, n, g),
     }
 }

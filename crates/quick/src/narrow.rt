@@ -9,7 +9,7 @@ ghost use Rattle.quick.specs.Stepped.{Narrowing, Narrows, Choosing, Chooses, Tri
 
 use crate::bare::try_bare;
 use crate::step::Step;
-use classes::push::{Pushed, back};
+use classes::push::back;
 use entering::enter::enter;
 use entering::settle::settle;
 use marks::marking::{drop, kept};
@@ -20,7 +20,7 @@ use sieving::gather::{SIEVE_SIZE, gather, renew};
 // Tries the alternative at g: it is entered and narrowed, and all that was pushed for it taken back. Mostly it has no disjunctions,
 // and there is nothing to narrow.
 #[cycle(narrow_narrow_one_sift_try_one)]
-fn try_one(w: &mut [u32], k: usize, n: usize, g: usize, left: u32, t: &[u32]) -> Step
+fn try_one(w: &mut [u32], k: usize, n: usize, g: usize, left: u32, t: &[u32]) -> Option<Step>
     requires entering { Entering n k w.old g left }
     requires sieved { Sieved n w.old t.now }
     ensures { Tries n k w.old g left result w.new }
@@ -30,51 +30,47 @@ fn try_one(w: &mut [u32], k: usize, n: usize, g: usize, left: u32, t: &[u32]) ->
     if more == 0 {
         return try_bare(w, k, n, g, t);
     }
-    let pushed = enter(w, k, n, g, left);
-    let Pushed::In(m) = pushed else {
-        return Step::Fails;
+    let log = enter(w, k, n, g, left)?;
+    let Some(step) = narrow(w, log, n, g, left) else {
+        back(w, log, k);
+        return None;
     };
-    let step = narrow(w, m, n, g, left);
-    let Step::Stands(j, drops) = step else {
-        back(w, m, k);
-        return Step::Fails;
-    };
-    back(w, j, k);
-    Step::Stands(k, drops)
+    back(w, step.log, k);
+    Some(Step {
+        log: k,
+        drops: step.drops,
+    })
 }
 
 // Narrows the disjunctions of the description at g, in order.
 #[cycle(narrow_narrow_one_sift_try_one)]
-pub fn narrow(w: &mut [u32], k: usize, n: usize, g: usize, left: u32) -> Step
+pub fn narrow(w: &mut [u32], k: usize, n: usize, g: usize, left: u32) -> Option<Step>
     requires { Narrowing n k w.old g left }
     ensures { Narrows n k w.old g left result w.new }
 {
     let e = tail_at(w, g);
-    let mut more = disjunctions_at(w, e);
+    let more = disjunctions_at(w, e);
     if more == 0 {
-        return Step::Stands(k, 0);
+        return Some(Step { log: k, drops: 0 });
     }
     let mut t: [u32; SIEVE_SIZE] = [0; SIEVE_SIZE];
     gather(w, n, &mut t);
     let mut at = e + 1;
     let mut log = k;
     let mut drops: usize = 0;
-    while 0 < more {
+    for _ in 0..more {
         let count = alternatives_at(w, at);
         let tally = count_kept(w, at + 1, count);
-        let which = tally.remnant;
-        let one = narrow_one(w, log, n, at + 1, count, which, left - 1, &t);
-        let Step::Stands(j, i) = one else {
+        let Some(one) = narrow_one(w, log, n, at + 1, count, tally.remnant, left - 1, &t) else {
             back(w, log, k);
-            return Step::Fails;
+            return None;
         };
-        renew(w, n, &mut t, log, j);
-        log = j;
-        drops += i;
+        renew(w, n, &mut t, log, one.log);
+        log = one.log;
+        drops += one.drops;
         at = tally.after;
-        more -= 1;
     }
-    Step::Stands(log, drops)
+    Some(Step { log, drops })
 }
 
 // Narrows one disjunction, whose `count` alternatives stand from p on; `which` says what is left of them.
@@ -88,7 +84,7 @@ fn narrow_one(
     which: Remnant,
     left: u32,
     t: &[u32],
-) -> Step
+) -> Option<Step>
     requires choosing { Choosing n k w.old p count left }
     requires by_index { (after : ℕ) × ((s : Alternatives w.old p count) → Tallied w.old s which after) }
     requires sieved { Sieved n w.old t.now }
@@ -96,7 +92,7 @@ fn narrow_one(
 {
     match which {
         Remnant::Nothing => {
-            return Step::Fails;
+            return None;
         }
         Remnant::One(first) => {
             return narrow(w, k, n, first, left);
@@ -105,13 +101,10 @@ fn narrow_one(
     }
     let drops = sift(w, k, n, p, count, left, t);
     if drops == 0 {
-        return Step::Stands(k, 0);
+        return Some(Step { log: k, drops: 0 });
     }
-    let end = settle(w, k, n, p, count, left);
-    let Pushed::In(j) = end else {
-        return Step::Fails;
-    };
-    Step::Stands(j, drops)
+    let log = settle(w, k, n, p, count, left)?;
+    Some(Step { log, drops })
 }
 
 // Tries each kept one of the `count` alternatives from p on, and drops those that fail. How many alternatives were dropped, at every depth.
@@ -121,22 +114,19 @@ fn sift(w: &mut [u32], k: usize, n: usize, p: usize, count: usize, left: u32, t:
     requires sieved { Sieved n w.old t.now }
     ensures { Sifts n k w.old p count left result w.new }
 {
-    let mut rest = count;
     let mut at = p;
     let mut drops: usize = 0;
-    while 0 < rest {
+    for _ in 0..count {
         let x = mark_at(w, at);
         if kept(w, x) {
-            let step = try_one(w, k, n, at, left, t);
-            if let Step::Stands(_, i) = step {
-                drops += i;
+            if let Some(step) = try_one(w, k, n, at, left, t) {
+                drops += step.drops;
             } else {
                 drop(w, x);
                 drops += 1;
             }
         }
         at = after_at(w, at);
-        rest -= 1;
     }
     drops
 }

@@ -8,18 +8,17 @@ use classes::push::back;
 use limits::DEPTH_LIMIT;
 
 // Narrows the disjunctions of the first input, then those of the second.
-pub fn pass(w: &mut [u32], k: usize, n: usize) -> Step
+pub fn pass(w: &mut [u32], k: usize, n: usize) -> Option<Step>
     requires { Passing n k w.old }
     ensures { Passes n k w.old result w.new }
 {
-    let first = narrow(w, k, n, 0, DEPTH_LIMIT);
-    let Step::Stands(j, i) = first else {
-        return Step::Fails;
+    let first = narrow(w, k, n, 0, DEPTH_LIMIT)?;
+    let Some(second) = narrow(w, first.log, n, SECOND, DEPTH_LIMIT) else {
+        back(w, first.log, k);
+        return None;
     };
-    let second = narrow(w, j, n, SECOND, DEPTH_LIMIT);
-    let Step::Stands(l, d) = second else {
-        back(w, j, k);
-        return Step::Fails;
-    };
-    Step::Stands(l, i + d)
+    Some(Step {
+        log: second.log,
+        drops: first.drops + second.drops,
+    })
 }

@@ -2,24 +2,23 @@
 ghost use Rattle.quick.specs.Quickened.{Quickening, Quickens};
 
 use crate::pass::pass;
-use crate::step::Step;
 use classes::push::back;
 
-// Passes until one drops nothing. What is certain in both inputs is pushed, and all alternatives are kept.
-pub fn quick(w: &mut [u32], k: usize, n: usize) -> Step
+// Passes until one drops nothing, where what is certain in both inputs is pushed, and all alternatives are kept. So many entries are
+// in the log then; `None` where it fails.
+pub fn quick(w: &mut [u32], k: usize, n: usize) -> Option<usize>
     requires { Quickening n k w.old }
     ensures { Quickens n k w.old result w.new }
 {
     let mut log = k;
     let mut again = true;
     while again {
-        let step = pass(w, log, n);
-        let Step::Stands(j, drops) = step else {
+        let Some(step) = pass(w, log, n) else {
             back(w, log, k);
-            return Step::Fails;
+            return None;
         };
-        log = j;
-        again = 0 < drops;
+        log = step.log;
+        again = 0 < step.drops;
     }
-    Step::Stands(log, 0)
+    Some(log)
 }

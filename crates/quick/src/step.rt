@@ -1,8 +1,8 @@
-// What a step comes to.
+// What a step comes to where it stands; one that fails is `None`, and all that it pushed is taken back.
 
-// It stands, with so many entries in the log and after so many drops; or it fails, and all that it pushed is taken back.
+// So many entries are in the log, and so many alternatives were dropped.
 #[derive(Clone, Copy)]
-pub enum Step {
-    Stands(usize, usize),
-    Fails,
+pub struct Step {
+    pub log: usize,
+    pub drops: usize,
 }

@@ -3,15 +3,12 @@
 // Standard input has the vectors: length, words, cause, its own data and the place; 4,294,967,295 ends them.
 #![tactic(auto)]
 
-ghost use Rattle.std.specs.Prelude.{◌≡◌, ◌≤◌, length};
-
 use faults::hint::hint;
-use layout::reading::{Judgement, judge};
+use layout::reading::judge;
 use malformed::judging::{Report, find_malformed, told};
 use malformed::part::part;
 use std::io;
 use std::io::{Read, Write};
-use vectors::Run;
 
 // What is stored of an input; its cause is 0 where it is well formed.
 #[derive(Clone, Copy)]
@@ -45,192 +42,120 @@ fn fine() -> [u32; FINE_WORDS] {
     [1, 0, 0]
 }
 
-fn space() -> [u32; MOST_WORDS]
-    ensures { length result ≡ 1024 }
-{
-    [0; MOST_WORDS]
-}
-
 // Whether the reader accepts what has no cause, and nothing else.
 fn judged_right(words: &[u32], stored: Stored) -> bool {
-    let verdict = judge(words);
-    match verdict {
-        Judgement::Accepted => stored.cause == 0,
-        Judgement::Malformed => stored.cause != 0,
-    }
+    judge(words) == (stored.cause == 0)
 }
 
 // Whether a report has the stored cause and data, this number where there is a cause, and this place.
 fn report_right(report: Report, stored: Stored, number: u32, place: u32) -> bool {
-    if report.cause != stored.cause {
-        return false;
-    }
-    if report.value != stored.value {
-        return false;
-    }
-    if report.place != place {
-        return false;
-    }
-    if stored.cause == 0 {
-        return report.number == 0;
-    }
-    report.number == number
+    let numbered = if stored.cause == 0 { 0 } else { number };
+    report.number == numbered
+        && report.cause == stored.cause
+        && report.value == stored.value
+        && report.place == place
 }
 
 // Whether all is told as stored of the words as the first input.
 fn first_right(words: &[u32], stored: Stored) -> bool {
     let other = fine();
-    let what = find_malformed(words, &other);
-    let report = told(what, words.len());
+    let report = told(find_malformed(words, &other), words.len());
     report_right(report, stored, 4, stored.place)
 }
 
 // Whether all is told as stored of the words as the second input; without a fault the place is the length of the first.
 fn second_right(words: &[u32], stored: Stored) -> bool {
     let other = fine();
-    let what = find_malformed(&other, words);
-    let report = told(what, FINE_WORDS);
-    if stored.cause == 0 {
-        return report_right(report, stored, 5, 3);
-    }
-    report_right(report, stored, 5, stored.place)
+    let report = told(find_malformed(&other, words), FINE_WORDS);
+    let place = if stored.cause == 0 { 3 } else { stored.place };
+    report_right(report, stored, 5, place)
 }
 
 // Whether the part that starts at the stored place is handed back, to its length.
 fn part_right(words: &[u32], stored: Stored) -> bool {
     let other = fine();
-    let found = part(words, &other);
-    let place = stored.place as usize;
-    if words.len() < place {
-        return false;
-    }
-    found.len() == words.len() - place
+    let left = words.len().checked_sub(stored.place as usize);
+    left == Some(part(words, &other).len())
 }
 
 fn as_stored(words: &[u32], stored: Stored) -> bool {
-    if !judged_right(words, stored) {
-        return false;
-    }
-    if !first_right(words, stored) {
-        return false;
-    }
-    if !second_right(words, stored) {
-        return false;
-    }
-    part_right(words, stored)
+    judged_right(words, stored)
+        && first_right(words, stored)
+        && second_right(words, stored)
+        && part_right(words, stored)
 }
 
 // The count of a vector's cause, or of what came out otherwise.
 fn cause_column(words: &[u32], stored: Stored) -> usize {
-    if as_stored(words, stored) {
-        if stored.cause < 10 {
-            return stored.cause as usize;
-        }
+    if stored.cause < 10 && as_stored(words, stored) {
+        return stored.cause as usize;
     }
     OTHERWISE
 }
 
-// Of words that end, the count of what was to come; of others none.
-fn kind_column(words: &[u32], stored: Stored) -> usize {
-    if stored.cause == 1 {
-        return OTHERWISE + hint(words) as usize;
-    }
-    COUNTS
-}
-
-// The count of inputs that could not be longer.
-fn length_column(words: &[u32]) -> usize {
-    if words.len() == MOST_WORDS {
-        return LONGEST;
-    }
-    COUNTS
-}
-
-// Counts what came of a vector.
+// Counts what came of a vector: its cause, of words that end what was to come, and those that could not be longer.
 fn tally(counts: &mut [u32], words: &[u32], stored: Stored) {
     vectors::count(counts, cause_column(words, stored));
-    vectors::count(counts, kind_column(words, stored));
-    vectors::count(counts, length_column(words));
+    if stored.cause == 1 {
+        vectors::count(counts, OTHERWISE + hint(words) as usize);
+    }
+    if words.len() == MOST_WORDS {
+        vectors::count(counts, LONGEST);
+    }
 }
 
-// Runs the next vector, whose words are read into these. Whether there was one.
-fn turn_in<R: Read>(input: &mut R, counts: &mut [u32], words: &mut [u32]) -> io::Result<bool> {
-    let run = vectors::counted(input, words)?;
-    let Run::Of(n) = run else {
+// Runs the next vector. Whether there was one.
+fn turn<R: Read>(input: &mut R, counts: &mut [u32]) -> io::Result<bool> {
+    let mut words = [0; MOST_WORDS];
+    let Some(n) = vectors::counted(input, &mut words)? else {
         return Ok(false);
     };
     let mut row: [u32; ROW] = [0; ROW];
     let filled = vectors::fill(input, &mut row)?;
+    let [cause, value, place] = row;
     let stored = Stored {
-        cause: row[0],
-        value: row[1],
-        place: row[2],
+        cause,
+        value,
+        place,
     };
     tally(counts, &words[..n], stored);
     Ok(filled)
 }
 
-fn turn<R: Read>(input: &mut R, counts: &mut [u32]) -> io::Result<bool> {
-    let mut words = space();
-    turn_in(input, counts, &mut words)
-}
-
 // Runs all vectors.
 fn all<R: Read>(input: &mut R, counts: &mut [u32]) -> io::Result<()> {
-    let mut turns = MOST_TURNS;
-    while 0 < turns {
-        let more = turn(input, counts)?;
-        if !more {
+    for _ in 0..MOST_TURNS {
+        if !turn(input, counts)? {
             return Ok(());
         }
-        turns -= 1;
     }
     Ok(())
 }
 
-fn say_count<W: Write>(output: &mut W, label: &[u8], n: u32) -> io::Result<()> {
+// Says some of the counts.
+fn say<W: Write>(output: &mut W, label: &[u8], counts: &[u32]) -> io::Result<()> {
     output.write_all(label)?;
-    write!(output, "{n}")
-}
-
-// Says the counts from one place to another.
-fn say<W: Write>(
-    output: &mut W,
-    label: &[u8],
-    counts: &[u32; COUNTS],
-    from: usize,
-    to: usize,
-) -> io::Result<()>
-    requires { to ≤ 18 }
-{
-    output.write_all(label)?;
-    let mut i = from;
-    while i < to {
-        say_count(output, b" ", counts[i])?;
-        i += 1;
+    for count in counts {
+        write!(output, " {count}")?;
     }
     output.write_all(b"\n")
 }
 
 // Says all counts.
 fn say_all<W: Write>(output: &mut W, counts: &[u32; COUNTS]) -> io::Result<()> {
-    say(output, b"well formed, as stored:", counts, 0, 1)?;
+    say(output, b"well formed, as stored:", &counts[..1])?;
     say(
         output,
         b"malformed, as stored, by cause:",
-        counts,
-        1,
-        OTHERWISE,
+        &counts[1..OTHERWISE],
     )?;
-    say(output, b"told otherwise:", counts, OTHERWISE, 11)?;
+    say(output, b"told otherwise:", &counts[OTHERWISE..11])?;
     say(
         output,
         b"words that end, by what was to come:",
-        counts,
-        11,
-        LONGEST,
+        &counts[11..LONGEST],
     )?;
-    say(output, b"of 1,024 words:", counts, LONGEST, COUNTS)
+    say(output, b"of 1,024 words:", &counts[LONGEST..])
 }
 
 fn main(rt: HostRuntime) -> io::Result<()> {

@@ -8,8 +8,8 @@ use native.Mathlib.Omega.{arith}
 use lib.ListN.{length, length-append}
 use Rattle.theory.specs.Join.{Edge}
 use Rattle.formulas.specs.Sheet.{Sheet, of_edges, of_atom, of_tie}
-use Rattle.rows.specs.Machine.{Alt, Out, no_rows, ◌then◌, homed, begins, OpenFrame, framed, Core, cored, Pen, penned, outer}
-use Rattle.rows.specs.Machine.{further_out, sign_gives, sign_moves, sign_turns, first_given, first_core, first_pen}
+use Rattle.rows.specs.Machine.{Alt, Out, no_rows, ◌then◌, homed, begins, OpenFrame, framed, Core, cored, Pen, penned}
+use Rattle.rows.specs.Machine.{sign_gives, sign_moves, sign_turns, first_given, first_core, first_pen}
 use Rattle.rows.specs.Plan.{lasts, none_yet}
 use Rattle.rows.specs.Memory.{Memory, stored}
 use Rattle.rows.specs.Laid.{arc_word, pair_word}
@@ -21,15 +21,6 @@ use Rattle.rows.proofs.Adding.{held_arc, held_atom, held_tie, held_begun, frames
 inside_more : (n m k l : ℕ) (fs : List OpenFrame) → n ≤ m → k ≤ l → FramesInside n k fs → FramesInside m l fs
 inside_more n m k l [] a b p = tt
 inside_more n m k l (f ∷ fs) a b p = let (x, y, z) = p in (omega arith, omega arith, inside_more n m k l fs a b z)
-
-outer_inside : (n k : ℕ) (fs : List OpenFrame) → 0 < n → 0 < k → FramesInside n k fs →
-    ((outer fs).base < n) × ((outer fs).home < k) × FramesInside n k (further_out fs)
-outer_inside n k [] a b p = (a, b, tt)
-outer_inside n k (f ∷ fs) a b p = p
-
-further_frames : (bs hs gs ds : ℕ → ℕ) (fs : List OpenFrame) → FramesStand bs hs gs ds fs → FramesStand bs hs gs ds (further_out fs)
-further_frames bs hs gs ds [] p = tt
-further_frames bs hs gs ds (f ∷ fs) p = p.4
 
 -- rows without alternatives
 module _ (M M' : Memory) (c c' : Core) (p p' : Pen) (x : Out) (h : ℕ) (A : Sheet) (s : Standing M c p x) where
@@ -156,26 +147,6 @@ module _ (M : Memory) (c : Core) (p : Pen) (x : Out) (s : Standing M c p x) wher
       }
 
   -- it ends
-  pub stand_close : Standing M (cored c.spot c.alt (outer c.around) (further_out c.around))
-      (penned (outer c.around).base p.start p.end p.first) x
-  stand_close =
-      let n = s.spots in
-      let k = s.alts in
-      let (a, b, d) = outer_inside c.spot c.alt c.around (omega (arith, n)) (omega (arith, k)) s.around in
-      record {
-        held = s.held;
-        frames = further_frames (M 10) (M 11) (M 12) (M 13) c.around s.frames;
-        spots = s.spots;
-        alts = s.alts;
-        fresh = s.fresh;
-        cur = a;
-        start = s.start;
-        end = s.end;
-        base = a;
-        home = b;
-        around = d;
-      }
-
   -- an alternative of o begins at the spot t, and the conjunction goes on in it
   pub stand_begun : (o g t d b : ℕ) → o < c.alt → b < c.spot →
       Standing (with_alternative M c.alt o g t) (cored c.spot (suc c.alt) (framed b c.alt g d) c.around) p

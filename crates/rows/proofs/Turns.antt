@@ -1,71 +1,44 @@
 -- Marking the groups, sign by sign from the last.
 -- Assumes nothing.
-use Prim.Native.Nat.{ℕ, zero, suc, ◌+◌, ◌*◌, ◌-◌, ◌/◌, ◌<◌, ◌≤◌}
+use Prim.Native.Nat.{ℕ, suc, ◌+◌, ◌*◌, ◌-◌, ◌/◌, ◌<◌, ◌≤◌}
 use mathlib.Core.Path.{◌≡◌, refl, sym, ap, subst, ◌∙◌}
-use mathlib.Core.Logic.{◌≢◌}
 use mathlib.Core.Bool.{Bool, true, false}
 use mathlib.Core.List.{List, [], ◌∷◌}
 use native.Mathlib.Omega.{arith}
 use lib.ListN.{length, get_or, set}
 use lib.Seq.{get_or-set_same, get_or-set_other}
-use lib.Dec.{eqb}
-use borrow.Author.Tests.{ne_eqb}
+use mir.Val.{bool_byte}
 use Rattle.signs.specs.Limits.{kind_unit}
 use Rattle.rows.specs.Tokens.{Token, token_word, token_words, AllSmall, MarkedSigns, flag_bit, top_flag, under_top, flag, flagging}
 use Rattle.rows.specs.Tokens.{unmarked}
 use Rattle.rows.specs.Memory.{ListedFrom}
-use Rattle.rows.specs.Flagged.{under_count, flag_word, word_of, Piled, SignTurning, SignTurned, Flagging}
+use Rattle.rows.specs.Flagged.{last_of, word_of, Piled, SignTurning, SignTurned, Flagging}
 
-pub under_none : (t : ℕ) → t ≡ 0 → 0 ≡ under_count t
-under_none t e = sym (ap under_count e)
+pub byte_bit : (b : Bool) → bool_byte b ≡ flag_bit b
+byte_bit true = refl
+byte_bit false = refl
 
-pub under_some : (t : ℕ) → (t ≡ 0 → ⊥) → t - 1 ≡ under_count t
-under_some zero d = absurd (d refl)
-under_some (suc t) d = omega arith
-
-pub flag_none : (f : List ℕ) (t : ℕ) → t ≡ 0 → 0 ≡ flag_word f t
-flag_none f t e = sym (ap (flag_word f) e)
-
-pub flag_some : (f : List ℕ) (t : ℕ) → (t ≡ 0 → ⊥) → get_or f (t - 1) 0 ≡ flag_word f t
-flag_some f zero d = absurd (d refl)
-flag_some f (suc t) d = let e : suc t - 1 ≡ t = omega arith in ap (λ (z : ℕ). get_or f z 0) e
-
-pub under_low : (t : ℕ) → under_count t ≤ t
-under_low zero = omega arith
-under_low (suc t) = omega arith
-
--- ---- lists in words
-piled_off : (f : List ℕ) (bs : List Bool) (i x : ℕ) → length bs ≤ i → Piled f bs → Piled (set f i x) bs
+-- ---- lists in flags and in words
+piled_off : (f bs : List Bool) (i : ℕ) (x : Bool) → length bs ≤ i → Piled f bs → Piled (set f i x) bs
 piled_off f [] i x l p = tt
 piled_off f (b ∷ bs) i x l p =
-    (get_or-set_other f i (length bs) x 0 (λ e. absurd (omega arith)) ∙ p.0, piled_off f bs i x (omega arith) p.1)
+    (get_or-set_other f i (length bs) x false (λ e. absurd (omega arith)) ∙ p.0, piled_off f bs i x (omega arith) p.1)
 
-piled_push : (f : List ℕ) (bs : List Bool) (b : Bool) (i x : ℕ) → i < length f → i ≡ length bs → x ≡ flag_bit b → Piled f bs →
-    Piled (set f i x) (b ∷ bs)
-piled_push f bs b i x l e q p =
-    (ap (λ (k : ℕ). get_or (set f i x) k 0) (sym e) ∙ get_or-set_same f i x 0 l ∙ q, piled_off f bs i x (omega arith) p)
+piled_push : (f bs : List Bool) (b : Bool) (i : ℕ) → i < length f → i ≡ length bs → Piled f bs → Piled (set f i b) (b ∷ bs)
+piled_push f bs b i l e p =
+    (ap (λ (k : ℕ). get_or (set f i b) k false) (sym e) ∙ get_or-set_same f i b false l, piled_off f bs i b (omega arith) p)
 
-piled_under : (f : List ℕ) (bs : List Bool) → Piled f bs → Piled f (under_top bs)
+piled_under : (f bs : List Bool) → Piled f bs → Piled f (under_top bs)
 piled_under f [] p = tt
 piled_under f (b ∷ bs) p = p.1
 
-under_long : (bs : List Bool) → length (under_top bs) ≡ under_count (length bs)
+under_long : (bs : List Bool) → length (under_top bs) ≡ length bs - 1
 under_long [] = refl
-under_long (b ∷ bs) = refl
+under_long (b ∷ bs) = omega arith
 
-top_word : (f : List ℕ) (bs : List Bool) → Piled f bs → flag_word f (length bs) ≡ flag_bit (top_flag bs)
-top_word f [] p = refl
-top_word f (b ∷ bs) p = p.0
-
-bit_low : (b : Bool) → flag_bit b ≤ 1
-bit_low true = omega arith
-bit_low false = omega arith
-
-pub flag_low : (w : List ℕ) (i : ℕ) (f : List ℕ) (top : ℕ) → SignTurning w i f top → flag_word f top ≤ 1
-flag_low w i f top c =
-    let e = ap (flag_word f) c.high ∙ top_word f c.after.flags c.flags in
-    let l = bit_low (top_flag c.after.flags) in
-    omega (arith, e, l)
+top_last : (f bs : List Bool) → Piled f bs → last_of f (length bs) ≡ top_flag bs
+top_last f [] p = refl
+top_last f (b ∷ bs) p = p.0
 
 listed_off : (w : List ℕ) (i x m : ℕ) (l : List ℕ) → i < m → ListedFrom (word_of w) m l → ListedFrom (word_of (set w i x)) m l
 listed_off w i x m [] b p = tt
@@ -76,12 +49,9 @@ kind_is : (x k m : ℕ) → x ≡ k * kind_unit + m → m < kind_unit → x / ki
 kind_is x k m e l = omega arith
 
 -- ---- a sign
-module _ (w : List ℕ) (i : ℕ) (f : List ℕ) (top : ℕ) (il : i < length w) (tl : top < length f) where
+module _ (w : List ℕ) (i : ℕ) (f : List Bool) (top : ℕ) (il : i < length w) (tl : top < length f) where
   kind_of : (c : SignTurning w i f top) (k : ℕ) → word_of w i / kind_unit ≡ k → c.sign.0 ≡ k
   kind_of c k e = sym (kind_is (word_of w i) c.sign.0 c.sign.1 c.word c.small) ∙ e
-
-  kind_not : (c : SignTurning w i f top) (k : ℕ) → (word_of w i / kind_unit ≡ k → ⊥) → c.sign.0 ≢ k
-  kind_not c k d e = d (kind_is (word_of w i) c.sign.0 c.sign.1 c.word c.small ∙ e)
 
   -- a flagged sign by its kind
   by_close : (t : Token) (y : MarkedSigns) → t.0 ≡ 41 → flag t y ≡ record { done = t ∷ y.done; flags = false ∷ y.flags }
@@ -98,14 +68,11 @@ module _ (w : List ℕ) (i : ℕ) (f : List ℕ) (top : ℕ) (il : i < length w)
       subst (λ (k : ℕ). flag (k, t.1) y ≡ record { done = (40, flag_bit (top_flag y.flags)) ∷ y.done; flags = under_top y.flags })
       (sym e) refl
 
-  by_other : (t : Token) (y : MarkedSigns) → t.0 ≢ 41 → t.0 ≢ 124 → t.0 ≢ 40 → flag t y ≡ record { done = t ∷ y.done; flags = y.flags }
-  by_other t y a b c = simp (ne_eqb t.0 41 a, ne_eqb t.0 124 b, ne_eqb t.0 40 c) refl
-
   abbrev Flag : SignTurning w i f top → MarkedSigns
   Flag c = flag c.sign c.after
 
   -- what becomes of the state, from the marks after the sign
-  turned_as : (r : ℕ) (w' f' : List ℕ) → ((j : ℕ) → j < i → word_of w' j ≡ word_of w j) → r ≤ suc top →
+  turned_as : (r : ℕ) (w' : List ℕ) (f' : List Bool) → ((j : ℕ) → j < i → word_of w' j ≡ word_of w j) → r ≤ suc top →
       ((c : SignTurning w i f top) → (y : MarkedSigns) × (Flag c ≡ y) × (r ≡ length y.flags) × Piled f' y.flags
       × ListedFrom (word_of w') i
       (token_words y.done)) →
@@ -118,48 +85,41 @@ module _ (w : List ℕ) (i : ℕ) (f : List ℕ) (top : ℕ) (il : i < length w)
     done = λ c. let (y, e, a, b, d) = h c in subst (λ (z : MarkedSigns). ListedFrom (word_of w') i (token_words z.done)) (sym e) d;
   }
 
-  pub turned_close : word_of w i / kind_unit ≡ 41 → SignTurned w i f top (top + 1) w (set f top 0)
-  turned_close k = turned_as (top + 1) w (set f top 0) (λ j l. refl) (omega arith) (λ c.
+  pub turned_close : word_of w i / kind_unit ≡ 41 → SignTurned w i f top (top + 1) w (set f top false)
+  turned_close k = turned_as (top + 1) w (set f top false) (λ j l. refl) (omega arith) (λ c.
       let h = c.high in (
         record { done = c.sign ∷ c.after.done; flags = false ∷ c.after.flags },
         by_close c.sign c.after (kind_of c 41 k),
         omega (arith, h),
-        piled_push f c.after.flags false top 0 tl h refl c.flags,
+        piled_push f c.after.flags false top tl h c.flags,
         (c.word, c.done),
       ))
 
-  pub turned_or : (at : ℕ) → word_of w i / kind_unit ≡ 124 → at ≡ under_count top → at ≤ top → SignTurned w i f top (at + 1) w (set f at 1)
-  turned_or at k e l = turned_as (at + 1) w (set f at 1) (λ j b. refl) (omega arith) (λ c.
+  pub turned_or : (at : ℕ) → word_of w i / kind_unit ≡ 124 → at ≡ top - 1 → SignTurned w i f top (at + 1) w (set f at true)
+  turned_or at k e = turned_as (at + 1) w (set f at true) (λ j b. refl) (omega arith) (λ c.
       let u = under_long c.after.flags in
-      let x : at ≡ length (under_top c.after.flags) = e ∙ ap under_count c.high ∙ sym u in (
+      let h = c.high in
+      let x : at ≡ length (under_top c.after.flags) = omega arith in (
         record { done = c.sign ∷ c.after.done; flags = true ∷ under_top c.after.flags },
         by_or c.sign c.after (kind_of c 124 k),
         omega (arith, x),
-        piled_push f (under_top c.after.flags) true at 1 (omega (arith, l, tl)) x refl (piled_under f c.after.flags c.flags),
+        piled_push f (under_top c.after.flags) true at (omega arith) x (piled_under f c.after.flags c.flags),
         (c.word, c.done),
       ))
 
-  pub turned_open : (b r x : ℕ) → word_of w i / kind_unit ≡ 40 → b ≡ flag_word f top → r ≡ under_count top → r ≤ top → x ≡ 2621440 + b →
+  pub turned_open : (b : Bool) (r x : ℕ) → word_of w i / kind_unit ≡ 40 → b ≡ last_of f top → r ≡ top - 1 → x ≡ 2621440 + flag_bit b →
       SignTurned w i f top r (set w i x) f
-  turned_open b r x k e q l z = turned_as r (set w i x) f (λ j b. get_or-set_other w i j x 0 (λ v. absurd (omega arith))) (omega arith) (λ c.
+  turned_open b r x k e q z = turned_as r (set w i x) f (λ j b. get_or-set_other w i j x 0 (λ v. absurd (omega arith))) (omega arith) (λ c.
       let u = under_long c.after.flags in
-      let v : b ≡ flag_bit (top_flag c.after.flags) = e ∙ ap (flag_word f) c.high ∙ top_word f c.after.flags c.flags in (
+      let h = c.high in
+      let v : b ≡ top_flag c.after.flags = e ∙ ap (last_of f) c.high ∙ top_last f c.after.flags c.flags in
+      let y : flag_bit b ≡ flag_bit (top_flag c.after.flags) = ap flag_bit v in (
         record { done = (40, flag_bit (top_flag c.after.flags)) ∷ c.after.done; flags = under_top c.after.flags },
         by_open c.sign c.after (kind_of c 40 k),
-        q ∙ ap under_count c.high ∙ sym u,
+        omega arith,
         piled_under f c.after.flags c.flags,
-        (get_or-set_same w i x 0 il ∙ omega (arith, z, v), listed_off w i x (suc i) (token_words c.after.done) (omega arith) c.done),
+        (get_or-set_same w i x 0 il ∙ omega arith, listed_off w i x (suc i) (token_words c.after.done) (omega arith) c.done),
       ))
-
-  pub turned_other : (word_of w i / kind_unit ≡ 41 → ⊥) → (word_of w i / kind_unit ≡ 124 → ⊥) → (word_of w i / kind_unit ≡ 40 → ⊥) →
-      SignTurned w i f top top w f
-  turned_other a b d = turned_as top w f (λ j l. refl) (omega arith) (λ c. (
-    record { done = c.sign ∷ c.after.done; flags = c.after.flags },
-    by_other c.sign c.after (kind_not c 41 a) (kind_not c 124 b) (kind_not c 40 d),
-    c.high,
-    c.flags,
-    (c.word, c.done),
-  ))
 
 -- ---- all signs
 -- signs that are left, the last one first
@@ -201,7 +161,7 @@ piled_kept : (w w' : List ℕ) (r : List Token) (i : ℕ) → length r ≤ i →
 piled_kept w w' [] i l k p = tt
 piled_kept w w' (t ∷ r) i l k p = (k (length r) (omega arith) ∙ p.0, piled_kept w w' r i (omega arith) k p.1)
 
-pub record Going (ts : List Token) (n : ℕ) (w : List ℕ) (f : List ℕ) (top i : ℕ) : Type 0 where
+pub record Going (ts : List Token) (n : ℕ) (w : List ℕ) (f : List Bool) (top i : ℕ) : Type 0 where
   pub rest : List Token
   pub small : AllSmall rest
   pub front : PiledWords w rest
@@ -213,7 +173,7 @@ pub record Going (ts : List Token) (n : ℕ) (w : List ℕ) (f : List ℕ) (top 
   pub whole : flagging ts unmarked ≡ back rest after
   pub few : top + i ≤ suc n
 
-pub going_start : (w : List ℕ) (n : ℕ) (f : List ℕ) (c : Flagging w n f) → Going c.signs n w (set f 0 0) 1 n
+pub going_start : (w : List ℕ) (n : ℕ) (f : List Bool) (c : Flagging w n f) → Going c.signs n w (set f 0 false) 1 n
 going_start w n f c =
     let ts = c.signs in
     let e : turned_over (turned_over ts []) [] ≡ ts = over_over ts [] in
@@ -227,14 +187,14 @@ going_start w n f c =
       front = over_piled w ts [] c.written tt;
       left = x;
       after = unmarked;
-      flags = (get_or-set_same f 0 0 0 (omega (arith, room)), tt);
+      flags = (get_or-set_same f 0 false false (omega (arith, room)), tt);
       high = refl;
       done = tt;
       whole = ap (λ (l : List Token). flagging l unmarked) (sym e) ∙ over_back (turned_over ts []) [] unmarked;
       few = omega arith;
     }
 
-pub going_turning : (ts : List Token) (n : ℕ) (w f : List ℕ) (top i : ℕ) → 0 < i → Going ts n w f top i → SignTurning w (i - 1) f top
+pub going_turning : (ts : List Token) (n : ℕ) (w : List ℕ) (f : List Bool) (top i : ℕ) → 0 < i → Going ts n w f top i → SignTurning w (i - 1) f top
 going_turning ts n w f top i z g = go g.rest g.left g.small g.front where
   go : (r : List Token) → i ≡ length r → AllSmall r → PiledWords w r → SignTurning w (i - 1) f top
   go [] e s p = absurd (omega arith)
@@ -251,7 +211,8 @@ going_turning ts n w f top i z g = go g.rest g.left g.small g.front where
         done = subst (λ (k : ℕ). ListedFrom (word_of w) k (token_words g.after.done)) y g.done;
       }
 
-pub going_on : (ts : List Token) (n : ℕ) (w f : List ℕ) (top i : ℕ) (z : 0 < i) (g : Going ts n w f top i) (r : ℕ) (w' f' : List ℕ) →
+pub going_on : (ts : List Token) (n : ℕ) (w : List ℕ) (f : List Bool) (top i : ℕ) (z : 0 < i) (g : Going ts n w f top i) (r : ℕ) (w' : List ℕ)
+    (f' : List Bool) →
     SignTurned w (i - 1) f top r w' f' → Going ts n w' f' r (i - 1)
 going_on ts n w f top i z g r w' f' t = go g.rest g.left g.small g.front g.whole where
   go : (l : List Token) → i ≡ length l → AllSmall l → PiledWords w l → flagging ts unmarked ≡ back l g.after → Going ts n w' f' r (i - 1)
@@ -283,20 +244,16 @@ going_on ts n w f top i z g r w' f' t = go g.rest g.left g.small g.front g.whole
         few = omega (arith, few, old);
       }
 
-pub going_end : (ts : List Token) (n : ℕ) (w f : List ℕ) (top i : ℕ) → i ≡ 0 → (g : Going ts n w f top i) →
+pub going_end : (ts : List Token) (n : ℕ) (w : List ℕ) (f : List Bool) (top i : ℕ) → i ≡ 0 → (g : Going ts n w f top i) →
     ListedFrom (word_of w) 0 (token_words (flagging ts unmarked).done)
-    × (flag_word f top ≡ flag_bit (top_flag (flagging ts unmarked).flags))
+    × (last_of f top ≡ top_flag (flagging ts unmarked).flags)
 going_end ts n w f top i z g = go g.rest g.left g.whole where
   go : (l : List Token) → i ≡ length l → flagging ts unmarked ≡ back l g.after →
       ListedFrom (word_of w) 0 (token_words (flagging ts unmarked).done)
-      × (flag_word f top ≡ flag_bit (top_flag (flagging ts unmarked).flags))
+      × (last_of f top ≡ top_flag (flagging ts unmarked).flags)
   go (t ∷ l) e q = absurd (omega arith)
   go [] e q = (
     subst (λ (y : MarkedSigns). ListedFrom (word_of w) 0 (token_words y.done)) (sym q)
         (subst (λ (k : ℕ). ListedFrom (word_of w) k (token_words g.after.done)) z g.done),
-    ap (flag_word f) g.high ∙ top_word f g.after.flags g.flags ∙ ap (λ (y : MarkedSigns). flag_bit (top_flag y.flags)) (sym q),
+    ap (last_of f) g.high ∙ top_last f g.after.flags g.flags ∙ ap (λ (y : MarkedSigns). top_flag y.flags) (sym q),
   )
-
-pub bit_one : (b : Bool) (x : ℕ) → x ≡ flag_bit b → eqb x 1 ≡ b
-bit_one true x e = ap (λ (y : ℕ). eqb y 1) e
-bit_one false x e = ap (λ (y : ℕ). eqb y 1) e

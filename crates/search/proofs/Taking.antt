@@ -27,8 +27,7 @@ use Rattle.marks.specs.Marked.{marking, lights}
 use Rattle.marks.proofs.Marks.{marking_frame, lights_frame}
 use Rattle.marks.proofs.Reading.{Read, reads_lying}
 use Rattle.classes.specs.Holds.{Since, Remembers, Backs}
-use Rattle.classes.specs.declared.push.Pushed.{Pushed}
-use Rattle.classes.specs.declared.push.Pushed.TheVariants.{In, Clashed}
+use Rattle.std.specs.Prelude.{Option, Some, None}
 use Rattle.classes.proofs.Laws.{holds_agree, since_trans}
 use Rattle.entering.specs.Entered.{Entering, entered, Enters}
 use Rattle.entering.specs.Footing.{Footing}
@@ -84,7 +83,7 @@ module _ (n k : ℕ) (w : List ℕ) (g : ℕ) (a : Agenda) where
     pub read : (v : List ℕ) → 16384 ≤ length v → loaded_words v ≡ c.s.t → Read v g (mark_of c.lies) c.lies.end
     read v room e = reads_lying v room e c.s.ground.few c.lies
 
-  module _ (o : Pushed) (w₁ : List ℕ) (u : Enters n k w g depth_limit o w₁) (c₀ : Taking n k w g a) where
+  module _ (o : Option ℕ) (w₁ : List ℕ) (u : Enters n k w g depth_limit o w₁) (c₀ : Taking n k w g a) where
     marks₁ : marking w₁ ≡ marking w
     marks₁ = marking_frame w w₁ c₀.s.holds.long u.len (λ j x y. u.rest j (omega arith))
 
@@ -98,7 +97,7 @@ module _ (n k : ℕ) (w : List ℕ) (g : ℕ) (a : Agenda) where
     room₁ = omega (arith, u.len, c₀.s.holds.long)
 
     -- a clash: nothing is found
-    pub takes_clash : o ≡ Clashed → Takes n k w g a 0 w₁
+    pub takes_clash : o ≡ None → Takes n k w g a 0 w₁
     takes_clash z = record {
       moved = record { len = u.len; rest = λ j h. u.rest j (omega arith); since = (u.clashed z).0 };
       found = λ c.
@@ -108,7 +107,7 @@ module _ (n k : ℕ) (w : List ℕ) (g : ℕ) (a : Agenda) where
           told.1);
     }
 
-    module _ (e : ℕ) (z : o ≡ In e) where
+    module _ (e : ℕ) (z : o ≡ Some e) where
       abbrev standing₁ : (c : Taking n k w g a) → Footing n e w₁ (pushed_all c)
       standing₁ c = record {
         t = c.s.t;

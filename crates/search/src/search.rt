@@ -5,7 +5,7 @@ ghost use Rattle.search.specs.Searched.{Noting, Notes, Resuming, Resumes, Taking
 use crate::agenda::{Agenda, after, before, descend, nothing};
 use crate::foresee::foresee;
 use area::map::SECOND;
-use classes::push::{Pushed, back};
+use classes::push::back;
 use counting::choices::capped;
 use entering::enter::enter;
 use limits::DEPTH_LIMIT;
@@ -101,8 +101,7 @@ fn take(w: &mut [u32], k: usize, n: usize, g: usize, a: Agenda) -> u32
         }
         Guess::Unsure => {}
     }
-    let pushed = enter(w, k, n, g, DEPTH_LIMIT);
-    let Pushed::In(e) = pushed else {
+    let Some(e) = enter(w, k, n, g, DEPTH_LIMIT) else {
         return NONE;
     };
     let inner = descend(w, g, a);

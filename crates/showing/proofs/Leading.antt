@@ -28,8 +28,7 @@ use Rattle.loading.specs.Entry.{graphs}
 use Rattle.layout.proofs.Standing.{stands_frame}
 use Rattle.marks.specs.Marked.{marking}
 use Rattle.classes.specs.Holds.{Backs, Remembers}
-use Rattle.classes.specs.declared.push.Pushed.{Pushed}
-use Rattle.classes.specs.declared.push.Pushed.TheVariants.{In, Clashed}
+use Rattle.std.specs.Prelude.{Some, None}
 use Rattle.entering.specs.Entered.{Entering, entered, Enters}
 use Rattle.entering.proofs.Certain.{flat_of}
 use Rattle.writing.specs.Writing.{Writing, Writes}
@@ -78,11 +77,11 @@ module _ (n : ℕ) (w : List ℕ) (g left o : ℕ) (c : Describing n w g left o)
       (disjs (shown_all (left_all c.base.m c.lies.d)) ∷ disjs_words (shown_all (left_all c.base.m c.lies.d))) in
       omega arith
 
-  module _ (p : Pushed) (w₁ : List ℕ) (u : Enters n 0 w g left p w₁) where
-    pub not_clashed : p ≡ Clashed → ⊥
+  module _ (p : Rattle.std.specs.Prelude.Option ℕ) (w₁ : List ℕ) (u : Enters n 0 w g left p w₁) where
+    pub not_clashed : p ≡ None → ⊥
     not_clashed z = never ((u.clashed z).1 asks_enter).0
 
-    module _ (k : ℕ) (z : p ≡ In k) where
+    module _ (k : ℕ) (z : p ≡ Some k) where
       pub asks_write : Writing n k w₁ o
       asks_write = record {
         es = entered asks_enter;

@@ -11,17 +11,15 @@ fn copy_arcs(w: &mut [u32], number: u32, p: usize, count: u32, o: usize) -> usiz
     requires { Copying (arcs_piece count) w.old number p o }
     ensures { Copies (arcs_piece count) w.old number p o result w.new }
 {
-    let mut left = count;
     let mut at = p;
     let mut out = o;
-    while 0 < left {
+    for _ in 0..count {
         let feature = word_at(w, at);
         let target = word_at(w, at + 1);
         w[RESULT + out] = feature;
         w[RESULT + out + 1] = target - number;
         at += 2;
         out += 2;
-        left -= 1;
     }
     out
 }
@@ -44,14 +42,12 @@ fn copy_nodes(w: &mut [u32], number: u32, p: usize, count: usize, o: usize) -> u
     requires { Copying (nodes_piece count) w.old number p o }
     ensures { Copies (nodes_piece count) w.old number p o result w.new }
 {
-    let mut left = count;
     let mut at = p;
     let mut out = o;
-    while 0 < left {
+    for _ in 0..count {
         let end = copy_node(w, number, at, out);
         at += end - out;
         out = end;
-        left -= 1;
     }
     out
 }

@@ -3,7 +3,7 @@ ghost use Rattle.showing.specs.Putting.{Describing, LeadPut};
 
 use crate::copy::copy_graph;
 use crate::lone::lone;
-use classes::push::{Pushed, back};
+use classes::push::back;
 use entering::enter::enter;
 use writing::graph::write_graph;
 
@@ -12,8 +12,7 @@ fn join_graph(w: &mut [u32], n: usize, g: usize, left: u32, o: usize) -> usize
     requires { Describing n w.old g left o }
     ensures { LeadPut n w.old g left o result w.new }
 {
-    let pushed = enter(w, 0, n, g, left);
-    let Pushed::In(k) = pushed else {
+    let Some(k) = enter(w, 0, n, g, left) else {
         return o;
     };
     let r = write_graph(w, k, n, o);

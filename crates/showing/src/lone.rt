@@ -12,17 +12,15 @@ pub fn lone(w: &[u32], g: usize) -> bool
     ensures { Looks w.now g result }
 {
     let e = tail_at(w, g);
-    let mut more = disjunctions_at(w, e);
+    let more = disjunctions_at(w, e);
     let mut at = e + 1;
-    while 0 < more {
+    for _ in 0..more {
         let of = alternatives_at(w, at);
         let tally = count_kept(w, at + 1, of);
-        let which = tally.remnant;
-        if let Remnant::One(_) = which {
+        if let Remnant::One(_) = tally.remnant {
             return true;
         }
         at = tally.after;
-        more -= 1;
     }
     false
 }

@@ -42,22 +42,18 @@ pub fn put_disjunctions(w: &mut [u32], n: usize, g: usize, left: u32, o: usize) 
     ensures { Disjoins n w.old g left o result.at result.count w.new }
 {
     let e = tail_at(w, g);
-    let mut more = disjunctions_at(w, e);
+    let more = disjunctions_at(w, e);
     let mut at = e + 1;
     let mut out = o;
     let mut count: usize = 0;
-    while 0 < more {
+    for _ in 0..more {
         let of = alternatives_at(w, at);
         let one = put_one(w, n, at + 1, of, left - 1, out);
         out = one.at;
         count += one.count;
         at = one.after;
-        more -= 1;
     }
-    Put {
-        at: out,
-        count: count,
-    }
+    Put { at: out, count }
 }
 
 // Writes one disjunction, whose `of` alternatives stand from p on. If one stands alone, its disjunctions come in its place.
@@ -76,7 +72,7 @@ fn put_one(w: &mut [u32], n: usize, p: usize, of: usize, left: u32, o: usize) ->
             return One {
                 at: inner.at,
                 count: inner.count,
-                after: after,
+                after,
             };
         }
         Remnant::Several(several) => several,
@@ -84,9 +80,9 @@ fn put_one(w: &mut [u32], n: usize, p: usize, of: usize, left: u32, o: usize) ->
     w[RESULT + o] = many as u32;
     let at = put_alternatives(w, n, p, of, left, o + 1);
     One {
-        at: at,
+        at,
         count: 1,
-        after: after,
+        after,
     }
 }
 
@@ -96,16 +92,14 @@ fn put_alternatives(w: &mut [u32], n: usize, p: usize, of: usize, left: u32, o: 
     requires { Offering n w.old p of left o }
     ensures { Offers n w.old p of left o result w.new }
 {
-    let mut rest = of;
     let mut at = p;
     let mut out = o;
-    while 0 < rest {
+    for _ in 0..of {
         let x = mark_at(w, at);
         if kept(w, x) {
             out = put_description(w, n, at, left, out);
         }
         at = after_at(w, at);
-        rest -= 1;
     }
     out
 }

@@ -5,20 +5,20 @@ use mathlib.Core.Path.{◌≡◌, refl, sym, ap, subst, ◌∙◌}
 use mathlib.Core.Logic.{◌⊎◌, inl, inr, ⊎_elim}
 use mathlib.Core.List.{List, [], ◌∷◌, ◌++◌, append_assoc, append-nil}
 use native.Mathlib.Omega.{arith}
+use Rattle.std.specs.Prelude.{Option, Some, None, Result, Ok, Err}
 use lib.ListN.{length, take, length-append}
 use lib.Seq.{take_at}
 use Rattle.formulas.specs.Formula.{Formula}
 use Rattle.signs.specs.declared.machine.Place.{Place}
 use Rattle.signs.specs.declared.machine.Place.TheVariants.{Start}
 use Rattle.signs.specs.declared.machine.Seen.{Seen}
-use Rattle.signs.specs.declared.machine.Seen.TheVariants.{On, Dead}
 use Rattle.signs.specs.Signs.{Sign}
 use Rattle.signs.specs.Machine.{stepped, noted, over}
 use Rattle.signs.proofs.Run.{on, run, run_after, run_step, run_stop}
 use Rattle.signs.proofs.Sofar.{Sofar, sofar}
 use Rattle.signs.proofs.Exact.{stood_full, whole_reads, stop_bad, end_bad, Ending, ends_well, ends_badly, ending}
-use Rattle.signs.specs.declared.reading.Answer.{Answer}
-use Rattle.signs.specs.declared.reading.Answer.TheVariants.{Fine, Bad, Long}
+use Rattle.signs.specs.declared.reading.ReadError.{ReadError}
+use Rattle.signs.specs.declared.reading.ReadError.TheVariants.{Bad, Long}
 use Rattle.signs.specs.Limits.{formula_limit}
 use Rattle.signs.specs.Grammar.{Reads, Viable, BadAt}
 use Rattle.signs.specs.Judged.{SignsJudged}
@@ -57,29 +57,29 @@ bad-once t i j a b = ⊎_elim (λ h. absurd (not-later t i j a b h))
       order (suc m) (suc n) = ⊎_elim (λ h. inl (omega arith)) (λ h. inr (omega arith)) (order m n)
 
 -- bad text, and the byte, exactly
-pub answer-bad : (t w : List ℕ) (r : Answer) (i : ℕ) → length t ≤ formula_limit → SignsJudged t w r → BadAt t i → r ≡ Bad i
-answer-bad t w (Fine n) i h j b =
+pub answer-bad : (t w : List ℕ) (r : Result ℕ ReadError) (i : ℕ) → length t ≤ formula_limit → SignsJudged t w r → BadAt t i → r ≡ Err (Bad i)
+answer-bad t w (Ok n) i h j b =
     absurd (b.unread j.1.tree (record { signs = j.1.signs; spelt = j.1.spelt; formula = j.1.formula }))
-answer-bad t w (Bad k) i h j b = ap Bad (bad-once t k i j.1 b)
-answer-bad t w Long i h j b = absurd (omega arith)
+answer-bad t w (Err (Bad k)) i h j b = ap (λ (x : ℕ). Err (Bad x)) (bad-once t k i j.1 b)
+answer-bad t w (Err Long) i h j b = absurd (omega arith)
 
 -- a formula's text, exactly
-pub answer-fine : (t w : List ℕ) (r : Answer) (φ : Formula) → length t ≤ formula_limit → SignsJudged t w r → Reads t φ → (n : ℕ)
-    × (r ≡ Fine n)
-answer-fine t w (Fine n) φ h j q = (n, refl)
-answer-fine t w (Bad k) φ h j q = absurd (j.1.unread φ q)
-answer-fine t w Long φ h j q = absurd (omega arith)
+pub answer-fine : (t w : List ℕ) (r : Result ℕ ReadError) (φ : Formula) → length t ≤ formula_limit → SignsJudged t w r → Reads t φ → (n : ℕ)
+    × (r ≡ Ok n)
+answer-fine t w (Ok n) φ h j q = (n, refl)
+answer-fine t w (Err (Bad k)) φ h j q = absurd (j.1.unread φ q)
+answer-fine t w (Err Long) φ h j q = absurd (omega arith)
 
-pub answer-long : (t w : List ℕ) (r : Answer) → formula_limit < length t → SignsJudged t w r → r ≡ Long
-answer-long t w (Fine n) h j = let k = j.0 in absurd (omega arith)
-answer-long t w (Bad i) h j = let k = j.0 in absurd (omega arith)
-answer-long t w Long h j = refl
+pub answer-long : (t w : List ℕ) (r : Result ℕ ReadError) → formula_limit < length t → SignsJudged t w r → r ≡ Err Long
+answer-long t w (Ok n) h j = let k = j.0 in absurd (omega arith)
+answer-long t w (Err (Bad i)) h j = let k = j.0 in absurd (omega arith)
+answer-long t w (Err Long) h j = refl
 
 -- every text, however long, is a formula's or has such a byte
-step-told : (u l : List ℕ) (b : ℕ) (p : Place) (g : ℕ) (ss : List Sign) → run u Start 0 [] ≡ on p g ss → (x : Seen) → stepped p g b ≡ x →
+step-told : (u l : List ℕ) (b : ℕ) (p : Place) (g : ℕ) (ss : List Sign) → run u Start 0 [] ≡ on p g ss → (x : Option Seen) → stepped p g b ≡ x →
     ((p' : Place) (g' : ℕ) (ss' : List Sign) → run (u ++ (b ∷ [])) Start 0 [] ≡ on p' g' ss' → Told ((u ++ (b ∷ [])) ++ l)) →
     Told (u ++ (b ∷ l))
-step-told u l b p g ss e Dead q f =
+step-told u l b p g ss e None q f =
     let t = u ++ (b ∷ l) in
     let n = length u in
     let long = length-append u (b ∷ l) in
@@ -90,11 +90,12 @@ step-told u l b p g ss e Dead q f =
       stop_bad t n p g ss (omega arith) (ap (λ (k : List ℕ). run k Start 0 []) (take_at u (b ∷ l) n refl) ∙ e)
           (ap (λ (k : List ℕ). run k Start 0 []) front ∙ run_after u (b ∷ []) Start p 0 g [] ss e ∙ run_stop b p g ss q),
     )
-step-told u l b p g ss e (On p' g') q f =
+step-told u l b p g ss e (Some s) q f =
     subst Told (append_assoc u (b ∷ []) l)
-    (f p' g' (noted p p' b ss) (run_after u (b ∷ []) Start p 0 g [] ss e ∙ run_step b [] p p' g g' ss q))
+    (f s.place s.groups (noted p s.place b ss)
+    (run_after u (b ∷ []) Start p 0 g [] ss e ∙ run_step b [] p s.place g s.groups ss q))
 
-end-told : (t : List ℕ) (p : Place) (g : ℕ) (ss : List Sign) → run t Start 0 [] ≡ on p g ss → (r : Answer) → over p g 0 (length t) ≡ r →
+end-told : (t : List ℕ) (p : Place) (g : ℕ) (ss : List Sign) → run t Start 0 [] ≡ on p g ss → (r : Result ℕ ReadError) → over p g 0 (length t) ≡ r →
     Ending p g 0 (length t) r → Told t
 end-told t p g ss e r q (ends_well s z) = inl (whole_reads (stood_full 0 s (subst (Sofar t ss p) z (sofar t p g ss e))))
 end-told t p g ss e r q ends_badly = inr (length t, end_bad t p g ss 0 (length t) (length t) refl e q)

@@ -4,6 +4,7 @@ use Prim.Native.Nat.{ℕ, zero, suc, ◌<◌, ◌≤◌}
 use mathlib.Core.Path.{◌≡◌, refl, sym, ap, subst, ◌∙◌}
 use mathlib.Core.List.{List, [], ◌∷◌, ◌++◌}
 use native.Mathlib.Omega.{arith}
+use Rattle.std.specs.Prelude.{Result, Ok, Err}
 use mathlib.Core.Bool.{Bool, true, false}
 use lib.Dec.{eqb}
 use borrow.Author.Tests.{eqb-true}
@@ -16,8 +17,8 @@ use Rattle.signs.specs.declared.machine.Part.{Part}
 use Rattle.signs.specs.declared.machine.Part.TheVariants.{N, Ni, T, To, Atom, Arc, Step}
 use Rattle.signs.specs.declared.machine.Place.{Place}
 use Rattle.signs.specs.declared.machine.Place.TheVariants.{Start, Clean, Spaced, Number, Within}
-use Rattle.signs.specs.declared.reading.Answer.{Answer}
-use Rattle.signs.specs.declared.reading.Answer.TheVariants.{Fine, Bad}
+use Rattle.signs.specs.declared.reading.ReadError.{ReadError}
+use Rattle.signs.specs.declared.reading.ReadError.TheVariants.{Bad}
 use Rattle.signs.specs.Limits.{formula_limit}
 use Rattle.signs.specs.Signs.{Sign, sign_word, sign_words}
 use Rattle.signs.specs.Grammar.{Reads, Viable, BadAt}
@@ -171,17 +172,17 @@ dead_not u e v =
 on_same : (p p' : Place) (g g' : ℕ) (ss ss' : List Sign) → on p g ss ≡ on p' g' ss' → (p ≡ p') × (g ≡ g')
 on_same p p' g g' ss ss' e = (cc, cc)
 
-stood_fine : {p : Place} (n i : ℕ) → Stood p After → over p 0 n i ≡ Fine n
+stood_fine : {p : Place} (n i : ℕ) → Stood p After → over p 0 n i ≡ Ok n
 stood_fine n i stood_clean = refl
 stood_fine n i stood_number = refl
 
 -- where the machine does not end well, no formula has this text
-pub bad_unread : (t : List ℕ) (p : Place) (g : ℕ) (ss : List Sign) (n i j : ℕ) → run t Start 0 [] ≡ on p g ss → over p g n i ≡ Bad j →
+pub bad_unread : (t : List ℕ) (p : Place) (g : ℕ) (ss : List Sign) (n i j : ℕ) → run t Start 0 [] ≡ on p g ss → over p g n i ≡ Err (Bad j) →
     (φ : Formula) → Reads t φ → ⊥
 bad_unread t p g ss n i j e o φ r =
     let w = spelt_reaches r.spelt (whole_route r.formula) in
     let s = on_same p w.place g 0 ss (rev r.signs) (sym e ∙ w.is) in
-    let f : over p g n i ≡ Fine n = ap (λ (x : Place). over x g n i) s.0 ∙ ap (λ (k : ℕ). over w.place k n i) s.1
+    let f : over p g n i ≡ Ok n = ap (λ (x : Place). over x g n i) s.0 ∙ ap (λ (k : ℕ). over w.place k n i) s.1
     ∙ stood_fine n i w.stood in
     let k : ◌≡◌ {A = ℕ} 0 1 = cc in
     absurd (omega arith)
@@ -200,7 +201,7 @@ stop_bad t i p g ss h e z =
 
 -- "a text that stops early"
 pub end_bad : (t : List ℕ) (p : Place) (g : ℕ) (ss : List Sign) (n i j : ℕ) → i ≡ length t → run t Start 0 [] ≡ on p g ss →
-    over p g n i ≡ Bad j → BadAt t i
+    over p g n i ≡ Err (Bad j) → BadAt t i
 end_bad t p g ss n i j h e o =
     record {
       inside = omega arith;
@@ -210,9 +211,9 @@ end_bad t p g ss n i j h e o =
     }
 
 -- how a text ends
-pub data Ending (p : Place) (g n i : ℕ) : Answer → Type 0 where
-  ends_well : Stood p After → g ≡ 0 → Ending p g n i (Fine n)
-  ends_badly : Ending p g n i (Bad i)
+pub data Ending (p : Place) (g n i : ℕ) : Result ℕ ReadError → Type 0 where
+  ends_well : Stood p After → g ≡ 0 → Ending p g n i (Ok n)
+  ends_badly : Ending p g n i (Err (Bad i))
 
 due_ending : (p : Place) (d : Due) (g n i : ℕ) → Stood p d → Ending p g n i (over_due d g n i)
 due_ending p Operand g n i s = ends_badly
@@ -221,7 +222,7 @@ due_ending p Path g n i s = ends_badly
 due_ending p Steps g n i s = ends_badly
 due_ending p Listed g n i s = ends_badly
 due_ending p After g n i s = go (eqb g 0) refl where
-  go : (c : Bool) → eqb g 0 ≡ c → Ending p g n i (if_so c (Fine n) (Bad i))
+  go : (c : Bool) → eqb g 0 ≡ c → Ending p g n i (if_so c (Ok n) (Err (Bad i)))
   go true e = ends_well s (eqb-true g 0 e)
   go false e = ends_badly
 
@@ -267,6 +268,6 @@ good_end t w ss n f o e few h =
 pub end_judged : (t w : List ℕ) (p : Place) (g : ℕ) (ss : List Sign) (n i : ℕ) → length t ≤ formula_limit → i ≡ length t →
     run t Start 0 [] ≡ on p g ss → SignsStand w ss → n ≡ length ss → n ≤ length t → length ss ≤ length w → SignsJudged t w (over p g n i)
 end_judged t w p g ss n i short end e o c few room = go (over p g n i) refl (ending p g n i) where
-  go : (r : Answer) → over p g n i ≡ r → Ending p g n i r → SignsJudged t w r
+  go : (r : Result ℕ ReadError) → over p g n i ≡ r → Ending p g n i r → SignsJudged t w r
   go r q (ends_well s z) = (short, good_end t w ss n (stood_full 0 s (subst (Sofar t ss p) z (sofar t p g ss e))) o c few room)
   go r q ends_badly = (short, end_bad t p g ss n i i end e q)

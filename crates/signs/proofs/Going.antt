@@ -4,23 +4,27 @@ use Prim.Native.Nat.{ℕ, suc, ◌+◌, ◌<◌, ◌≤◌}
 use mathlib.Core.Path.{◌≡◌, refl, sym, ap, subst, ◌∙◌}
 use mathlib.Core.List.{List, [], ◌∷◌, ◌++◌}
 use native.Mathlib.Omega.{arith}
+use Rattle.std.specs.Prelude.{Option, None, Err, ok_or}
 use lib.ListN.{length, take, get_or}
 use lib.Seq.{take-suc, take_all}
 use Rattle.signs.specs.declared.machine.Due.{Due}
 use Rattle.signs.specs.declared.machine.Place.{Place}
 use Rattle.signs.specs.declared.machine.Place.TheVariants.{Start, Clean, Spaced, Number, Within}
 use Rattle.signs.specs.declared.machine.Seen.{Seen}
-use Rattle.signs.specs.declared.machine.Seen.TheVariants.{On, Dead}
 use Rattle.signs.specs.Limits.{formula_limit}
 use Rattle.signs.specs.Signs.{Sign}
 use Rattle.signs.specs.Grammar.{BadAt}
 use Rattle.signs.specs.Judged.{SignsJudged}
-use Rattle.signs.specs.Machine.{stepped, Small, NumberLast, noted, SignsStand, SignsNoted, over}
+use Rattle.signs.specs.Machine.{seen_at, stepped, Small, NumberLast, noted, SignsStand, SignsNoted, over}
 use Rattle.signs.proofs.Moves.{Moves, by_nil, by_top, by_atom, by_arc, by_colon, by_bracket, by_less, by_step, by_greater, by_comma}
 use Rattle.signs.proofs.Moves.{by_unbracket, by_and, by_or, by_left, by_right, Route, stay, move}
 use Rattle.signs.proofs.Run.{on, run, run_after, run_step, run_stop}
 use Rattle.signs.proofs.Sofar.{Full, Ready, begin, gap, Sofar, sofar, counted_full}
 use Rattle.signs.proofs.Exact.{stop_bad, length_rev, end_judged}
+
+-- what `ok_or` makes of nothing is its reason
+pub ok_or_err : {A E : Type 0} (o : Option A) (x y : E) → o ≡ None → Err x ≡ ok_or o y → x ≡ y
+ok_or_err {A} o x y e q = let z = q ∙ ap (λ (k : Option A). ok_or k y) e in cc
 
 -- a sign opens one group at most
 moves_few : {d d' : Due} {g g' : ℕ} {s : Sign} → Moves d g s d' g' → g' ≤ suc g
@@ -109,21 +113,21 @@ module _ (text signs : List ℕ) (place : Place) (groups count at : ℕ) (o : Go
   going_last = subst (NumberLast place) (sym o.counts)
       (last (take at text) o.seen place groups (sofar (take at text) place groups o.seen o.runs))
 
-  next_run : (b : ℕ) (p : Place) (g : ℕ) → at < length text → b ≡ get_or text at 0 → stepped place groups b ≡ On p g →
+  next_run : (b : ℕ) (p : Place) (g : ℕ) → at < length text → b ≡ get_or text at 0 → stepped place groups b ≡ seen_at p g →
       run (take (suc at) text) Start 0 [] ≡ on p g (noted place p b o.seen)
   next_run b p g h e q =
       ap (λ (l : List ℕ). run l Start 0 []) (take-suc text at 0 h ∙ ap (λ (x : ℕ). take at text ++ (x ∷ [])) (sym e))
       ∙ run_after (take at text) (b ∷ []) Start place 0 groups [] o.seen o.runs
       ∙ run_step b [] place p groups g o.seen q
 
-  pub going_next_small : (b : ℕ) (r : Seen) (p : Place) (g : ℕ) → at < length text → b ≡ get_or text at 0 → r ≡ stepped place groups b →
-      r ≡ On p g → Small p
+  pub going_next_small : (b : ℕ) (r : Option Seen) (p : Place) (g : ℕ) → at < length text → b ≡ get_or text at 0 → r ≡ stepped place groups b →
+      r ≡ seen_at p g → Small p
   going_next_small b r p g h e q z =
       small (take (suc at) text) (noted place p b o.seen) p g
       (sofar (take (suc at) text) p g (noted place p b o.seen) (next_run b p g h e (sym q ∙ z)))
 
-  pub going_on : (b : ℕ) (r : Seen) (p : Place) (g : ℕ) (signs' : List ℕ) (count' : ℕ) → at < length text → b ≡ get_or text at 0 →
-      r ≡ stepped place groups b → r ≡ On p g → SignsNoted (noted place p b) signs count signs' count' →
+  pub going_on : (b : ℕ) (r : Option Seen) (p : Place) (g : ℕ) (signs' : List ℕ) (count' : ℕ) → at < length text → b ≡ get_or text at 0 →
+      r ≡ stepped place groups b → r ≡ seen_at p g → SignsNoted (noted place p b) signs count signs' count' →
       Going text signs' p g count' (at + 1)
   going_on b r p g signs' count' h e q z f =
       let w = f o.seen o.holds o.counts in
@@ -141,7 +145,7 @@ module _ (text signs : List ℕ) (place : Place) (groups count at : ℕ) (o : Go
         inside = omega arith;
       }
 
-  pub going_stop : (b : ℕ) (r : Seen) → at < length text → b ≡ get_or text at 0 → r ≡ stepped place groups b → r ≡ Dead → BadAt text at
+  pub going_stop : (b : ℕ) (r : Option Seen) → at < length text → b ≡ get_or text at 0 → r ≡ stepped place groups b → r ≡ None → BadAt text at
   going_stop b r h e q z =
       stop_bad text at place groups o.seen h o.runs
       (ap (λ (l : List ℕ). run l Start 0 []) (take-suc text at 0 h ∙ ap (λ (x : ℕ). take at text ++ (x ∷ [])) (sym e))
@@ -149,10 +153,10 @@ module _ (text signs : List ℕ) (place : Place) (groups count at : ℕ) (o : Go
       ∙ run_stop b place groups o.seen (sym q ∙ z))
 
   pub going_end : length text ≤ formula_limit → formula_limit ≤ length signs → length text ≤ at →
-      SignsJudged text signs (over place groups count at)
+      SignsJudged text signs (over place groups count (length text))
   going_end short room h =
       let i = o.inside in
       let c = o.counts in
       let m = o.room in
-      end_judged text signs place groups o.seen count at short (omega arith)
+      end_judged text signs place groups o.seen count (length text) short refl
       (ap (λ (l : List ℕ). run l Start 0 []) (sym (take_all at text h)) ∙ o.runs) o.holds c (omega arith) (omega arith)

@@ -11,7 +11,6 @@ use lib.Dec.{eqb}
 use borrow.Author.Tests.{eqb-true}
 use Rattle.signs.specs.declared.machine.Due.{Due}
 use Rattle.signs.specs.declared.machine.Due.TheVariants.{Operand, Colon, Path, Steps, Listed, After}
-use Rattle.signs.specs.declared.machine.Part.{Part}
 use Rattle.signs.specs.declared.machine.Place.{Place}
 use Rattle.signs.specs.declared.machine.Place.TheVariants.{Start, Clean, Spaced, Number, Within}
 use Rattle.signs.specs.Limits.{kind_unit}
@@ -60,14 +59,6 @@ letter_word Steps v = omega arith
 letter_word Listed v = omega arith
 letter_word After v = omega arith
 
-pub letter_feature : 6684672 ≡ sign_word (number_sign Colon 0)
-unfolding sign_word
-letter_feature = refl
-
-pub letter_atom : 6356992 ≡ sign_word (number_sign After 0)
-unfolding sign_word
-letter_atom = refl
-
 pub letter_low : (d : Due) → sign_word (number_sign d 0) ≤ 6684672
 unfolding sign_word
 letter_low Operand = omega arith
@@ -93,19 +84,6 @@ pub clean_notes : (old next : Place) (d : Due) (b : ℕ) (w : List ℕ) (n v : �
     SignsNoted (noted old next b) w n (set w n v) (n + 1)
 clean_notes old next d b w n v e h q =
     subst (λ (x : Place). SignsNoted (noted old x b) w n (set w n v) (n + 1)) (sym e) (pushed_notes (ended_by b) w n v h (q ∙ ended_word b))
-
-pub number_next : (old next : Place) (d : Due) (v b : ℕ) (w w' : List ℕ) (n m : ℕ) → next ≡ Number d v →
-    SignsNoted (number_noted old (number_sign d v)) w n w' m → SignsNoted (noted old next b) w n w' m
-number_next old next d v b w w' n m e f = subst (λ (x : Place). SignsNoted (noted old x b) w n w' m) (sym e) f
-
-pub start_notes : (old next : Place) (b : ℕ) (w : List ℕ) (n : ℕ) → next ≡ Start → SignsNoted (noted old next b) w n w n
-start_notes old next b w n e = subst (λ (x : Place). SignsNoted (noted old x b) w n w n) (sym e) (λ ss o z. (o, z))
-
-pub spaced_notes : (old next : Place) (d : Due) (b : ℕ) (w : List ℕ) (n : ℕ) → next ≡ Spaced d → SignsNoted (noted old next b) w n w n
-spaced_notes old next d b w n e = subst (λ (x : Place). SignsNoted (noted old x b) w n w n) (sym e) (λ ss o z. (o, z))
-
-pub within_notes : (old next : Place) (q : Part) (b : ℕ) (w : List ℕ) (n : ℕ) → next ≡ Within q → SignsNoted (noted old next b) w n w n
-within_notes old next q b w n e = subst (λ (x : Place). SignsNoted (noted old x b) w n w n) (sym e) (λ ss o z. (o, z))
 
 pub slot_low : (p : Place) (n : ℕ) → slot_of p n ≤ n
 slot_low Start n = omega arith

@@ -5,6 +5,7 @@ use mathlib.Core.Path.{◌≡◌, refl, sym, ap, subst, ◌∙◌}
 use mathlib.Core.Bool.{Bool, true, false}
 use mathlib.Core.List.{List, [], ◌∷◌, ◌++◌, append_assoc, append-nil}
 use native.Mathlib.Omega.{arith}
+use Rattle.std.specs.Prelude.{Option, Some, None}
 use lib.Dec.{eqb, ltb}
 use borrow.Author.Tests.{eqb-true, eqb-false, ltb-false}
 use Rattle.signs.specs.declared.machine.Due.{Due}
@@ -14,7 +15,6 @@ use Rattle.signs.specs.declared.machine.Part.TheVariants.{N, Ni, T, To, Atom, Ar
 use Rattle.signs.specs.declared.machine.Place.{Place}
 use Rattle.signs.specs.declared.machine.Place.TheVariants.{Start, Clean, Spaced, Number, Within}
 use Rattle.signs.specs.declared.machine.Seen.{Seen}
-use Rattle.signs.specs.declared.machine.Seen.TheVariants.{On, Dead}
 use Rattle.signs.specs.Limits.{largest_number}
 use Rattle.signs.specs.Signs as S
 use Rattle.signs.specs.Signs.{Sign, nil_sign, top_sign, mark, longer, Spells, spells_nil, spells_top, spells_atom, spells_feature}
@@ -114,9 +114,9 @@ Sofar t ss (Spaced d) g = Gap t ss d g
 Sofar t ss (Number d v) g = Counted t ss d v g
 Sofar t ss (Within q) g = Partly t ss q g
 
-abbrev Goes : List ℕ → List Sign → Place → ℕ → Seen → Type 0
-Goes t ss p b Dead = Unit {0}
-Goes t ss p b (On p' g') = Sofar (t ++ (b ∷ [])) (noted p p' b ss) p' g'
+abbrev Goes : List ℕ → List Sign → Place → ℕ → Option Seen → Type 0
+Goes t ss p b None = Unit {0}
+Goes t ss p b (Some s) = Sofar (t ++ (b ∷ [])) (noted p s.place b ss) s.place s.groups
 
 same_byte : (t : List ℕ) (b k : ℕ) → b ≡ k → t ++ (b ∷ []) ≡ t ++ (k ∷ [])
 same_byte t b k e = ap (λ (x : ℕ). t ++ (x ∷ [])) e
@@ -151,11 +151,11 @@ gap_more {t} b f e =
     }
 
 module _ (t : List ℕ) (ss : List Sign) (p : Place) (b : ℕ) where
-  pick_goes : (c : Bool) (x y : Seen) → (c ≡ true → Goes t ss p b x) → (c ≡ false → Goes t ss p b y) → Goes t ss p b (if_so c x y)
+  pick_goes : (c : Bool) (x y : Option Seen) → (c ≡ true → Goes t ss p b x) → (c ≡ false → Goes t ss p b y) → Goes t ss p b (if_so c x y)
   pick_goes true x y f h = f refl
   pick_goes false x y f h = h refl
 
-  test_goes : (k : ℕ) (x y : Seen) → (b ≡ k → Goes t ss p b x) → Goes t ss p b y → Goes t ss p b (if_so (eqb b k) x y)
+  test_goes : (k : ℕ) (x y : Option Seen) → (b ≡ k → Goes t ss p b x) → Goes t ss p b y → Goes t ss p b (if_so (eqb b k) x y)
   test_goes k x y f h = pick_goes (eqb b k) x y (λ e. f (eqb-true b k e)) (λ e. h)
 
   closed_goes : (g : ℕ) → Ready t ss After g → b ≡ 41 → Goes t ss p b (group_closed g)
@@ -295,11 +295,12 @@ abbrev Lasts : List ℕ → Run → Type 0
 Lasts t dead = Unit {0}
 Lasts t (on p g ss) = Sofar t ss p g
 
-lasts_on : (t : List ℕ) (ss : List Sign) (p : Place) (b : ℕ) (l : List ℕ) (x : Seen) → Goes t ss p b x →
+lasts_on : (t : List ℕ) (ss : List Sign) (p : Place) (b : ℕ) (l : List ℕ) (x : Option Seen) → Goes t ss p b x →
     ((p' : Place) (g' : ℕ) → Sofar (t ++ (b ∷ [])) (noted p p' b ss) p' g' → Lasts ((t ++ (b ∷ [])) ++ l) (run l p' g' (noted p p' b ss))) →
     Lasts (t ++ (b ∷ l)) (onward x (λ p' g'. run l p' g' (noted p p' b ss)))
-lasts_on t ss p b l Dead o f = tt
-lasts_on t ss p b l (On p' g') o f = subst (λ (k : List ℕ). Lasts k (run l p' g' (noted p p' b ss))) (append_assoc t (b ∷ []) l) (f p' g' o)
+lasts_on t ss p b l None o f = tt
+lasts_on t ss p b l (Some s) o f =
+    subst (λ (k : List ℕ). Lasts k (run l s.place s.groups (noted p s.place b ss))) (append_assoc t (b ∷ []) l) (f s.place s.groups o)
 
 run_lasts : (l t : List ℕ) (ss : List Sign) (p : Place) (g : ℕ) → Sofar t ss p g → Lasts (t ++ l) (run l p g ss)
 run_lasts [] t ss p g o = subst (λ (k : List ℕ). Sofar k ss p g) (sym (append-nil t)) o

@@ -13,13 +13,12 @@ use Rattle.signs.specs.declared.machine.Part.{Part}
 use Rattle.signs.specs.declared.machine.Part.TheVariants.{N, T, Atom, Arc, Step}
 use Rattle.signs.specs.declared.machine.Place.{Place}
 use Rattle.signs.specs.declared.machine.Place.TheVariants.{Start, Clean, Spaced, Number, Within}
-use Rattle.signs.specs.declared.machine.Seen.TheVariants.{On}
 use Rattle.signs.specs.Limits.{largest_number}
 use Rattle.signs.specs.Signs as S
 use Rattle.signs.specs.Signs.{Sign, nil_sign, top_sign, mark, Decimal, Spells, spells_nil, spells_top, spells_atom, spells_feature}
 use Rattle.signs.specs.Signs.{spells_mark, spaces, Spelt, one_sign, next_sign}
 use Rattle.signs.specs.Machine as M
-use Rattle.signs.specs.Machine.{if_so, started, after_sign, numeral, within_sign, stepped, ended_by, number_sign}
+use Rattle.signs.specs.Machine.{seen_at, if_so, started, after_sign, numeral, within_sign, stepped, ended_by, number_sign}
 use Rattle.signs.proofs.Laws.{digit_not, numeral_digit, longer_fits, number_digit}
 use Rattle.signs.proofs.Moves.{Moves, by_nil, by_top, by_atom, by_arc, by_colon, by_bracket, by_less, by_step, by_greater, by_comma}
 use Rattle.signs.proofs.Moves.{by_unbracket, by_and, by_or, by_left, by_right, Route, stay, move}
@@ -42,7 +41,7 @@ stood_free stood_clean = free_clean
 stood_free stood_number = free_number
 
 spaced_other : (d : Due) (g b : ℕ) → eqb b 32 ≡ false → after_sign d g b ≡ started d g b
-spaced_other d g b e = ap (λ (t : Bool). if_so t (On (Spaced d) g) (started d g b)) e
+spaced_other d g b e = ap (λ (t : Bool). if_so t (seen_at (Spaced d) g) (started d g b)) e
 
 -- a sign's first byte
 pub first_step : {p : Place} {d : Due} (g b : ℕ) → Free p d → M.digit_byte b ≡ false → eqb b 32 ≡ false → stepped p g b ≡ started d g b
@@ -59,7 +58,7 @@ pub record Leads (v : List ℕ) (p : Place) (g : ℕ) (ss : List Sign) (d : Due)
   pub is : run v p g ss ≡ on place g' (s ∷ ss)
 
 mark_leads : {p : Place} {d d' : Due} {g g' : ℕ} (ss : List Sign) (k : ℕ) (v : List ℕ) → Free p d → v ≡ k ∷ [] → M.digit_byte k ≡ false →
-    eqb k 32 ≡ false → ended_by k ≡ mark k → started d g k ≡ On (Clean d') g' → Leads v p g ss d' g' (mark k)
+    eqb k 32 ≡ false → ended_by k ≡ mark k → started d g k ≡ seen_at (Clean d') g' → Leads v p g ss d' g' (mark k)
 mark_leads {p} {d} {d'} {g} {g'} ss k v f e n z i q =
     record {
       place = Clean d';
@@ -90,7 +89,7 @@ digits_run {n = n} q d g ss w (S.longer u m k c z h e i) s =
     ∙ ap (λ (x : ℕ). on (Number d x) g (number_sign d x ∷ ss)) v
 
 number_leads : {p : Place} {d d₀ : Due} {g : ℕ} (ss : List Sign) (q : Part) (k n : ℕ) (v ds : List ℕ) → Free p d₀ → v ≡ k ∷ ds →
-    M.digit_byte k ≡ false → eqb k 32 ≡ false → started d₀ g k ≡ On (Within q) g → ((b : ℕ) → stepped (Within q) g b ≡ numeral d g b) →
+    M.digit_byte k ≡ false → eqb k 32 ≡ false → started d₀ g k ≡ seen_at (Within q) g → ((b : ℕ) → stepped (Within q) g b ≡ numeral d g b) →
     S.Number ds n → Leads v p g ss d g (number_sign d n)
 number_leads {p} {d} {d₀} {g} ss q k n v ds f e y z o w m =
     record {
@@ -101,7 +100,7 @@ number_leads {p} {d} {d₀} {g} ss q k n v ds f e y z o w m =
     }
 
 word_leads : {p : Place} {d : Due} {g : ℕ} (ss : List Sign) (q : Part) (s : Sign) (k : ℕ) (v l : List ℕ) → Free p d → v ≡ k ∷ l →
-    M.digit_byte k ≡ false → eqb k 32 ≡ false → started d g k ≡ On (Within q) g → run l (Within q) g ss ≡ on (Clean After) g (s ∷ ss) →
+    M.digit_byte k ≡ false → eqb k 32 ≡ false → started d g k ≡ seen_at (Within q) g → run l (Within q) g ss ≡ on (Clean After) g (s ∷ ss) →
     Leads v p g ss After g s
 word_leads {p} {d} {g} ss q s k v l f e y z o w =
     record {
@@ -127,7 +126,7 @@ sign_leads {v = v} ss f by_unbracket (spells_mark e) = mark_leads ss 93 v f e re
 sign_leads {v = v} ss f by_and (spells_mark e) = mark_leads ss 38 v f e refl refl refl refl
 sign_leads {v = v} ss f by_or (spells_mark e) = mark_leads ss 124 v f e refl refl refl refl
 sign_leads {g = g} {v = v} ss f by_left (spells_mark e) = mark_leads ss 40 v f e refl refl refl (let z : g + 1 ≡ suc g = omega arith in
-    ap (λ (k : ℕ). On (Clean Operand) k) z)
+    ap (λ (k : ℕ). seen_at (Clean Operand) k) z)
 sign_leads {v = v} ss f by_right (spells_mark e) = mark_leads ss 41 v f e refl refl refl refl
 
 -- spaces between signs

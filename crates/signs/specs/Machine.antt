@@ -1,10 +1,10 @@
 -- The machine that goes over the bytes: what may come next, and how many groups are open.
 -- Assumes nothing: these are definitions.
-use Rattle.std.specs.Prelude.{ℕ, zero, suc, ◌+◌, ◌*◌, ◌<◌, ◌≤◌, ◌-◌, ◌≡◌, Bool, true, false, List, [], ◌∷◌, eqb, ltb, length, get_or}
+use Rattle.std.specs.Prelude.{ℕ, zero, suc, ◌+◌, ◌*◌, ◌<◌, ◌≤◌, ◌-◌, ◌≡◌, Bool, true, false, List, [], ◌∷◌, eqb, ltb, length, get_or, Option, Some, None, Result, Ok, Err}
 use Rattle.signs.specs.Limits.{largest_number}
 use Rattle.signs.specs.Signs.{Sign, nil_sign, top_sign, atom_sign, feature_sign, mark, sign_word}
-use Rattle.signs.specs.declared.reading.Answer.{Answer}
-use Rattle.signs.specs.declared.reading.Answer.TheVariants.{Fine, Bad}
+use Rattle.signs.specs.declared.reading.ReadError.{ReadError}
+use Rattle.signs.specs.declared.reading.ReadError.TheVariants.{Bad}
 use Rattle.signs.specs.declared.machine.Due.{Due}
 use Rattle.signs.specs.declared.machine.Due.TheVariants.{Operand, Colon, Path, Steps, Listed, After}
 use Rattle.signs.specs.declared.machine.Part.{Part}
@@ -12,52 +12,55 @@ use Rattle.signs.specs.declared.machine.Part.TheVariants.{N, Ni, T, To, Atom, Ar
 use Rattle.signs.specs.declared.machine.Place.{Place}
 use Rattle.signs.specs.declared.machine.Place.TheVariants.{Start, Clean, Spaced, Number, Within}
 use Rattle.signs.specs.declared.machine.Seen.{Seen}
-use Rattle.signs.specs.declared.machine.Seen.TheVariants.{On, Dead}
 
 abbrev pub if_so : {A : Type 0} → Bool → A → A → A
 if_so true a b = a
 if_so false a b = b
 
-abbrev pub group_closed : ℕ → Seen
-group_closed zero = Dead
-group_closed (suc n) = On (Clean After) n
+-- a formula can go on from this place, with so many groups open
+abbrev pub seen_at : Place → ℕ → Option Seen
+seen_at p g = Some (record { place = p; groups = g })
+
+abbrev pub group_closed : ℕ → Option Seen
+group_closed zero = None
+group_closed (suc n) = seen_at (Clean After) n
 
 -- a sign's first byte
-unfoldable pub started : Due → ℕ → ℕ → Seen
-started Operand g b = if_so (eqb b 78) (On (Within N) g)
-    (if_so (eqb b 84) (On (Within T) g)
-    (if_so (eqb b 97) (On (Within Atom) g)
-    (if_so (eqb b 102) (On (Within Arc) g) (if_so (eqb b 91) (On (Clean Path) g) (if_so (eqb b 40) (On (Clean Operand) (g + 1)) Dead)))))
-started Colon g b = if_so (eqb b 58) (On (Clean Operand) g) Dead
-started Path g b = if_so (eqb b 60) (On (Clean Steps) g) Dead
-started Steps g b = if_so (eqb b 102) (On (Within Step) g) (if_so (eqb b 62) (On (Clean Listed) g) Dead)
-started Listed g b = if_so (eqb b 44) (On (Clean Path) g) (if_so (eqb b 93) (On (Clean After) g) Dead)
-started After g b = if_so (eqb b 38) (On (Clean Operand) g) (if_so (eqb b 124) (On (Clean Operand) g)
-    (if_so (eqb b 41) (group_closed g) Dead))
+unfoldable pub started : Due → ℕ → ℕ → Option Seen
+started Operand g b = if_so (eqb b 78) (seen_at (Within N) g)
+    (if_so (eqb b 84) (seen_at (Within T) g)
+    (if_so (eqb b 97) (seen_at (Within Atom) g)
+    (if_so (eqb b 102) (seen_at (Within Arc) g) (if_so (eqb b 91) (seen_at (Clean Path) g) (if_so (eqb b 40) (seen_at (Clean Operand) (g + 1)) None)))))
+started Colon g b = if_so (eqb b 58) (seen_at (Clean Operand) g) None
+started Path g b = if_so (eqb b 60) (seen_at (Clean Steps) g) None
+started Steps g b = if_so (eqb b 102) (seen_at (Within Step) g) (if_so (eqb b 62) (seen_at (Clean Listed) g) None)
+started Listed g b = if_so (eqb b 44) (seen_at (Clean Path) g) (if_so (eqb b 93) (seen_at (Clean After) g) None)
+started After g b = if_so (eqb b 38) (seen_at (Clean Operand) g) (if_so (eqb b 124) (seen_at (Clean Operand) g)
+    (if_so (eqb b 41) (group_closed g) None))
 
 -- a space, or a sign's first byte
-abbrev pub after_sign : Due → ℕ → ℕ → Seen
-after_sign d g b = if_so (eqb b 32) (On (Spaced d) g) (started d g b)
+abbrev pub after_sign : Due → ℕ → ℕ → Option Seen
+after_sign d g b = if_so (eqb b 32) (seen_at (Spaced d) g) (started d g b)
 
 unfoldable pub digit_byte : ℕ → Bool
 digit_byte b = if_so (ltb b 48) false (ltb b 58)
 
-abbrev pub numeral : Due → ℕ → ℕ → Seen
-numeral d g b = if_so (digit_byte b) (On (Number d (b - 48)) g) Dead
+abbrev pub numeral : Due → ℕ → ℕ → Option Seen
+numeral d g b = if_so (digit_byte b) (seen_at (Number d (b - 48)) g) None
 
-abbrev pub longer : Due → ℕ → ℕ → ℕ → Seen
-longer d v g b = if_so (eqb v 0) Dead (if_so (ltb largest_number (v * 10 + (b - 48))) Dead (On (Number d (v * 10 + (b - 48))) g))
+abbrev pub longer : Due → ℕ → ℕ → ℕ → Option Seen
+longer d v g b = if_so (eqb v 0) None (if_so (ltb largest_number (v * 10 + (b - 48))) None (seen_at (Number d (v * 10 + (b - 48))) g))
 
-unfoldable pub within_sign : Part → ℕ → ℕ → Seen
-within_sign N g b = if_so (eqb b 73) (On (Within Ni) g) Dead
-within_sign Ni g b = if_so (eqb b 76) (On (Clean After) g) Dead
-within_sign T g b = if_so (eqb b 79) (On (Within To) g) Dead
-within_sign To g b = if_so (eqb b 80) (On (Clean After) g) Dead
+unfoldable pub within_sign : Part → ℕ → ℕ → Option Seen
+within_sign N g b = if_so (eqb b 73) (seen_at (Within Ni) g) None
+within_sign Ni g b = if_so (eqb b 76) (seen_at (Clean After) g) None
+within_sign T g b = if_so (eqb b 79) (seen_at (Within To) g) None
+within_sign To g b = if_so (eqb b 80) (seen_at (Clean After) g) None
 within_sign Atom g b = numeral After g b
 within_sign Arc g b = numeral Colon g b
 within_sign Step g b = numeral Steps g b
 
-unfoldable pub stepped : Place → ℕ → ℕ → Seen
+unfoldable pub stepped : Place → ℕ → ℕ → Option Seen
 stepped Start g b = started Operand g b
 stepped (Clean d) g b = after_sign d g b
 stepped (Spaced d) g b = after_sign d g b
@@ -129,17 +132,17 @@ abbrev pub SignsNoted : (List Sign → List Sign) → List ℕ → ℕ → List 
 SignsNoted f w n w' n' = (ss : List Sign) → SignsStand w ss → n ≡ length ss → SignsStand w' (f ss) × (n' ≡ length (f ss))
 
 -- where the text ends
-abbrev pub over_due : Due → ℕ → ℕ → ℕ → Answer
-over_due Operand g n i = Bad i
-over_due Colon g n i = Bad i
-over_due Path g n i = Bad i
-over_due Steps g n i = Bad i
-over_due Listed g n i = Bad i
-over_due After g n i = if_so (eqb g 0) (Fine n) (Bad i)
+abbrev pub over_due : Due → ℕ → ℕ → ℕ → Result ℕ ReadError
+over_due Operand g n i = Err (Bad i)
+over_due Colon g n i = Err (Bad i)
+over_due Path g n i = Err (Bad i)
+over_due Steps g n i = Err (Bad i)
+over_due Listed g n i = Err (Bad i)
+over_due After g n i = if_so (eqb g 0) (Ok n) (Err (Bad i))
 
-abbrev pub over : Place → ℕ → ℕ → ℕ → Answer
-over Start g n i = Bad i
+abbrev pub over : Place → ℕ → ℕ → ℕ → Result ℕ ReadError
+over Start g n i = Err (Bad i)
 over (Clean d) g n i = over_due d g n i
-over (Spaced d) g n i = Bad i
+over (Spaced d) g n i = Err (Bad i)
 over (Number d v) g n i = over_due d g n i
-over (Within q) g n i = Bad i
+over (Within q) g n i = Err (Bad i)

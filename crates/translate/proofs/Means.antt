@@ -2,6 +2,7 @@
 -- satisfy, and none satisfies a formula that is a clash.
 -- Assumes nothing.
 use Prim.Native.Nat.{ℕ}
+use Rattle.std.specs.Prelude.{Ok, Err}
 use native.Mathlib.Omega.{arith}
 use mathlib.Core.Path.{◌≡◌, sym}
 use mathlib.Core.Logic.{◌↔◌}
@@ -19,7 +20,7 @@ use Rattle.formulas.proofs.Well.{describe_well}
 use Rattle.signs.specs.Grammar.{Reads}
 use Rattle.rows.proofs.Fits.{whole_fits}
 use Rattle.translate.specs.Translated.{Translated}
-use Rattle.translate.specs.declared.answer.Answer.TheVariants.{Done, Clash}
+use Rattle.translate.specs.declared.answer.Refusal.TheVariants.{Clash}
 
 -- the numbers of a text are small, and so are those of its formula
 reads_fits : (t : List ℕ) (φ : Formula) → Reads t φ → FormulaFits φ
@@ -32,7 +33,7 @@ pub record Faithful (t out : List ℕ) (n : ℕ) (φ : Formula) (d : Desc) : Typ
   pub well : WellFormed d depth_limit
   pub means : (S : Structure) → Sat S d ↔ Satisfied S φ
 
-pub done_means : (t room out : List ℕ) (n : ℕ) → Translated t room (Done n) out → (φ : Formula) × (d : Desc) × Faithful t out n φ d
+pub done_means : (t room out : List ℕ) (n : ℕ) → Translated t room (Ok n) out → (φ : Formula) × (d : Desc) × Faithful t out n φ d
 done_means t room out n (φ, d, c, h, i, l, e) =
     let s = c.shallow in (
       φ,
@@ -45,5 +46,5 @@ done_means t room out n (φ, d, c, h, i, l, e) =
       },
     )
 
-pub clash_means : (t room out : List ℕ) → Translated t room Clash out → (φ : Formula) × Reads t φ × ((S : Structure) → Satisfied S φ → ⊥)
+pub clash_means : (t room out : List ℕ) → Translated t room (Err Clash) out → (φ : Formula) × Reads t φ × ((S : Structure) → Satisfied S φ → ⊥)
 clash_means t room out ((φ, s, c), e) = (φ, s.reads, describe_clash φ c)

@@ -1,10 +1,13 @@
 -- The whole formula is settled.
 -- Assumes nothing.
 use Prim.Native.Nat.{ℕ, suc, ◌+◌, ◌-◌, ◌<◌, ◌≤◌}
-use mathlib.Core.Path.{◌≡◌, refl, sym, subst}
+use mathlib.Core.Path.{◌≡◌, refl, sym, ap, subst, ◌∙◌}
+use Rattle.std.proofs.lemmas.Option.{same_Some}
 use mathlib.Core.Logic.{⊎_elim}
 use mathlib.Core.Option.{Option, none, some}
 use mathlib.Core.List.{List, [], append-nil}
+use Rattle.std.specs.Prelude.{Some, None, Err}
+use Rattle.std.specs.Prelude as rust
 use native.Mathlib.Omega.{arith}
 use lib.ListN.{length}
 use Rattle.theory.specs.Limits.{input_limit, depth_limit}
@@ -25,10 +28,9 @@ use Rattle.folding.specs.Buffer.{WordsEnd}
 use Rattle.folding.specs.Homing.{Untouched}
 use Rattle.folding.specs.Settled.{SettlingRoom, Settling, SettledBy, AlternativeSettles}
 use Rattle.folding.specs.declared.settle.Settled.{Settled}
-use Rattle.folding.specs.declared.settle.Settled.TheVariants as settled
 use Rattle.translate.specs.Stages.{HandsOver, OwnHomes, TreeTabled, DescribedTo}
-use Rattle.translate.specs.declared.answer.Answer.{Answer}
-use Rattle.translate.specs.declared.answer.Answer.TheVariants.{Clash}
+use Rattle.translate.specs.Answer.{Answer}
+use Rattle.translate.specs.declared.answer.Refusal.TheVariants.{Clash}
 
 module _ (φ : Formula) (rs bs ts ks hm hm' : List ℕ) (c : TreeTabled φ rs bs ts ks (length hm)) (own : OwnHomes hm hm') where
   size : suc 0 + wide_rows (lay 1 0 [] φ) ≡ length hm'
@@ -71,41 +73,41 @@ module _ (φ : Formula) (rs bs ts ks hm hm' : List ℕ) (c : TreeTabled φ rs bs
       let same = own.same in
       record { rows = omega (arith, room, same); few = omega (arith, few, same); words = l; fits = omega arith }
 
-  module _ (b : List ℕ) (r : Settled) (hm'' b' : List ℕ) (s : AlternativeSettles (tables rs bs ts ks) hm' b 0 0 depth_limit r hm'' b') where
+  module _ (b : List ℕ) (r : rust.Option Settled) (hm'' b' : List ℕ) (s : AlternativeSettles (tables rs bs ts ks) hm' b 0 0 depth_limit r hm'' b') where
     answered : SettledBy hm'' b b' 0 0 (suc 0 + wide_rows (lay 1 0 [] φ)) (house (flattened φ) 0 (laid_out φ)) r
     unfolding settling
     answered = s.answer settling
 
     -- a clash
-    pub settled_clash : r ≡ settled.Clash → (room : List ℕ) → DescribedTo (describe φ) room Clash room
+    pub settled_clash : r ≡ None → (room : List ℕ) → DescribedTo (describe φ) room (Err Clash) room
     settled_clash e room =
-        subst (λ (d : Option Desc). DescribedTo d room Clash room) (sym (describe_house φ))
+        subst (λ (d : Option Desc). DescribedTo d room (Err Clash) room) (sym (describe_house φ))
         (go (house (flattened φ) 0 (laid_out φ)) answered)
       where
         go : (h : Option Home) → SettledBy hm'' b b' 0 0 (suc 0 + wide_rows (lay 1 0 [] φ)) h r →
-            DescribedTo (as_home h) room Clash room
+            DescribedTo (as_home h) room (Err Clash) room
         go none q = (refl, refl)
-        go (some x) (n, i, w, q, t) = let z : ◌≡◌ {A = ℕ} 0 1 = cc in absurd (omega arith)
+        go (some x) (y, q, t) = let z : ◌≡◌ {A = ℕ} 0 1 = cc in absurd (omega arith)
 
-    module _ (n i w : ℕ) (e : r ≡ settled.Fine n i w) where
+    module _ (left : Settled) (e : r ≡ Some left) where
       -- the words end the buffer
       nothing_yet : WordsEnd b 0 []
       nothing_yet = record { many = omega arith; words = λ _. (stands_nil b (length b - 0) (length b)).1 (omega arith) }
 
-      pub fine_few : w ≤ suc (length b)
+      pub fine_few : left.whole ≤ suc (length b)
       fine_few = go (house (flattened φ) 0 (laid_out φ)) answered where
-        go : (h : Option Home) → SettledBy hm'' b b' 0 0 (suc 0 + wide_rows (lay 1 0 [] φ)) h r → w ≤ suc (length b)
+        go : (h : Option Home) → SettledBy hm'' b b' 0 0 (suc 0 + wide_rows (lay 1 0 [] φ)) h r → left.whole ≤ suc (length b)
         go none q = let z : ◌≡◌ {A = ℕ} 0 1 = cc in absurd (omega arith)
-        go (some x) (n', i', w', q, t) = let same : w' ≡ w = cc in let most = t.most in omega (arith, same, most)
+        go (some x) (y, q, t) = let same : y.whole ≡ left.whole = ap (λ (z : Settled). z.whole) (same_Some _ _ (sym q ∙ e)) in let most = t.most in omega (arith, same, most)
 
-      pub settled_fine : (room : List ℕ) (a : Answer) (out : List ℕ) → HandsOver b' w room a out → DescribedTo (describe φ) room a out
+      pub settled_fine : (room : List ℕ) (a : Answer) (out : List ℕ) → HandsOver b' left.whole room a out → DescribedTo (describe φ) room a out
       settled_fine room a out hands =
           subst (λ (d : Option Desc). DescribedTo d room a out) (sym (describe_house φ))
           (go (house (flattened φ) 0 (laid_out φ)) answered)
         where
           go : (h : Option Home) → SettledBy hm'' b b' 0 0 (suc 0 + wide_rows (lay 1 0 [] φ)) h r → DescribedTo (as_home h) room a out
           go none q = let z : ◌≡◌ {A = ℕ} 0 1 = cc in absurd (omega arith)
-          go (some x) (n', i', w', q, t) =
-              let same : w' ≡ w = cc in
+          go (some x) (y, q, t) =
+              let same : y.whole ≡ left.whole = ap (λ (z : Settled). z.whole) (same_Some _ _ (sym q ∙ e)) in
               hands (words (home_desc x)) (subst (λ (k : ℕ). WordsEnd b' k (words (home_desc x))) same
-              (subst (WordsEnd b' w') (append-nil (words (home_desc x))) (t.whole_is [] nothing_yet)))
+              (subst (WordsEnd b' y.whole) (append-nil (words (home_desc x))) (t.whole_is [] nothing_yet)))

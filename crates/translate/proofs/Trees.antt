@@ -6,9 +6,11 @@ use mathlib.Core.Logic.{inl, inr}
 use mathlib.Core.Bool.{Bool, true, false}
 use mathlib.Core.Option.{Option, none, some}
 use mathlib.Core.List.{List, [], ◌∷◌}
+use Rattle.std.specs.Prelude.{Some, None, Ok, Err}
+use Rattle.std.specs.Prelude as rust
 use native.Mathlib.Omega.{arith}
 use lib.ListN.{length, get_or, take, length-take}
-use lib.Seq.{get_or-take}
+use lib.Seq.{get_or-take, take_all}
 use lib.Dec.{eqb, ltb}
 use borrow.Author.Tests.{ltb-true, ltb-false}
 use Rattle.theory.specs.Limits.{depth_limit}
@@ -34,12 +36,11 @@ use Rattle.rows.proofs.Given.{whole_given}
 use Rattle.rows.proofs.Lies.{alts_width}
 use Rattle.rows.proofs.Numbered.{arcs_count, bears_count, shares_count}
 use Rattle.laying.specs.Laying.{Tabs, Roomy, FewRows, all_given, LaysOut, LaidAs, LaidOut}
-use Rattle.laying.specs.declared.laying.Laid.{Laid}
-use Rattle.laying.specs.declared.laying.Laid.TheVariants as laid
+use Rattle.laying.specs.declared.laying.Rows.{Rows}
 use Rattle.translate.specs.Translated.{Translated, Shallow}
 use Rattle.translate.specs.Stages.{DescribedTo, TreeLaid, TreeTold, TreeRead, TreeMarked}
-use Rattle.translate.specs.declared.answer.Answer.{Answer}
-use Rattle.translate.specs.declared.answer.Answer.TheVariants.{Done, BadText, TooDeep, Clash, TooLong, NoRoom, LongText}
+use Rattle.translate.specs.Answer.{Answer}
+use Rattle.translate.specs.declared.answer.Refusal.TheVariants.{BadText, TooDeep, Clash, TooLong, NoRoom, LongText}
 
 -- ---- marked signs
 -- a sign's word is its token's
@@ -112,7 +113,7 @@ flagging_kept [] p = record { small = tt; long = refl }
 flagging_kept (t ∷ ts) p = flag_kept t (flagging ts unmarked) (length ts) p.0 (flagging_kept ts p.1)
 
 -- the groups can be marked
-pub flagging_of : (φ : Formula) (w : List ℕ) (n : ℕ) (f : List ℕ) → length f ≡ suc row_limit → TreeRead φ w n → Flagging w n f
+pub flagging_of : (φ : Formula) (w : List ℕ) (n : ℕ) (f : List Bool) → length f ≡ suc row_limit → TreeRead φ w n → Flagging w n f
 flagging_of φ w n f l c =
     let count = c.count in
     let few = c.few in
@@ -127,23 +128,44 @@ flagging_of φ w n f l c =
       room = omega (arith, few, short, l);
     }
 
-pub marked_of : (φ : Formula) (w : List ℕ) (n : ℕ) (f : List ℕ) (flagged : Bool) (w' : List ℕ) → length f ≡ suc row_limit →
-    length w' ≡ length w → Flags w n f flagged w' → TreeRead φ w n → TreeMarked φ w' n flagged
+pub marked_of : (φ : Formula) (w : List ℕ) (f : List Bool) (flagged : Bool) (w' : List ℕ) → length f ≡ suc row_limit →
+    length w' ≡ length w → Flags w (length w) f flagged w' → TreeRead φ w (length w) → TreeMarked φ w' (length w') flagged
 unfolding flagging_of
-marked_of φ w n f flagged w' l same h c =
-    let at = flagging_of φ w n f l c in
-    let long = c.long in
+marked_of φ w f flagged w' l same h c =
+    let at = flagging_of φ w (length w) f l c in
+    let count = c.count in
+    let few = c.few in
     record {
       text = c.text;
       signs = c.signs;
       short = c.short;
       spelt = c.spelt;
       formula = c.formula;
-      count = c.count;
-      few = c.few;
-      long = omega (arith, long, same);
+      count = omega arith;
+      few = omega arith;
+      long = omega arith;
       written = h.written at;
       whole = h.whole at;
+    }
+
+-- the words of the signs are a list of their own
+pub read_whole : (φ : Formula) (w : List ℕ) (n : ℕ) → TreeRead φ w n → TreeRead φ (take n w) (length (take n w))
+read_whole φ w n c =
+    let long = length-take n w in
+    let inside = c.long in
+    let count = c.count in
+    let few = c.few in
+    let size : length (take n w) ≡ n = omega arith in
+    record {
+      text = c.text;
+      signs = c.signs;
+      short = c.short;
+      spelt = c.spelt;
+      formula = c.formula;
+      count = omega arith;
+      few = omega arith;
+      long = omega arith;
+      written = take_all (length (take n w)) (take n w) (omega arith) ∙ c.written;
     }
 
 -- ---- tables
@@ -198,30 +220,30 @@ module _ (φ : Formula) (w : List ℕ) (n : ℕ) (flagged : Bool) (c : TreeMarke
         few = subst FewRows (sym all_is) (given_few φ w n flagged c);
       }
 
-  module _ (T : Tabs) (r : Laid) (out : LaidOut w n flagged r T) where
+  module _ (T : Tabs) (r : rust.Option Rows) (out : LaidOut w n flagged r T) where
     laid_as : LaidAs (given 1 1 0 0 0 φ) r T
     unfolding lays_out
     laid_as = subst (λ (x : Out). LaidAs x r T) all_is (out lays_out)
 
     -- alternatives nested too deep
-    pub deep_told : r ≡ laid.TooDeep → (room : List ℕ) → TreeTold φ room TooDeep room
+    pub deep_told : r ≡ None → (room : List ℕ) → TreeTold φ room (Err TooDeep) room
     deep_told e room = go (ltb depth_limit (depth φ)) refl where
-      go : (b : Bool) → ltb depth_limit (depth φ) ≡ b → TreeTold φ room TooDeep room
+      go : (b : Bool) → ltb depth_limit (depth φ) ≡ b → TreeTold φ room (Err TooDeep) room
       go true l = inl (ltb-true depth_limit (depth φ) l, refl, refl)
       go false l =
           let low = ltb-false depth_limit (depth φ) l in
-          let deep = subst (λ (y : Laid). LaidAs (given 1 1 0 0 0 φ) y T) e laid_as in
+          let deep = subst (λ (y : rust.Option Rows). LaidAs (given 1 1 0 0 0 φ) y T) e laid_as in
           absurd (deep (depth_high depth_limit 1 1 0 0 0 φ (omega (arith, low))))
 
-    module _ (a b t k : ℕ) (e : r ≡ laid.Rows a b t k) where
-      rows_laid : LaidAs (given 1 1 0 0 0 φ) (laid.Rows a b t k) T
-      rows_laid = subst (λ (y : Laid). LaidAs (given 1 1 0 0 0 φ) y T) e laid_as
+    module _ (rows : Rows) (e : r ≡ Some rows) where
+      rows_laid : LaidAs (given 1 1 0 0 0 φ) (Some rows) T
+      rows_laid = subst (λ (y : rust.Option Rows). LaidAs (given 1 1 0 0 0 φ) y T) e laid_as
 
       flat_is : depth φ ≤ depth_limit
       flat_is = let low = depth_low depth_limit 1 1 0 0 0 φ (omega arith) rows_laid.0 in omega (arith, low)
 
       -- the formula lies in the tables
-      pub laid_of : Roomy T → TreeLaid φ T.arcs T.atoms T.ties T.alts a b t k
+      pub laid_of : Roomy T → TreeLaid φ T.arcs T.atoms T.ties T.alts rows.arcs rows.atoms rows.ties rows.alts
       laid_of room =
           let few = given_few φ w n flagged c in
           let few_arcs = few.arcs in
@@ -279,13 +301,13 @@ described_to : (t room : List ℕ) (φ : Formula) (r : Answer) (out : List ℕ) 
     DescribedTo d room r out → Translated t room r out
 described_to t room φ r out s none e (q, o) =
     subst (λ (y : Answer). Translated t room y out) (sym q) ((φ, s, e), o)
-described_to t room φ TooLong out s (some d) e (l, o) = ((φ, d, record { shallow = s; is = e }, l), o)
-described_to t room φ (NoRoom n) out s (some d) e (l, q, m, o) = ((φ, d, record { shallow = s; is = e }, l, q, m), o)
-described_to t room φ (Done n) out s (some d) e (l, q, m, o) = (φ, d, record { shallow = s; is = e }, l, q, m, o)
-described_to t room φ LongText out s (some d) e h = absurd h
-described_to t room φ (BadText i) out s (some d) e h = absurd h
-described_to t room φ TooDeep out s (some d) e h = absurd h
-described_to t room φ Clash out s (some d) e h = absurd h
+described_to t room φ (Err TooLong) out s (some d) e (l, o) = ((φ, d, record { shallow = s; is = e }, l), o)
+described_to t room φ (Err (NoRoom n)) out s (some d) e (l, q, m, o) = ((φ, d, record { shallow = s; is = e }, l, q, m), o)
+described_to t room φ (Ok n) out s (some d) e (l, q, m, o) = (φ, d, record { shallow = s; is = e }, l, q, m, o)
+described_to t room φ (Err LongText) out s (some d) e h = absurd h
+described_to t room φ (Err (BadText i)) out s (some d) e h = absurd h
+described_to t room φ (Err TooDeep) out s (some d) e h = absurd h
+described_to t room φ (Err Clash) out s (some d) e h = absurd h
 
 pub told_translated : (t room : List ℕ) (φ : Formula) (r : Answer) (out : List ℕ) → length t ≤ formula_limit → Reads t φ →
     TreeTold φ room r out → Translated t room r out

@@ -3,7 +3,7 @@
 use Rattle.std.specs.Prelude.{ℕ, ◌≡◌, List}
 use Rattle.translate.specs.Row.{number_in, length_in, byte_in}
 use Rattle.translate.specs.Translated.{Translated}
-use Rattle.translate.specs.declared.answer.Answer.{Answer}
+use Rattle.translate.specs.Answer.{Answer}
 
 -- number, length and byte are those of the answer to the text t, which leaves `out` where `room` stood
 pub record Answered (t room : List ℕ) (number extent byte : ℕ) (out : List ℕ) : Type 0 where

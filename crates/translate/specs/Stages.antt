@@ -1,6 +1,6 @@
 -- What stands between the text of a formula and its words: signs, marked signs, tables.
 -- Assumes nothing: these are definitions.
-use Rattle.std.specs.Prelude.{ℕ, suc, ◌*◌, ◌<◌, ◌≤◌, ◌≡◌, ◌⊎◌, Bool, List, ◌++◌, length, get_or, take, drop}
+use Rattle.std.specs.Prelude.{Ok, Err, ℕ, suc, ◌*◌, ◌<◌, ◌≤◌, ◌≡◌, ◌⊎◌, Bool, List, ◌++◌, length, get_or, take, drop}
 use Rattle.std.proofs.Math.Option.{Option, none, some}
 use Rattle.theory.specs.Limits.{input_limit, depth_limit}
 use Rattle.theory.specs.Descr.{Desc}
@@ -20,19 +20,19 @@ use Rattle.rows.specs.Held.{Held}
 use Rattle.rows.specs.Given.{given}
 use Rattle.rows.specs.Laid.{spot_unit}
 use Rattle.folding.specs.Buffer.{WordsEnd}
-use Rattle.translate.specs.declared.answer.Answer.{Answer}
-use Rattle.translate.specs.declared.answer.Answer.TheVariants.{Done, BadText, TooDeep, Clash, TooLong, NoRoom, LongText}
+use Rattle.translate.specs.Answer.{Answer}
+use Rattle.translate.specs.declared.answer.Refusal.TheVariants.{BadText, TooDeep, Clash, TooLong, NoRoom, LongText}
 
 -- ---- words
 -- "23 over 1,024 words, 24 result longer than the result area"
 abbrev pub HandedTo : (ws room : List ℕ) → Answer → List ℕ → Type 0
-HandedTo ws room TooLong out = (input_limit < length ws) × (out ≡ room)
-HandedTo ws room (NoRoom n) out = (length ws ≤ input_limit) × (n ≡ length ws) × (length room < n) × (out ≡ room)
-HandedTo ws room (Done n) out = (length ws ≤ input_limit) × (n ≡ length ws) × (n ≤ length room) × (out ≡ ws ++ drop n room)
-HandedTo ws room LongText out = ⊥
-HandedTo ws room (BadText i) out = ⊥
-HandedTo ws room TooDeep out = ⊥
-HandedTo ws room Clash out = ⊥
+HandedTo ws room (Err TooLong) out = (input_limit < length ws) × (out ≡ room)
+HandedTo ws room (Err (NoRoom n)) out = (length ws ≤ input_limit) × (n ≡ length ws) × (length room < n) × (out ≡ room)
+HandedTo ws room (Ok n) out = (length ws ≤ input_limit) × (n ≡ length ws) × (n ≤ length room) × (out ≡ ws ++ drop n room)
+HandedTo ws room (Err LongText) out = ⊥
+HandedTo ws room (Err (BadText i)) out = ⊥
+HandedTo ws room (Err TooDeep) out = ⊥
+HandedTo ws room (Err Clash) out = ⊥
 
 abbrev pub HandsOver : (b : List ℕ) (len : ℕ) (room : List ℕ) → Answer → List ℕ → Type 0
 HandsOver b len room r out = (ws : List ℕ) → WordsEnd b len ws → HandedTo ws room r out
@@ -76,7 +76,7 @@ pub record TreeLaid (tree : Formula) (rs bs ts ks : List ℕ) (a b t k : ℕ) : 
 
 -- "22 formula is a clash", or its description is handed over
 abbrev pub DescribedTo : Option Desc → (room : List ℕ) → Answer → List ℕ → Type 0
-DescribedTo none room r out = (r ≡ Clash) × (out ≡ room)
+DescribedTo none room r out = (r ≡ Err Clash) × (out ≡ room)
 DescribedTo (some d) room r out = HandedTo (words d) room r out
 
 abbrev pub TreeSettled : (rs bs ts ks : List ℕ) (k : ℕ) (room : List ℕ) → Answer → List ℕ → Type 0
@@ -89,7 +89,7 @@ LaidSettled rs bs ts ks a b t k room r out = (φ : Formula) → TreeLaid φ rs b
 -- "21 over 4 disjunctions nested in the text", or the formula is settled
 abbrev pub TreeTold : Formula → (room : List ℕ) → Answer → List ℕ → Type 0
 TreeTold φ room r out =
-    ((depth_limit < depth φ) × (r ≡ TooDeep) × (out ≡ room)) ⊎ ((depth φ ≤ depth_limit) × DescribedTo (describe φ) room r out)
+    ((depth_limit < depth φ) × (r ≡ Err TooDeep) × (out ≡ room)) ⊎ ((depth φ ≤ depth_limit) × DescribedTo (describe φ) room r out)
 
 -- the first n words are the signs of a formula's text
 pub record TreeRead (tree : Formula) (w : List ℕ) (n : ℕ) : Type 0 where

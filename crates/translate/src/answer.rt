@@ -1,12 +1,13 @@
 // What comes of a formula's text.
 ghost use Rattle.std.specs.Prelude.{◌≡◌};
-ghost use Rattle.translate.specs.Row.{number_in, length_in, byte_in};
+ghost use Rattle.translate.specs.Row.{number_in, length_in, byte_in, refusal_of};
 
-// Done in so many words; the first byte at which no formula can go on; disjunctions nested too deep; a clash; over 1,024 words; a
-// result area of fewer words than so many; a text of over 4,096 bytes.
-#[derive(Clone, Copy)]
-pub enum Answer {
-    Done(usize),
+use signs::reading::ReadError;
+
+// The first byte at which no formula can go on; disjunctions nested too deep; a clash; over 1,024 words; a result area of fewer words
+// than so many; a text of over 4,096 bytes.
+#[derive(Debug, Clone, Copy, PartialEq, Eq)]
+pub enum Refusal {
     BadText(usize),
     TooDeep,
     Clash,
@@ -15,8 +16,19 @@ pub enum Answer {
     LongText,
 }
 
+impl From<ReadError> for Refusal {
+    ghost from_gives = { λ error refusal. refusal ≡ refusal_of error };
+
+    fn from(error: ReadError) -> Self {
+        match error {
+            ReadError::Bad(at) => Refusal::BadText(at),
+            ReadError::Long => Refusal::LongText,
+        }
+    }
+}
+
 // The row of the table: the number, the length and the byte.
-#[derive(Clone, Copy)]
+#[derive(Debug, Clone, Copy, PartialEq, Eq)]
 pub struct Row {
     pub number: u32,
     pub length: usize,
@@ -24,39 +36,21 @@ pub struct Row {
 }
 
 // The row of an answer.
-pub fn told(a: Answer) -> Row
-    ensures { (result.number ≡ number_in a) × (result.length ≡ length_in a) × (result.byte ≡ byte_in a) }
+pub fn told(answer: Result<usize, Refusal>) -> Row
+    ensures { (result.number ≡ number_in answer) × (result.length ≡ length_in answer) × (result.byte ≡ byte_in answer) }
 {
-    match a {
-        Answer::Done(n) => Row {
-            number: 0,
-            length: n,
-            byte: 0,
-        },
-        Answer::BadText(i) => Row {
-            number: 20,
-            length: 0,
-            byte: i,
-        },
-        Answer::TooDeep => refused(21),
-        Answer::Clash => refused(22),
-        Answer::TooLong => refused(23),
-        Answer::NoRoom(n) => Row {
-            number: 24,
-            length: n,
-            byte: 0,
-        },
-        Answer::LongText => refused(25),
-    }
-}
-
-// A refusal with a number alone.
-fn refused(number: u32) -> Row
-    ensures { (result.number ≡ number) × (result.length ≡ 0) × (result.byte ≡ 0) }
-{
+    let (number, length, byte) = match answer {
+        Ok(n) => (0, n, 0),
+        Err(Refusal::BadText(at)) => (20, 0, at),
+        Err(Refusal::TooDeep) => (21, 0, 0),
+        Err(Refusal::Clash) => (22, 0, 0),
+        Err(Refusal::TooLong) => (23, 0, 0),
+        Err(Refusal::NoRoom(n)) => (24, n, 0),
+        Err(Refusal::LongText) => (25, 0, 0),
+    };
     Row {
         number,
-        length: 0,
-        byte: 0,
+        length,
+        byte,
     }
 }

@@ -8,9 +8,7 @@ pub(crate) fn own_homes(homes: &mut [u32])
     requires { length homes.old ≤ spot_unit }
     ensures { OwnHomes homes.old homes.new }
 {
-    let mut i: usize = 0;
-    while i < homes.len() {
-        homes[i] = i as u32;
-        i += 1;
+    for (i, home) in homes.iter_mut().enumerate() {
+        *home = i as u32;
     }
 }

@@ -5,4 +5,3 @@ pub mod answer;
 pub mod formula;
 mod hand;
 mod homes;
-mod space;

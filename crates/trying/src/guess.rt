@@ -36,9 +36,10 @@ fn suit(w: &[u32], n: usize, x: usize, f: u32, v: u32, t: &[u32]) -> Guess
         Held::Arcs(_) => Guess::Clashes,
         Held::Atom(z) => {
             if z == v {
-                return Guess::Agrees;
+                Guess::Agrees
+            } else {
+                Guess::Clashes
             }
-            Guess::Clashes
         }
     }
 }
@@ -82,13 +83,11 @@ fn lead_all(w: &[u32], n: usize, g: usize, base: usize, d: usize, x: usize, t: &
     requires base_bound { (base < NODES) × (g + 2 + 3 * d ≤ LOADED) }
     ensures { LeavesTold n w.now g base d result }
 {
-    let mut i: usize = 0;
-    while i < d {
+    for i in 0..d {
         let one = lead(w, n, g, base, d, x, i, t);
         let Guess::Agrees = one else {
             return one;
         };
-        i += 1;
     }
     Guess::Agrees
 }
@@ -127,6 +126,5 @@ pub fn guess(w: &[u32], k: usize, n: usize, g: usize) -> Guess
     requires { Pushing n k w.now g }
     ensures { Guesses n k w.now g result }
 {
-    let none: [u32; 0] = [0; 0];
-    guess_through(w, k, n, g, &none)
+    guess_through(w, k, n, g, &[])
 }

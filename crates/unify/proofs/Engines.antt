@@ -12,7 +12,7 @@ use Rattle.roles.specs.declared.cause.Cause.{Cause}
 use Rattle.faults.proofs.Run.{one_fault}
 use Rattle.answering.specs.Number.{row_of}
 use Rattle.answering.specs.Caused.{CauseIn}
-use Rattle.answering.specs.declared.answer.Answer.{Answer}
+use Rattle.answering.specs.Answer.{Answer}
 
 -- "Its number, length, readings and words must equal those of the existing engine on every input": r and `after` are what `plain`
 -- answers and leaves, s and `after'` what `unify` does in mode 2, from the same inputs and areas

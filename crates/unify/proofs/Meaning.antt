@@ -26,8 +26,9 @@ use Rattle.engine.specs.Shown.{shown}
 use Rattle.area.specs.Map.{RESULT}
 use Rattle.entering.specs.Stage.{Pair}
 use Rattle.entering.proofs.Conclusions.{joined_shown, quick_none, quick_shown}
-use Rattle.answering.specs.declared.hand.Made.{Made}
-use Rattle.answering.specs.declared.hand.Made.TheVariants.{Ready, QuickFails, TooMany, NoChoice}
+use Rattle.answering.specs.declared.hand.Failure.TheVariants.{QuickFails, TooMany, NoChoice}
+use Rattle.answering.specs.Answer.{Made, done}
+use Rattle.std.specs.Prelude.{Err}
 use Rattle.unify.specs.Making.{Meant}
 
 none_some : {A : Type 0} {o : Option A} {x : A} → o ≡ none → o ≡ some x → ⊥
@@ -43,7 +44,7 @@ module _ {n : ℕ} {t : List ℕ} (p : Pair n t) where
   ready : (mode : ℕ) (s : Desc) (w : List ℕ) (l r : ℕ) → ¬ (Clashes mode p.d p.e) → ¬ (rules.TooMany mode p.d p.e) →
       mode_result mode p.d p.e ≡ some s
       → r ≡ mode_readings mode p.d p.e → l ≡ length (words s) → Stands w RESULT (words s) (RESULT + l) →
-      Meant mode p.d p.e w (Ready l r)
+      Meant mode p.d p.e w (done l r)
   ready mode s w l r c m e q h z = (c, m, s, e, h, q, z)
 
   abbrev pub left : Marking → Desc
@@ -58,7 +59,7 @@ module _ {n : ℕ} {t : List ℕ} (p : Pair n t) where
   join_result m e = joined_shown _ _ p ∙ ap (λ (k : Marking). some (left k)) (sym e)
 
   pub meant_join : (m : Marking) (w : List ℕ) (l : ℕ) → m ≡ all_kept → l ≡ length (words (left m)) →
-      Stands w RESULT (words (left m)) (RESULT + l) → Meant 0 p.d p.e w (Ready l 0)
+      Stands w RESULT (words (left m)) (RESULT + l) → Meant 0 p.d p.e w (done l 0)
   meant_join m w l e h z = ready 0 (left m) w l 0 (λ c. no c) (λ c. let k : ◌≡◌ {A = ℕ} 0 2 = c.0 in
       absurd (omega arith)) (join_result m e) refl h z
     where
@@ -67,7 +68,7 @@ module _ {n : ℕ} {t : List ℕ} (p : Pair n t) where
       no (inr c) = let k = c.0 in absurd (omega arith)
 
   -- ---- modes 1 and 2
-  pub meant_fails : (mode : ℕ) (w : List ℕ) → 1 ≤ mode → quick_at p.j ≡ none → Meant mode p.d p.e w QuickFails
+  pub meant_fails : (mode : ℕ) (w : List ℕ) → 1 ≤ mode → quick_at p.j ≡ none → Meant mode p.d p.e w (Err QuickFails)
   meant_fails mode w h e = (joins, h, quick_none _ _ p e)
 
   module _ (m : Marking) (q : Leaves p.j m) where
@@ -79,7 +80,7 @@ module _ {n : ℕ} {t : List ℕ} (p : Pair n t) where
     stands_quick mode (inr c) = none_some c.1 quick_result
 
     pub meant_quick : (w : List ℕ) (l : ℕ) → l ≡ length (words (left m)) → Stands w RESULT (words (left m)) (RESULT + l) →
-        Meant 1 p.d p.e w (Ready l 0)
+        Meant 1 p.d p.e w (done l 0)
     meant_quick w l h z = ready 1 (left m) w l 0 (stands_quick 1) (λ c. let k : ◌≡◌ {A = ℕ} 1 2 = c.0 in
         absurd (omega arith)) quick_result refl h z
 
@@ -91,11 +92,11 @@ module _ {n : ℕ} {t : List ℕ} (p : Pair n t) where
         some_one : {a b : Desc} → some a ≡ some b → a ≡ b
         some_one e = cc
 
-    pub meant_many : (w : List ℕ) → ltb choice_limit (number (left m)) ≡ true → Meant 2 p.d p.e w TooMany
+    pub meant_many : (w : List ℕ) → ltb choice_limit (number (left m)) ≡ true → Meant 2 p.d p.e w (Err TooMany)
     meant_many w e = (stands_quick 2, (refl, left m, quick_result, ltb-true choice_limit (number (left m)) e))
 
     module _ (e : ltb choice_limit (number (left m)) ≡ false) where
-      pub meant_nothing : (w : List ℕ) → full p.d p.e ≡ none → Meant 2 p.d p.e w NoChoice
+      pub meant_nothing : (w : List ℕ) → full p.d p.e ≡ none → Meant 2 p.d p.e w (Err NoChoice)
       meant_nothing w z = (stands_quick 2, few e, refl, zero (full p.d p.e) z (full_view p.d p.e))
         where
           zero : (o : Option Desc) → o ≡ none → FullView p.d p.e o → consistent p.d p.e ≡ 0
@@ -103,5 +104,5 @@ module _ {n : ℕ} {t : List ℕ} (p : Pair n t) where
           zero (some r) q (full_some s h) = absurd (none_some q refl)
 
       pub meant_full : (s : Desc) (w : List ℕ) (l r : ℕ) → full p.d p.e ≡ some s → r ≡ consistent p.d p.e →
-          l ≡ length (words s) → Stands w RESULT (words s) (RESULT + l) → Meant 2 p.d p.e w (Ready l r)
+          l ≡ length (words s) → Stands w RESULT (words s) (RESULT + l) → Meant 2 p.d p.e w (done l r)
       meant_full s w l r f q h z = ready 2 s w l r (stands_quick 2) (few e) f q h z

@@ -16,16 +16,14 @@ use Rattle.theory.specs.Outcome.{Areas, Outcome, Row, wiped}
 use Rattle.descriptions.proofs.Areas.{worked_same, worked_zero, worked_more}
 use Rattle.layout.specs.Standing.{Stands}
 use Rattle.layout.specs.Judged.{Judged}
-use Rattle.layout.specs.declared.reading.Judgement.{Judgement}
-use Rattle.layout.specs.declared.reading.Judgement.TheVariants.{Accepted as Fine, Malformed}
+use Rattle.std.specs.Prelude.{Bool, true, false, Ok, Err}
 use Rattle.layout.proofs.Standing.{stands_within, stands_taken}
 use Rattle.area.specs.Map.{RESULT}
 use Rattle.area.specs.Region.{region}
 use Rattle.opening.specs.Opening.{Read, Opening}
-use Rattle.answering.specs.declared.hand.Made.{Made}
-use Rattle.answering.specs.declared.hand.Made.TheVariants as made
-use Rattle.answering.specs.declared.answer.Answer.{Answer as Reply}
-use Rattle.answering.specs.declared.answer.Answer.TheVariants.{Done, Clash, TooMany, NoRoom, QuickFails, NoChoice}
+use Rattle.answering.specs.declared.hand.Failure.TheVariants as failure
+use Rattle.answering.specs.declared.answer.Refusal.TheVariants.{Clash, TooMany, NoRoom, QuickFails, NoChoice}
+use Rattle.answering.specs.Answer.{Made, Answer as Reply}
 use Rattle.answering.specs.Number.{row_of}
 use Rattle.unify.specs.Making.{Makes, Meant}
 use Rattle.unify.proofs.Made as inputs
@@ -85,8 +83,8 @@ module _ (c : Call) (s w : List ℕ) where
         bad_second i h = refused 5 (omega arith) (omega arith) (five m l fa fb i h)
 
 -- a judgement that is not "accepted"
-pub no_image : (ws : List ℕ) (r : Judgement) → Malformed ≡ r → Judged ws r → ¬ (Image ws)
-no_image ws r e j i = let f : r ≡ Fine = j.complete i in let z : ◌≡◌ {A = ℕ} 0 1 = cc in absurd (omega arith)
+pub no_image : (ws : List ℕ) (r : Bool) → r ≡ false → Judged ws r → ¬ (Image ws)
+no_image ws r e j i = let f : r ≡ true = j.complete i in let z : ◌≡◌ {A = ℕ} 0 1 = cc in absurd (omega arith)
 
 pub opening : (a b w : List ℕ) → working_size ≤ length w → length a ≤ input_limit → length b ≤ input_limit → Image a → Image b →
     Opening w a b
@@ -126,11 +124,11 @@ module _ (mode : ℕ) (a b w : List ℕ) (m : mode ≤ 2) (o : Opening w a b) wh
     made_room = go r (k.told d e read)
       where
         go : (r : Made) → Meant mode d e w₁ r → ResultInside w₁ r
-        go (made.Clash i) h = tt
-        go made.QuickFails h = tt
-        go made.TooMany h = tt
-        go made.NoChoice h = tt
-        go (made.Ready n j) (c, t, x, q, l, v, h) = stands_within w₁ (words x) RESULT (RESULT + n) within h
+        go (Err (failure.Clash i)) h = tt
+        go (Err failure.QuickFails) h = tt
+        go (Err failure.TooMany) h = tt
+        go (Err failure.NoChoice) h = tt
+        go (Ok u) (c, t, x, q, l, v, h) = stands_within w₁ (words x) RESULT (RESULT + u.length) within h
 
     module _ (s w₂ : List ℕ) (z : w₂ ≡ wiped working_size w₁) where
       zeros : w₂ ≡ wiped working_size w
@@ -167,12 +165,12 @@ module _ (mode : ℕ) (a b w : List ℕ) (m : mode ≤ 2) (o : Opening w a b) wh
           }
 
           go : (r : Made) → Meant mode d e w₁ r → Handed w₁ s r y s₁ → Comes y s₁
-          go (made.Clash i) (h, n) (p, q) = at (Clash i) s (refusal 6 i (omega arith) (six d e i accepted h n)) p q
-          go made.QuickFails (j, h, f) (p, q) = at QuickFails s (refusal 10 0 (omega arith) (ten d e accepted j h f)) p q
-          go made.TooMany (c, t) (p, q) = at TooMany s (refusal 7 0 (omega arith) (seven d e accepted c t)) p q
-          go made.NoChoice (c, t, h, z) (p, q) = at NoChoice s (refusal 11 0 (omega arith) (eleven d e accepted c t h z)) p q
-          go (made.Ready n j) (c, t, x, f, l, v, h) (inl (short, p, q)) =
-              at (NoRoom n) s (record {
+          go (Err (failure.Clash i)) (h, n) (p, q) = at (Err (Clash i)) s (refusal 6 i (omega arith) (six d e i accepted h n)) p q
+          go (Err failure.QuickFails) (j, h, f) (p, q) = at (Err QuickFails) s (refusal 10 0 (omega arith) (ten d e accepted j h f)) p q
+          go (Err failure.TooMany) (c, t) (p, q) = at (Err TooMany) s (refusal 7 0 (omega arith) (seven d e accepted c t)) p q
+          go (Err failure.NoChoice) (c, t, h, z) (p, q) = at (Err NoChoice) s (refusal 11 0 (omega arith) (eleven d e accepted c t h z)) p q
+          go (Ok u) (c, t, x, f, l, v, h) (inl (short, p, q)) =
+              at (Err (NoRoom u.length)) s (record {
                 answer = no_room (length (words x));
                 given = eight d e x accepted c t f (omega arith);
                 the_number = refl;
@@ -182,8 +180,8 @@ module _ (mode : ℕ) (a b w : List ℕ) (m : mode ≤ 2) (o : Opening w a b) wh
                 the_result = refl;
                 the_working = zeros ∙ sym (worked_more 8 w (omega arith));
               }) p q
-          go (made.Ready n j) (c, t, x, f, l, v, h) (inr (fits, p, q)) =
-              at (Done n j) (region RESULT n w₁ ++ drop n s) (record {
+          go (Ok u) (c, t, x, f, l, v, h) (inr (fits, p, q)) =
+              at (Ok u) (region RESULT u.length w₁ ++ drop u.length s) (record {
                 answer = success (mode_readings mode d e) (words x);
                 given = done d e x accepted c t f (omega arith);
                 the_number = refl;
@@ -192,6 +190,6 @@ module _ (mode : ℕ) (a b w : List ℕ) (m : mode ≤ 2) (o : Opening w a b) wh
                 the_node = refl;
                 the_result =
                     ap (λ (i : ℕ). region RESULT i w₁ ++ drop i s) l
-                    ∙ ap (λ (u : List ℕ). u ++ drop (length (words x)) s) (stands_region w₁ (words x) RESULT (RESULT + n) h);
+                    ∙ ap (λ (z : List ℕ). z ++ drop (length (words x)) s) (stands_region w₁ (words x) RESULT (RESULT + u.length) h);
                 the_working = zeros ∙ sym (worked_zero w);
               }) p q

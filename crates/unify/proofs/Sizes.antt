@@ -11,7 +11,7 @@ use mathlib.Core.Option.{some}
 use Rattle.theory.specs.Outcome.{Areas, Outcome, Row}
 use Rattle.descriptions.specs.Outcome.{worked}
 use Rattle.theory.proofs.Reading.{result_words}
-use Rattle.answering.specs.declared.answer.Answer.{Answer as Reply}
+use Rattle.answering.specs.Answer.{Answer as Reply}
 use Rattle.answering.specs.Number.{row_of}
 
 -- "A result has at most len(a) + len(b) - 3 words"

@@ -10,12 +10,12 @@ ghost use Rattle.answering.specs.Number.{row_of};
 ghost use Rattle.answering.specs.Caused.{Caused};
 
 use crate::making::{Engine, make};
-use answering::answer::Answer;
+use answering::answer::{Answer, Refusal};
 use answering::areas::wipe;
 use answering::cause::cause_in;
 use answering::hand::hand_over;
 use area::map::SIZE;
-use layout::reading::{Judgement, judge};
+use layout::reading::judge;
 use limits::INPUT_LIMIT;
 
 // "mode above 2"
@@ -42,7 +42,7 @@ fn conclude(
     answer
 }
 
-// Document 01's table, whichever engine completes mode 2. Only `Done` writes to the result area.
+// Document 01's table, whichever engine completes mode 2. Only a result writes to the result area.
 fn run(
     mode: u32,
     engine: Engine,
@@ -57,25 +57,23 @@ fn run(
     ensures caused { Caused first.now second.now result }
 {
     if LAST_MODE < mode {
-        return Answer::BadMode;
+        return Err(Refusal::BadMode);
     }
     if working.len() < SIZE {
-        return Answer::SmallArea;
+        return Err(Refusal::SmallArea);
     }
     if INPUT_LIMIT < first.len() {
-        return Answer::TooLong;
+        return Err(Refusal::TooLong);
     }
     if INPUT_LIMIT < second.len() {
-        return Answer::TooLong;
+        return Err(Refusal::TooLong);
     }
-    let one = judge(first);
-    let Judgement::Accepted = one else {
-        return Answer::BadFirst(cause_in(first));
-    };
-    let two = judge(second);
-    let Judgement::Accepted = two else {
-        return Answer::BadSecond(cause_in(second));
-    };
+    if !judge(first) {
+        return Err(Refusal::BadFirst(cause_in(first)));
+    }
+    if !judge(second) {
+        return Err(Refusal::BadSecond(cause_in(second)));
+    }
     conclude(mode, engine, first, second, res, working)
 }
 

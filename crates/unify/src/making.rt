@@ -4,37 +4,29 @@ ghost use Rattle.leaving.specs.Fulled.{Fulling, Fulls};
 ghost use Rattle.opening.specs.Opening.{Opening};
 ghost use Rattle.unify.specs.Making.{Begins, Makes, Completing, Completes};
 
-use answering::hand::Made;
+use answering::answer::Unified;
+use answering::hand::{Failure, Made};
 use finding_clash::finding::clash_node;
 use full::full::full;
-use leaving::leave::Fully;
+use leaving::leave::{Left, NoneLeft};
 use marks::marking::{clear_marks, douse};
 use opening::{Opened, open};
 use plain::full::full_by_choices;
 use quick::quick::quick;
-use quick::step::Step;
 use showing::show::show;
-
-// Both inputs are opened, as `opening::open` tells it; or their definite graphs clash at a node.
-#[derive(Clone, Copy)]
-pub enum Beginning {
-    Joined { nodes: usize, log: usize },
-    Clashed { node: usize },
-}
 
 // Opens both inputs, and keeps all alternatives. Where they clash, the node is looked for only then, so that other calls cost nothing
 // more.
-fn begin(w: &mut [u32], a: &[u32], b: &[u32]) -> Beginning
+fn begin(w: &mut [u32], a: &[u32], b: &[u32]) -> Result<Opened, Failure>
     requires { Opening w.old a.now b.now }
     ensures { Begins w.old a.now b.now result w.new }
 {
-    let opened = open(w, a, b);
-    let Opened::Joined { nodes, log } = opened else {
+    let Some(opened) = open(w, a, b) else {
         let node = clash_node(w);
-        return Beginning::Clashed { node };
+        return Err(Failure::Clash { node });
     };
     clear_marks(w);
-    Beginning::Joined { nodes, log }
+    Ok(opened)
 }
 
 // What finds the consistent choices in mode 2: the search, or the plain expansion to every choice.
@@ -45,7 +37,7 @@ pub enum Engine {
 }
 
 // The full step by either engine.
-fn full_by(engine: Engine, w: &mut [u32], k: usize, n: usize) -> Fully
+fn full_by(engine: Engine, w: &mut [u32], k: usize, n: usize) -> Result<Left, NoneLeft>
     requires { Fulling n k w.old }
     ensures { Fulls n k w.old result w.new }
 {
@@ -61,13 +53,12 @@ fn complete(engine: Engine, w: &mut [u32], k: usize, n: usize) -> Made
     ensures { Completes n k w.old result w.new }
 {
     douse(w);
-    let left = full_by(engine, w, k, n);
-    match left {
-        Fully::Over => Made::TooMany,
-        Fully::Nothing => Made::NoChoice,
-        Fully::Left(log, readings) => {
+    match full_by(engine, w, k, n) {
+        Err(NoneLeft::TooMany) => Err(Failure::TooMany),
+        Err(NoneLeft::NoChoice) => Err(Failure::NoChoice),
+        Ok(Left { log, readings }) => {
             let length = show(w, log, n);
-            Made::Ready { length, readings }
+            Ok(Unified { length, readings })
         }
     }
 }
@@ -77,29 +68,22 @@ pub fn make(mode: u32, engine: Engine, w: &mut [u32], a: &[u32], b: &[u32]) -> M
     requires { (mode ≤ 2) × Opening w.old a.now b.now }
     ensures { Makes mode w.old a.now b.now result w.new }
 {
-    let beginning = begin(w, a, b);
-    match beginning {
-        Beginning::Clashed { node } => Made::Clash { node },
-        Beginning::Joined { nodes, log } => {
-            if mode == 0 {
-                let length = show(w, log, nodes);
-                return Made::Ready {
-                    length,
-                    readings: 0,
-                };
-            }
-            let step = quick(w, log, nodes);
-            let Step::Stands(k, _) = step else {
-                return Made::QuickFails;
-            };
-            if mode == 1 {
-                let length = show(w, k, nodes);
-                return Made::Ready {
-                    length,
-                    readings: 0,
-                };
-            }
-            complete(engine, w, k, nodes)
-        }
+    let opened = begin(w, a, b)?;
+    let nodes = opened.nodes;
+    if mode == 0 {
+        let length = show(w, opened.log, nodes);
+        return Ok(Unified {
+            length,
+            readings: 0,
+        });
     }
+    let log = quick(w, opened.log, nodes).ok_or(Failure::QuickFails)?;
+    if mode == 1 {
+        let length = show(w, log, nodes);
+        return Ok(Unified {
+            length,
+            readings: 0,
+        });
+    }
+    complete(engine, w, log, nodes)
 }

@@ -29,29 +29,29 @@ returns-then-second-gt-INPUT_LIMIT c = record {
 }
 
 pub cause_in-requires : goal.cause_in-requires
-cause_in-requires c = no_image _ c.judge-one.result (cc) c.judge-one.ensures
+cause_in-requires c = no_image _ _ c.if-not-judge.true c.judge.ensures
 
-pub returns-in_default : goal.returns-in_default
-returns-in_default c =
+pub returns-then-not-judge : goal.returns-then-not-judge
+returns-then-not-judge c =
     record {
-      outcome = bad_first _ _ _ (omega arith) (omega arith) (omega arith) (omega arith) (no_image _ c.judge-one.result (cc) c.judge-one.ensures);
+      outcome = bad_first _ _ _ (omega arith) (omega arith) (omega arith) (omega arith) (no_image _ _ c.if-not-judge.true c.judge.ensures);
       caused = c.cause_in.ensures;
     }
 
-pub cause_in-requires-in_default-two : goal.cause_in-requires-in_default-two
-cause_in-requires-in_default-two c = no_image _ c.judge-two.result (cc) c.judge-two.ensures
+pub cause_in-requires-then-not-judge-2 : goal.cause_in-requires-then-not-judge-2
+cause_in-requires-then-not-judge-2 c = no_image _ _ c.if-not-judge-2.true c.judge-2.ensures
 
-pub returns-in_default-two : goal.returns-in_default-two
-returns-in_default-two c =
-    let first = c.judge-one.ensures.sound (cc) in record {
-      outcome = bad_second _ _ _ (omega arith) (omega arith) (omega arith) (omega arith) first (no_image _ c.judge-two.result (cc) c.judge-two.ensures);
-      caused = c.cause_in-in_default-two.ensures;
+pub returns-then-not-judge-2 : goal.returns-then-not-judge-2
+returns-then-not-judge-2 c =
+    let first = c.judge.ensures.sound c.if-not-judge.false in record {
+      outcome = bad_second _ _ _ (omega arith) (omega arith) (omega arith) (omega arith) first (no_image _ _ c.if-not-judge-2.true c.judge-2.ensures);
+      caused = c.cause_in-then-not-judge-2.ensures;
     }
 
 pub conclude-requires : goal.conclude-requires
 conclude-requires c = (
   omega arith,
   opening _ _ _ (omega arith) (omega arith) (omega arith)
-      (c.judge-one.ensures.sound (cc))
-      (c.judge-two.ensures.sound (cc)),
+      (c.judge.ensures.sound c.if-not-judge.false)
+      (c.judge-2.ensures.sound c.if-not-judge-2.false),
 )

@@ -2,6 +2,7 @@
 -- Assumes nothing.
 use Prim.Native.Nat.{ℕ}
 use native.Mathlib.Omega.{arith}
+use native.Mathlib.Nat.{sub-zero, sub-add-eq}
 use mathlib.Core.Path.{◌≡◌, refl, sym, ap, subst, ◌∙◌}
 use mathlib.Core.Logic.{⊎_elim}
 use mathlib.Core.Bool.{Bool}
@@ -36,161 +37,147 @@ choose-overflow_add-p t c =
     let h = (going_starts c.requires).1 in
     omega arith
 
-pub choose-loop-more-init : goal.choose-loop-more-init
-choose-loop-more-init t c =
-    (beyond_none _ _, λ k. going_all k _ _ _ _ c.tail_at-e.ensures c.disjunctions_at-more.ensures)
+pub choose-loop-init : goal.choose-loop-init
+choose-loop-init t c =
+    (beyond_none _ _, λ k. rw sub-zero (going_all k _ _ _ _ c.tail_at-e.ensures c.disjunctions_at-more.ensures))
 
 pub choose-alternatives_at-count-requires : goal.choose-alternatives_at-count-requires
 choose-alternatives_at-count-requires t c =
-    going_here c.requires _ _ (c.loop-more.invariant.1 c.requires) c.loop-more.invariant.0 (omega arith)
+    going_here c.requires _ _ (c.loop.invariant.1 c.requires) c.loop.invariant.0 (omega arith)
 
 pub choose-overflow_add-first : goal.choose-overflow_add-first
 choose-overflow_add-first t c =
-    let h = (going_here c.requires _ _ (c.loop-more.invariant.1 c.requires) c.loop-more.invariant.0 (omega arith)).0 in
+    let h = (going_here c.requires _ _ (c.loop.invariant.1 c.requires) c.loop.invariant.0 (omega arith)).0 in
     omega arith
 
 pub choose-overflow_sub-inside : goal.choose-overflow_sub-inside
 choose-overflow_sub-inside t c =
-    going_deep c.requires _ _ (c.loop-more.invariant.1 c.requires) c.loop-more.invariant.0 (omega arith)
+    going_deep c.requires _ _ (c.loop.invariant.1 c.requires) c.loop.invariant.0 (omega arith)
 
 pub choose-count_kept-tally-requires : goal.choose-count_kept-tally-requires
 choose-count_kept-tally-requires t c =
-    going_told c.requires _ _ (c.loop-more.invariant.1 c.requires) c.loop-more.invariant.0 (omega arith) c.alternatives_at-count.ensures
+    going_told c.requires _ _ (c.loop.invariant.1 c.requires) c.loop.invariant.0 (omega arith) c.alternatives_at-count.ensures
 
 pub choose-sum_choices-sum-requires : goal.choose-sum_choices-sum-requires
 choose-sum_choices-sum-requires t c =
-    going_sums c.requires _ _ (c.loop-more.invariant.1 c.requires) c.loop-more.invariant.0 (omega arith) c.alternatives_at-count.ensures
+    going_sums c.requires _ _ (c.loop.invariant.1 c.requires) c.loop.invariant.0 (omega arith) c.alternatives_at-count.ensures
 
 pub choose-nonzero_div-rest : goal.choose-nonzero_div-rest
 choose-nonzero_div-rest t c =
-    going_some c.requires _ _ (c.loop-more.invariant.1 c.requires) c.loop-more.invariant.0 (omega arith) c.alternatives_at-count.ensures c.sum_choices-sum.ensures
+    going_some c.requires _ _ (c.loop.invariant.1 c.requires) c.loop.invariant.0 (omega arith) c.alternatives_at-count.ensures c.sum_choices-sum.ensures
 
 pub choose-nonzero_div-index : goal.choose-nonzero_div-index
 choose-nonzero_div-index t c =
-    going_rest c.requires _ _ (c.loop-more.invariant.1 c.requires) c.loop-more.invariant.0 (omega arith) c.alternatives_at-count.ensures c.sum_choices-sum.ensures _ refl
+    going_rest c.requires _ _ (c.loop.invariant.1 c.requires) c.loop.invariant.0 (omega arith) c.alternatives_at-count.ensures c.sum_choices-sum.ensures _ refl
 
 pub choose-pick-to-requires : goal.choose-pick-to-requires
 choose-pick-to-requires t c =
-    let deep = going_deep c.requires _ _ (c.loop-more.invariant.1 c.requires) c.loop-more.invariant.0 (omega arith) in
-    (omega arith, going_asks c.requires _ _ (c.loop-more.invariant.1 c.requires) c.loop-more.invariant.0 (omega arith) c.alternatives_at-count.ensures c.sum_choices-sum.ensures _ refl)
+    let deep = going_deep c.requires _ _ (c.loop.invariant.1 c.requires) c.loop.invariant.0 (omega arith) in
+    (omega arith, going_asks c.requires _ _ (c.loop.invariant.1 c.requires) c.loop.invariant.0 (omega arith) c.alternatives_at-count.ensures c.sum_choices-sum.ensures _ refl)
 
 pub choose-nonzero_rem-index : goal.choose-nonzero_rem-index
 choose-nonzero_rem-index t c =
-    going_rest c.requires _ _ (c.loop-more.invariant.1 c.requires) c.loop-more.invariant.0 (omega arith) c.alternatives_at-count.ensures c.sum_choices-sum.ensures _ refl
+    going_rest c.requires _ _ (c.loop.invariant.1 c.requires) c.loop.invariant.0 (omega arith) c.alternatives_at-count.ensures c.sum_choices-sum.ensures _ refl
 
-pub choose-overflow_sub-more : goal.choose-overflow_sub-more
-choose-overflow_sub-more t c =
-    omega arith
-
-pub choose-loop-more-smaller : goal.choose-loop-more-smaller
-choose-loop-more-smaller t c =
-    omega arith
-
-pub choose-loop-more-preserved : goal.choose-loop-more-preserved
-choose-loop-more-preserved t c = (
-  going_beyond c.requires _ _ (c.loop-more.invariant.1 c.requires) c.loop-more.invariant.0 (omega arith) c.alternatives_at-count.ensures c.sum_choices-sum.ensures _ refl c.count_kept-tally.ensures c.beside_other-beside.ensures c.pick-to.ensures,
-  λ d. going_on d _ _ (c.loop-more.invariant.1 d) c.loop-more.invariant.0 (omega arith) c.alternatives_at-count.ensures c.sum_choices-sum.ensures _ refl c.count_kept-tally.ensures c.beside_other-beside.ensures c.pick-to.ensures _ refl,
+pub choose-loop-preserved : goal.choose-loop-preserved
+choose-loop-preserved t c = (
+  going_beyond c.requires _ _ (c.loop.invariant.1 c.requires) c.loop.invariant.0 (omega arith) c.alternatives_at-count.ensures c.sum_choices-sum.ensures _ refl c.count_kept-tally.ensures c.beside_other-beside.ensures c.pick-to.ensures,
+  λ d. rw sub-add-eq (going_on d _ _ (c.loop.invariant.1 d) c.loop.invariant.0 (omega arith) c.alternatives_at-count.ensures c.sum_choices-sum.ensures _ refl c.count_kept-tally.ensures c.beside_other-beside.ensures c.pick-to.ensures _ refl),
 )
 
 pub choose-shape_of-w : goal.choose-shape_of-w
-choose-shape_of-w t c = c.loop-more.invariant.0.len
+choose-shape_of-w t c = c.loop.invariant.0.len
 
 pub choose-returns : goal.choose-returns
-choose-returns t c = record { beyond = c.loop-more.invariant.0; writes = λ k. going_none k _ _ (c.loop-more.invariant.1 k) (omega arith) }
+choose-returns t c = record { beyond = c.loop.invariant.0; writes = λ k. going_none k _ _ (c.loop.invariant.1 k) (omega arith) }
 
-pub pick-loop-more-init : goal.pick-loop-more-init
-pick-loop-more-init t c = (refl, λ k. goes_all k _ _)
+pub pick-loop-init : goal.pick-loop-init
+pick-loop-init t c = (refl, λ k. rw sub-zero (goes_all k _ _))
 
 pub pick-mark_at-requires : goal.pick-mark_at-requires
 pick-mark_at-requires t c =
-    let k = still-asks c.loop-more.invariant.0 c.requires in
-    let old : _ × _ = goes_here k _ _ _ (c.loop-more.invariant.1 k) (omega arith) in record { p_bound = old.0; p_bound_2 = old.1 }
+    let k = still-asks c.loop.invariant.0 c.requires in
+    let old : _ × _ = goes_here k _ _ _ (c.loop.invariant.1 k) (omega arith) in record { p_bound = old.0; p_bound_2 = old.1 }
 
 pub pick-kept-requires : goal.pick-kept-requires
 pick-kept-requires t c =
-    let k = still-asks c.loop-more.invariant.0 c.requires in
+    let k = still-asks c.loop.invariant.0 c.requires in
     (c.mark_at.ensures.1, k.sums.room)
 
 pub pick-count_choices-total-requires : goal.pick-count_choices-total-requires
 pick-count_choices-total-requires t c =
-    let k = still-asks c.loop-more.invariant.0 c.requires in
-    goes_asks k _ _ _ (c.loop-more.invariant.1 k) (omega arith)
+    let k = still-asks c.loop.invariant.0 c.requires in
+    goes_asks k _ _ _ (c.loop.invariant.1 k) (omega arith)
 
 pub pick-word_of-requires : goal.pick-word_of-requires
 pick-word_of-requires t c =
-    let k = still-asks c.loop-more.invariant.0 c.requires in
-    (goes_here k _ _ _ (c.loop-more.invariant.1 k) (omega arith)).0.0
+    let k = still-asks c.loop.invariant.0 c.requires in
+    (goes_here k _ _ _ (c.loop.invariant.1 k) (omega arith)).0.0
 
 pub pick-overflow_add-w : goal.pick-overflow_add-w
 pick-overflow_add-w t c =
-    let k = still-asks c.loop-more.invariant.0 c.requires in
-    let h = goes_room k _ _ _ (c.loop-more.invariant.1 k) (omega arith) in
+    let k = still-asks c.loop.invariant.0 c.requires in
+    let h = goes_room k _ _ _ (c.loop.invariant.1 k) (omega arith) in
     let l = k.sums.room in
     omega arith
 
 pub pick-offset_bounds-w-at : goal.pick-offset_bounds-w-at
 pick-offset_bounds-w-at t c =
-    let k = still-asks c.loop-more.invariant.0 c.requires in
-    let h = goes_room k _ _ _ (c.loop-more.invariant.1 k) (omega arith) in
+    let k = still-asks c.loop.invariant.0 c.requires in
+    let h = goes_room k _ _ _ (c.loop.invariant.1 k) (omega arith) in
     let l = k.sums.room in
     omega arith
 
 pub pick-bounds-w-at : goal.pick-bounds-w-at
 pick-bounds-w-at t c =
-    let k = still-asks c.loop-more.invariant.0 c.requires in
-    let h = goes_room k _ _ _ (c.loop-more.invariant.1 k) (omega arith) in
+    let k = still-asks c.loop.invariant.0 c.requires in
+    let h = goes_room k _ _ _ (c.loop.invariant.1 k) (omega arith) in
     let l = k.sums.room in
     omega arith
 
 pub pick-overflow_add-at : goal.pick-overflow_add-at
 pick-overflow_add-at t c =
-    let k = still-asks c.loop-more.invariant.0 c.requires in
-    let h = goes_room k _ _ _ (c.loop-more.invariant.1 k) (omega arith) in
+    let k = still-asks c.loop.invariant.0 c.requires in
+    let h = goes_room k _ _ _ (c.loop.invariant.1 k) (omega arith) in
     let l = k.sums.room in
     omega arith
 
 pub pick-choose-requires : goal.pick-choose-requires
 pick-choose-requires t c =
-    let k = still-asks c.loop-more.invariant.0 c.requires in
-    (omega arith, goes_asks_in k _ _ _ (c.loop-more.invariant.1 k) (omega arith) _ c.mark_at.ensures _ (cc) c.count_choices-total.ensures (omega arith) _ c.word_of.ensures)
+    let k = still-asks c.loop.invariant.0 c.requires in
+    (omega arith, goes_asks_in k _ _ _ (c.loop.invariant.1 k) (omega arith) _ c.mark_at.ensures _ (cc) c.count_choices-total.ensures (omega arith) _ c.word_of.ensures)
 
 pub pick-shape_of-w-then-index-total : goal.pick-shape_of-w-then-index-total
 pick-shape_of-w-then-index-total t c =
-    let k = still-asks c.loop-more.invariant.0 c.requires in
-    (goes_beyond k _ _ _ (c.loop-more.invariant.1 k) (omega arith) _ c.mark_at.ensures _ (cc) c.count_choices-total.ensures (omega arith) _ c.word_of.ensures _ _ c.choose.ensures).len ∙ ap length c.loop-more.invariant.0
+    let k = still-asks c.loop.invariant.0 c.requires in
+    (goes_beyond k _ _ _ (c.loop.invariant.1 k) (omega arith) _ c.mark_at.ensures _ (cc) c.count_choices-total.ensures (omega arith) _ c.word_of.ensures _ _ c.choose.ensures).len ∙ ap length c.loop.invariant.0
 
 pub pick-returns-then-index-total : goal.pick-returns-then-index-total
 pick-returns-then-index-total t c =
-    let k = still-asks c.loop-more.invariant.0 c.requires in
-    picks-from c.loop-more.invariant.0 (record {
-      beyond = goes_beyond k _ _ _ (c.loop-more.invariant.1 k) (omega arith) _ c.mark_at.ensures _ (cc) c.count_choices-total.ensures (omega arith) _ c.word_of.ensures _ _ c.choose.ensures;
-      writes = λ d. goes_writes d _ _ _ (c.loop-more.invariant.1 d) (omega arith) _ c.mark_at.ensures _ (cc) c.count_choices-total.ensures (omega arith) _ c.word_of.ensures _ _ c.choose.ensures;
+    let k = still-asks c.loop.invariant.0 c.requires in
+    picks-from c.loop.invariant.0 (record {
+      beyond = goes_beyond k _ _ _ (c.loop.invariant.1 k) (omega arith) _ c.mark_at.ensures _ (cc) c.count_choices-total.ensures (omega arith) _ c.word_of.ensures _ _ c.choose.ensures;
+      writes = λ d. goes_writes d _ _ _ (c.loop.invariant.1 d) (omega arith) _ c.mark_at.ensures _ (cc) c.count_choices-total.ensures (omega arith) _ c.word_of.ensures _ _ c.choose.ensures;
     })
 
 pub pick-after_at-g-requires : goal.pick-after_at-g-requires
 pick-after_at-g-requires t c =
-    let k = still-asks c.loop-more.invariant.0 c.requires in
-    let old : _ × _ = goes_here k _ _ _ (c.loop-more.invariant.1 k) (omega arith) in record { p_bound = old.0; p_bound_2 = old.1 }
+    let k = still-asks c.loop.invariant.0 c.requires in
+    let old : _ × _ = goes_here k _ _ _ (c.loop.invariant.1 k) (omega arith) in record { p_bound = old.0; p_bound_2 = old.1 }
 
-pub pick-overflow_sub-more : goal.pick-overflow_sub-more
-pick-overflow_sub-more t c = omega arith
-
-pub pick-loop-more-smaller : goal.pick-loop-more-smaller
-pick-loop-more-smaller t c = omega arith
-
-pub pick-loop-more-preserved : goal.pick-loop-more-preserved
-pick-loop-more-preserved t c = (
-  c.loop-more.invariant.0,
-  λ k. goes_on k _ _ _ (c.loop-more.invariant.1 k) (omega arith) _ c.mark_at.ensures _
+pub pick-loop-preserved : goal.pick-loop-preserved
+pick-loop-preserved t c = (
+  c.loop.invariant.0,
+  λ k. rw sub-add-eq (goes_on k _ _ _ (c.loop.invariant.1 k) (omega arith) _ c.mark_at.ensures _
       (elim c.if-kept.branch [
         | pick-then-kept+else-index-total u ↦ passed _ (cc) u.count_choices-total.ensures (let test = u.if-index-total in omega arith) u.index-is
         | pick-else-kept u ↦ skipped (cc) u.index-is
-      ]) _ c.after_at-g.ensures,
+      ]) _ c.after_at-g.ensures),
 )
 
 pub pick-shape_of-w : goal.pick-shape_of-w
-pick-shape_of-w t c = ap length c.loop-more.invariant.0
+pick-shape_of-w t c = ap length c.loop.invariant.0
 
 pub pick-returns : goal.pick-returns
 pick-returns t c =
-    picks-from c.loop-more.invariant.0 (record { beyond = beyond_none _ _; writes = λ k. goes_none k _ _ _ (c.loop-more.invariant.1 k) (omega arith) })
+    picks-from c.loop.invariant.0 (record { beyond = beyond_none _ _; writes = λ k. goes_none k _ _ _ (c.loop.invariant.1 k) (omega arith) })

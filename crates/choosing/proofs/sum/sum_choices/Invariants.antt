@@ -1,12 +1,9 @@
-use Prim.Native.Nat.{◌≤◌}
+use Prim.Native.Nat.{◌≤◌, ◌-◌}
 use Rattle.theory.specs.Limits.{choice_stop}
 use Rattle.choosing.specs.Chosen.{Summing}
 use Rattle.choosing.proofs.Walks.{Still}
 use Rattle.choosing.proofs.Sums.{Adds}
 use Rattle.choosing.proofs.sum.sum_choices.Given as goal
 
-abbrev pub invariant-loop-more : goal.invariant-loop-more
-invariant-loop-more l = ((c : Summing l.w l.p l.count l.left) → Still c (Adds c l.sum) l.more l.at) × (l.sum ≤ choice_stop)
-
-abbrev pub decreases-loop-more : goal.decreases-loop-more
-decreases-loop-more l = l.more
+abbrev pub invariant-loop : goal.invariant-loop
+invariant-loop l = ((c : Summing l.w l.p l.count l.left) → Still c (Adds c l.sum) (l.count - l.counter) l.at) × (l.sum ≤ choice_stop)

@@ -7,7 +7,5 @@ use Rattle.faults.proofs.nesting.expected_after.Goals as goal
 
 pub disjunctions_from-requires : goal.disjunctions_from-requires
 disjunctions_from-requires c =
-    let nesting = c.args.expected.nesting in (
-      omega (arith, bounded_told (nesting_of nesting) c.in-DisjunctionCount.is c.requires.0, nesting_depth nesting),
-      c.requires.2,
-    )
+    let nesting = c.args.expected.nesting in
+    omega (arith, bounded_told (nesting_of nesting) c.in-DisjunctionCount.is c.requires.0, nesting_depth nesting)

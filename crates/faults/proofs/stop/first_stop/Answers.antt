@@ -10,18 +10,16 @@ use Rattle.faults.proofs.stop.first_stop.Goals as goal
 pub returns-in-Some : goal.returns-in-Some
 returns-in-Some c =
     let broken = c.breaks.ensures (nesting_of c.loop-at.expected.nesting) (nesting_depth c.loop-at.expected.nesting) in
-    going_stop c.args.ws.now (expected_of c.loop-at.expected) c.loop-at.at c.loop-at.invariant.0 c.loop-at-test.true _
+    going_stop c.args.ws.now (expected_of c.loop-at.expected) c.loop-at.at c.loop-at.invariant c.loop-at-test.true _
     (sym broken ∙ ap broken_of c.in-Some.is)
 
 pub expected_after-expected-requires : goal.expected_after-expected-requires
 expected_after-expected-requires c =
     let broken = c.breaks.ensures (nesting_of c.loop-at.expected.nesting) (nesting_depth c.loop-at.expected.nesting) in
-    (c.loop-at.invariant.0.bounded, sym broken ∙ ap broken_of c.in_default.is, c.loop-at.invariant.1)
+    (c.loop-at.invariant.bounded, sym broken ∙ ap broken_of c.in_default.is)
 
 pub loop-at-preserved : goal.loop-at-preserved
 loop-at-preserved c =
-    let broken = c.breaks.ensures (nesting_of c.loop-at.expected.nesting) (nesting_depth c.loop-at.expected.nesting) in (
-      going_on c.args.ws.now (expected_of c.loop-at.expected) c.loop-at.at c.loop-at.invariant.0 c.loop-at-test.true
-          (sym broken ∙ ap broken_of c.in_default.is) _ c.expected_after-expected.ensures.0,
-      c.expected_after-expected.ensures.1,
-    )
+    let broken = c.breaks.ensures (nesting_of c.loop-at.expected.nesting) (nesting_depth c.loop-at.expected.nesting) in
+    going_on c.args.ws.now (expected_of c.loop-at.expected) c.loop-at.at c.loop-at.invariant c.loop-at-test.true
+    (sym broken ∙ ap broken_of c.in_default.is) _ c.expected_after-expected.ensures

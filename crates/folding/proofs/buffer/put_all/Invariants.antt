@@ -1,5 +1,6 @@
-use Rattle.folding.proofs.Ending.{Back}
+use Rattle.folding.proofs.Ending.{Backwards}
 use Rattle.folding.proofs.buffer.put_all.Given as goal
 
-abbrev pub invariant-loop-i : goal.invariant-loop-i
-invariant-loop-i l = Back l.initial.b l.len l.xs l.i l.b l.at
+abbrev pub invariant-loop-x : goal.invariant-loop-x
+invariant-loop-x l = (goal.iterator-loop-x).can_next l.x-iterator × (goal.iterator-loop-x).is_finite l.x-iterator
+    × Backwards l.initial.b l.len l.xs l.x-iterator.iter.rest.now l.b l.at

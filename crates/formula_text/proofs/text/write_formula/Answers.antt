@@ -1,48 +1,49 @@
 -- `formula_text::text::write_formula` meets its contract: the first line, then after 0 the second.
 -- Assumes nothing.
-use Prim.Native.Nat.{ℕ}
-use mathlib.Core.Path.{◌≡◌, sym, ◌∙◌}
-use mathlib.Core.List.{List, [], ◌++◌}
+use mathlib.Core.Path.{sym, ◌∙◌}
+use mathlib.Core.List.{[], ◌++◌}
+use Rattle.std.specs.Prelude.{Some, None}
 use Rattle.translate.specs.Row.{number_in}
 use Rattle.answer_text.specs.Answer.{spaced, newline, second_line}
-use Rattle.answer_text.specs.declared.line.Written.TheVariants.{Bytes, NoRoom}
 use Rattle.answer_text.proofs.Goings.{named, nothing, both, first_stops, wrote}
 use Rattle.answer_text.proofs.Answers.{second-some, second_none}
 use Rattle.formula_text.specs.Printed.{told_line, formula_text}
 use Rattle.formula_text.proofs.Lines.{line_told}
 use Rattle.formula_text.proofs.text.write_formula.Goals as goal
 
-pub returns-in_default : goal.returns-in_default
+pub returns-in_err-at : goal.returns-in_err-at
 unfolding formula_text
-returns-in_default c =
+returns-in_err-at c =
     let n = number_in c.args.answer in
-    let gone : NoRoom ≡ c.put_told_line-first.result = cc in
-    let one : List ℕ = told_line n c.args.answer in
-    let two : List ℕ = second_line n c.args.words.now in
-    let first = line_told c.args.answer _ c.args.dst.now c.put_told_line-first.new.dst c.put_told_line-first.result c.told-row.ensures.0 c.put_told_line-first.ensures in
-    wrote (one ++ two) c.args.dst.now c.put_told_line-first.new.dst NoRoom (first_stops one two c.args.dst.now c.put_told_line-first.new.dst 0 c.put_told_line-first.result first gone)
+    let one = told_line n c.args.answer in
+    let two = second_line n c.args.words.now in
+    let mid = c.put_told_line.new.dst in
+    let first = line_told c.args.answer _ c.args.dst.now mid c.put_told_line.result c.told-number.ensures.0 c.put_told_line.ensures in
+    rw c.from_residual.ensures
+    (wrote (one ++ two) c.args.dst.now mid None (first_stops one two c.args.dst.now mid 0 c.put_told_line.result first (sym c.in_err-at.was)))
 
 pub returns-then-number-eq0 : goal.returns-then-number-eq0
 unfolding formula_text
 returns-then-number-eq0 c =
     let n = number_in c.args.answer in
-    let one : List ℕ = told_line n c.args.answer in
-    let two : List ℕ = second_line n c.args.words.now in
-    let first = line_told c.args.answer _ c.args.dst.now c.put_told_line-first.new.dst c.put_told_line-first.result c.told-row.ensures.0 c.put_told_line-first.ensures in
+    let one = told_line n c.args.answer in
+    let two = second_line n c.args.words.now in
+    let mid = c.put_told_line.new.dst in
+    let first = line_told c.args.answer _ c.args.dst.now mid c.put_told_line.result c.told-number.ensures.0 c.put_told_line.ensures in
     wrote (one ++ two) c.args.dst.now c.put_words_line.new.dst c.put_words_line.result
-    (both one two c.args.dst.now c.put_told_line-first.new.dst 0 c.put_told_line-first.result first c.in-Bytes.at c.in-Bytes.is c.put_words_line.new.dst c.put_words_line.result
-    (named (spaced c.args.words.now ++ newline) two c.put_told_line-first.new.dst c.in-Bytes.at c.put_words_line.new.dst c.put_words_line.result
-    (second-some n c.args.words.now (sym c.told-row.ensures.0 ∙ c.if-number-eq0.true)) c.put_words_line.ensures))
+    (both one two c.args.dst.now mid 0 c.put_told_line.result first c.in_ok-at.at c.in_ok-at.was c.put_words_line.new.dst c.put_words_line.result
+    (named (spaced c.args.words.now ++ newline) two mid c.in_ok-at.at c.put_words_line.new.dst c.put_words_line.result
+    (second-some n c.args.words.now (sym c.told-number.ensures.0 ∙ c.if-number-eq0.true)) c.put_words_line.ensures))
 
-pub returns : goal.returns
+pub returns-else-number-eq0 : goal.returns-else-number-eq0
 unfolding formula_text
-returns c =
+returns-else-number-eq0 c =
     let n = number_in c.args.answer in
-    let one : List ℕ = told_line n c.args.answer in
-    let two : List ℕ = second_line n c.args.words.now in
-    let first = line_told c.args.answer _ c.args.dst.now c.put_told_line-first.new.dst c.put_told_line-first.result c.told-row.ensures.0 c.put_told_line-first.ensures in
-    wrote (one ++ two) c.args.dst.now c.put_told_line-first.new.dst (Bytes c.in-Bytes.at)
-    (both one two c.args.dst.now c.put_told_line-first.new.dst 0 c.put_told_line-first.result first c.in-Bytes.at c.in-Bytes.is c.put_told_line-first.new.dst (Bytes c.in-Bytes.at)
-    (named [] two c.put_told_line-first.new.dst c.in-Bytes.at c.put_told_line-first.new.dst (Bytes c.in-Bytes.at)
-    (second_none n c.args.words.now (λ e. c.if-number-eq0.false (c.told-row.ensures.0 ∙ e)))
-    (nothing c.put_told_line-first.new.dst c.in-Bytes.at)))
+    let one = told_line n c.args.answer in
+    let two = second_line n c.args.words.now in
+    let mid = c.put_told_line.new.dst in
+    let first = line_told c.args.answer _ c.args.dst.now mid c.put_told_line.result c.told-number.ensures.0 c.put_told_line.ensures in
+    wrote (one ++ two) c.args.dst.now mid (Some c.in_ok-at.at)
+    (both one two c.args.dst.now mid 0 c.put_told_line.result first c.in_ok-at.at c.in_ok-at.was mid (Some c.in_ok-at.at)
+    (named [] two mid c.in_ok-at.at mid (Some c.in_ok-at.at)
+    (second_none n c.args.words.now (λ e. c.if-number-eq0.false (c.told-number.ensures.0 ∙ e))) (nothing mid c.in_ok-at.at)))

@@ -35,8 +35,8 @@ read_disjunction-returns-then-left-eq0 t c = disjunction_deep _ _ _ (omega arith
 pub read_disjunction-returns-then-ws-p : goal.read_disjunction-returns-then-ws-p
 read_disjunction-returns-then-ws-p t c = disjunction_none _ _ _ (omega arith) (omega arith)
 
-pub read_disjunction-returns-then-count-lt2 : goal.read_disjunction-returns-then-count-lt2
-read_disjunction-returns-then-count-lt2 t c = disjunction_few _ _ _ (omega arith) (omega arith) (omega arith)
+pub read_disjunction-returns-then-count-lt-FEWEST_ALTERNATIVES : goal.read_disjunction-returns-then-count-lt-FEWEST_ALTERNATIVES
+read_disjunction-returns-then-count-lt-FEWEST_ALTERNATIVES t c = disjunction_few _ _ _ (omega arith) (omega arith) (omega arith)
 
 pub read_disjunction-loop-init : goal.read_disjunction-loop-init
 read_disjunction-loop-init t c = rw sub-zero (disjunction_times _ _ _ (omega arith) (omega arith) (omega arith))

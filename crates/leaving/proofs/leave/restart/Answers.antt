@@ -5,22 +5,14 @@ use Rattle.leaving.proofs.leave.restart.Goals as goal
 pub back-requires : goal.back-requires
 back-requires c = restart_back _ _ _ c.requires
 
-pub enter-first-requires : goal.enter-first-requires
-enter-first-requires c = restart_first _ _ _ _ c.back.ensures
-    c.requires
-
-pub returns-in_default : goal.returns-in_default
-returns-in_default c = restarts_clash _ _ _ _ c.back.ensures _ _
-    c.enter-first.ensures c.in_default.is
-
 pub enter-requires : goal.enter-requires
-enter-requires c = restart_second _ _ _ _
-    c.back.ensures _ _
-    c.enter-first.ensures _ c.in-In.is
-    c.requires
+enter-requires c = restart_first _ _ _ _ c.back.ensures c.requires
+
+pub returns-in_err-first : goal.returns-in_err-first
+returns-in_err-first c = rw c.from_residual.ensures (restarts_clash _ _ _ _ c.back.ensures _ _ c.enter.ensures c.in_err-first.was)
+
+pub enter-requires-2 : goal.enter-requires-2
+enter-requires-2 c = restart_second _ _ _ _ c.back.ensures _ _ c.enter.ensures _ c.in_ok-first.was c.requires
 
 pub returns : goal.returns
-returns c = restarts _ _ _ _
-    c.back.ensures _ _
-    c.enter-first.ensures _
-    c.in-In.is _ _ c.enter.ensures
+returns c = restarts _ _ _ _ c.back.ensures _ _ c.enter.ensures _ c.in_ok-first.was _ _ c.enter-2.ensures

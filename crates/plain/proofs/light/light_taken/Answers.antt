@@ -19,10 +19,6 @@ pub light-requires : goal.light-requires
 light-requires c =
     (c.mark_at-x.ensures.1, omega (arith, c.requires.room, c.loop-i.invariant.len))
 
-pub loop-i-smaller : goal.loop-i-smaller
-loop-i-smaller c =
-    omega arith
-
 pub loop-i-preserved : goal.loop-i-preserved
 loop-i-preserved c =
     litup_more c.loop-i.invariant c.loop-i-test.true c.listed.ensures

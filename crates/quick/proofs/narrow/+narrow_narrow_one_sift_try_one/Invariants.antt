@@ -1,3 +1,4 @@
+use Prim.Native.Nat.{◌-◌}
 use Prim.Native.Nat.{◌+◌, ◌*◌}
 use mathlib.Core.Path.{◌≡◌}
 use lib.ListN.{length}
@@ -22,18 +23,12 @@ decreases-sift l = 4 * l.left + 2
 abbrev pub decreases-try_one : goal.decreases-try_one
 decreases-try_one l = 4 * l.left + 1
 
-abbrev pub invariant-narrow-loop-more : goal.invariant-narrow-loop-more
-invariant-narrow-loop-more l =
-    Moved l.k l.initial.w l.log l.w × Fewer l.drops (marking l.initial.w) (marking l.w) × ((c : Narrowing l.n l.k l.initial.w l.g l.left) → Going l.n l.k l.initial.w l.g l.left c l.more l.at l.log l.w)
+abbrev pub invariant-narrow-loop : goal.invariant-narrow-loop
+invariant-narrow-loop l =
+    Moved l.k l.initial.w l.log l.w × Fewer l.drops (marking l.initial.w) (marking l.w) × ((c : Narrowing l.n l.k l.initial.w l.g l.left) → Going l.n l.k l.initial.w l.g l.left c (l.more - l.counter) l.at l.log l.w)
     × (length l.t ≡ 256) × Sieved l.n l.w l.t
 
-abbrev pub decreases-narrow-loop-more : goal.decreases-narrow-loop-more
-decreases-narrow-loop-more l = l.more
-
-abbrev pub invariant-sift-loop-rest : goal.invariant-sift-loop-rest
-invariant-sift-loop-rest l =
+abbrev pub invariant-sift-loop : goal.invariant-sift-loop
+invariant-sift-loop l =
     Moved l.k l.initial.w l.k l.w × Fewer l.drops (marking l.initial.w) (marking l.w)
-    × ((c : Alternating l.n l.k l.initial.w l.p l.count l.left) → Sifting l.n l.k l.initial.w l.p l.count l.left c l.rest l.at l.w)
-
-abbrev pub decreases-sift-loop-rest : goal.decreases-sift-loop-rest
-decreases-sift-loop-rest l = l.rest
+    × ((c : Alternating l.n l.k l.initial.w l.p l.count l.left) → Sifting l.n l.k l.initial.w l.p l.count l.left c (l.count - l.counter) l.at l.w)

@@ -8,32 +8,32 @@ use Rattle.quick.proofs.quick.quick.Goals as goal
 pub loop-again-init : goal.loop-again-init
 loop-again-init c = rounds_start _ _ _ c.requires
 
-pub pass-step-requires : goal.pass-step-requires
-pass-step-requires c = rounds_asks _ _ _ c.requires _ _ _ c.loop-again.invariant
+pub pass-requires : goal.pass-requires
+pass-requires c = rounds_asks _ _ _ c.requires _ _ _ c.loop-again.invariant
 
 pub back-requires : goal.back-requires
 back-requires c = rounds_undo _ _ _ _ _ _ c.loop-again.invariant _ _
-    c.pass-step.ensures c.in_default.is
+    c.pass.ensures c.in_default.is
 
 pub shape_of-w-in_default : goal.shape_of-w-in_default
 shape_of-w-in_default c = c.back.ensures.len
-    ∙ (c.pass-step.ensures.failing
+    ∙ (c.pass.ensures.failing
     c.in_default.is).0.len
     ∙ c.loop-again.invariant.moved.len
 
 pub returns-in_default : goal.returns-in_default
 returns-in_default c = quick_fails _ _ _ _ _ _ c.loop-again.invariant _
-    _ c.pass-step.ensures
+    _ c.pass.ensures
     c.in_default.is _ c.back.ensures
 
 pub loop-again-smaller : goal.loop-again-smaller
 loop-again-smaller c = rounds_less _ _ _ _ _ _ c.loop-again.invariant _ _
-    c.pass-step.ensures _ _ c.in-Stands.is
+    c.pass.ensures _ _ c.in-Some.is
     c.loop-again-test.true
 
 pub loop-again-preserved : goal.loop-again-preserved
 loop-again-preserved c = rounds_on _ _ _ _ _ _ c.loop-again.invariant _ _
-    c.pass-step.ensures _ _ c.in-Stands.is
+    c.pass.ensures _ _ c.in-Some.is
 
 pub shape_of-w : goal.shape_of-w
 shape_of-w c = c.loop-again.invariant.moved.len

@@ -209,56 +209,56 @@ pub take-returns-in-Clashes : goal.take-returns-in-Clashes
 take-returns-in-Clashes t c = takes_none _ _ _ _ _ c.requires _ c.foresee-told.ensures
     c.in-Clashes.is
 
-pub take-enter-pushed-requires : goal.take-enter-pushed-requires
-take-enter-pushed-requires t c = asks_enter _ _ _ _ _ c.requires
+pub take-enter-requires : goal.take-enter-requires
+take-enter-requires t c = asks_enter _ _ _ _ _ c.requires
 
 pub take-shape_of-w-in_default : goal.take-shape_of-w-in_default
-take-shape_of-w-in_default t c = c.enter-pushed.ensures.len
+take-shape_of-w-in_default t c = c.enter.ensures.len
 
 pub take-returns-in_default : goal.take-returns-in_default
-take-returns-in_default t c = takes_clash _ _ _ _ _ _ _ c.enter-pushed.ensures
+take-returns-in_default t c = takes_clash _ _ _ _ _ _ _ c.enter.ensures
     c.requires c.in_default.is
 
 pub take-descend-inner-requires : goal.take-descend-inner-requires
 take-descend-inner-requires t c =
-    let old : _ × (_ × _) = take_opens _ _ _ _ _ _ _ c.enter-pushed.ensures
+    let old : _ × (_ × _) = take_opens _ _ _ _ _ _ _ c.enter.ensures
     c.requires _
-    c.in-In.is in record { g_bound = old.0; g_bound_2 = old.1.0; fact = old.1.1 }
+    c.in-Some.is in record { g_bound = old.0; g_bound_2 = old.1.0; fact = old.1.1 }
 
 pub take-resume-found-requires : goal.take-resume-found-requires
 take-resume-found-requires t c = (
   let h =
-      take_falls _ _ _ _ _ _ _ c.enter-pushed.ensures
+      take_falls _ _ _ _ _ _ _ c.enter.ensures
       c.requires _
-      c.in-In.is _ c.descend-inner.ensures in
+      c.in-Some.is _ c.descend-inner.ensures in
       omega arith,
-  take_asks _ _ _ _ _ _ _ c.enter-pushed.ensures
+  take_asks _ _ _ _ _ _ _ c.enter.ensures
       c.requires _
-      c.in-In.is _ c.descend-inner.ensures,
+      c.in-Some.is _ c.descend-inner.ensures,
 )
 
 pub take-back-requires : goal.take-back-requires
 take-back-requires t c = take_back _ _ _ _ _ _ _
-    c.enter-pushed.ensures
-    c.requires _ c.in-In.is _
+    c.enter.ensures
+    c.requires _ c.in-Some.is _
     c.descend-inner.ensures _ _ c.resume-found.ensures
 
 pub take-note-requires-2 : goal.take-note-requires-2
 take-note-requires-2 t c = take_notes _ _ _ _ _ _ _
-    c.enter-pushed.ensures c.requires _
-    c.in-In.is _
+    c.enter.ensures c.requires _
+    c.in-Some.is _
     c.descend-inner.ensures _ _
     c.resume-found.ensures _ c.back.ensures
 
 pub take-shape_of-w : goal.take-shape_of-w
 take-shape_of-w t c = c.note-2.ensures.len ∙ c.back.ensures.len
     ∙ c.resume-found.ensures.moved.len
-    ∙ c.enter-pushed.ensures.len
+    ∙ c.enter.ensures.len
 
 pub take-returns : goal.take-returns
 take-returns t c = takes_found _ _ _ _ _ _ _
-    c.enter-pushed.ensures
+    c.enter.ensures
     c.requires _
-    c.in-In.is _ c.descend-inner.ensures _ _
+    c.in-Some.is _ c.descend-inner.ensures _ _
     c.resume-found.ensures _
     c.back.ensures _ c.note-2.ensures

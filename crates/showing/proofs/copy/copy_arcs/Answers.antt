@@ -2,73 +2,68 @@
 -- Assumes nothing.
 use Prim.Native.Nat.{◌+◌}
 use native.Mathlib.Omega.{arith}
+use native.Mathlib.Nat.{sub-zero, sub-add-eq}
 use lib.ListN.{length-set}
 use Rattle.area.specs.Map.{RESULT}
 use Rattle.showing.proofs.Nodes.{arcs_start, arcs_done, arcs_same, arcs_here, arcs_above, arcs_on}
 use Rattle.showing.proofs.copy.copy_arcs.Goals as goal
 
-pub loop-left-init : goal.loop-left-init
-loop-left-init c = λ d. arcs_start _ _ _ _ _ d
+pub loop-init : goal.loop-init
+loop-init c = λ d. rw sub-zero (arcs_start _ _ _ _ _ d)
 
 pub word_at-feature-requires : goal.word_at-feature-requires
-word_at-feature-requires c = let v = c.loop-left.invariant c.requires in
+word_at-feature-requires c = let v = c.loop.invariant c.requires in
     let h = arcs_here _ _ _ _ _ c.requires _ _ _ _ v (omega arith) in let x = h.0 in (omega arith, h.2)
 
 pub overflow_add-at : goal.overflow_add-at
-overflow_add-at c = let v = c.loop-left.invariant c.requires in
+overflow_add-at c = let v = c.loop.invariant c.requires in
     let h = arcs_here _ _ _ _ _ c.requires _ _ _ _ v (omega arith) in let x = h.0 in omega arith
 
 pub word_at-target-requires : goal.word_at-target-requires
-word_at-target-requires c = let v = c.loop-left.invariant c.requires in let h = arcs_here _ _ _ _ _ c.requires _ _ _ _ v (omega arith) in (h.0, h.2)
+word_at-target-requires c = let v = c.loop.invariant c.requires in let h = arcs_here _ _ _ _ _ c.requires _ _ _ _ v (omega arith) in (h.0, h.2)
 
 pub overflow_add-w : goal.overflow_add-w
-overflow_add-w c = let v = c.loop-left.invariant c.requires in let h = arcs_here _ _ _ _ _ c.requires _ _ _ _ v (omega arith) in let x = h.1 in omega arith
+overflow_add-w c = let v = c.loop.invariant c.requires in let h = arcs_here _ _ _ _ _ c.requires _ _ _ _ v (omega arith) in let x = h.1 in omega arith
 
 pub offset_bounds-w-out : goal.offset_bounds-w-out
-offset_bounds-w-out c = let v = c.loop-left.invariant c.requires in let h = arcs_here _ _ _ _ _ c.requires _ _ _ _ v (omega arith) in let x = h.1 in omega arith
+offset_bounds-w-out c = let v = c.loop.invariant c.requires in let h = arcs_here _ _ _ _ _ c.requires _ _ _ _ v (omega arith) in let x = h.1 in omega arith
 
 pub bounds-w-out : goal.bounds-w-out
-bounds-w-out c = let v = c.loop-left.invariant c.requires in let h = arcs_here _ _ _ _ _ c.requires _ _ _ _ v (omega arith) in let x = h.1 in let y = h.2 in omega arith
+bounds-w-out c = let v = c.loop.invariant c.requires in let h = arcs_here _ _ _ _ _ c.requires _ _ _ _ v (omega arith) in let x = h.1 in let y = h.2 in omega arith
 
 pub overflow_sub-w : goal.overflow_sub-w
-overflow_sub-w c = let v = c.loop-left.invariant c.requires in let h = arcs_here _ _ _ _ _ c.requires _ _ _ _ v (omega arith) in
+overflow_sub-w c = let v = c.loop.invariant c.requires in let h = arcs_here _ _ _ _ _ c.requires _ _ _ _ v (omega arith) in
     let a = arcs_above _ _ _ _ _ c.requires _ _ _ _ v (omega arith) _ _ c.word_at-feature.ensures c.word_at-target.ensures in omega arith
 
-pub overflow_add-w-in-loop-left : goal.overflow_add-w-in-loop-left
-overflow_add-w-in-loop-left c = let v = c.loop-left.invariant c.requires in let h = arcs_here _ _ _ _ _ c.requires _ _ _ _ v (omega arith) in let x = h.1 in omega arith
+pub overflow_add-w-in-loop : goal.overflow_add-w-in-loop
+overflow_add-w-in-loop c = let v = c.loop.invariant c.requires in let h = arcs_here _ _ _ _ _ c.requires _ _ _ _ v (omega arith) in let x = h.1 in omega arith
 
-pub overflow_add-w-in-loop-left-2 : goal.overflow_add-w-in-loop-left-2
-overflow_add-w-in-loop-left-2 c = let v = c.loop-left.invariant c.requires in let h = arcs_here _ _ _ _ _ c.requires _ _ _ _ v (omega arith) in let x = h.1 in omega arith
+pub overflow_add-w-in-loop-2 : goal.overflow_add-w-in-loop-2
+overflow_add-w-in-loop-2 c = let v = c.loop.invariant c.requires in let h = arcs_here _ _ _ _ _ c.requires _ _ _ _ v (omega arith) in let x = h.1 in omega arith
 
-pub offset_bounds-w-out-in-loop-left : goal.offset_bounds-w-out-in-loop-left
-offset_bounds-w-out-in-loop-left c = let v = c.loop-left.invariant c.requires in let h = arcs_here _ _ _ _ _ c.requires _ _ _ _ v (omega arith) in let x = h.1 in omega arith
+pub offset_bounds-w-out-in-loop : goal.offset_bounds-w-out-in-loop
+offset_bounds-w-out-in-loop c = let v = c.loop.invariant c.requires in let h = arcs_here _ _ _ _ _ c.requires _ _ _ _ v (omega arith) in let x = h.1 in omega arith
 
-pub bounds-w-out-in-loop-left : goal.bounds-w-out-in-loop-left
-bounds-w-out-in-loop-left c = let v = c.loop-left.invariant c.requires in let h = arcs_here _ _ _ _ _ c.requires _ _ _ _ v (omega arith) in let x = h.1 in let y = h.2 in
+pub bounds-w-out-in-loop : goal.bounds-w-out-in-loop
+bounds-w-out-in-loop c = let v = c.loop.invariant c.requires in let h = arcs_here _ _ _ _ _ c.requires _ _ _ _ v (omega arith) in let x = h.1 in let y = h.2 in
     omega (
       arith,
-      length-set c.loop-left.w
-          (RESULT + c.loop-left.out) c.word_at-feature.result,
+      length-set c.loop.w
+          (RESULT + c.loop.out) c.word_at-feature.result,
     )
 
-pub overflow_add-at-in-loop-left : goal.overflow_add-at-in-loop-left
-overflow_add-at-in-loop-left c = let v = c.loop-left.invariant c.requires in let h = arcs_here _ _ _ _ _ c.requires _ _ _ _ v (omega arith) in let x = h.0 in omega arith
+pub overflow_add-at-in-loop : goal.overflow_add-at-in-loop
+overflow_add-at-in-loop c = let v = c.loop.invariant c.requires in let h = arcs_here _ _ _ _ _ c.requires _ _ _ _ v (omega arith) in let x = h.0 in omega arith
 
 pub overflow_add-out : goal.overflow_add-out
-overflow_add-out c = let v = c.loop-left.invariant c.requires in let h = arcs_here _ _ _ _ _ c.requires _ _ _ _ v (omega arith) in let x = h.1 in omega arith
+overflow_add-out c = let v = c.loop.invariant c.requires in let h = arcs_here _ _ _ _ _ c.requires _ _ _ _ v (omega arith) in let x = h.1 in omega arith
 
-pub overflow_sub-left : goal.overflow_sub-left
-overflow_sub-left c = omega arith
-
-pub loop-left-smaller : goal.loop-left-smaller
-loop-left-smaller c = omega arith
-
-pub loop-left-preserved : goal.loop-left-preserved
-loop-left-preserved c = λ d. arcs_on _ _ _ _ _ d _ _ _ _ (c.loop-left.invariant d) (omega arith) _ _
-    c.word_at-feature.ensures c.word_at-target.ensures
+pub loop-preserved : goal.loop-preserved
+loop-preserved c = λ d. rw sub-add-eq (arcs_on _ _ _ _ _ d _ _ _ _ (c.loop.invariant d) (omega arith) _ _
+    c.word_at-feature.ensures c.word_at-target.ensures)
 
 pub shape_of-w : goal.shape_of-w
-shape_of-w c = arcs_same _ _ _ _ _ c.requires _ _ _ _ (c.loop-left.invariant c.requires)
+shape_of-w c = arcs_same _ _ _ _ _ c.requires _ _ _ _ (c.loop.invariant c.requires)
 
 pub returns : goal.returns
-returns c = λ d. arcs_done _ _ _ _ _ d _ _ _ _ (c.loop-left.invariant d) (omega arith)
+returns c = λ d. arcs_done _ _ _ _ _ d _ _ _ _ (c.loop.invariant d) (omega arith)

@@ -1,35 +1,30 @@
 -- `showing::copy::copy_nodes` meets its contract: what is left to copy goes on to the whole.
 -- Assumes nothing.
 use native.Mathlib.Omega.{arith}
+use native.Mathlib.Nat.{sub-zero, sub-add-eq}
 use Rattle.showing.proofs.Copying.{nodes_start, nodes_done, nodes_same, nodes_asks, nodes_near, nodes_on}
 use Rattle.showing.proofs.copy.copy_nodes.Goals as goal
 
-pub loop-left-init : goal.loop-left-init
-loop-left-init c = λ d. nodes_start _ _ _ _ _ d
+pub loop-init : goal.loop-init
+loop-init c = λ d. rw sub-zero (nodes_start _ _ _ _ _ d)
 
 pub copy_node-end-requires : goal.copy_node-end-requires
-copy_node-end-requires c = nodes_asks _ _ _ _ _ c.requires _ _ _ _ (c.loop-left.invariant c.requires) (omega arith)
+copy_node-end-requires c = nodes_asks _ _ _ _ _ c.requires _ _ _ _ (c.loop.invariant c.requires) (omega arith)
 
 pub overflow_sub-at : goal.overflow_sub-at
-overflow_sub-at c = let h = (nodes_near _ _ _ _ _ c.requires _ _ _ _ (c.loop-left.invariant c.requires) (omega arith) _ _
+overflow_sub-at c = let h = (nodes_near _ _ _ _ _ c.requires _ _ _ _ (c.loop.invariant c.requires) (omega arith) _ _
     c.copy_node-end.ensures).0 in omega arith
 
 pub overflow_add-at : goal.overflow_add-at
-overflow_add-at c = let h = (nodes_near _ _ _ _ _ c.requires _ _ _ _ (c.loop-left.invariant c.requires) (omega arith) _ _
+overflow_add-at c = let h = (nodes_near _ _ _ _ _ c.requires _ _ _ _ (c.loop.invariant c.requires) (omega arith) _ _
     c.copy_node-end.ensures).1 in omega arith
 
-pub overflow_sub-left : goal.overflow_sub-left
-overflow_sub-left c = omega arith
-
-pub loop-left-smaller : goal.loop-left-smaller
-loop-left-smaller c = omega arith
-
-pub loop-left-preserved : goal.loop-left-preserved
-loop-left-preserved c = λ d. nodes_on _ _ _ _ _ d _ _ _ _ (c.loop-left.invariant d) (omega arith) _ _
-    c.copy_node-end.ensures
+pub loop-preserved : goal.loop-preserved
+loop-preserved c = λ d. rw sub-add-eq (nodes_on _ _ _ _ _ d _ _ _ _ (c.loop.invariant d) (omega arith) _ _
+    c.copy_node-end.ensures)
 
 pub shape_of-w : goal.shape_of-w
-shape_of-w c = nodes_same _ _ _ _ _ c.requires _ _ _ _ (c.loop-left.invariant c.requires)
+shape_of-w c = nodes_same _ _ _ _ _ c.requires _ _ _ _ (c.loop.invariant c.requires)
 
 pub returns : goal.returns
-returns c = λ d. nodes_done _ _ _ _ _ d _ _ _ _ (c.loop-left.invariant d) (omega arith)
+returns c = λ d. nodes_done _ _ _ _ _ d _ _ _ _ (c.loop.invariant d) (omega arith)

@@ -1,6 +1,7 @@
 -- `showing::lone::lone` meets its contract: what is left to look at goes on to the whole.
 -- Assumes nothing.
 use native.Mathlib.Omega.{arith}
+use native.Mathlib.Nat.{sub-zero, sub-add-eq}
 use mathlib.Core.Path.{◌≡◌}
 use Prim.Native.Nat.{ℕ}
 use Rattle.showing.proofs.Looking.{look_reads, look_start, look_done, look_here, look_counts, look_on}
@@ -16,30 +17,24 @@ disjunctions_at-more-requires c =
 pub overflow_add-at : goal.overflow_add-at
 overflow_add-at c = let h = (look_reads _ _ _ c.requires.1).1 in omega arith
 
-pub loop-more-init : goal.loop-more-init
-loop-more-init c = λ left d. look_start _ _ _ d _ _ c.tail_at-e.ensures c.disjunctions_at-more.ensures
+pub loop-init : goal.loop-init
+loop-init c = λ left d. rw sub-zero (look_start _ _ _ d _ _ c.tail_at-e.ensures c.disjunctions_at-more.ensures)
 
 pub alternatives_at-of-requires : goal.alternatives_at-of-requires
-alternatives_at-of-requires c = (look_here _ _ _ c.requires.1 _ _ (c.loop-more.invariant _ c.requires.1) (omega arith), c.requires.1.room)
+alternatives_at-of-requires c = (look_here _ _ _ c.requires.1 _ _ (c.loop.invariant _ c.requires.1) (omega arith), c.requires.1.room)
 
-pub overflow_add-at-in-loop-more : goal.overflow_add-at-in-loop-more
-overflow_add-at-in-loop-more c = let h = look_here _ _ _ c.requires.1 _ _ (c.loop-more.invariant _ c.requires.1) (omega arith) in omega arith
+pub overflow_add-at-in-loop : goal.overflow_add-at-in-loop
+overflow_add-at-in-loop c = let h = look_here _ _ _ c.requires.1 _ _ (c.loop.invariant _ c.requires.1) (omega arith) in omega arith
 
 pub count_kept-tally-requires : goal.count_kept-tally-requires
-count_kept-tally-requires c = look_counts _ _ _ c.requires.1 _ _ (c.loop-more.invariant _ c.requires.1) (omega arith) _ c.alternatives_at-of.ensures
+count_kept-tally-requires c = look_counts _ _ _ c.requires.1 _ _ (c.loop.invariant _ c.requires.1) (omega arith) _ c.alternatives_at-of.ensures
 
 pub returns-in-One : goal.returns-in-One
 returns-in-One c = λ left d e. let z : ◌≡◌ {A = ℕ} 0 1 = cc in absurd (omega arith)
 
-pub overflow_sub-more : goal.overflow_sub-more
-overflow_sub-more c = omega arith
-
-pub loop-more-smaller : goal.loop-more-smaller
-loop-more-smaller c = omega arith
-
-pub loop-more-preserved : goal.loop-more-preserved
-loop-more-preserved c = λ left d. look_on _ _ _ d _ _ (c.loop-more.invariant left d) (omega arith) _
-    c.alternatives_at-of.ensures _ _ c.count_kept-tally.ensures c.in_default.not-One
+pub loop-preserved : goal.loop-preserved
+loop-preserved c = λ left d. rw sub-add-eq (look_on _ _ _ d _ _ (c.loop.invariant left d) (omega arith) _
+    c.alternatives_at-of.ensures _ _ c.count_kept-tally.ensures c.in_default.not-One)
 
 pub returns : goal.returns
-returns c = λ left d e. look_done _ _ _ d _ _ (c.loop-more.invariant left d) (omega arith)
+returns c = λ left d e. look_done _ _ _ d _ _ (c.loop.invariant left d) (omega arith)

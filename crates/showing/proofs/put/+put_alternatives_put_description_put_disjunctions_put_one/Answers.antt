@@ -3,6 +3,7 @@
 -- Assumes nothing.
 use Prim.Native.Nat.{ℕ}
 use native.Mathlib.Omega.{arith}
+use native.Mathlib.Nat.{sub-zero, sub-add-eq}
 use mathlib.Core.Path.{◌≡◌}
 use mathlib.Core.Logic.{◌⊎◌, inl, inr, ⊎_elim}
 use Rattle.marks.specs.declared.tally.Remnant.TheVariants.{Nothing, Several}
@@ -17,18 +18,18 @@ use Rattle.showing.proofs.put.+put_alternatives_put_description_put_disjunctions
 use Rattle.showing.proofs.put.+put_alternatives_put_description_put_disjunctions_put_one.Goals as goal
 use Rattle.showing.proofs.put.+put_alternatives_put_description_put_disjunctions_put_one.Goals.{put_alternatives-then-kept, put_alternatives-else-kept, put_one-in-Nothing, put_one-in-Several}
 
-pub put_alternatives-loop-rest-init : goal.put_alternatives-loop-rest-init
-put_alternatives-loop-rest-init t c = λ d. offer_start _ _ _ _ _ _ d
+pub put_alternatives-loop-init : goal.put_alternatives-loop-init
+put_alternatives-loop-init t c = λ d. rw sub-zero (offer_start _ _ _ _ _ _ d)
 
 pub put_alternatives-mark_at-x-requires : goal.put_alternatives-mark_at-x-requires
-put_alternatives-mark_at-x-requires t c = let v = c.loop-rest.invariant c.requires in
+put_alternatives-mark_at-x-requires t c = let v = c.loop.invariant c.requires in
     let old : _ × _ = offer_here _ _ _ _ _ _ c.requires _ _ _ _ v (omega arith) in record { p_bound = old.0; p_bound_2 = old.1 }
 
 pub put_alternatives-kept-requires : goal.put_alternatives-kept-requires
-put_alternatives-kept-requires t c = (c.mark_at-x.ensures.1, offer_long _ _ _ _ _ _ c.requires _ _ _ _ (c.loop-rest.invariant c.requires))
+put_alternatives-kept-requires t c = (c.mark_at-x.ensures.1, offer_long _ _ _ _ _ _ c.requires _ _ _ _ (c.loop.invariant c.requires))
 
 pub put_alternatives-put_description-out-requires : goal.put_alternatives-put_description-out-requires
-put_alternatives-put_description-out-requires t c = let v = c.loop-rest.invariant c.requires in (
+put_alternatives-put_description-out-requires t c = let v = c.loop.invariant c.requires in (
   omega (arith, c.decreases),
   offer_asks _ _ _ _ _ _ c.requires _ _ _ _ v (omega arith) _ c.mark_at-x.ensures (cc),
 )
@@ -36,36 +37,30 @@ put_alternatives-put_description-out-requires t c = let v = c.loop-rest.invarian
 pub put_alternatives-after_at-at-requires : goal.put_alternatives-after_at-at-requires
 put_alternatives-after_at-at-requires t c =
     let turned : Turn c.args.n
-    c.loop-rest.w c.loop-rest.at
+    c.loop.w c.loop.at
     c.mark_at-x.result c.args.left
-    c.loop-rest.out c.if-kept.out c.if-kept.w = elim c.if-kept.branch [
+    c.loop.out c.if-kept.out c.if-kept.w = elim c.if-kept.branch [
       | put_alternatives-then-kept u ↦ taken _ _ (cc) u.put_description-out.ensures u.w-is u.out-is
       | put_alternatives-else-kept u ↦ skipped (cc) u.w-is u.out-is
-    ] in let v = c.loop-rest.invariant c.requires in
+    ] in let v = c.loop.invariant c.requires in
     let old : _ × _ = turn_inside _ _ _ _ _ _ c.requires _ _ _ _ v (omega arith) _ c.mark_at-x.ensures _ _ (turned) in record { p_bound = old.0; p_bound_2 = old.1 }
 
-pub put_alternatives-overflow_sub-rest : goal.put_alternatives-overflow_sub-rest
-put_alternatives-overflow_sub-rest t c = omega arith
-
-pub put_alternatives-loop-rest-smaller : goal.put_alternatives-loop-rest-smaller
-put_alternatives-loop-rest-smaller t c = omega arith
-
-pub put_alternatives-loop-rest-preserved : goal.put_alternatives-loop-rest-preserved
-put_alternatives-loop-rest-preserved t c =
+pub put_alternatives-loop-preserved : goal.put_alternatives-loop-preserved
+put_alternatives-loop-preserved t c =
     let turned : Turn c.args.n
-    c.loop-rest.w c.loop-rest.at
+    c.loop.w c.loop.at
     c.mark_at-x.result c.args.left
-    c.loop-rest.out c.if-kept.out c.if-kept.w = elim c.if-kept.branch [
+    c.loop.out c.if-kept.out c.if-kept.w = elim c.if-kept.branch [
       | put_alternatives-then-kept u ↦ taken _ _ (cc) u.put_description-out.ensures u.w-is u.out-is
       | put_alternatives-else-kept u ↦ skipped (cc) u.w-is u.out-is
-    ] in λ d. turn_on _ _ _ _ _ _ d _ _ _ _ (c.loop-rest.invariant d) (omega arith) _
-    c.mark_at-x.ensures _ _ (turned) _ c.after_at-at.ensures
+    ] in λ d. rw sub-add-eq (turn_on _ _ _ _ _ _ d _ _ _ _ (c.loop.invariant d) (omega arith) _
+    c.mark_at-x.ensures _ _ (turned) _ c.after_at-at.ensures)
 
 pub put_alternatives-shape_of-w : goal.put_alternatives-shape_of-w
-put_alternatives-shape_of-w t c = offer_same _ _ _ _ _ _ c.requires _ _ _ _ (c.loop-rest.invariant c.requires)
+put_alternatives-shape_of-w t c = offer_same _ _ _ _ _ _ c.requires _ _ _ _ (c.loop.invariant c.requires)
 
 pub put_alternatives-returns : goal.put_alternatives-returns
-put_alternatives-returns t c = λ d. offer_done _ _ _ _ _ _ d _ _ _ _ (c.loop-rest.invariant d) (omega arith)
+put_alternatives-returns t c = λ d. offer_done _ _ _ _ _ _ d _ _ _ _ (c.loop.invariant d) (omega arith)
 
 pub put_description-put_graph-e-requires : goal.put_description-put_graph-e-requires
 put_description-put_graph-e-requires t c = c.requires
@@ -125,46 +120,40 @@ put_disjunctions-disjunctions_at-more-requires t c = (
 pub put_disjunctions-overflow_add-at : goal.put_disjunctions-overflow_add-at
 put_disjunctions-overflow_add-at t c = let h = (go_reads _ _ _ _ _ c.requires).1 in omega arith
 
-pub put_disjunctions-loop-more-init : goal.put_disjunctions-loop-more-init
-put_disjunctions-loop-more-init t c = λ d. go_start _ _ _ _ _ d _ _ c.tail_at-e.ensures c.disjunctions_at-more.ensures
+pub put_disjunctions-loop-init : goal.put_disjunctions-loop-init
+put_disjunctions-loop-init t c = λ d. rw sub-zero (go_start _ _ _ _ _ d _ _ c.tail_at-e.ensures c.disjunctions_at-more.ensures)
 
 pub put_disjunctions-alternatives_at-of-requires : goal.put_disjunctions-alternatives_at-of-requires
-put_disjunctions-alternatives_at-of-requires t c = let v = c.loop-more.invariant c.requires in (go_here _ _ _ _ _ c.requires _ _ _ _ _ v (omega arith), (go_small _ _ _ _ _ c.requires _ _ _ _ _ v).1)
+put_disjunctions-alternatives_at-of-requires t c = let v = c.loop.invariant c.requires in (go_here _ _ _ _ _ c.requires _ _ _ _ _ v (omega arith), (go_small _ _ _ _ _ c.requires _ _ _ _ _ v).1)
 
-pub put_disjunctions-overflow_add-at-in-loop-more : goal.put_disjunctions-overflow_add-at-in-loop-more
-put_disjunctions-overflow_add-at-in-loop-more t c = let v = c.loop-more.invariant c.requires in let h = go_here _ _ _ _ _ c.requires _ _ _ _ _ v (omega arith) in omega arith
+pub put_disjunctions-overflow_add-at-in-loop : goal.put_disjunctions-overflow_add-at-in-loop
+put_disjunctions-overflow_add-at-in-loop t c = let v = c.loop.invariant c.requires in let h = go_here _ _ _ _ _ c.requires _ _ _ _ _ v (omega arith) in omega arith
 
 pub put_disjunctions-overflow_sub-left : goal.put_disjunctions-overflow_sub-left
-put_disjunctions-overflow_sub-left t c = let v = c.loop-more.invariant c.requires in let h = go_deep _ _ _ _ _ c.requires _ _ _ _ _ v (omega arith) in omega arith
+put_disjunctions-overflow_sub-left t c = let v = c.loop.invariant c.requires in let h = go_deep _ _ _ _ _ c.requires _ _ _ _ _ v (omega arith) in omega arith
 
 pub put_disjunctions-put_one-one-requires : goal.put_disjunctions-put_one-one-requires
-put_disjunctions-put_one-one-requires t c = let v = c.loop-more.invariant c.requires in (
+put_disjunctions-put_one-one-requires t c = let v = c.loop.invariant c.requires in (
   let h = go_deep _ _ _ _ _ c.requires _ _ _ _ _ v (omega arith) in
       omega (arith, c.decreases),
   go_asks _ _ _ _ _ c.requires _ _ _ _ _ v (omega arith) _ c.alternatives_at-of.ensures,
 )
 
 pub put_disjunctions-overflow_add-count : goal.put_disjunctions-overflow_add-count
-put_disjunctions-overflow_add-count t c = let v = c.loop-more.invariant c.requires in
+put_disjunctions-overflow_add-count t c = let v = c.loop.invariant c.requires in
     let a = (go_small _ _ _ _ _ c.requires _ _ _ _ _ v).0 in
     let b = go_few _ _ _ _ _ c.requires _ _ _ _ _ v (omega arith) _ c.alternatives_at-of.ensures _ _ _ _
     c.put_one-one.ensures in omega arith
 
-pub put_disjunctions-overflow_sub-more : goal.put_disjunctions-overflow_sub-more
-put_disjunctions-overflow_sub-more t c = omega arith
-
-pub put_disjunctions-loop-more-smaller : goal.put_disjunctions-loop-more-smaller
-put_disjunctions-loop-more-smaller t c = omega arith
-
-pub put_disjunctions-loop-more-preserved : goal.put_disjunctions-loop-more-preserved
-put_disjunctions-loop-more-preserved t c = λ d. go_on _ _ _ _ _ d _ _ _ _ _ (c.loop-more.invariant d) (omega arith) _
-    c.alternatives_at-of.ensures _ _ _ _ c.put_one-one.ensures
+pub put_disjunctions-loop-preserved : goal.put_disjunctions-loop-preserved
+put_disjunctions-loop-preserved t c = λ d. rw sub-add-eq (go_on _ _ _ _ _ d _ _ _ _ _ (c.loop.invariant d) (omega arith) _
+    c.alternatives_at-of.ensures _ _ _ _ c.put_one-one.ensures)
 
 pub put_disjunctions-shape_of-w : goal.put_disjunctions-shape_of-w
-put_disjunctions-shape_of-w t c = go_same _ _ _ _ _ c.requires _ _ _ _ _ (c.loop-more.invariant c.requires)
+put_disjunctions-shape_of-w t c = go_same _ _ _ _ _ c.requires _ _ _ _ _ (c.loop.invariant c.requires)
 
 pub put_disjunctions-returns : goal.put_disjunctions-returns
-put_disjunctions-returns t c = λ d. go_done _ _ _ _ _ d _ _ _ _ _ (c.loop-more.invariant d) (omega arith)
+put_disjunctions-returns t c = λ d. go_done _ _ _ _ _ d _ _ _ _ _ (c.loop.invariant d) (omega arith)
 
 pub put_one-count_kept-tally-requires : goal.put_one-count_kept-tally-requires
 put_one-count_kept-tally-requires t c = vary_counts _ _ _ _ _ _ c.requires

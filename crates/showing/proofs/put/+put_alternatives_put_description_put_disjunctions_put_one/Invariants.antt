@@ -1,3 +1,4 @@
+use Prim.Native.Nat.{◌-◌}
 use Prim.Native.Nat.{◌+◌, ◌*◌}
 use Rattle.showing.specs.Putting.{Disjoining, Offering}
 use Rattle.showing.proofs.Disjoining as disjoining
@@ -17,16 +18,10 @@ decreases-put_disjunctions l = 4 * l.left
 abbrev pub decreases-put_one : goal.decreases-put_one
 decreases-put_one l = 4 * l.left + 3
 
-abbrev pub invariant-put_alternatives-loop-rest : goal.invariant-put_alternatives-loop-rest
-invariant-put_alternatives-loop-rest l = (d : Offering l.n l.initial.w l.p l.of l.left l.o) →
-    offering.Going l.n l.initial.w l.p l.of l.left l.o d l.rest l.at l.out l.w
+abbrev pub invariant-put_alternatives-loop : goal.invariant-put_alternatives-loop
+invariant-put_alternatives-loop l = (d : Offering l.n l.initial.w l.p l.of l.left l.o) →
+    offering.Going l.n l.initial.w l.p l.of l.left l.o d (l.of - l.counter) l.at l.out l.w
 
-abbrev pub decreases-put_alternatives-loop-rest : goal.decreases-put_alternatives-loop-rest
-decreases-put_alternatives-loop-rest l = l.rest
-
-abbrev pub invariant-put_disjunctions-loop-more : goal.invariant-put_disjunctions-loop-more
-invariant-put_disjunctions-loop-more l = (d : Disjoining l.n l.initial.w l.g l.left l.o) →
-    disjoining.Going l.n l.initial.w l.g l.left l.o d l.more l.at l.out l.count l.w
-
-abbrev pub decreases-put_disjunctions-loop-more : goal.decreases-put_disjunctions-loop-more
-decreases-put_disjunctions-loop-more l = l.more
+abbrev pub invariant-put_disjunctions-loop : goal.invariant-put_disjunctions-loop
+invariant-put_disjunctions-loop l = (d : Disjoining l.n l.initial.w l.g l.left l.o) →
+    disjoining.Going l.n l.initial.w l.g l.left l.o d (l.more - l.counter) l.at l.out l.count l.w

@@ -1,73 +1,38 @@
 -- `translate::formula::lay_in` meets its contract.
 -- Assumes nothing.
+use Rattle.std.proofs.lemmas.Result.{err_from_is_err_and}
+use Rattle.signs.proofs.Going.{ok_or_err}
 use Rattle.laying.specs.Laying.{Tabs}
 use Rattle.laying.proofs.Along.{roomy_as}
+use Rattle.laying.proofs.Held.{tabs}
 use Rattle.translate.proofs.Trees.{lays_out, deep_told, laid_of, rows_told}
 use Rattle.translate.proofs.formula.lay_in.Goals as goal
 
-pub lay-laid-requires : goal.lay-laid-requires
-lay-laid-requires c =
-    record {
-      lays_out = lays_out c.requires.tree_marked.0 c.args.signs.now c.args.n c.args.flagged c.requires.tree_marked.1;
-      roomy = c.requires.roomy;
-    }
+pub lay-laid-requires-clause-lays_out : goal.lay-laid-requires-clause-lays_out
+lay-laid-requires-clause-lays_out c = lays_out _ _ _ _ c.requires.tree_marked.1
+
+pub returns-in_err-rows : goal.returns-in_err-rows
+returns-in_err-rows c =
+    let p = err_from_is_err_and c.from_residual.result c.from_residual.ensures.1 in
+    let none = c.in_err-rows.ensures.ok_part in
+    λ φ marked. rw (p.1, p.2, ok_or_err c.lay-laid.result _ _ none c.in_err-rows.ensures.value)
+    (deep_told φ _ _ _ marked _ c.lay-laid.result c.lay-laid.ensures none _)
 
 pub settle_rows-requires : goal.settle_rows-requires
 settle_rows-requires c =
-    let T : Tabs = record {
-      arcs = c.lay-laid.new.arcs;
-      atoms = c.lay-laid.new.atoms;
-      ties = c.lay-laid.new.ties;
-      alts = c.lay-laid.new.alts;
-      frames = c.lay-laid.new.frames;
-    } in
-    let old : Tabs = record {
-      arcs = c.args.arcs.now;
-      atoms = c.args.atoms.now;
-      ties = c.args.ties.now;
-      alts = c.args.alts.now;
-      frames = c.args.frames.now;
-    } in
-    let room = roomy_as old T c.requires.roomy c.lay-laid.auto.arcs c.lay-laid.auto.atoms c.lay-laid.auto.ties
-    c.lay-laid.auto.alts c.lay-laid.auto.frames in (
+    let old : Tabs = tabs c.args.arcs.now c.args.atoms.now c.args.ties.now c.args.alts.now c.args.frames.now in (
       c.requires.tree_marked.0,
-      laid_of c.requires.tree_marked.0 c.args.signs.now c.args.n c.args.flagged c.requires.tree_marked.1 T c.lay-laid.result c.lay-laid.ensures c.in-Rows.a c.in-Rows.b
-          c.in-Rows.t c.in-Rows.k c.in-Rows.is room,
+      laid_of _ _ _ _ c.requires.tree_marked.1 _ c.lay-laid.result c.lay-laid.ensures _ c.in_ok-rows.ensures.ok_part
+          (roomy_as old _ c.requires.roomy c.lay-laid.auto.arcs c.lay-laid.auto.atoms c.lay-laid.auto.ties c.lay-laid.auto.alts
+          c.lay-laid.auto.frames),
     )
 
-pub returns-in-TooDeep : goal.returns-in-TooDeep
-returns-in-TooDeep c =
-    let T : Tabs = record {
-      arcs = c.lay-laid.new.arcs;
-      atoms = c.lay-laid.new.atoms;
-      ties = c.lay-laid.new.ties;
-      alts = c.lay-laid.new.alts;
-      frames = c.lay-laid.new.frames;
-    } in
-    λ φ marked. deep_told φ c.args.signs.now c.args.n c.args.flagged marked T c.lay-laid.result c.lay-laid.ensures c.in-TooDeep.is
-    c.args.res.now
-
-pub returns-in-Rows : goal.returns-in-Rows
-returns-in-Rows c =
-    let T : Tabs = record {
-      arcs = c.lay-laid.new.arcs;
-      atoms = c.lay-laid.new.atoms;
-      ties = c.lay-laid.new.ties;
-      alts = c.lay-laid.new.alts;
-      frames = c.lay-laid.new.frames;
-    } in
-    let old : Tabs = record {
-      arcs = c.args.arcs.now;
-      atoms = c.args.atoms.now;
-      ties = c.args.ties.now;
-      alts = c.args.alts.now;
-      frames = c.args.frames.now;
-    } in
-    let room = roomy_as old T c.requires.roomy c.lay-laid.auto.arcs c.lay-laid.auto.atoms c.lay-laid.auto.ties
-    c.lay-laid.auto.alts c.lay-laid.auto.frames in
+pub returns : goal.returns
+returns c =
+    let old : Tabs = tabs c.args.arcs.now c.args.atoms.now c.args.ties.now c.args.alts.now c.args.frames.now in
     λ φ marked.
-    let laid = laid_of φ c.args.signs.now c.args.n c.args.flagged marked T c.lay-laid.result c.lay-laid.ensures c.in-Rows.a c.in-Rows.b
-    c.in-Rows.t c.in-Rows.k c.in-Rows.is room in
-    rows_told φ c.args.signs.now c.args.n c.args.flagged marked T c.lay-laid.result c.lay-laid.ensures c.in-Rows.a c.in-Rows.b
-    c.in-Rows.t c.in-Rows.k c.in-Rows.is c.args.res.now c.settle_rows.result c.settle_rows.new.res
-    (c.settle_rows.ensures φ laid)
+    let some = c.in_ok-rows.ensures.ok_part in
+    let laid = laid_of φ _ _ _ marked _ c.lay-laid.result c.lay-laid.ensures _ some
+    (roomy_as old (tabs c.lay-laid.new.arcs c.lay-laid.new.atoms c.lay-laid.new.ties c.lay-laid.new.alts c.lay-laid.new.frames)
+    c.requires.roomy c.lay-laid.auto.arcs c.lay-laid.auto.atoms c.lay-laid.auto.ties c.lay-laid.auto.alts c.lay-laid.auto.frames) in
+    rows_told φ _ _ _ marked _ c.lay-laid.result c.lay-laid.ensures _ some _ c.settle_rows.result _ (c.settle_rows.ensures φ laid)

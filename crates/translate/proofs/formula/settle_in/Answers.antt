@@ -2,31 +2,28 @@
 -- Assumes nothing.
 use mathlib.Core.Path.{◌∙◌}
 use native.Mathlib.Omega.{arith}
-use Rattle.translate.proofs.Settling.{settling, settling_room, settled_clash, fine_few, settled_fine}
+use Rattle.std.proofs.lemmas.Result.{err_from_is_err_and}
+use Rattle.signs.proofs.Going.{ok_or_err}
+use Rattle.translate.proofs.Settling.{settling, settled_clash, fine_few, settled_fine}
 use Rattle.translate.proofs.formula.settle_in.Goals as goal
 
-pub settle-settled-requires : goal.settle-settled-requires
-settle-settled-requires c =
-    record {
-      settling = settling c.requires.0.0 c.args.arcs.now c.args.atoms.now c.args.ties.now c.args.alts.now c.args.homes.now c.own_homes.new.homes c.requires.0.1 c.own_homes.ensures;
-      settling_room = settling_room c.requires.0.0 c.args.arcs.now c.args.atoms.now c.args.ties.now c.args.alts.now c.args.homes.now c.own_homes.new.homes c.requires.0.1 c.own_homes.ensures
-          c.args.words.now c.requires.1;
-    }
+pub settle-settled-requires-clause-settling : goal.settle-settled-requires-clause-settling
+settle-settled-requires-clause-settling c = settling _ _ _ _ _ _ _ c.requires.0.1 c.own_homes.ensures
+
+pub returns-in_err-whole : goal.returns-in_err-whole
+returns-in_err-whole c =
+    let p = err_from_is_err_and c.from_residual.result c.from_residual.ensures.1 in
+    let none = c.in_err-whole.ensures.ok_part in
+    λ φ tabled. rw (p.1, p.2, ok_or_err c.settle-settled.result _ _ none c.in_err-whole.ensures.value)
+    (settled_clash φ _ _ _ _ _ _ tabled c.own_homes.ensures _ c.settle-settled.result _ _ c.settle-settled.ensures none _)
 
 pub hand_over-requires : goal.hand_over-requires
 hand_over-requires c =
-    let few = fine_few c.requires.0.0 c.args.arcs.now c.args.atoms.now c.args.ties.now c.args.alts.now c.args.homes.now c.own_homes.new.homes c.requires.0.1
-    c.own_homes.ensures c.args.words.now c.settle-settled.result c.settle-settled.new.homes c.settle-settled.new.words c.settle-settled.ensures
-    c.in-Fine.disjunctions c.in-Fine.inner c.in-Fine.whole c.in-Fine.is in
+    let few = fine_few _ _ _ _ _ _ _ c.requires.0.1 c.own_homes.ensures _ c.settle-settled.result _ _ c.settle-settled.ensures _
+    c.in_ok-whole.ensures.ok_part in
     (c.settle-settled.ensures.kept.same ∙ c.requires.1, omega (arith, few, c.requires.1))
 
-pub returns-in-Clash : goal.returns-in-Clash
-returns-in-Clash c =
-    λ φ k. settled_clash φ c.args.arcs.now c.args.atoms.now c.args.ties.now c.args.alts.now c.args.homes.now c.own_homes.new.homes k c.own_homes.ensures c.args.words.now
-    c.settle-settled.result c.settle-settled.new.homes c.settle-settled.new.words c.settle-settled.ensures c.in-Clash.is c.args.res.now
-
-pub returns-in-Fine : goal.returns-in-Fine
-returns-in-Fine c =
-    λ φ k. settled_fine φ c.args.arcs.now c.args.atoms.now c.args.ties.now c.args.alts.now c.args.homes.now c.own_homes.new.homes k c.own_homes.ensures
-    c.args.words.now c.settle-settled.result c.settle-settled.new.homes c.settle-settled.new.words c.settle-settled.ensures c.in-Fine.disjunctions c.in-Fine.inner c.in-Fine.whole c.in-Fine.is
-    c.args.res.now c.hand_over.result c.hand_over.new.res c.hand_over.ensures
+pub returns : goal.returns
+returns c =
+    λ φ tabled. settled_fine φ _ _ _ _ _ _ tabled c.own_homes.ensures _ c.settle-settled.result _ _ c.settle-settled.ensures _
+    c.in_ok-whole.ensures.ok_part _ c.hand_over.result _ c.hand_over.ensures

@@ -9,21 +9,19 @@ use Rattle.trying.proofs.Leading.{leaves_none, leaves_more, all_agree, all_stop}
 use Rattle.trying.proofs.guess.lead_all.Goals as goal
 
 pub loop-i-init : goal.loop-i-init
-loop-i-init c = (omega arith, leaves_none _ _ _ _ _)
+loop-i-init c = leaves_none _ _ _ _ _
 
 pub returns-in_default : goal.returns-in_default
 returns-in_default c =
-    all_stop c.args.n c.args.w.now c.args.g c.args.base c.args.d c.loop-i.i c.lead-one.result (omega arith) c.loop-i.invariant.1
+    all_stop c.args.n c.args.w.now c.args.g c.args.base c.args.d c.loop-i.i c.lead-one.result (omega arith) c.loop-i.invariant
     c.lead-one.ensures c.in_default.not-Agrees
 
 pub loop-i-preserved : goal.loop-i-preserved
-loop-i-preserved c = (
-  omega arith,
-  leaves_more c.args.n c.args.w.now c.args.g c.args.base c.args.d c.loop-i.i c.loop-i.invariant.1
-      (subst (LeafTold c.args.n c.args.w.now c.args.g c.args.base c.args.d c.loop-i.i) c.in-Agrees.is c.lead-one.ensures),
-)
+loop-i-preserved c =
+    leaves_more c.args.n c.args.w.now c.args.g c.args.base c.args.d c.loop-i.i c.loop-i.invariant
+    (subst (LeafTold c.args.n c.args.w.now c.args.g c.args.base c.args.d c.loop-i.i) c.in-Agrees.is c.lead-one.ensures)
 
 pub returns : goal.returns
 returns c =
     let e : c.loop-i.i ≡ c.args.d = omega arith in
-    all_agree c.args.n c.args.w.now c.args.g c.args.base c.args.d (subst (FirstLeaves c.args.n c.args.w.now c.args.g c.args.base c.args.d) e c.loop-i.invariant.1)
+    all_agree c.args.n c.args.w.now c.args.g c.args.base c.args.d (subst (FirstLeaves c.args.n c.args.w.now c.args.g c.args.base c.args.d) e c.loop-i.invariant)
