@@ -1,10 +1,11 @@
 -- The laws of a region of the working area. Assumes nothing.
 use mathlib.Core.Path.{◌≡◌, refl, sym, ap, ◌∙◌}
-use mathlib.Core.List.{List}
-use Prim.Native.Nat.{ℕ, ◌+◌, ◌≤◌, ◌<◌}
+use mathlib.Core.List.{List, ◌++◌}
+use mathlib.Core.Logic.{◌⊎◌, ⊎_elim}
+use Prim.Native.Nat.{ℕ, ◌+◌, ◌-◌, ◌≤◌, ◌<◌}
 use native.Mathlib.Omega.{arith}
-use lib.ListN.{length, take, drop, set, get_or, length-take, length-drop}
-use lib.Seq.{ext_get_or, drop-set-add, take-set-lt, get_or-take, get_or-drop}
+use lib.ListN.{length, take, drop, set, get_or, length-take, length-drop, length-append, get_or-append}
+use lib.Seq.{ext_get_or, drop-set-add, take-set-lt, get_or-take, get_or-drop, length-take-le, take_at, drop_at, get_or-append-add}
 use Rattle.area.specs.Map.{HELD, WORDS, MARKS}
 use Rattle.area.specs.Region.{region, loaded_words}
 
@@ -48,3 +49,50 @@ words_same w w' h len same = region_ext WORDS 2048 w' w (omega arith) len (λ j 
 -- what the classes hold stands first
 pub held_at : (c : ℕ) → HELD + c ≡ c
 held_at c = omega arith
+
+-- ---- k words from p on, lent and put back
+module _ (p k : ℕ) (w : List ℕ) where
+  pub part_at : (i : ℕ) → i < k → get_or (take k (drop p w)) i 0 ≡ get_or w (p + i) 0
+  part_at i h = get_or-take k (drop p w) i 0 h ∙ get_or-drop p w i 0
+
+  pub part_long : p + k ≤ length w → length (take k (drop p w)) ≡ k
+  part_long long = simp (length-take, length-drop) (omega arith)
+
+module _ (p k : ℕ) (w t : List ℕ) (long : p + k ≤ length w) (size : length t ≡ k) where
+  abbrev pub back : List ℕ
+  back = take p w ++ (t ++ drop k (drop p w))
+
+  before : length (take p w) ≡ p
+  before = length-take-le p w (omega arith)
+
+  pub back_length : length back ≡ length w
+  back_length = omega (
+    arith,
+    length-append (take p w) (t ++ drop k (drop p w)),
+    length-append t (drop k (drop p w)),
+    before,
+    size,
+    length-drop k (drop p w),
+    length-drop p w,
+  )
+
+  pub back_part : take k (drop p back) ≡ t
+  back_part = ap (take k) (drop_at (take p w) (t ++ drop k (drop p w)) p before) ∙ take_at t (drop k (drop p w)) k size
+
+  pub back_at : (i : ℕ) → i < k → get_or back (p + i) 0 ≡ get_or t i 0
+  unfolding region
+  back_at i h = sym (getD_region p k back i h) ∙ ap (λ (s : List ℕ). get_or s i 0) back_part
+
+  after : (i : ℕ) → get_or back (p + (k + i)) 0 ≡ get_or w (p + (k + i)) 0
+  after i =
+      let a : length (take p w) + (k + i) ≡ p + (k + i) = omega (arith, before) in
+      let b : length t + i ≡ k + i = omega (arith, size) in
+      (rw a at (get_or-append-add (take p w) (t ++ drop k (drop p w)) (k + i) 0)) ∙ (rw b at (get_or-append-add t (drop k (drop p w)) i 0))
+      ∙ get_or-drop k (drop p w) i 0 ∙ get_or-drop p w (k + i) 0
+
+  pub back_rest : (j : ℕ) → p + k ≤ j → get_or back j 0 ≡ get_or w j 0
+  back_rest j h = let e : p + (k + (j - (p + k))) ≡ j = omega arith in rw e at (after (j - (p + k)))
+
+  pub back_off : (j : ℕ) → (j < p) ⊎ (p + k ≤ j) → get_or back j 0 ≡ get_or w j 0
+  back_off j o =
+      ⊎_elim (λ h. get_or-append (take p w) (t ++ drop k (drop p w)) 0 j (omega (arith, before)) ∙ get_or-take p w j 0 h) (λ h. back_rest j h) o

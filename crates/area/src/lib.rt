@@ -1,5 +1,6 @@
-// The lent working area: its map, and an undo log over its first part.
+// The lent working area: its map, clearing a part of it, and an undo log over its first part.
 #![tactic(auto)]
 
+pub mod clearing;
 pub mod log;
 pub mod map;

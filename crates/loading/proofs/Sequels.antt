@@ -1,6 +1,6 @@
 -- The kinds of things that only come one after the other, and the series of each kind: a first thing and others, or none.
 -- Assumes nothing.
-use Prim.Native.Nat.{ℕ, zero, suc, ◌+◌, ◌-◌, ◌≤◌, ◌<◌}
+use Prim.Native.Nat.{ℕ, zero, suc, ◌+◌, ◌≤◌, ◌<◌}
 use native.Mathlib.Omega.{arith}
 use native.Mathlib.Numerals.{sub-one}
 use mathlib.Core.Path.{◌≡◌, refl}
@@ -45,8 +45,8 @@ its_alternatives left k = record {
   after = λ c a. stock (c.number + nodes_any a) (c.own + alts a) (c.free + alts_any a);
 }
 
-module _ (k : ℕ) (some : 0 < k) where
-  pub arcs_step : Steps (its_arcs k) an_arc (its_arcs (k - 1))
+module _ (k k' : ℕ) (more : k ≡ suc k') where
+  pub arcs_step : Steps (its_arcs k) an_arc (its_arcs k')
   arcs_step [] f = let e = f.0 in absurd (omega arith)
   arcs_step (e ∷ l) f = let n = f.0 in
       record {
@@ -60,7 +60,7 @@ module _ (k : ℕ) (some : 0 < k) where
         few = λ c h. h;
       }
 
-  pub nodes_step : Steps (its_nodes k) a_node (its_nodes (k - 1))
+  pub nodes_step : Steps (its_nodes k) a_node (its_nodes k')
   nodes_step [] f = let e = f.0 in absurd (omega arith)
   nodes_step (v ∷ vs) f = let n = f.0 in
       record {
@@ -75,7 +75,7 @@ module _ (k : ℕ) (some : 0 < k) where
         few = λ c h. h;
       }
 
-  pub disjunctions_step : (left : ℕ) → Steps (its_disjunctions left k) (a_disjunction left) (its_disjunctions left (k - 1))
+  pub disjunctions_step : (left : ℕ) → Steps (its_disjunctions left k) (a_disjunction left) (its_disjunctions left k')
   disjunctions_step left end f = let e = f.0 in absurd (omega arith)
   disjunctions_step zero (a and ds) f = absurd f.1
   disjunctions_step (suc left) (a and ds) f = let n = f.0 in
@@ -91,7 +91,7 @@ module _ (k : ℕ) (some : 0 < k) where
         few = λ c h. let x = h.0 in let y = h.2 in (omega arith, h.1, omega arith);
       }
 
-  pub alternatives_step : (left : ℕ) → Steps (its_alternatives left k) (a_description left) (its_alternatives left (k - 1))
+  pub alternatives_step : (left : ℕ) → Steps (its_alternatives left k) (a_description left) (its_alternatives left k')
   alternatives_step left fail f = let e = f.0 in absurd (omega arith)
   alternatives_step left (d or a) f = let n = f.0 in
       record {

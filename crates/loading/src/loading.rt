@@ -3,7 +3,7 @@ ghost use Rattle.std.specs.Prelude.{◌+◌};
 ghost use Rattle.loading.specs.Loading.{its_arcs, a_node, its_nodes, a_graph, a_disjunction, a_description, Room, Asked, Loads};
 ghost use Rattle.loading.specs.Loading.{stock, node_stock, Loadable, LoadedAt};
 
-use limits::{CODE_LIMIT, DEPTH_LIMIT};
+use limits::{CODE_LIMIT, DEPTH_LIMIT, wide};
 use packing::{graph_word, tail_word};
 
 // Where a graph ends, and the number of the next node.
@@ -29,12 +29,10 @@ fn load_arcs(t: &mut [u32], ws: &[u32], p: usize, shift: usize, count: u32, numb
         (node_stock number) }
 {
     let mut at = p;
-    let mut left = count;
-    while 0 < left {
+    for _ in 0..count {
         t[shift + at] = ws[at];
         t[shift + at + 1] = ws[at + 1] + number;
         at += 2;
-        left -= 1;
     }
     at
 }
@@ -62,10 +60,8 @@ fn load_nodes(t: &mut [u32], ws: &[u32], p: usize, shift: usize, count: u32, num
         (node_stock number) }
 {
     let mut at = p;
-    let mut left = count;
-    while 0 < left {
+    for _ in 0..count {
         at = load_node(t, ws, at, shift, number);
-        left -= 1;
     }
     at
 }
@@ -108,24 +104,17 @@ fn load_description(
     let graph = load_graph(t, ws, p, shift, number);
     let q = graph.at;
     let count = ws[q];
-    let mut more = count;
-    let mut at = q + 1;
-    let mut next = graph.number;
-    let mut free = mark;
-    while 0 < more {
-        let reach = load_disjunction(t, ws, at, shift, next, free, left);
-        at = reach.at;
-        next = reach.number;
-        free = reach.mark;
-        more -= 1;
+    let mut reach = Reach {
+        at: q + 1,
+        number: graph.number,
+        mark,
+    };
+    for _ in 0..count {
+        reach = load_disjunction(t, ws, reach.at, shift, reach.number, reach.mark, left);
     }
-    let end = (shift + at) as u32;
+    let end = (shift + reach.at) as u32;
     t[shift + q] = tail_word(count, own, end);
-    Reach {
-        at,
-        number: next,
-        mark: free,
-    }
+    reach
 }
 
 // Loads a disjunction whose own alternatives are one of the `left` levels: their number, and each as a description. Their marks stand
@@ -145,25 +134,26 @@ fn load_disjunction(
     ensures { Loads (a_disjunction left) ws.now p shift (stock number 0 mark) t.old t.new result.at
         (stock result.number 0 result.mark) }
 {
-    let mut count = ws[p];
+    let count = ws[p];
     t[shift + p] = count;
-    let mut at = p + 1;
-    let mut next = number;
-    let mut own = mark;
-    let mut free = mark + count;
-    while 0 < count {
-        let reach = load_description(t, ws, at, shift, next, own, free, left - 1);
-        at = reach.at;
-        next = reach.number;
-        own += 1;
-        free = reach.mark;
-        count -= 1;
+    let mut reach = Reach {
+        at: p + 1,
+        number,
+        mark: mark + count,
+    };
+    for own in mark..mark + count {
+        reach = load_description(
+            t,
+            ws,
+            reach.at,
+            shift,
+            reach.number,
+            own,
+            reach.mark,
+            left - 1,
+        );
     }
-    Reach {
-        at,
-        number: next,
-        mark: free,
-    }
+    reach
 }
 
 // Loads the words of an input at the shift, its nodes numbered from `number` on, and its marks after that number. The number of the next
@@ -174,5 +164,5 @@ pub fn load(t: &mut [u32], ws: &[u32], shift: usize, number: usize) -> usize
 {
     let first = number as u32;
     let reach = load_description(t, ws, 0, shift, first, first, first + 1, DEPTH_LIMIT);
-    reach.number as usize
+    wide(reach.number)
 }

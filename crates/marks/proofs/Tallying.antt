@@ -1,6 +1,6 @@
 -- Counting the kept ones of some alternatives: what is left of them goes on to count them all.
 -- Assumes nothing.
-use Prim.Native.Nat.{ℕ, ◌+◌, ◌-◌, ◌≤◌, ◌<◌}
+use Prim.Native.Nat.{ℕ, suc, ◌+◌, ◌≤◌, ◌<◌}
 use native.Mathlib.Omega.{arith}
 use mathlib.Core.Path.{◌≡◌, refl, sym, subst, ap, ◌∙◌}
 use mathlib.Core.Logic.{◌⊎◌, inl, inr, ⊎_elim}
@@ -62,16 +62,16 @@ module _ (w : List ℕ) (p count : ℕ) (s : Alternatives w p count) where
   tally_read left at first found t h = read_first w s.room t.rest at t.k s.lies.end s.lies.to left t.stand small
       t.many h
 
-  pub tally_step : (left at first found next first' found' : ℕ) → Tallying left at first found → 0 < left → next ≡ after_at w at →
-      Turn at next first found first' found' → Tallying (left - 1) next first' found'
-  tally_step left at first found next first' found' t h e turn = go t.rest t.stand t.many t.total t.mark
+  pub tally_step : (left left' at first found next first' found' : ℕ) → Tallying left at first found → left ≡ suc left' → next ≡ after_at w at →
+      Turn at next first found first' found' → Tallying left' next first' found'
+  tally_step left left' at first found next first' found' t h e turn = go t.rest t.stand t.many t.total t.mark
     where
       m : Marking
       m = marking w
 
       go : (a : Options) → AtAny (loaded_words w) at t.k a s.lies.end s.lies.to → options a ≡ left →
           kept_of m s.lies.a ≡ found + kept_of m a →
-          Before a at first found ⊎ Since first found → Tallying (left - 1) next first' found'
+          Before a at first found ⊎ Since first found → Tallying left' next first' found'
       go no_more o many total mark = absurd (omega arith)
       go (option x d a) o many total mark =
           let r = (read_option w s.room x d a at t.k s.lies.end s.lies.to o small).0 in

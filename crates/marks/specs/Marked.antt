@@ -33,6 +33,12 @@ pub record Lighted (w : List ℕ) (x : ℕ) (w' : List ℕ) : Type 0 where
   pub marks : marking w x ≡ true → marking w' ≡ marking w
   pub rest : (j : ℕ) → (j ≡ MARKS + x → ⊥) → get_or w' j 0 ≡ get_or w j 0
 
+-- w' is w where each mark below n has become what P says, and no other word changed
+pub record Changed (P : ℕ → ℕ → Type 0) (n : ℕ) (w w' : List ℕ) : Type 0 where
+  pub len : length w' ≡ length w
+  pub each : (x : ℕ) → x < n → P (get_or w (MARKS + x) 0) (get_or w' (MARKS + x) 0)
+  pub rest : (j : ℕ) → (j < MARKS) ⊎ (MARKS + n ≤ j) → get_or w' j 0 ≡ get_or w j 0
+
 -- the mark of an alternative once only those found are kept
 unfoldable pub dimmed : ℕ → ℕ
 dimmed v = elim (eqb v 2) [ true ↦ 2 | false ↦ 1 ]

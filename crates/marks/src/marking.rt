@@ -1,17 +1,24 @@
-// The marks, a word for each alternative under the number that loading gave it, those of a disjunction together: 1 where it is dropped,
-// 0 or 2 where it is kept, 2 where it was found to stand in a consistent choice.
+// The marks, a word for each alternative under the number that loading gave it, those of a disjunction together.
 ghost use Rattle.std.specs.Prelude.{◌≡◌, ◌≤◌, ◌<◌, length};
 ghost use Rattle.area.specs.Map.{SIZE, NODES};
-ghost use Rattle.marks.specs.Marked.{marking, Dropped, Cleared, Lighted, dimmed, LitKept, doused, Doused};
+ghost use Rattle.marks.specs.Marked.{marking, Dropped, Cleared, Lighted, Changed, dimmed, LitKept, doused, Doused};
 
+use area::clearing::clear;
 use area::map::{MARKS, NODES};
+
+// What a mark says of its alternative: it is kept, or dropped, or kept and found to stand in a consistent choice.
+const KEPT: u32 = 0;
+
+const DROPPED: u32 = 1;
+
+const FOUND: u32 = 2;
 
 // Is the alternative x kept?
 pub fn kept(w: &[u32], x: usize) -> bool
     requires { (x < NODES) × (SIZE ≤ length w.now) }
     ensures { result ≡ marking w.now x }
 {
-    w[MARKS + x] != 1
+    w[MARKS + x] != DROPPED
 }
 
 // Drops the alternative x.
@@ -19,7 +26,7 @@ pub fn drop(w: &mut [u32], x: usize)
     requires { (x < NODES) × (SIZE ≤ length w.old) }
     ensures { Dropped w.old x w.new }
 {
-    w[MARKS + x] = 1;
+    w[MARKS + x] = DROPPED;
 }
 
 // Keeps all alternatives.
@@ -27,11 +34,7 @@ pub fn clear_marks(w: &mut [u32])
     requires { SIZE ≤ length w.old }
     ensures { Cleared w.old w.new }
 {
-    let mut left: usize = NODES;
-    while 0 < left {
-        left -= 1;
-        w[MARKS + left] = 0;
-    }
+    clear(w, MARKS, NODES);
 }
 
 // The alternative x, which is kept, was found.
@@ -39,14 +42,26 @@ pub fn light(w: &mut [u32], x: usize)
     requires { (x < NODES) × (SIZE ≤ length w.old) }
     ensures { Lighted w.old x w.new }
 {
-    w[MARKS + x] = 2;
+    w[MARKS + x] = FOUND;
+}
+
+// Each of the marks below n becomes what `change` makes of it.
+fn change_marks<F: Fn(u32) -> u32>(w: &mut [u32], n: usize, change: F)
+    requires n_bound { (n ≤ NODES) × (SIZE ≤ length w.old) }
+    requires callable { F.IsAlwaysCallable change }
+    ensures { Changed (F.post change) n w.old w.new }
+{
+    for mark in &mut w[MARKS..MARKS + n] {
+        *mark = change(*mark);
+    }
 }
 
 // A mark, once only those found are kept.
+#[tactic(auto, unfolding(crate::specs::Marked::dimmed))]
 fn dim(v: u32) -> u32
     ensures { result ≡ dimmed v }
 {
-    if v == 2 { 2 } else { 1 }
+    if v == FOUND { FOUND } else { DROPPED }
 }
 
 // Of the alternatives below n only those found are kept.
@@ -54,18 +69,15 @@ pub fn keep_lit(w: &mut [u32], n: usize)
     requires { (n ≤ NODES) × (SIZE ≤ length w.old) }
     ensures { LitKept w.old n w.new }
 {
-    let mut left = n;
-    while 0 < left {
-        left -= 1;
-        w[MARKS + left] = dim(w[MARKS + left]);
-    }
+    change_marks(w, n, dim);
 }
 
 // A mark, where none is found.
+#[tactic(auto, unfolding(crate::specs::Marked::doused))]
 fn doused(v: u32) -> u32
     ensures { result ≡ doused v }
 {
-    if v == 1 { 1 } else { 0 }
+    if v == DROPPED { DROPPED } else { KEPT }
 }
 
 // Of all alternatives none is found.
@@ -73,9 +85,5 @@ pub fn douse(w: &mut [u32])
     requires { SIZE ≤ length w.old }
     ensures { Doused w.old w.new }
 {
-    let mut left: usize = NODES;
-    while 0 < left {
-        left -= 1;
-        w[MARKS + left] = doused(w[MARKS + left]);
-    }
+    change_marks(w, NODES, doused);
 }

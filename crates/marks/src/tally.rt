@@ -6,7 +6,7 @@ ghost use Rattle.marks.specs.Tallied.{remnant_of, Tallied};
 use crate::marking::kept;
 use crate::positions::{after_at, mark_at};
 
-// None of the alternatives is left, or one, by its position, or several, by their number.
+// None of the alternatives is left, or one, by its position, or several, by their number: three answers, and none of them a failure.
 #[derive(Clone, Copy)]
 pub enum Remnant {
     Nothing,
@@ -22,16 +22,15 @@ pub struct Tally {
 }
 
 // What is left where `found` alternatives are kept, the first of them at `first`.
+#[tactic(auto, unfolding(crate::specs::Tallied::remnant_of))]
 fn remnant_of(found: usize, first: usize) -> Remnant
     ensures { result ≡ remnant_of found first }
 {
-    if found == 0 {
-        return Remnant::Nothing;
+    match found {
+        0 => Remnant::Nothing,
+        1 => Remnant::One(first),
+        _ => Remnant::Several(found),
     }
-    if found == 1 {
-        return Remnant::One(first);
-    }
-    Remnant::Several(found)
 }
 
 // Tells what is left of the `count` alternatives from p on.
@@ -39,11 +38,10 @@ pub fn count_kept(w: &[u32], p: usize, count: usize) -> Tally
     requires { Alternatives w.now p count }
     ensures { (s : Alternatives w.now p count) → Tallied w.now s result.remnant result.after }
 {
-    let mut left = count;
     let mut at = p;
     let mut first = p;
     let mut found: usize = 0;
-    while 0 < left {
+    for _ in 0..count {
         let here = kept(w, mark_at(w, at));
         at = after_at(w, at);
         if here {
@@ -51,11 +49,9 @@ pub fn count_kept(w: &[u32], p: usize, count: usize) -> Tally
         } else if found == 0 {
             first = at;
         }
-        left -= 1;
     }
-    let told = remnant_of(found, first);
     Tally {
-        remnant: told,
+        remnant: remnant_of(found, first),
         after: at,
     }
 }

@@ -19,45 +19,13 @@ use Rattle.loading.specs.Loaded.{nodes_in}
 use Rattle.loading.proofs.Names.{alts_few}
 use Rattle.area.specs.Map.{WORDS, MARKS, SIZE, SECOND}
 use Rattle.area.specs.Region.{region}
-use Rattle.area.proofs.Region.{region_ext}
+use Rattle.area.proofs.Region.{region_ext, back, back_length, back_part, back_rest}
 use Rattle.classes.specs.Entry.{Comes}
 use Rattle.classes.specs.Holds.{Holds, Pushing, Pushes, Undoable, Starts}
 use Rattle.classes.proofs.Laws.{undoable_start, undoable_on}
 use Rattle.std.specs.Prelude.{Option, Some, None}
 use Rattle.opening.specs.Opening.{Read, Stand, Paired, Opening, definite, OpenedAs, Opens}
 use Rattle.opening.proofs.Universe.{universe, in_one, in_two, nodes_room, comes}
-
--- ---- k words from p on, put back into the area
-module _ (p k : ℕ) (w t : List ℕ) (long : p + k ≤ length w) (size : length t ≡ k) where
-  abbrev pub back : List ℕ
-  back = take p w ++ (t ++ drop k (drop p w))
-
-  before : length (take p w) ≡ p
-  before = length-take-le p w (omega arith)
-
-  pub back_length : length back ≡ length w
-  back_length = omega (
-    arith,
-    length-append (take p w) (t ++ drop k (drop p w)),
-    length-append t (drop k (drop p w)),
-    before,
-    size,
-    length-drop k (drop p w),
-    length-drop p w,
-  )
-
-  pub back_part : take k (drop p back) ≡ t
-  back_part = ap (take k) (drop_at (take p w) (t ++ drop k (drop p w)) p before) ∙ take_at t (drop k (drop p w)) k size
-
-  after : (i : ℕ) → get_or back (p + (k + i)) 0 ≡ get_or w (p + (k + i)) 0
-  after i =
-      let a : length (take p w) + (k + i) ≡ p + (k + i) = omega (arith, before) in
-      let b : length t + i ≡ k + i = omega (arith, size) in
-      (rw a at (get_or-append-add (take p w) (t ++ drop k (drop p w)) (k + i) 0)) ∙ (rw b at (get_or-append-add t (drop k (drop p w)) i 0))
-      ∙ get_or-drop k (drop p w) i 0 ∙ get_or-drop p w (k + i) 0
-
-  pub back_rest : (j : ℕ) → p + k ≤ j → get_or back j 0 ≡ get_or w j 0
-  back_rest j h = let e : p + (k + (j - (p + k))) ≡ j = omega arith in rw e at (after (j - (p + k)))
 
 -- ---- the graphs are pushed
 at_definite : (p n : ℕ) (d : Desc) → (definite p n d).at ≡ p

@@ -1,6 +1,4 @@
-use mathlib.Core.Path.{◌≡◌}
 use Prim.Native.Nat.{◌+◌, ◌*◌, ◌-◌}
-use lib.ListN.{length}
 use Rattle.loading.specs.Loading.{stock}
 use Rattle.loading.proofs.Series.{Onward}
 use Rattle.loading.proofs.Sequels.{its_disjunctions}
@@ -13,19 +11,12 @@ decreases-load_description l = 2 * l.left + 1
 abbrev pub decreases-load_disjunction : goal.decreases-load_disjunction
 decreases-load_disjunction l = 2 * l.left
 
-abbrev pub invariant-load_description-loop-more : goal.invariant-load_description-loop-more
-invariant-load_description-loop-more l =
-    (length l.t ≡ length l.initial.t)
-    × Onward l.ws l.shift l.initial.at (stock l.initial.next 0 l.initial.free) (its_disjunctions l.left l.initial.more) (its_disjunctions l.left l.more) l.initial.t l.t l.at (stock l.next 0 l.free)
+abbrev pub invariant-load_description-loop : goal.invariant-load_description-loop
+invariant-load_description-loop l =
+    Onward l.ws l.shift l.initial.reach.at (stock l.initial.reach.number 0 l.initial.reach.mark) (its_disjunctions l.left l.count) (its_disjunctions l.left (l.count - l.counter)) l.initial.t l.t l.reach.at
+    (stock l.reach.number 0 l.reach.mark)
 
-abbrev pub decreases-load_description-loop-more : goal.decreases-load_description-loop-more
-decreases-load_description-loop-more l = l.more
-
-abbrev pub invariant-load_disjunction-loop-count : goal.invariant-load_disjunction-loop-count
-invariant-load_disjunction-loop-count l =
-    (length l.t ≡ length l.initial.t)
-    × Onward l.ws l.shift l.initial.at (stock l.initial.next l.initial.own l.initial.free) (its_alternatives (l.left - 1) l.initial.count) (its_alternatives (l.left - 1) l.count) l.initial.t l.t l.at
-    (stock l.next l.own l.free)
-
-abbrev pub decreases-load_disjunction-loop-count : goal.decreases-load_disjunction-loop-count
-decreases-load_disjunction-loop-count l = l.count
+abbrev pub invariant-load_disjunction-loop-own : goal.invariant-load_disjunction-loop-own
+invariant-load_disjunction-loop-own l =
+    Onward l.ws l.shift l.initial.reach.at (stock l.initial.reach.number l.mark l.initial.reach.mark) (its_alternatives (l.left - 1) l.count) (its_alternatives (l.left - 1) (l.mark + l.count - l.own))
+    l.initial.t l.t l.reach.at (stock l.reach.number l.own l.reach.mark)

@@ -10,4 +10,4 @@ load_description-reach-requires c = record {
 }
 
 pub returns : goal.returns
-returns c = load_loads _ _ _ _ _ _ _ _ _ c.load_description-reach.ensures
+returns c = rw c.wide.ensures (load_loads _ _ _ _ _ _ _ _ _ c.load_description-reach.ensures)

@@ -50,16 +50,16 @@ graph_word-requires c =
     c.args.p 0 ≤ input_limit) = graph_there _ _ _ c.requires.asked in
     (omega (arith, there), (omega (arith, there), omega (arith, reach, c.requires.room.few)))
 
-pub offset_bounds-t-shift : goal.offset_bounds-t-shift
-offset_bounds-t-shift c =
+pub overflow_add-t : goal.overflow_add-t
+overflow_add-t c =
     let there : (c.args.p
     < length c.args.ws.now)
     × (c.args.number
     + get_or c.args.ws.now
     c.args.p 0 ≤ input_limit) = graph_there _ _ _ c.requires.asked in omega (arith, there)
 
-pub overflow_add-t : goal.overflow_add-t
-overflow_add-t c =
+pub offset_bounds-t-shift : goal.offset_bounds-t-shift
+offset_bounds-t-shift c =
     let there : (c.args.p
     < length c.args.ws.now)
     × (c.args.number

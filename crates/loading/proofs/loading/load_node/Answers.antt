@@ -1,10 +1,8 @@
 -- `loading::loading::load_node` meets its contract: an atom is its head, and a node with arcs its head and what `load_arcs` loads.
 -- Assumes nothing.
 use native.Mathlib.Omega.{arith}
-use mathlib.Core.Path.{◌∙◌}
 use lib.ListN.{length-set}
-use Rattle.loading.specs.Loading.{its_arcs}
-use Rattle.loading.proofs.Parts.{room_keeps, loads_keeps, node_there, node_asks, atom_loads, node_loads}
+use Rattle.loading.proofs.Parts.{room_keeps, node_there, node_asks, atom_loads, node_loads}
 use Rattle.loading.proofs.loading.load_node.Goals as goal
 
 pub offset_bounds-ws-p : goal.offset_bounds-ws-p
@@ -22,9 +20,6 @@ offset_bounds-t-shift c = omega (arith, node_there _ _ _ c.requires.asked)
 pub bounds-t-shift : goal.bounds-t-shift
 bounds-t-shift c = omega (arith, node_there _ _ _ c.requires.asked)
 
-pub overflow_add-result : goal.overflow_add-result
-overflow_add-result c = omega (arith, node_there _ _ _ c.requires.asked)
-
 pub returns-then-head-ge-CODE_LIMIT : goal.returns-then-head-ge-CODE_LIMIT
 returns-then-head-ge-CODE_LIMIT c = atom_loads _ _ _ _ _ c.requires.room.room (omega arith)
 
@@ -36,11 +31,6 @@ load_arcs-requires c = record {
   room = room_keeps _ _ _ _ (simp length-set) c.requires.room;
   asked = node_asks _ _ _ c.requires.asked (omega arith);
 }
-
-pub shape_of-t : goal.shape_of-t
-shape_of-t c = loads_keeps (its_arcs _) _ _ _ _ _ _ _ _
-    (node_asks _ _ _ c.requires.asked (omega arith))
-    c.load_arcs.ensures ∙ simp length-set
 
 pub returns : goal.returns
 returns c = node_loads _ _ _ _ _ c.requires.room.room _ _ (omega arith)

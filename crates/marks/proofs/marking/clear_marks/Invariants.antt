@@ -1,8 +1,0 @@
-use Rattle.marks.proofs.Lighting.{Changing}
-use Rattle.marks.proofs.marking.clear_marks.Given as goal
-
-abbrev pub invariant-loop-left : goal.invariant-loop-left
-invariant-loop-left l = Changing (λ v. 0) l.initial.w 1024 l.left l.w
-
-abbrev pub decreases-loop-left : goal.decreases-loop-left
-decreases-loop-left l = l.left
