@@ -47,7 +47,7 @@ pub const SIZE: usize = 16384;
 pub type Area = [u32; SIZE];
 
 // How many nodes are loaded: each has a number below that.
-#[derive(Clone, Copy)]
+#[derive(Clone, Copy, Debug, PartialEq, Eq)]
 pub struct Nodes {
     pub count: usize,
     ghost in_area: { count ≤ NODES },
