@@ -1,6 +1,6 @@
 -- Counting choices by descent: what is left of a product of sums goes on to the whole.
 -- Assumes nothing.
-use Prim.Native.Nat.{ℕ, ◌+◌, ◌-◌, ◌*◌, ◌≤◌, ◌<◌, min}
+use Prim.Native.Nat.{ℕ, suc, ◌+◌, ◌-◌, ◌*◌, ◌≤◌, ◌<◌, min}
 use native.Mathlib.Omega.{arith}
 use mathlib.Core.Path.{◌≡◌, refl, sym, subst, ap, ◌∙◌}
 use mathlib.Core.Bool.{Bool, true, false}
@@ -177,14 +177,14 @@ module _ (w : List ℕ) (p left : ℕ) (c : Readable w p left) where
         go no_more o many inner = absurd (omega arith)
         go (option x d a) o many inner = asks_one x d a o inner.0
 
-    pub sum_on : (next sum' : ℕ) → 0 < rest → next ≡ after_at w at → Turn at sum sum' → Summing more product next (rest - 1) sum'
+    pub sum_on : (rest' next sum' : ℕ) → rest ≡ suc rest' → next ≡ after_at w at → Turn at sum sum' → Summing more product next rest' sum'
     unfolding asks_one
-    sum_on next sum' h e turn = go t.a t.stand t.many t.inner t.total
+    sum_on rest' next sum' h e turn = go t.a t.stand t.many t.inner t.total
       where
         go : (a : Options) → AtAny (loaded_words w) at t.n a t.r t.l → options a ≡ rest → NestsAny a (left - 1) →
             count_at choice_stop (marking w) c.lies.d
             ≡ min (product * ((sum + count_any_at choice_stop (marking w) a) * count_all_at choice_stop (marking w) t.ds))
-            choice_stop → Summing more product next (rest - 1) sum'
+            choice_stop → Summing more product next rest' sum'
         go no_more o many inner total = absurd (omega arith)
         go (option x d a) o many inner total =
             let read = read_option w c.room x d a at t.n t.r t.l o t.low in
@@ -216,14 +216,14 @@ module _ (w : List ℕ) (p left : ℕ) (c : Readable w p left) where
                 omega (arith, any_kept (marking w) x d a (own true f))
             sums (none f g) = omega (arith, any_dropped (marking w) x d a (own false f))
 
-    pub sum_all : (product' : ℕ) → rest ≤ 0 → product' ≡ min (product * sum) choice_stop → Multiplying (more - 1) at product'
+    pub sum_all : (more' product' : ℕ) → more ≡ suc more' → rest ≤ 0 → product' ≡ min (product * sum) choice_stop → Multiplying more' at product'
     unfolding count_at
-    sum_all product' h e = go t.a t.stand t.many t.total
+    sum_all more' product' is h e = go t.a t.stand t.many t.total
       where
         go : (a : Options) → AtAny (loaded_words w) at t.n a t.r t.l → options a ≡ rest →
             count_at choice_stop (marking w) c.lies.d
             ≡ min (product * ((sum + count_any_at choice_stop (marking w) a) * count_all_at choice_stop (marking w) t.ds))
-            choice_stop → Multiplying (more - 1) at product'
+            choice_stop → Multiplying more' at product'
         go no_more o many total =
             let later = t.later in
             let products = count_all_at choice_stop (marking w) t.ds in

@@ -14,7 +14,7 @@ use marks::positions::{after_at, alternatives_at, disjunctions_at, mark_at, tail
 pub fn capped(x: u32) -> u32
     ensures { result ≡ min x choice_stop }
 {
-    if x < CHOICE_STOP { x } else { CHOICE_STOP }
+    x.min(CHOICE_STOP)
 }
 
 // The number of choices of the description at p, under which alternatives nest at most `left` deep: the product over its disjunctions
@@ -24,23 +24,20 @@ pub fn count_choices(w: &[u32], p: usize, left: u32) -> u32
     ensures { Counted w.now p left result }
 {
     let e = tail_at(w, p);
-    let mut more = disjunctions_at(w, e);
     let mut at = e + 1;
     let mut product: u32 = 1;
-    while 0 < more {
-        let mut rest = alternatives_at(w, at);
+    for _disjunction in 0..disjunctions_at(w, e) {
+        let count = alternatives_at(w, at);
         at += 1;
         let mut sum: u32 = 0;
-        while 0 < rest {
+        for _alternative in 0..count {
             if kept(w, mark_at(w, at)) {
                 let one = count_choices(w, at, left - 1);
                 sum = capped(sum + one);
             }
             at = after_at(w, at);
-            rest -= 1;
         }
         product = capped(product * sum);
-        more -= 1;
     }
     product
 }

@@ -13,7 +13,8 @@ use Rattle.area.specs.Map.{NODES, PARENT, MARKS, STACK, SIZE}
 use Rattle.forest.specs.Forest.{parents, Root}
 use Rattle.forest.proofs.Parents.{parents_ext, root_on}
 use Rattle.finding_clash.specs.Notes.{ClassNote, bears_nothing, Mixes, engine_number, ClassLabels, labels_of, NotesOf, NotesOnly}
-use Rattle.finding_clash.specs.Notes.{NotesClear, NotesAsked}
+use Rattle.finding_clash.specs.Notes.{NotesAsked}
+use Rattle.area.specs.Region.{Zeroed}
 use Rattle.finding_clash.specs.Notes.{NotesOne, NotesAll, ClashSought}
 use Rattle.finding_clash.proofs.Mixing.{noted_other}
 
@@ -60,22 +61,11 @@ module _ (n : ℕ) (w w' : List ℕ) (long : SIZE ≤ length w) (below : n ≤ N
   }
 
 -- ---- cleared
-pub blank_none : (n : ℕ) (w : List ℕ) → NotesClear n 0 w w
-blank_none n w = record { only = only_refl n w; is = λ x h. absurd (omega arith) }
-
-pub blank_more : (n i : ℕ) (w w' : List ℕ) → i < n → n ≤ NODES → SIZE ≤ length w → NotesClear n i w w' →
-    NotesClear n (i + 1) w (set w' (STACK + i) 0)
-blank_more n i w w' h b g c = record {
-  only = only_trans n w w' (set w' (STACK + i) 0) c.only (only_put n w' i 0 h);
-  is = λ j l. go j l (ℕ_discrete j i);
-}
-  where
-    go : (j : ℕ) → j < i + 1 → Dec (j ≡ i) → get_or (set w' (STACK + i) 0) (STACK + j) 0 ≡ 0
-    go j l (yes e) = let n = c.only.len in rw e (get_or-set_same w' (STACK + i) 0 0 (omega arith))
-    go j l (no e) = get_or-set_other w' (STACK + i) (STACK + j) 0 0 (λ d. e (omega arith)) ∙ c.is j (omega arith)
+pub only_zeroed : (n : ℕ) (w w' : List ℕ) → Zeroed STACK n w w' → NotesOnly n w w'
+only_zeroed n w w' z = record { len = z.len; rest = z.rest }
 
 -- nothing has passed by yet
-pub blank_notes : (n : ℕ) (w w' : List ℕ) → NotesClear n n w w' → (L H : ℕ → ℕ) → NotesOf n L H 0 w'
+pub blank_notes : (n : ℕ) (w w' : List ℕ) → Zeroed STACK n w w' → (L H : ℕ → ℕ) → NotesOf n L H 0 w'
 blank_notes n w w' c L H x h = bears_nothing (c.is x h) (λ i l e. absurd (omega arith))
 
 -- ---- one head
@@ -113,7 +103,7 @@ pub record NotesUpTo (n c b m i : ℕ) (w₀ w : List ℕ) : Type 0 where
   pub only : NotesOnly n w₀ w
   pub told : (lab H : ℕ → ℕ) → ClassLabels n w₀ lab → ((j : ℕ) → j < m → get_or w₀ (MARKS + j) 0 ≡ H j) → NotesOf n (labels_of lab c b) H i w
 
-pub up_to_none : (n c b m : ℕ) (w w₀ : List ℕ) → NotesClear n n w w₀ → NotesUpTo n c b m 0 w₀ w₀
+pub up_to_none : (n c b m : ℕ) (w w₀ : List ℕ) → Zeroed STACK n w w₀ → NotesUpTo n c b m 0 w₀ w₀
 up_to_none n c b m w w₀ z = record { only = only_refl n w₀; told = λ lab H l e. blank_notes n w w₀ z (labels_of lab c b) H }
 
 pub up_to_more : (n c b m i : ℕ) (w₀ w w' : List ℕ) → SIZE ≤ length w₀ → n ≤ NODES → i < m → m ≤ NODES → NotesUpTo n c b m i w₀ w →

@@ -48,11 +48,6 @@ pub record NotesOnly (n : ℕ) (w w' : List ℕ) : Type 0 where
   pub len : length w' ≡ length w
   pub rest : (j : ℕ) → (j < STACK) ⊎ (STACK + n ≤ j) → get_or w' j 0 ≡ get_or w j 0
 
--- nothing is noted
-pub record NotesClear (n m : ℕ) (w w' : List ℕ) : Type 0 where
-  pub only : NotesOnly n w w'
-  pub is : (x : ℕ) → x < m → get_or w' (STACK + x) 0 ≡ 0
-
 -- what notes ask: there are n numbers and m nodes, and classes
 pub record NotesAsked (n c b m : ℕ) (w : List ℕ) : Type 0 where
   pub long : SIZE ≤ length w

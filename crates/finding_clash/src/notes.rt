@@ -2,8 +2,9 @@
 // of its atom.
 ghost use Rattle.std.specs.Prelude.{◌≡◌, ◌+◌, ◌≤◌, ◌<◌, length};
 ghost use Rattle.area.specs.Map.{NODES, SIZE};
-ghost use Rattle.finding_clash.specs.Notes.{Mixes, engine_number, NotesClear, NotesAsked, NotesOne, NotesAll, ClashSought};
+ghost use Rattle.finding_clash.specs.Notes.{Mixes, engine_number, NotesAsked, NotesOne, NotesAll, ClashSought};
 
+use area::clearing::clear;
 use area::map::{MARKS, STACK};
 use forest::forest::find;
 use limits::CODE_LIMIT;
@@ -39,16 +40,6 @@ fn engine_number(i: usize, c: usize, b: usize) -> usize
     if i < c { i } else { b + (i - c) }
 }
 
-// Nothing is noted of n classes.
-fn clear_notes(w: &mut [u32], n: usize)
-    requires { (n ≤ NODES) × (SIZE ≤ length w.old) }
-    ensures { NotesClear n n w.old w.new }
-{
-    for i in 0..n {
-        w[STACK + i] = 0;
-    }
-}
-
 // The head of node i is noted.
 fn note_head(w: &mut [u32], n: usize, c: usize, b: usize, i: usize, m: usize)
     requires i_lt_m { (i < m) × (b ≤ NODES) }
@@ -68,7 +59,7 @@ pub(crate) fn note_heads(w: &mut [u32], n: usize, c: usize, b: usize, m: usize)
     requires notes_asked { NotesAsked n c b m w.old }
     ensures { NotesAll n c b m w.old w.new }
 {
-    clear_notes(w, n);
+    clear(w, STACK, n);
     for i in 0..m {
         note_head(w, n, c, b, i, m);
     }

@@ -15,7 +15,9 @@ use Rattle.formulas.specs.Tables.{Tables}
 use Rattle.folding.specs.Buffer.{WordsEnd, Grows}
 use Rattle.folding.specs.Homing.{Untouched, WithinHomes, BranchHomes, NamedCome}
 use Rattle.folding.specs.Settled.{Settling, AlternativeSettles, BranchSettling, Concludes, BranchedBy, BranchSettles}
+use Rattle.folding.specs.Settled.{KeptFirst, alternative_of, count_of, inner_of}
 use Rattle.folding.specs.declared.settle.Settled.{Settled}
+use Rattle.folding.specs.declared.settle.Kept.{Kept}
 use Rattle.std.specs.Prelude as rust
 use Rattle.std.specs.Prelude.{Some, None}
 use Rattle.folding.specs.declared.settle.Branch.{Branch}
@@ -105,7 +107,7 @@ last_low T hm k last left c =
     ((branch_last T hm [] 0 k last left c).0, omega arith)
 
 pub going_start : (T : Tables) (hm b : List ℕ) (len k last left : ℕ) → BranchSettling T hm k last left → len ≤ suc (length b) →
-    Going T hm b len k last left hm b len last 0 0 0 len
+    Going T hm b len k last left hm b len last 0 0 0 0
 going_start T hm b len k last left c l = record {
   size = refl;
   grown = grows_none b len l;
@@ -199,9 +201,10 @@ module _ {T : Tables} {hm₀ b₀ : List ℕ} {len k last left : ℕ} {hm b : Li
           (left_are c) ((whole c).1 old);
     }
 
--- the same numbers by other names
-pub going_as : {T : Tables} {hm₀ b₀ hm b : List ℕ} {len k last left at pointer kept sole count inner : ℕ}
-    {at' pointer' kept' sole' count' inner' : ℕ} →
-    Going T hm₀ b₀ len k last left hm b at pointer kept sole count inner → at' ≡ at → pointer' ≡ pointer → kept' ≡ kept → sole' ≡ sole →
-    count' ≡ count → inner' ≡ inner → Going T hm₀ b₀ len k last left hm b at' pointer' kept' sole' count' inner'
-going_as v a p n s c i = rw (a, p, n, s, c, i) v
+-- the same by other names
+pub going_as : {T : Tables} {hm₀ b₀ hm b : List ℕ} {len k last left at pointer kept at' pointer' kept' : ℕ} {first first' : rust.Option Kept} →
+    at' ≡ at → pointer' ≡ pointer → kept' ≡ kept → first' ≡ first →
+    Going T hm₀ b₀ len k last left hm b at pointer kept (alternative_of first) (count_of first) (inner_of first) × KeptFirst kept first →
+    Going T hm₀ b₀ len k last left hm b at' pointer' kept' (alternative_of first') (count_of first') (inner_of first')
+    × KeptFirst kept' first'
+going_as a p n f v = rw (a, p, n, f) v

@@ -154,7 +154,7 @@ module _ (T : Tables) (hm₀ b₀ : List ℕ) (len k last left : ℕ) (c : Branc
       let (low, high, group) = cell_end T c.L c.O c.g c.g c.z c.a last c.some_left c.lies in
       (omega arith, group)
 
-  pub between_start : Between T hm₀ b₀ len k last left c hm₀ b₀ len last 0 0 0 len
+  pub between_start : Between T hm₀ b₀ len k last left c hm₀ b₀ len last 0 0 0 0
   between_start = record {
     first = c.a;
     later = gone;

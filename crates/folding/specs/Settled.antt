@@ -16,6 +16,7 @@ use Rattle.folding.specs.Buffer.{WordsEnd, Grows, PutsBefore}
 use Rattle.parting.specs.Parted.{Part}
 use Rattle.folding.specs.Homing.{Rehomes, Untouched, WithinHomes, BranchHomes, NamedCome}
 use Rattle.folding.specs.declared.settle.Settled.{Settled}
+use Rattle.folding.specs.declared.settle.Kept.{Kept}
 use Rattle.folding.specs.declared.settle.Branch.{Branch}
 
 -- the tables have a row for each alternative, of which there are few, and the words go to a slice of their limit
@@ -95,6 +96,24 @@ pub record BranchSettling (T : Tables) (hm : List ℕ) (k last left : ℕ) : Typ
   pub few : g + wide_cells a ≤ length hm
   pub fresh : Untouched hm g (g + wide_cells a)
   pub owner : get_or hm k 0 ≡ k
+
+-- the first alternative that is left, the number of its disjunctions, and how many words there are from them on
+abbrev pub alternative_of : rust.Option Kept → ℕ
+alternative_of None = 0
+alternative_of (Some y) = y.alternative
+
+abbrev pub count_of : rust.Option Kept → ℕ
+count_of None = 0
+count_of (Some y) = y.settled.count
+
+abbrev pub inner_of : rust.Option Kept → ℕ
+inner_of None = 0
+inner_of (Some y) = y.settled.inner
+
+-- of `kept` that are left there is a first, unless there are none
+abbrev pub KeptFirst : ℕ → rust.Option Kept → Type 0
+KeptFirst kept None = kept ≡ 0
+KeptFirst kept (Some y) = (0 < kept) × (y.alternative < code_limit)
 
 -- of its alternatives `kept` are left: none; one, which is folded; or several, whose number comes before their words
 pub record Concludes (hm b : List ℕ) (at k kept sole count inner before : ℕ) (r : rust.Option Branch)

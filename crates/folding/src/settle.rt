@@ -5,7 +5,7 @@ ghost use Rattle.formulas.specs.Tables.{tables};
 ghost use Rattle.parting.specs.Parted.{Parting};
 ghost use Rattle.folding.specs.Homing.{Rehomes};
 ghost use Rattle.folding.specs.Settled.{SettlingRoom, Beside, Settling, AlternativeCloses, AlternativeSettles, BranchSettling};
-ghost use Rattle.folding.specs.Settled.{Concludes, BranchSettles};
+ghost use Rattle.folding.specs.Settled.{KeptFirst, alternative_of, count_of, inner_of, Concludes, BranchSettles};
 
 use crate::buffer::{put, put_all};
 use limits::{INPUT_LIMIT, wide};
@@ -18,6 +18,13 @@ pub struct Settled {
     pub count: u32,
     pub inner: usize,
     pub whole: usize,
+}
+
+// An alternative that is left, and what is left of it.
+#[derive(Clone, Copy)]
+struct Kept {
+    alternative: usize,
+    settled: Settled,
 }
 
 // What is left of a disjunction: how many disjunctions come of it, how many words there are from them on, and the last alternative
@@ -87,30 +94,28 @@ fn close(
     }
 }
 
-// What becomes of a disjunction of which `kept` alternatives are left: none, one, which is folded, or several.
+// What becomes of a disjunction of which `kept` alternatives are left, `first` the first of them: nothing, where it is none; one is
+// folded; several stay.
 fn conclude(
     homes: &mut [u32],
     words: &mut [u32],
     k: usize,
     kept: u32,
-    sole: usize,
-    count: u32,
-    inner: usize,
+    first: Option<Kept>,
     at: usize,
     before: usize,
 ) -> Option<Branch>
-    requires { (k < code_limit) × (sole < code_limit) × (length words.old ≡ input_limit) × (at ≤ suc input_limit) }
-    ensures { Concludes homes.old words.old at k kept sole count inner before result
+    requires room { (k < code_limit) × (length words.old ≡ input_limit) × (at ≤ suc input_limit) }
+    requires kept_first { KeptFirst kept first }
+    ensures { Concludes homes.old words.old at k kept (alternative_of first) (count_of first) (inner_of first) before result
         homes.new words.new }
 {
-    if kept == 0 {
-        return None;
-    }
+    let one = first?;
     if kept == 1 {
-        move_home(homes, sole as u32, k as u32);
+        move_home(homes, one.alternative as u32, k as u32);
         return Some(Branch {
-            count,
-            inner,
+            count: one.settled.count,
+            inner: one.settled.inner,
             before,
         });
     }
@@ -145,21 +150,20 @@ fn settle_disjunction(
     let g = alts[4 * last];
     let mut c = last;
     let mut kept: u32 = 0;
-    let mut sole: usize = 0;
-    let mut count: u32 = 0;
-    let mut inner = len;
+    let mut first = None;
     let mut at = len;
     while beside(alts, c, g) {
-        if let Some(one) = settle(arcs, atoms, ties, alts, homes, words, at, c, left) {
+        if let Some(settled) = settle(arcs, atoms, ties, alts, homes, words, at, c, left) {
             kept += 1;
-            sole = c;
-            count = one.count;
-            inner = one.inner;
-            at = one.whole;
+            first = Some(Kept {
+                alternative: c,
+                settled,
+            });
+            at = settled.whole;
         }
         c = wide(alts[4 * c + 1]);
     }
-    conclude(homes, words, k, kept, sole, count, inner, at, c)
+    conclude(homes, words, k, kept, first, at, c)
 }
 
 // Settles the alternative k, under which disjunctions nest at most `left` deep.

@@ -8,7 +8,7 @@ use mathlib.Core.Path.{◌≡◌, refl, sym, ap, ◌∙◌}
 use mathlib.Core.Bool.{Bool, true, false, not}
 use mathlib.Core.List.{List, [], ◌∷◌, ◌++◌, append_assoc}
 use lib.ListN.{length, get_or, take, drop, set}
-use lib.Seq.{set_at, take_at, drop-cons}
+use lib.Seq.{set_at, drop-cons, length-take-le}
 use borrow.Author.Tests.{le-leb, lt-leb}
 use Rattle.blocks.specs.Block.{intact, block_of}
 use Rattle.layout.specs.Judged.{Judged}
@@ -100,16 +100,17 @@ module _ (k n : ℕ) (f area area' : List ℕ) where
     unfolding fetch_answer_at
     fetches_words e h a = record { answer = rw whole (rw e (rw (le-leb _ _ h))); leaves = a }
 
-pub filled_words : (f dst dst₀ : List ℕ) (k n : ℕ) → dst ≡ words_from k 0 n f ++ drop n dst₀ → take n dst ≡ words_from k 0 n f
-filled_words f dst dst₀ k n e = ap (take n) e ∙ take_at (words_from k 0 n f) (drop n dst₀) n (words_length f n k 0)
+-- the words that were copied to the front of a space, and judged there
+module _ (f dst space : List ℕ) (k n : ℕ) (long : length space ≡ 1024) (few : n ≤ 1024) (e : dst ≡ words_from k 0 (length (take n space)) f) where
+  pub copied_words : dst ≡ words_from k 0 n f
+  copied_words = let size = length-take-le n space (omega arith) in e ∙ ap (λ (m : ℕ). words_from k 0 m f) size
 
--- the words that were copied to dst, and judged there
-module _ (f dst dst₀ : List ℕ) (k n : ℕ) (j : Bool) (e : dst ≡ words_from k 0 n f ++ drop n dst₀) (judged : Judged (take n dst) j) where
-  pub copied_yes : j ≡ true → imaged (words_from k 0 n f) ≡ true
-  copied_yes a = ap imaged (sym (filled_words f dst dst₀ k n e)) ∙ imaged_yes (take n dst) j judged a
+  module _ (r : Bool) (judged : Judged dst r) where
+    pub copied_yes : r ≡ true → imaged (words_from k 0 n f) ≡ true
+    copied_yes a = ap imaged (sym copied_words) ∙ imaged_yes dst r judged a
 
-  pub copied_not : j ≡ false → imaged (words_from k 0 n f) ≡ false
-  copied_not a = ap imaged (sym (filled_words f dst dst₀ k n e)) ∙ imaged_not (take n dst) j judged a
+    pub copied_not : r ≡ false → imaged (words_from k 0 n f) ≡ false
+    copied_not a = ap imaged (sym copied_words) ∙ imaged_not dst r judged a
 
 module _ (f area area' : List ℕ) (x : Option Place) (r : Fetched) where
   pub fetches_found : (k n : ℕ) → x ≡ placed k n → FetchesAt k n f area area' r → FetchesFound x f area area' r

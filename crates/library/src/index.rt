@@ -3,6 +3,7 @@ ghost use Rattle.std.specs.Prelude.{◌≡◌, ◌+◌, ◌*◌, ◌<◌, ◌≤
 ghost use Rattle.library.specs.Index.{room_of, first_part, used_by, entry_good, index_good, found, start_of, index_of};
 ghost use Rattle.library.specs.Told.{index_number};
 
+use crate::row::{Row, refused};
 use blocks::{BLOCK, CONTENT, is_intact, read_pair};
 use limits::INPUT_LIMIT;
 
@@ -24,15 +25,14 @@ pub enum IndexError {
     BadIndex,
 }
 
-impl IndexError {
-    // The number that it is told by.
-    pub fn number(self) -> u32
-        ensures { result ≡ index_number self }
-    {
-        match self {
-            IndexError::BadLength => 40,
-            IndexError::BadStart => 41,
-            IndexError::BadIndex => 42,
+impl From<IndexError> for Row {
+    ghost from_gives = { λ error row. (row.number ≡ index_number error) × (row.extent ≡ 0) };
+
+    fn from(error: IndexError) -> Row {
+        match error {
+            IndexError::BadLength => refused(40),
+            IndexError::BadStart => refused(41),
+            IndexError::BadIndex => refused(42),
         }
     }
 }

@@ -1,5 +1,5 @@
 // Listing a library: each entry's identifier and number of words.
-ghost use Rattle.std.specs.Prelude.{◌≡◌, ◌++◌, ◌*◌, ◌≤◌, length, drop, Ok};
+ghost use Rattle.std.specs.Prelude.{◌≡◌, ◌/◌, ◌%◌, ◌≤◌, length, Ok, Err};
 ghost use Rattle.library.specs.declared.list.ListError.TheVariants.{Index};
 ghost use Rattle.library.specs.Index.{index_of};
 ghost use Rattle.library.specs.Contents.{listing};
@@ -7,7 +7,7 @@ ghost use Rattle.library.specs.List.{ListsLibrary, ListsEntries};
 ghost use Rattle.library.specs.Told.{list_number, list_extent};
 
 use crate::index::{IndexError, entry_at, judge_index};
-use crate::row::{Row, done, no_room, refused};
+use crate::row::{Row, done, no_room};
 use blocks::{BLOCK, read_pair};
 
 // Why a library is not listed: it has no index, or the area is too short for the words that are needed.
@@ -25,12 +25,12 @@ impl From<IndexError> for ListError {
     }
 }
 
-// Copies the entries to the start of dst.
-fn fill_list(dst: &mut [u32], start: &[u8], count: usize)
-    requires { (length start.now ≡ 512) × (count ≤ 60) × (2 * count ≤ length dst.old) }
-    ensures { dst.new ≡ listing count 2 start.now ++ drop (2 * count) dst.old }
+// Copies entries to dst, two words an entry.
+fn fill_list(dst: &mut [u32], start: &[u8])
+    requires { (length start.now ≡ 512) × (length dst.old ≤ 120) × (length dst.old % 2 ≡ 0) }
+    ensures { dst.new ≡ listing (length dst.old / 2) 2 start.now }
 {
-    for i in 0..count {
+    for i in 0..dst.len() / 2 {
         let at = entry_at(i);
         dst[2 * i] = read_pair(start, at) as u32;
         dst[2 * i + 1] = read_pair(start, at + 4) as u32;
@@ -47,7 +47,7 @@ fn list_entries(file: &[u8], count: usize, area: &mut [u32]) -> Result<usize, Li
     if area.len() < need {
         return Err(ListError::NoRoom { need });
     }
-    fill_list(area, &file[..BLOCK], count);
+    fill_list(&mut area[..need], &file[..BLOCK]);
     Ok(need)
 }
 
@@ -60,13 +60,20 @@ pub fn list(file: &[u8], area: &mut [u32]) -> Result<usize, ListError>
     list_entries(file, count, area)
 }
 
+impl From<ListError> for Row {
+    ghost from_gives = { λ error row. (row.number ≡ list_number (Err error)) × (row.extent ≡ list_extent (Err error)) };
+
+    fn from(error: ListError) -> Row {
+        match error {
+            ListError::Index(error) => Row::from(error),
+            ListError::NoRoom { need } => no_room(need),
+        }
+    }
+}
+
 // The row of an answer.
 pub fn list_told(answer: Result<usize, ListError>) -> Row
     ensures { (result.number ≡ list_number answer) × (result.extent ≡ list_extent answer) }
 {
-    match answer {
-        Ok(words) => done(words),
-        Err(ListError::NoRoom { need }) => no_room(need),
-        Err(ListError::Index(error)) => refused(error.number()),
-    }
+    answer.map_or_else(Row::from, done)
 }

@@ -1,5 +1,5 @@
 // Reading a description of a library.
-ghost use Rattle.std.specs.Prelude.{◌≡◌, true, ◌++◌, ◌+◌, ◌<◌, ◌≤◌, length, drop, Ok};
+ghost use Rattle.std.specs.Prelude.{◌≡◌, ◌+◌, ◌<◌, length, Ok, Err};
 ghost use Rattle.library.specs.declared.read.ReadError.TheVariants.{Index};
 ghost use Rattle.library.specs.Index.{room_of, index_of};
 ghost use Rattle.library.specs.Read.{quad_at, words_from, whole_blocks, sought, StandsWithin, FetchesAt, FetchesFound, Fetches};
@@ -54,40 +54,18 @@ fn is_whole(file: &[u8], first: usize, words: usize) -> bool
     true
 }
 
-// Copies the words of a description to the start of dst.
-fn fill(dst: &mut [u32], file: &[u8], first: usize, words: usize)
-    requires { StandsWithin first words file.now × (words ≤ length dst.old) }
-    ensures { dst.new ≡ words_from first 0 words file.now ++ drop words dst.old }
+// Copies words of a description to dst.
+fn fill(dst: &mut [u32], file: &[u8], first: usize)
+    requires { StandsWithin first (length dst.old) file.now }
+    ensures { dst.new ≡ words_from first 0 (length dst.old) file.now }
 {
-    for i in 0..words {
+    for (i, word) in dst.iter_mut().enumerate() {
         let at = BLOCK * (first + i / WORDS) + 4 * (i % WORDS);
-        dst[i] = read_word(file, at);
+        *word = read_word(file, at);
     }
 }
 
-// Judges the words of a description whose blocks are intact, in the space, and copies them to the area.
-fn judge_words(
-    file: &[u8],
-    first: usize,
-    words: usize,
-    area: &mut [u32],
-    space: &mut [u32; INPUT_LIMIT],
-) -> Result<usize, ReadError>
-    requires { StandsWithin first words file.now × (whole_blocks (room_of words) first words file.now ≡ true) }
-    ensures { FetchesAt first words file.now area.old area.new result }
-{
-    fill(space, file, first, words);
-    if !judge(&space[..words]) {
-        return Err(ReadError::Malformed);
-    }
-    if area.len() < words {
-        return Err(ReadError::NoRoom { need: words });
-    }
-    area[..words].copy_from_slice(&space[..words]);
-    Ok(words)
-}
-
-// Reads the description of so many words that begins in block `first`.
+// Reads the description of so many words that begins in block `first`: its words are judged before they are copied to the area.
 #[tactic(auto, unfolding(crate::specs::Read::fetch_answer_at))]
 fn read_description(
     file: &[u8],
@@ -101,7 +79,17 @@ fn read_description(
     if !is_whole(file, first, words) {
         return Err(ReadError::Damaged);
     }
-    judge_words(file, first, words, area, &mut [0; INPUT_LIMIT])
+    let mut space = [0; INPUT_LIMIT];
+    let copy = &mut space[..words];
+    fill(copy, file, first);
+    if !judge(copy) {
+        return Err(ReadError::Malformed);
+    }
+    if area.len() < words {
+        return Err(ReadError::NoRoom { need: words });
+    }
+    area[..words].copy_from_slice(copy);
+    Ok(words)
 }
 
 // Reads the description of an identifier in a library whose index is good.
@@ -130,16 +118,23 @@ pub fn fetch(file: &[u8], identifier: u32, area: &mut [u32]) -> Result<usize, Re
     read_indexed(file, count, wide(identifier), area)
 }
 
+impl From<ReadError> for Row {
+    ghost from_gives = { λ error row. (row.number ≡ fetch_number (Err error)) × (row.extent ≡ fetch_extent (Err error)) };
+
+    fn from(error: ReadError) -> Row {
+        match error {
+            ReadError::Index(error) => Row::from(error),
+            ReadError::Absent => refused(43),
+            ReadError::Damaged => refused(44),
+            ReadError::Malformed => refused(45),
+            ReadError::NoRoom { need } => no_room(need),
+        }
+    }
+}
+
 // The row of an answer.
 pub fn fetch_told(answer: Result<usize, ReadError>) -> Row
     ensures { (result.number ≡ fetch_number answer) × (result.extent ≡ fetch_extent answer) }
 {
-    match answer {
-        Ok(words) => done(words),
-        Err(ReadError::NoRoom { need }) => no_room(need),
-        Err(ReadError::Malformed) => refused(45),
-        Err(ReadError::Damaged) => refused(44),
-        Err(ReadError::Absent) => refused(43),
-        Err(ReadError::Index(error)) => refused(error.number()),
-    }
+    answer.map_or_else(Row::from, done)
 }

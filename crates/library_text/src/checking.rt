@@ -10,6 +10,7 @@ use crate::lines::put_number_line;
 use answer_text::line::{put_labelled, put_last};
 use blocks::BLOCK;
 use library::index::judge_index;
+use library::row::Row;
 use library::survey::check_block;
 
 // Writes the line of a damaged block.
@@ -58,6 +59,6 @@ pub(crate) fn write_check(file: &[u8], out: &mut [u8]) -> Option<usize>
 {
     match judge_index(file) {
         Ok(_) => write_good(file, out),
-        Err(error) => put_number_line(out, error.number()),
+        Err(error) => put_number_line(out, Row::from(error).number),
     }
 }

@@ -10,6 +10,7 @@ use answer_text::answer::write_bad;
 use answer_text::line::put_run;
 use call_text::call::is_over;
 use call_text::number::{Token, read_token};
+use library::row::Row;
 use library_writing::write::write;
 use limits::wide;
 
@@ -21,17 +22,16 @@ const WORDS: usize = 65536;
 
 const FILE_ROOM: usize = 276992;
 
-// Reads so many words from p on to the start of dst, and answers where the text goes on; or there is no such run.
-fn read_run(text: &[u8], p: usize, count: usize, dst: &mut [u32]) -> Option<usize>
-    requires { count ≤ length dst.old }
-    ensures { ReadsRun text.now count (words_in count (drop p text.now)) dst.new result }
+// Reads as many words from p on as dst has room for, and answers where the text goes on; or there is no such run.
+fn read_run(text: &[u8], p: usize, dst: &mut [u32]) -> Option<usize>
+    ensures { ReadsRun text.now (words_in (length dst.old) (drop p text.now)) dst.new result }
 {
     let mut at = p;
-    for i in 0..count {
+    for word in dst.iter_mut() {
         let Token::Is { value, next } = read_token(text, at) else {
             return None;
         };
-        dst[i] = value;
+        *word = value;
         at = next;
     }
     Some(at)
@@ -47,32 +47,30 @@ fn write_made(entries: &[u32], words: &[u32], file: &mut [u8], out: &mut [u8]) -
             let at = put_extent_line(out, 0, b" bytes ", bytes)?;
             put_run(out, at, &file[..bytes])
         }
-        Err(error) => put_number_line(out, error.number()),
+        Err(error) => put_number_line(out, Row::from(error).number),
     }
 }
 
-// Writes the library of so many entry words and words, which stand from p on, to the start of out.
+// Writes the library of these many entry words and words, which stand from p on, to the start of out.
 fn write_runs(
     text: &[u8],
     p: usize,
-    count: usize,
-    total: usize,
     entries: &mut [u32],
     words: &mut [u32],
     file: &mut [u8],
     out: &mut [u8],
 ) -> Option<usize>
-    requires { (count ≤ length entries.old) × (total ≤ length words.old) × (length file.old ≡ file_room) }
-    ensures { Wrote (runs_text count total (drop p text.now)) out.old out.new result }
+    requires { length file.old ≡ file_room }
+    ensures { Wrote (runs_text (length entries.old) (length words.old) (drop p text.now)) out.old out.new result }
 {
-    let Some(middle) = read_run(text, p, count, entries) else {
+    let Some(middle) = read_run(text, p, entries) else {
         return write_bad(out);
     };
-    let Some(end) = read_run(text, middle, total, words) else {
+    let Some(end) = read_run(text, middle, words) else {
         return write_bad(out);
     };
     if is_over(text, end) {
-        write_made(&entries[..count], &words[..total], file, out)
+        write_made(entries, words, file, out)
     } else {
         write_bad(out)
     }
@@ -106,7 +104,14 @@ fn order_in(
     if WORDS < long {
         return write_bad(out);
     }
-    write_runs(text, start, many, long, entries, words, file, out)
+    write_runs(
+        text,
+        start,
+        &mut entries[..many],
+        &mut words[..long],
+        file,
+        out,
+    )
 }
 
 // Writes the library that a text asks for to the start of out.

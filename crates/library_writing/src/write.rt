@@ -21,15 +21,14 @@ pub enum WriteError {
     NoRoom { need: usize },
 }
 
-impl WriteError {
-    // The number that it is told by.
-    pub fn number(self) -> u32
-        ensures { result ≡ write_number (Err self) }
-    {
-        match self {
-            WriteError::BadEntries => 47,
-            WriteError::Malformed => 45,
-            WriteError::NoRoom { need: _ } => 46,
+impl From<WriteError> for Row {
+    ghost from_gives = { λ error row. (row.number ≡ write_number (Err error)) × (row.extent ≡ write_extent (Err error)) };
+
+    fn from(error: WriteError) -> Row {
+        match error {
+            WriteError::BadEntries => refused(47),
+            WriteError::Malformed => refused(45),
+            WriteError::NoRoom { need } => no_room(need),
         }
     }
 }
@@ -123,9 +122,5 @@ pub fn write(entries: &[u32], words: &[u32], file: &mut [u8]) -> Result<usize, W
 pub fn write_told(answer: Result<usize, WriteError>) -> Row
     ensures { (result.number ≡ write_number answer) × (result.extent ≡ write_extent answer) }
 {
-    match answer {
-        Ok(bytes) => done(bytes),
-        Err(WriteError::NoRoom { need }) => no_room(need),
-        Err(error) => refused(error.number()),
-    }
+    answer.map_or_else(Row::from, done)
 }

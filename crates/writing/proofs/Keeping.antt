@@ -1,11 +1,10 @@
 -- What stays as it is while the result is written. Assumes nothing.
 use mathlib.Core.Path.{◌≡◌, refl, sym, ◌∙◌, subst}
-use mathlib.Core.List.{List, []}
+use mathlib.Core.List.{List}
 use Prim.Native.Nat.{ℕ, ◌+◌, ◌≤◌, ◌<◌}
 use native.Mathlib.Omega.{arith}
-use native.Mathlib.Decide.{ℕ_discrete}
 use lib.ListN.{length, get_or, set, length-set}
-use lib.Seq.{get_or-set_same, get_or-set_other}
+use lib.Seq.{get_or-set_other}
 use Rattle.theory.specs.Net.{Graph}
 use Rattle.layout.specs.Standing.{Stands}
 use Rattle.area.specs.Map.{PARENT, NEXT, LOG, STACK, WORDS, RESULT}
@@ -19,7 +18,7 @@ use Rattle.forest.proofs.Words.{targets_same}
 use Rattle.forest.proofs.Links.{chain_same}
 use Rattle.forest.proofs.Places.{chain_low}
 use Rattle.writing.specs.Classes.{Fan, Classes, Met}
-use Rattle.writing.specs.Writing.{Kept, Unnumbered}
+use Rattle.writing.specs.Writing.{Kept}
 use Rattle.layout.proofs.Standing.{stands_frame}
 
 pub kept_refl : (k at : ℕ) (w : List ℕ) → Kept k at at w w
@@ -126,19 +125,3 @@ met_kept n k m w w' G lab ord c f s =
       old = λ i h. f (STACK + get_or ord i 0) (let a = c.low i (omega arith) in omega arith) ∙ s.old i h;
       order = λ i h. f (LOG + k + i) (omega arith) ∙ s.order i h;
     }
-
--- ---- clearing
-pub cleared_none : (w : List ℕ) → Unnumbered 0 w w
-cleared_none w = record { len = refl; is = λ i h. absurd (omega arith); low = λ j h. refl; high = λ j h. refl }
-
-pub cleared_more : (i : ℕ) (w w' : List ℕ) → i < 1024 → WORDS ≤ length w → Unnumbered i w w' → Unnumbered (i + 1) w (set w' (STACK + i) 0)
-cleared_more i w w' h g c = record {
-  len = simp length-set c.len;
-  is = λ j l. go j l (ℕ_discrete j i);
-  low = λ j l. get_or-set_other w' (STACK + i) j 0 0 (λ e. omega arith) ∙ c.low j l;
-  high = λ j l. get_or-set_other w' (STACK + i) j 0 0 (λ e. omega arith) ∙ c.high j l;
-}
-  where
-    go : (j : ℕ) → j < i + 1 → Dec (j ≡ i) → get_or (set w' (STACK + i) 0) (STACK + j) 0 ≡ 0
-    go j l (yes e) = let n = c.len in rw e (get_or-set_same w' (STACK + i) 0 0 (omega arith))
-    go j l (no e) = get_or-set_other w' (STACK + i) (STACK + j) 0 0 (λ d. e (omega arith)) ∙ c.is j (omega arith)

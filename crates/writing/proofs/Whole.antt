@@ -3,6 +3,7 @@ use mathlib.Core.Path.{◌≡◌, ◌∙◌, subst}
 use mathlib.Core.List.{List}
 use Prim.Native.Nat.{ℕ, ◌+◌, ◌≤◌, ◌<◌}
 use native.Mathlib.Omega.{arith}
+use mathlib.Core.Logic.{inl, inr}
 use lib.ListN.{length, get_or, set, length-set}
 use lib.Seq.{get_or-set_same, get_or-set_other}
 use Rattle.theory.specs.Net.{Graph}
@@ -10,12 +11,13 @@ use Rattle.theory.specs.Layout.{nodes_words}
 use Rattle.theory.specs.Weight.{weight}
 use Rattle.layout.specs.Standing.{Stands}
 use Rattle.layout.proofs.Standing.{stands_length, stands_frame}
-use Rattle.area.specs.Map.{RESULT, SIZE}
+use Rattle.area.specs.Map.{RESULT, SIZE, STACK}
 use Rattle.forest.specs.Forest.{parents, Shape, Root}
 use Rattle.classes.specs.Holds.{class}
 use Rattle.classes.proofs.Laws.{holds_few, holds_again, since_again}
+use Rattle.area.specs.Region.{Zeroed}
 use Rattle.writing.specs.Classes.{Classes, Met}
-use Rattle.writing.specs.Writing.{Kept, Unnumbered, Numbering, Numbers, NodesWriting, NodesWritten, Writing, Writes}
+use Rattle.writing.specs.Writing.{Kept, Numbering, Numbers, NodesWriting, NodesWritten, Writing, Writes}
 use Rattle.writing.proofs.Keeping.{kept_trans, kept_both, kept_wider, kept_put, kept_classes}
 use Rattle.writing.proofs.Source.{ord, source}
 
@@ -26,17 +28,18 @@ module _ (n k : ℕ) (w : List ℕ) (o : ℕ) (p : Writing n k w o) where
   s : Classes n k w p.G (class p.holds) (ord n p.es k w p.holds p.G p.joined)
   s = source n p.es k w p.holds p.G p.joined
 
-  module _ (w1 : List ℕ) (z : Unnumbered n w w1) where
+  module _ (w1 : List ℕ) (z : Zeroed STACK n w w1) where
     cleared_kept : (at : ℕ) → Kept k at at w w1
     cleared_kept at =
         let f = few in
+        let b = p.holds.below in
         record {
           len = z.len;
           more = omega arith;
-          low = λ j h. z.low j (omega arith);
-          mid = λ j h l. z.high j h;
+          low = λ j h. z.rest j (inl (omega arith));
+          mid = λ j h l. z.rest j (inr (omega arith));
           high =
-              λ j h. z.high j (omega arith);
+              λ j h. z.rest j (inr (omega arith));
         }
 
     -- no class has a number yet

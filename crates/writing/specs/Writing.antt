@@ -103,13 +103,6 @@ pub record Arced (n k : ℕ) (w : List ℕ) (x at m at' m' : ℕ) (w' : List ℕ
       → Met k m' ord w' × ((m' ≡ met m l) × Stands w' (RESULT + at) (arc_words l) (RESULT + at'))
 
 -- ---- the nodes
--- no class below n has a number, and no other word has changed
-pub record Unnumbered (n : ℕ) (w w' : List ℕ) : Type 0 where
-  pub len : length w' ≡ length w
-  pub is : (i : ℕ) → i < n → get_or w' (STACK + i) 0 ≡ 0
-  pub low : (j : ℕ) → j < STACK → get_or w' j 0 ≡ get_or w j 0
-  pub high : (j : ℕ) → WORDS ≤ j → get_or w' j 0 ≡ get_or w j 0
-
 -- what a node asks: its class is met, and there is room for it
 pub record NodeWriting (n k : ℕ) (w : List ℕ) (i at m : ℕ) : Type 0 where
   pub G : Graph

@@ -1,25 +1,14 @@
 // The nodes of the joined graph, in the order of their numbers.
 ghost use Rattle.std.specs.Prelude.{◌≡◌, ℕ, ◌+◌, ◌≤◌, ◌<◌, length, get_or};
 ghost use Rattle.area.specs.Map.{STACK, SIZE, NODES};
-ghost use Rattle.writing.specs.Writing.{NodeWriting, NodeWritten, NodesWriting, NodesWritten, Unnumbered, Writing, Writes};
+ghost use Rattle.writing.specs.Writing.{NodeWriting, NodeWritten, NodesWriting, NodesWritten, Writing, Writes};
 
 use crate::arcs::{Place, arcs, number};
+use area::clearing::clear;
 use area::map::{LOG, RESULT, STACK};
 use forest::forest::find;
 use forest::held::{Held, held_by};
 use limits::wide;
-
-// No class has a number.
-fn clear(w: &mut [u32], n: usize)
-    requires { (n ≤ NODES) × (SIZE ≤ length w.old) }
-    ensures { Unnumbered n w.old w.new }
-{
-    let mut i: usize = 0;
-    while i < n {
-        w[STACK + i] = 0;
-        i += 1;
-    }
-}
 
 // Writes the node with the number i at `at` of the result, where m classes are met.
 fn node(w: &mut [u32], k: usize, n: usize, i: usize, at: usize, m: usize) -> Place
@@ -27,8 +16,7 @@ fn node(w: &mut [u32], k: usize, n: usize, i: usize, at: usize, m: usize) -> Pla
     ensures { NodeWritten n k w.old i at m result.at result.met w.new }
 {
     let c = wide(w[LOG + k + i]);
-    let held = held_by(w, c);
-    let x = match held {
+    let x = match held_by(w, c) {
         Held::Nothing => 0,
         Held::Arcs(chain) => chain,
         Held::Atom(h) => {
@@ -49,6 +37,7 @@ fn nodes(w: &mut [u32], k: usize, n: usize, from: usize) -> Place
 {
     let mut at = from;
     let mut met: usize = 1;
+    // While a node is written more classes may be met, so these are not the numbers of a range.
     let mut i: usize = 0;
     while i < met {
         let p = node(w, k, n, i, at, met);
@@ -56,7 +45,7 @@ fn nodes(w: &mut [u32], k: usize, n: usize, from: usize) -> Place
         met = p.met;
         i += 1;
     }
-    Place { at: at, met: met }
+    Place { at, met }
 }
 
 // Writes the joined graph of the pushed graphs at o of the result, where the log has k entries and there are n numbers. Where it ends.
@@ -64,7 +53,7 @@ pub fn write_graph(w: &mut [u32], k: usize, n: usize, o: usize) -> usize
     requires { Writing n k w.old o }
     ensures { Writes n k w.old o result w.new }
 {
-    clear(w, n);
+    clear(w, STACK, n);
     let c = find(w, n, 0);
     number(w, k, n, c, 0);
     let p = nodes(w, k, n, o + 1);

@@ -2,6 +2,7 @@
 -- an alternative are settled from the last to the first, and so are the alternatives of each; the depth falls.
 -- Assumes nothing.
 use native.Mathlib.Omega.{arith}
+use mathlib.Core.Path.{refl}
 use Rattle.folding.proofs.Ending.{room_on}
 use Rattle.folding.proofs.Branches.{last_low, going_start, going_low, going_asks, going_clash, going_fine}
 use Rattle.folding.proofs.Branches.{going_as, going_done}
@@ -68,59 +69,62 @@ settle_disjunction-bounds-alts-last t c =
 
 pub settle_disjunction-loop-homes-init : goal.settle_disjunction-loop-homes-init
 settle_disjunction-loop-homes-init t c =
-    going_start _ _ _ _ _ _ _ c.requires.branch_settling (omega arith)
+    (going_start _ _ _ _ _ _ _ c.requires.branch_settling (omega arith), refl)
 
 pub settle_disjunction-beside-requires : goal.settle_disjunction-beside-requires
 settle_disjunction-beside-requires t c =
-    let low = going_low c.loop-homes.invariant c.requires.branch_settling in
+    let low = going_low c.loop-homes.invariant.0 c.requires.branch_settling in
     omega arith
 
 pub settle_disjunction-settle-requires : goal.settle_disjunction-settle-requires
 settle_disjunction-settle-requires t c =
     let (n, e) = c.beside.ensures.is c.loop-homes-test.true in
-    (omega arith, ((going_asks c.loop-homes.invariant n e c.requires.branch_settling).1, room_on c.requires.settling_room c.loop-homes.invariant.size c.loop-homes.invariant.grown))
+    (omega arith, ((going_asks c.loop-homes.invariant.0 n e c.requires.branch_settling).1, room_on c.requires.settling_room c.loop-homes.invariant.0.size c.loop-homes.invariant.0.grown))
 
 pub settle_disjunction-overflow_add-kept : goal.settle_disjunction-overflow_add-kept
 settle_disjunction-overflow_add-kept t c =
-    let low = going_low c.loop-homes.invariant c.requires.branch_settling in
+    let low = going_low c.loop-homes.invariant.0 c.requires.branch_settling in
     omega arith
 
 pub settle_disjunction-overflow_mul-c : goal.settle_disjunction-overflow_mul-c
 settle_disjunction-overflow_mul-c t c =
-    let low = going_low c.loop-homes.invariant c.requires.branch_settling in
+    let low = going_low c.loop-homes.invariant.0 c.requires.branch_settling in
     omega arith
 
 pub settle_disjunction-overflow_add-c : goal.settle_disjunction-overflow_add-c
 settle_disjunction-overflow_add-c t c =
-    let low = going_low c.loop-homes.invariant c.requires.branch_settling in
+    let low = going_low c.loop-homes.invariant.0 c.requires.branch_settling in
     omega arith
 
 pub settle_disjunction-offset_bounds-alts-c : goal.settle_disjunction-offset_bounds-alts-c
 settle_disjunction-offset_bounds-alts-c t c =
-    let low = going_low c.loop-homes.invariant c.requires.branch_settling in
+    let low = going_low c.loop-homes.invariant.0 c.requires.branch_settling in
     omega arith
 
 pub settle_disjunction-bounds-alts-c : goal.settle_disjunction-bounds-alts-c
 settle_disjunction-bounds-alts-c t c =
-    let low = going_low c.loop-homes.invariant c.requires.branch_settling in
+    let low = going_low c.loop-homes.invariant.0 c.requires.branch_settling in
     omega arith
 
 pub settle_disjunction-loop-homes-smaller : goal.settle_disjunction-loop-homes-smaller
 settle_disjunction-loop-homes-smaller t c =
     let (n, e) = c.beside.ensures.is c.loop-homes-test.true in
-    let less = (going_asks c.loop-homes.invariant n e c.requires.branch_settling).0 in
+    let less = (going_asks c.loop-homes.invariant.0 n e c.requires.branch_settling).0 in
     omega arith
 
 pub settle_disjunction-loop-homes-preserved : goal.settle_disjunction-loop-homes-preserved
 settle_disjunction-loop-homes-preserved t c =
+    let v = c.loop-homes.invariant.0 in
+    let low = going_low v c.requires.branch_settling in
+    let few = c.requires.settling_room.few in
     let (n, e) = c.beside.ensures.is c.loop-homes-test.true in
     elim c.match-settle.branch [
-      | settle_disjunction-in-Some w ↦ going_as (going_fine c.loop-homes.invariant n e c.settle.ensures c.requires.branch_settling _ w.in-Some.is)
-          w.at-is c.wide-c.ensures w.kept-is w.sole-is w.count-is w.inner-is
-      | settle_disjunction-in_default w ↦ going_as (going_clash c.loop-homes.invariant n e c.settle.ensures w.in_default.is)
-          w.at-is c.wide-c.ensures w.kept-is w.sole-is w.count-is w.inner-is
+      | settle_disjunction-in-Some w ↦ going_as w.at-is c.wide-c.ensures w.kept-is w.first-is
+          (going_fine v n e c.settle.ensures c.requires.branch_settling _ w.in-Some.is, (omega arith, omega arith))
+      | settle_disjunction-in_default w ↦ going_as w.at-is c.wide-c.ensures w.kept-is w.first-is
+          (going_clash v n e c.settle.ensures w.in_default.is, c.loop-homes.invariant.1)
     ]
 
 pub settle_disjunction-returns : goal.settle_disjunction-returns
 settle_disjunction-returns t c =
-    going_done c.loop-homes.invariant (c.beside.ensures.not c.loop-homes-test.false) c.conclude.ensures
+    going_done c.loop-homes.invariant.0 (c.beside.ensures.not c.loop-homes-test.false) c.conclude.ensures

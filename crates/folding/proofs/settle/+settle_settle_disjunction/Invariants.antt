@@ -1,5 +1,6 @@
 use Prim.Native.Nat.{◌+◌, ◌*◌}
 use Rattle.formulas.specs.Tables.{tables}
+use Rattle.folding.specs.Settled.{KeptFirst, alternative_of, count_of, inner_of}
 use Rattle.folding.proofs.Branches.{Going}
 use Rattle.folding.proofs.Settles.{Rising}
 use Rattle.folding.proofs.settle.+settle_settle_disjunction.Given as goal
@@ -19,7 +20,8 @@ decreases-settle-loop-last l = l.last
 
 abbrev pub invariant-settle_disjunction-loop-homes : goal.invariant-settle_disjunction-loop-homes
 invariant-settle_disjunction-loop-homes l =
-    Going (tables l.arcs l.atoms l.ties l.alts) l.initial.homes l.initial.words l.len l.k l.last l.left l.homes l.words l.at l.c l.kept l.sole l.count l.inner
+    Going (tables l.arcs l.atoms l.ties l.alts) l.initial.homes l.initial.words l.len l.k l.last l.left l.homes l.words l.at l.c l.kept
+    (alternative_of l.first) (count_of l.first) (inner_of l.first) × KeptFirst l.kept l.first
 
 abbrev pub decreases-settle_disjunction-loop-homes : goal.decreases-settle_disjunction-loop-homes
 decreases-settle_disjunction-loop-homes l =

@@ -10,4 +10,4 @@ loop-i-init c = list_none c.args.start.now c.args.dst.now
 pub loop-i-preserved : goal.loop-i-preserved
 loop-i-preserved c =
     rw c.read_pair.ensures.0 (rw c.read_pair-in-loop-i.ensures.0 (rw c.entry_at-at.ensures
-    (list_step c.args.start.now c.loop-i.i c.loop-i.dst c.args.dst.now (omega (arith, c.requires.2)) c.loop-i.invariant)))
+    (list_step c.args.start.now c.loop-i.i c.loop-i.dst c.args.dst.now (omega arith) c.loop-i.invariant)))

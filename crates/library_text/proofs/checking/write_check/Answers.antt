@@ -15,6 +15,6 @@ returns-in-Ok c =
 
 pub returns-in-Err : goal.returns-in-Err
 returns-in-Err c =
-    wrote_as (number_line c.number.result) (check_text c.args.file.now) c.args.out.now c.put_number_line.new.dst c.put_number_line.result
-    (ap number_line c.number.ensures ∙ check_printed c.args.file.now _ (sym c.in-Err.is ∙ c.judge_index.ensures))
-    (wrote (number_line c.number.result) c.args.out.now c.put_number_line.new.dst c.put_number_line.result c.put_number_line.ensures)
+    wrote_as (number_line c.from.result.number) (check_text c.args.file.now) c.args.out.now c.put_number_line.new.dst c.put_number_line.result
+    (ap number_line c.from.ensures.0 ∙ check_printed c.args.file.now _ (sym c.in-Err.is ∙ c.judge_index.ensures))
+    (wrote (number_line c.from.result.number) c.args.out.now c.put_number_line.new.dst c.put_number_line.result c.put_number_line.ensures)

@@ -1,7 +1,8 @@
 -- `library_text::writing::order_in` meets its contract.
 -- Assumes nothing.
 use native.Mathlib.Omega.{arith}
-use lib.ListN.{drop}
+use lib.ListN.{length, take, drop}
+use lib.Seq.{length-take-le}
 use Rattle.call_text.proofs.Tokens.{said}
 use Rattle.answer_text.specs.Answer.{bad_text}
 use Rattle.library_text.specs.Serves.{runs_text, order_text}
@@ -41,8 +42,10 @@ pub returns : goal.returns
 returns c =
     let first = number_said c.args.text.now 0 c.read_token.result c.read_token.ensures c.in-Is.count c.in-Is.next c.in-Is.is in
     let second = number_said c.args.text.now c.in-Is.next c.read_token-2.result c.read_token-2.ensures c.in-Is-read_token.total c.in-Is-read_token.start c.in-Is-read_token.is in
-    wrote_as (runs_text c.wide-many.result c.wide-long.result (drop c.in-Is-read_token.start c.args.text.now)) (order_text c.args.text.now)
-    c.args.out.now c.write_runs.new.out c.write_runs.result
-    (order_fine c.args.text.now c.in-Is.count c.in-Is.next first c.in-Is-read_token.total c.in-Is-read_token.start second c.wide-many.result c.wide-many.ensures (omega arith)
-    c.wide-long.result c.wide-long.ensures (omega arith))
+    let entries = length-take-le c.wide-many.result c.args.entries.now (omega arith) in
+    let words = length-take-le c.wide-long.result c.args.words.now (omega arith) in
+    wrote_as (runs_text (length (take c.wide-many.result c.args.entries.now)) (length (take c.wide-long.result c.args.words.now)) (drop c.in-Is-read_token.start c.args.text.now))
+    (order_text c.args.text.now) c.args.out.now c.write_runs.new.out c.write_runs.result
+    (rw entries (rw words (order_fine c.args.text.now c.in-Is.count c.in-Is.next first c.in-Is-read_token.total c.in-Is-read_token.start second c.wide-many.result c.wide-many.ensures (omega arith)
+    c.wide-long.result c.wide-long.ensures (omega arith))))
     c.write_runs.ensures

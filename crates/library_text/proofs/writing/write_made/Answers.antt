@@ -45,6 +45,6 @@ returns-in_ok-at-in-Ok c =
 
 pub returns-in-Err : goal.returns-in-Err
 returns-in-Err c =
-    wrote_as (number_line c.number.result) (made_text c.args.entries.now c.args.words.now) c.args.out.now c.put_number_line.new.dst c.put_number_line.result
-    (ap number_line c.number.ensures ∙ made_refused c.args.entries.now c.args.words.now c.args.file.now c.write.new.file c.requires c.in-Err.error c.in-Err.ensures)
-    (wrote (number_line c.number.result) c.args.out.now c.put_number_line.new.dst c.put_number_line.result c.put_number_line.ensures)
+    wrote_as (number_line c.from.result.number) (made_text c.args.entries.now c.args.words.now) c.args.out.now c.put_number_line.new.dst c.put_number_line.result
+    (ap number_line c.from.ensures.0 ∙ made_refused c.args.entries.now c.args.words.now c.args.file.now c.write.new.file c.requires c.in-Err.error c.in-Err.ensures)
+    (wrote (number_line c.from.result.number) c.args.out.now c.put_number_line.new.dst c.put_number_line.result c.put_number_line.ensures)

@@ -30,9 +30,6 @@ loop-i-preserved c =
     going_turn c.args.n c.args.k c.args.w.now c.args.from c.loop-i.at c.loop-i.met c.loop-i.i c.loop-i.w c.loop-i.invariant
     c.loop-i-test.true c.node-p.result.at c.node-p.result.met c.node-p.new.w c.node-p.ensures
 
-pub shape_of-w : goal.shape_of-w
-shape_of-w c = c.loop-i.invariant.kept.len
-
 pub returns : goal.returns
 returns c =
     going_end c.args.n c.args.k c.args.w.now c.args.from c.loop-i.at c.loop-i.met c.loop-i.i c.loop-i.w c.loop-i.invariant (omega arith)

@@ -1,6 +1,5 @@
 -- `writing::graph::write_graph` meets its contract. Assumes nothing.
 use native.Mathlib.Omega.{arith}
-use lib.ListN.{length-set}
 use Rattle.writing.proofs.Whole.{writing_find, writing_number, writing_nodes, writing_small, writes}
 use Rattle.writing.proofs.graph.write_graph.Goals as goal
 
@@ -32,16 +31,6 @@ overflow_cast-w c =
     c.find-c.ensures c.number.result c.number.new.w
     c.number.ensures c.nodes-p.result.at c.nodes-p.result.met c.nodes-p.new.w c.nodes-p.ensures).0 in
     omega arith
-
-pub shape_of-w : goal.shape_of-w
-shape_of-w c =
-    let l = (writing_small c.args.n c.args.k c.args.w.now c.args.o c.requires
-    c.clear.new.w
-    c.clear.ensures
-    c.find-c.result
-    c.find-c.ensures c.number.result c.number.new.w
-    c.number.ensures c.nodes-p.result.at c.nodes-p.result.met c.nodes-p.new.w c.nodes-p.ensures).1 in
-    simp length-set (omega arith)
 
 pub returns : goal.returns
 returns c =
