@@ -4,15 +4,16 @@ ghost use Rattle.plain.specs.Expanded.{Expanding};
 ghost use Rattle.plain.specs.Joined.{Choice, Joins};
 
 use crate::light::{light_taken, listed};
+use area::map::{Area, Nodes};
 use choosing::choose::choose_both;
 use choosing::word::{is_new, place_of};
 use classes::push::{back, push};
 
 // Pushes the graphs of the `many` alternatives that are listed, where they are not among what is certain. How many entries the log has
 // then; the first clash takes all of them back.
-fn join_choice(w: &mut [u32], k: usize, n: usize, many: usize) -> Option<usize>
-    requires { Choice n k w.old many }
-    ensures { Joins n k w.old many result w.new }
+fn join_choice(w: &mut Area, k: usize, n: Nodes, many: usize) -> Option<usize>
+    requires { Choice n.count k w.old many }
+    ensures { Joins n.count k w.old many result w.new }
 {
     let mut log = k;
     for i in 0..many {
@@ -29,9 +30,9 @@ fn join_choice(w: &mut [u32], k: usize, n: usize, many: usize) -> Option<usize>
 }
 
 // How many of the `total` choices of both inputs over the kept alternatives are consistent; every alternative in one of them is found.
-pub fn expand(w: &mut [u32], k: usize, n: usize, total: u32) -> u32
-    requires { Expanding n k w.old total }
-    ensures { Searches n k w.old result w.new }
+pub fn expand(w: &mut Area, k: usize, n: Nodes, total: u32) -> u32
+    requires { Expanding n.count k w.old total }
+    ensures { Searches n.count k w.old result w.new }
 {
     let mut found: u32 = 0;
     for next in 0..total {

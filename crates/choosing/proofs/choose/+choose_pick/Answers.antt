@@ -25,12 +25,12 @@ picks-from : {w w₀ : List ℕ} {p count left i : ℕ} {new : Bool} {at r : ℕ
 picks-from {w} {w₀} {p} {count} {left} {i} {new} {at} {r} {w'} e k = subst (λ (z : List ℕ). Picks z p count left i new at r w') e k
 
 pub choose-tail_at-e-requires : goal.choose-tail_at-e-requires
-choose-tail_at-e-requires t c = ((going_starts c.requires).0, c.requires.room)
+choose-tail_at-e-requires t c = (going_starts c.requires).0
 
 pub choose-disjunctions_at-more-requires : goal.choose-disjunctions_at-more-requires
 choose-disjunctions_at-more-requires t c =
     let h = (going_starts c.requires).1 in
-    (omega arith, c.requires.room)
+    omega arith
 
 pub choose-overflow_add-p : goal.choose-overflow_add-p
 choose-overflow_add-p t c =
@@ -102,7 +102,7 @@ pick-mark_at-requires t c =
 pub pick-kept-requires : goal.pick-kept-requires
 pick-kept-requires t c =
     let k = still-asks c.loop.invariant.0 c.requires in
-    (c.mark_at.ensures.1, k.sums.room)
+    c.mark_at.ensures.1
 
 pub pick-count_choices-total-requires : goal.pick-count_choices-total-requires
 pick-count_choices-total-requires t c =

@@ -15,7 +15,7 @@ pub mark_at-requires : goal.mark_at-requires
 mark_at-requires c = let old : _ × _ = sum_here c.requires _ (c.loop.invariant.0 c.requires) (omega arith) in record { p_bound = old.0; p_bound_2 = old.1 }
 
 pub kept-requires : goal.kept-requires
-kept-requires c = (c.mark_at.ensures.1, c.requires.room)
+kept-requires c = c.mark_at.ensures.1
 
 pub count_choices-one-requires : goal.count_choices-one-requires
 count_choices-one-requires c =

@@ -20,10 +20,7 @@ returns-in_err-log t c = rw c.from_residual.ensures (enters_own _ _ _ _ _ _ _ c.
 
 pub tail_at-e-requires : goal.tail_at-e-requires
 tail_at-e-requires t c = let r =
-    reach_own _ _ _ _ _ _ _ c.push.ensures c.in_ok-log.was in (
-      (starts _ _ _ _ _ c.requires _ _ r).0,
-      omega (arith, r.len, c.requires.s.holds.long),
-    )
+    reach_own _ _ _ _ _ _ _ c.push.ensures c.in_ok-log.was in (starts _ _ _ _ _ c.requires _ _ r).0
 
 pub disjunctions_at-more-requires : goal.disjunctions_at-more-requires
 disjunctions_at-more-requires t c = let r =
@@ -48,7 +45,7 @@ loop-init t c = λ v e r u. (r, rw sub-zero u)
 
 pub alternatives_at-count-requires : goal.alternatives_at-count-requires
 alternatives_at-count-requires t c = let v = c.loop.invariant _ c.requires (reach_own _ _ _ _ _ _ _ c.push.ensures c.in_ok-log.was) (walk_start _ _ _ _ _ c.requires _ _ (reach_own _ _ _ _ _ _ _ c.push.ensures c.in_ok-log.was) _ c.push.ensures c.in_ok-log.was _ _ c.tail_at-e.ensures c.disjunctions_at-more.ensures) in
-    (walk_here _ _ _ _ _ c.requires _ _ v.0 _ _ v.1 (omega arith), omega (arith, v.1.holds.long))
+    walk_here _ _ _ _ _ c.requires _ _ v.0 _ _ v.1 (omega arith)
 
 pub overflow_add-at-in-loop : goal.overflow_add-at-in-loop
 overflow_add-at-in-loop t c = let v = c.loop.invariant _ c.requires (reach_own _ _ _ _ _ _ _ c.push.ensures c.in_ok-log.was)

@@ -9,7 +9,7 @@ choose_both-many-requires c = choosing_next c.requires c.loop-next.invariant c.l
 
 pub join_choice-requires : goal.join_choice-requires
 join_choice-requires c =
-    let step : Step c.args.n c.args.k c.args.w.now c.args.total c.loop-next.next c.loop-next.found c.choose_both-many.result
+    let step : Step c.args.n.count c.args.k c.args.w.now c.args.total c.loop-next.next c.loop-next.found c.choose_both-many.result
     c.choose_both-many.new.w = record {
       pre = c.requires;
       w = c.loop-next.w;
@@ -21,7 +21,7 @@ join_choice-requires c =
 
 pub light_taken-requires : goal.light_taken-requires
 light_taken-requires c =
-    let step : Step c.args.n c.args.k c.args.w.now c.args.total c.loop-next.next c.loop-next.found c.choose_both-many.result
+    let step : Step c.args.n.count c.args.k c.args.w.now c.args.total c.loop-next.next c.loop-next.found c.choose_both-many.result
     c.choose_both-many.new.w = record {
       pre = c.requires;
       w = c.loop-next.w;
@@ -33,7 +33,7 @@ light_taken-requires c =
 
 pub loop-next-preserved : goal.loop-next-preserved
 loop-next-preserved c =
-    let step : Step c.args.n c.args.k c.args.w.now c.args.total c.loop-next.next c.loop-next.found c.choose_both-many.result
+    let step : Step c.args.n.count c.args.k c.args.w.now c.args.total c.loop-next.next c.loop-next.found c.choose_both-many.result
     c.choose_both-many.new.w = record {
       pre = c.requires;
       w = c.loop-next.w;

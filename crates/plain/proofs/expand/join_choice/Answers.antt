@@ -6,11 +6,11 @@ use Rattle.plain.proofs.expand.join_choice.Goals.{then-is_new+in-Some, else-is_n
 
 pub listed-word-requires : goal.listed-word-requires
 listed-word-requires c =
-    (omega (arith, choice_few c.requires), omega (arith, c.loop-i.invariant.since.len, c.requires.holds.long))
+    omega (arith, choice_few c.requires)
 
 pub push-requires : goal.push-requires
 push-requires c =
-    let u : Coming c.args.n c.args.k c.args.w.now c.args.many c.loop-i.i c.loop-i.log c.loop-i.w c.place_of.result = record {
+    let u : Coming c.args.n.count c.args.k c.args.w.now c.args.many c.loop-i.i c.loop-i.log c.loop-i.w c.place_of.result = record {
       through = c.loop-i.invariant;
       some = c.loop-i-test.true;
       word = c.listed-word.result;
@@ -24,7 +24,7 @@ push-requires c =
 
 pub returns-in_default : goal.returns-in_default
 returns-in_default c =
-    let u : Coming c.args.n c.args.k c.args.w.now c.args.many c.loop-i.i c.loop-i.log c.loop-i.w c.place_of.result = record {
+    let u : Coming c.args.n.count c.args.k c.args.w.now c.args.many c.loop-i.i c.loop-i.log c.loop-i.w c.place_of.result = record {
       through = c.loop-i.invariant;
       some = c.loop-i-test.true;
       word = c.listed-word.result;
@@ -40,7 +40,7 @@ pub loop-i-preserved : goal.loop-i-preserved
 loop-i-preserved c =
     elim c.if-is_new.branch [
       | then-is_new+in-Some w ↦
-          let u : Coming c.args.n c.args.k c.args.w.now c.args.many c.loop-i.i c.loop-i.log c.loop-i.w w.place_of.result = record {
+          let u : Coming c.args.n.count c.args.k c.args.w.now c.args.many c.loop-i.i c.loop-i.log c.loop-i.w w.place_of.result = record {
             through = c.loop-i.invariant;
             some = c.loop-i-test.true;
             word = c.listed-word.result;

@@ -8,7 +8,7 @@ loop-i-init c = litup_none _ _
 
 pub listed-requires : goal.listed-requires
 listed-requires c =
-    (omega (arith, c.requires.few), omega (arith, c.requires.room, c.loop-i.invariant.len))
+    omega (arith, c.requires.few)
 
 pub mark_at-x-requires : goal.mark_at-x-requires
 mark_at-x-requires c = let old : _ × _ = litup_asks c.loop-i.invariant
@@ -17,7 +17,7 @@ mark_at-x-requires c = let old : _ × _ = litup_asks c.loop-i.invariant
 
 pub light-requires : goal.light-requires
 light-requires c =
-    (c.mark_at-x.ensures.1, omega (arith, c.requires.room, c.loop-i.invariant.len))
+    c.mark_at-x.ensures.1
 
 pub loop-i-preserved : goal.loop-i-preserved
 loop-i-preserved c =

@@ -21,10 +21,10 @@ use Rattle.quick.proofs.narrow.+narrow_narrow_one_sift_try_one.Goals as goal
 use Rattle.quick.proofs.narrow.+narrow_narrow_one_sift_try_one.Goals.{sift-then-kept+in-Some, sift-then-kept+in_default, sift-else-kept}
 
 pub narrow-tail_at-e-requires : goal.narrow-tail_at-e-requires
-narrow-tail_at-e-requires t c = ((narrow_starts _ _ _ _ _ c.requires).0, c.requires.s.holds.long)
+narrow-tail_at-e-requires t c = (narrow_starts _ _ _ _ _ c.requires).0
 
 pub narrow-disjunctions_at-more-requires : goal.narrow-disjunctions_at-more-requires
-narrow-disjunctions_at-more-requires t c = (let h = (narrow_starts _ _ _ _ _ c.requires).1 in omega arith, c.requires.s.holds.long)
+narrow-disjunctions_at-more-requires t c = let h = (narrow_starts _ _ _ _ _ c.requires).1 in omega arith
 
 pub narrow-returns-then-more-eq0 : goal.narrow-returns-then-more-eq0
 narrow-returns-then-more-eq0 t c = narrows_stands _ _ _ _ _ _ _ _ (moved_start _ _ _ _ _ c.requires) (fewer_none _)
@@ -54,7 +54,7 @@ narrow-loop-init t c = (
 )
 
 pub narrow-alternatives_at-count-requires : goal.narrow-alternatives_at-count-requires
-narrow-alternatives_at-count-requires t c = (narrow_here _ _ _ _ _ c.requires _ _ _ _ c.loop.invariant.0 (c.loop.invariant.2 c.requires) (omega arith), omega (arith, c.loop.invariant.0.len, c.requires.s.holds.long))
+narrow-alternatives_at-count-requires t c = narrow_here _ _ _ _ _ c.requires _ _ _ _ c.loop.invariant.0 (c.loop.invariant.2 c.requires) (omega arith)
 
 pub narrow-overflow_add-at-in-loop : goal.narrow-overflow_add-at-in-loop
 narrow-overflow_add-at-in-loop t c = let h = narrow_here _ _ _ _ _ c.requires _ _ _ _ c.loop.invariant.0 (c.loop.invariant.2 c.requires) (omega arith) in omega arith
@@ -222,7 +222,7 @@ pub sift-mark_at-x-requires : goal.sift-mark_at-x-requires
 sift-mark_at-x-requires t c = let old : _ × _ = sift_here _ _ _ _ _ _ c.requires.alternating _ _ _ c.loop.invariant.0 (c.loop.invariant.2 c.requires.alternating) (omega arith) in record { p_bound = old.0; p_bound_2 = old.1 }
 
 pub sift-kept-requires : goal.sift-kept-requires
-sift-kept-requires t c = (c.mark_at-x.ensures.1, omega (arith, c.loop.invariant.0.len, c.requires.alternating.s.holds.long))
+sift-kept-requires t c = c.mark_at-x.ensures.1
 
 pub sift-try_one-requires : goal.sift-try_one-requires
 sift-try_one-requires t c = (
@@ -240,17 +240,14 @@ sift-overflow_add-drops t c = let a = fewer_small _ _ _ c.loop.invariant.1 in
     omega arith
 
 pub sift-drop-requires : goal.sift-drop-requires
-sift-drop-requires t c = (
-  c.mark_at-x.ensures.1,
-  omega (arith, c.try_one.ensures.moved.len, c.loop.invariant.0.len, c.requires.alternating.s.holds.long),
-)
+sift-drop-requires t c = c.mark_at-x.ensures.1
 
 pub sift-overflow_add-drops-in_default : goal.sift-overflow_add-drops-in_default
 sift-overflow_add-drops-in_default t c = let a = fewer_small _ _ _ c.loop.invariant.1 in omega arith
 
 pub sift-after_at-at-requires : goal.sift-after_at-at-requires
 sift-after_at-at-requires t c =
-    let turned : Turn c.args.n
+    let turned : Turn c.args.n.count
     c.args.k
     c.loop.w c.loop.at
     c.mark_at-x.result c.args.left
@@ -263,7 +260,7 @@ sift-after_at-at-requires t c =
 
 pub sift-loop-preserved : goal.sift-loop-preserved
 sift-loop-preserved t c =
-    let turned : Turn c.args.n
+    let turned : Turn c.args.n.count
     c.args.k
     c.loop.w c.loop.at
     c.mark_at-x.result c.args.left
@@ -287,10 +284,10 @@ pub sift-returns : goal.sift-returns
 sift-returns t c = record { moved = c.loop.invariant.0; fewer = c.loop.invariant.1; sifted = λ d. sift_done _ _ _ _ _ _ d _ _ _ (c.loop.invariant.2 d) (omega arith) }
 
 pub try_one-tail_at-e-requires : goal.try_one-tail_at-e-requires
-try_one-tail_at-e-requires t c = ((tried_starts _ _ _ _ _ c.requires.entering).0, c.requires.entering.s.holds.long)
+try_one-tail_at-e-requires t c = (tried_starts _ _ _ _ _ c.requires.entering).0
 
 pub try_one-disjunctions_at-more-requires : goal.try_one-disjunctions_at-more-requires
-try_one-disjunctions_at-more-requires t c = (let h = (tried_starts _ _ _ _ _ c.requires.entering).1 in omega arith, c.requires.entering.s.holds.long)
+try_one-disjunctions_at-more-requires t c = let h = (tried_starts _ _ _ _ _ c.requires.entering).1 in omega arith
 
 pub try_one-try_bare-requires : goal.try_one-try_bare-requires
 try_one-try_bare-requires t c = record {

@@ -5,7 +5,7 @@ use Rattle.showing.proofs.Nodes.{node_here, node_atom, node_asks, node_arcs}
 use Rattle.showing.proofs.copy.copy_node.Goals as goal
 
 pub word_at-head-requires : goal.word_at-head-requires
-word_at-head-requires c = ((node_here _ _ _ _ c.requires).0, c.requires.long)
+word_at-head-requires c = (node_here _ _ _ _ c.requires).0
 
 pub returns-then-head-ge-CODE_LIMIT : goal.returns-then-head-ge-CODE_LIMIT
 returns-then-head-ge-CODE_LIMIT c = λ d. node_atom _ _ _ _ d _ c.word_at-head.ensures (omega arith)

@@ -36,7 +36,7 @@ put_alternatives-put_description-out-requires t c = let v = c.loop.invariant c.r
 
 pub put_alternatives-after_at-at-requires : goal.put_alternatives-after_at-at-requires
 put_alternatives-after_at-at-requires t c =
-    let turned : Turn c.args.n
+    let turned : Turn c.args.n.count
     c.loop.w c.loop.at
     c.mark_at-x.result c.args.left
     c.loop.out c.if-kept.out c.if-kept.w = elim c.if-kept.branch [
@@ -47,7 +47,7 @@ put_alternatives-after_at-at-requires t c =
 
 pub put_alternatives-loop-preserved : goal.put_alternatives-loop-preserved
 put_alternatives-loop-preserved t c =
-    let turned : Turn c.args.n
+    let turned : Turn c.args.n.count
     c.loop.w c.loop.at
     c.mark_at-x.result c.args.left
     c.loop.out c.if-kept.out c.if-kept.w = elim c.if-kept.branch [
@@ -108,14 +108,11 @@ put_description-returns t c = describes _ _ _ _ _ _ _ c.put_graph-e.ensures _ _ 
     c.put_disjunctions-rest.ensures
 
 pub put_disjunctions-tail_at-e-requires : goal.put_disjunctions-tail_at-e-requires
-put_disjunctions-tail_at-e-requires t c = ((go_reads _ _ _ _ _ c.requires).0, c.requires.base.holds.long)
+put_disjunctions-tail_at-e-requires t c = (go_reads _ _ _ _ _ c.requires).0
 
 pub put_disjunctions-disjunctions_at-more-requires : goal.put_disjunctions-disjunctions_at-more-requires
-put_disjunctions-disjunctions_at-more-requires t c = (
-  let h = (go_reads _ _ _ _ _ c.requires).1 in
-      omega arith,
-  c.requires.base.holds.long,
-)
+put_disjunctions-disjunctions_at-more-requires t c = let h = (go_reads _ _ _ _ _ c.requires).1 in
+      omega arith
 
 pub put_disjunctions-overflow_add-at : goal.put_disjunctions-overflow_add-at
 put_disjunctions-overflow_add-at t c = let h = (go_reads _ _ _ _ _ c.requires).1 in omega arith
