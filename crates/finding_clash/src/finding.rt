@@ -38,8 +38,9 @@ pub fn clash_node(w: &mut Area) -> usize
     let second = w[WORDS + SECOND];
     let d = nodes_of(second);
     let b = number_of(second);
+    let n = Nodes { count: b + d };
     strip(w, c, d);
-    push_both(w, b + d);
-    note_heads(w, b + d, c, b, c + d);
-    first_clash(w, b + d, c, b, c + d)
+    push_both(w, n);
+    note_heads(w, n, c, b, c + d);
+    first_clash(w, n, c, b, c + d)
 }

@@ -59,7 +59,7 @@ pub(crate) fn note_heads(w: &mut Area, n: Nodes, c: usize, b: usize, m: usize)
     requires notes_asked { NotesAsked n.count c b m w.old }
     ensures { NotesAll n.count c b m w.old w.new }
 {
-    clear(w, STACK, n);
+    clear(w, STACK, n.count);
     for i in 0..m {
         note_head(w, n, c, b, i, m);
     }

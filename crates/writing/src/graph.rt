@@ -53,7 +53,7 @@ pub fn write_graph(w: &mut Area, k: usize, n: Nodes, o: usize) -> usize
     requires { Writing n.count k w.old o }
     ensures { Writes n.count k w.old o result w.new }
 {
-    clear(w, STACK, n);
+    clear(w, STACK, n.count);
     let c = find(w, n, 0);
     number(w, k, n, c, 0);
     let p = nodes(w, k, n, o + 1);

@@ -85,9 +85,6 @@ choose-loop-preserved t c = (
   λ d. rw sub-add-eq (going_on d _ _ (c.loop.invariant.1 d) c.loop.invariant.0 (omega arith) c.alternatives_at-count.ensures c.sum_choices-sum.ensures _ refl c.count_kept-tally.ensures c.beside_other-beside.ensures c.pick-to.ensures _ refl),
 )
 
-pub choose-shape_of-w : goal.choose-shape_of-w
-choose-shape_of-w t c = c.loop.invariant.0.len
-
 pub choose-returns : goal.choose-returns
 choose-returns t c = record { beyond = c.loop.invariant.0; writes = λ k. going_none k _ _ (c.loop.invariant.1 k) (omega arith) }
 
@@ -147,11 +144,6 @@ pick-choose-requires t c =
     let k = still-asks c.loop.invariant.0 c.requires in
     (omega arith, goes_asks_in k _ _ _ (c.loop.invariant.1 k) (omega arith) _ c.mark_at.ensures _ (cc) c.count_choices-total.ensures (omega arith) _ c.word_of.ensures)
 
-pub pick-shape_of-w-then-index-total : goal.pick-shape_of-w-then-index-total
-pick-shape_of-w-then-index-total t c =
-    let k = still-asks c.loop.invariant.0 c.requires in
-    (goes_beyond k _ _ _ (c.loop.invariant.1 k) (omega arith) _ c.mark_at.ensures _ (cc) c.count_choices-total.ensures (omega arith) _ c.word_of.ensures _ _ c.choose.ensures).len ∙ ap length c.loop.invariant.0
-
 pub pick-returns-then-index-total : goal.pick-returns-then-index-total
 pick-returns-then-index-total t c =
     let k = still-asks c.loop.invariant.0 c.requires in
@@ -174,9 +166,6 @@ pick-loop-preserved t c = (
         | pick-else-kept u ↦ skipped (cc) u.index-is
       ]) _ c.after_at-g.ensures),
 )
-
-pub pick-shape_of-w : goal.pick-shape_of-w
-pick-shape_of-w t c = ap length c.loop.invariant.0
 
 pub pick-returns : goal.pick-returns
 pick-returns t c =

@@ -25,16 +25,10 @@ tail_at-e-requires t c = let r =
 pub disjunctions_at-more-requires : goal.disjunctions_at-more-requires
 disjunctions_at-more-requires t c = let r =
     reach_own _ _ _ _ _ _ _ c.push.ensures
-    c.in_ok-log.was in (
-      let h = (starts _ _ _ _ _
-          c.requires _ _ r).1 in
-          omega arith,
-      omega (
-        arith,
-        r.len,
-        c.requires.s.holds.long,
-      ),
-    )
+    c.in_ok-log.was in
+    let h = (starts _ _ _ _ _
+    c.requires _ _ r).1 in
+    omega arith
 
 pub overflow_add-at : goal.overflow_add-at
 overflow_add-at t c = let h = (starts _ _ _ _ _ c.requires _ _
@@ -80,11 +74,6 @@ back-requires t c = let v = c.loop.invariant _ c.requires (reach_own _ _ _ _ _ _
       since_trans _ _ _ _ _ _ v.0.since (c.enter.ensures.clashed c.in_default-enter.is).0;
 }
 
-pub shape_of-w-in_default-enter : goal.shape_of-w-in_default-enter
-shape_of-w-in_default-enter t c = let v = c.loop.invariant _ c.requires (reach_own _ _ _ _ _ _ _ c.push.ensures c.in_ok-log.was)
-    (walk_start _ _ _ _ _ c.requires _ _ (reach_own _ _ _ _ _ _ _ c.push.ensures c.in_ok-log.was) _ c.push.ensures c.in_ok-log.was _ _ c.tail_at-e.ensures c.disjunctions_at-more.ensures) in c.back.ensures.len
-    ∙ c.enter.ensures.len ∙ v.0.len
-
 pub returns-in_default-enter : goal.returns-in_default-enter
 returns-in_default-enter t c = let p = c.requires
     in
@@ -118,9 +107,6 @@ loop-preserved t c = λ w e r u. let v = c.loop.invariant w e r u in
       | in-One+in-Some x ↦ one _ _ _ _ x.in-One.is x.enter.ensures x.in-Some.is x.w-is x.log-is
       | in_default x ↦ none x.in_default.not-One x.w-is x.log-is
     ]))
-
-pub shape_of-w : goal.shape_of-w
-shape_of-w t c = let v = c.loop.invariant _ c.requires (reach_own _ _ _ _ _ _ _ c.push.ensures c.in_ok-log.was) (walk_start _ _ _ _ _ c.requires _ _ (reach_own _ _ _ _ _ _ _ c.push.ensures c.in_ok-log.was) _ c.push.ensures c.in_ok-log.was _ _ c.tail_at-e.ensures c.disjunctions_at-more.ensures) in v.0.len
 
 pub returns : goal.returns
 returns t c = let v = c.loop.invariant _ c.requires (reach_own _ _ _ _ _ _ _ c.push.ensures c.in_ok-log.was) (walk_start _ _ _ _ _ c.requires _ _ (reach_own _ _ _ _ _ _ _ c.push.ensures c.in_ok-log.was) _ c.push.ensures c.in_ok-log.was _ _ c.tail_at-e.ensures c.disjunctions_at-more.ensures) in

@@ -25,8 +25,5 @@ loop-i-preserved c =
     c.place_of-g.ensures c.mark_at-x.ensures
     c.light.ensures
 
-pub shape_of-w : goal.shape_of-w
-shape_of-w c = c.loop-i.invariant.len
-
 pub returns : goal.returns
 returns c = litup_done c.loop-i.invariant (omega arith)

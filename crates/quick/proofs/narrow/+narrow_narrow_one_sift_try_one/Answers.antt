@@ -94,12 +94,6 @@ narrow-back-requires t c = record {
       (c.narrow_one.ensures.failing c.in_default.is).0.since;
 }
 
-pub narrow-shape_of-w-in_default : goal.narrow-shape_of-w-in_default
-narrow-shape_of-w-in_default t c = (moved_back _ _ _ _ _ c.requires _ _ _ _ c.loop.invariant.0 (c.loop.invariant.2 c.requires) (omega arith) _
-    c.alternatives_at-count.ensures _
-    _ c.narrow_one.ensures
-    c.in_default.is _ c.back.ensures).len
-
 pub narrow-returns-in_default : goal.narrow-returns-in_default
 narrow-returns-in_default t c = narrows_fails _ _ _ _ _ _
     (moved_back _ _ _ _ _ c.requires _ _ _ _ c.loop.invariant.0 (c.loop.invariant.2 c.requires) (omega arith) _
@@ -146,9 +140,6 @@ narrow-loop-preserved t c = (
   c.renew.ensures.1,
 )
 
-pub narrow-shape_of-w : goal.narrow-shape_of-w
-narrow-shape_of-w t c = c.loop.invariant.0.len
-
 pub narrow-returns : goal.narrow-returns
 narrow-returns t c = narrows_stands _ _ _ _ _ _ _ _ c.loop.invariant.0 c.loop.invariant.1 (λ d. narrow_done _ _ _ _ _ d _ _ _ _ c.loop.invariant.0 (c.loop.invariant.2 d) (omega arith))
 
@@ -162,9 +153,6 @@ narrow_one-narrow-requires t c = (
   asks_alone _ _ _ _ _ _ _ _ c.requires.by_index.1 _ c.in-One.is
       c.requires.choosing,
 )
-
-pub narrow_one-shape_of-w-in-One : goal.narrow_one-shape_of-w-in-One
-narrow_one-shape_of-w-in-One t c = narrows_len _ _ _ _ _ _ _ c.narrow.ensures
 
 pub narrow_one-returns-in-One : goal.narrow_one-returns-in-One
 narrow_one-returns-in-One t c = chooses_one _ _ _ _ _ _ _ _
@@ -180,9 +168,6 @@ narrow_one-sift-drops-requires t c = (
     c.requires.sieved,
   ),
 )
-
-pub narrow_one-shape_of-w-then-drops-eq0 : goal.narrow_one-shape_of-w-then-drops-eq0
-narrow_one-shape_of-w-then-drops-eq0 t c = c.sift-drops.ensures.moved.len
 
 pub narrow_one-returns-then-drops-eq0 : goal.narrow_one-returns-then-drops-eq0
 narrow_one-returns-then-drops-eq0 t c = chooses_still _ _ _ _ _ _ _ _
@@ -204,10 +189,6 @@ narrow_one-returns-in_err-log t c = rw c.from_residual.ensures (chooses_fails _ 
     c.requires.choosing _
     _ c.sift-drops.ensures _ _
     c.settle.ensures c.in_err-log.was)
-
-pub narrow_one-shape_of-w : goal.narrow_one-shape_of-w
-narrow_one-shape_of-w t c = c.settle.ensures.len
-    ∙ c.sift-drops.ensures.moved.len
 
 pub narrow_one-returns : goal.narrow_one-returns
 narrow_one-returns t c = chooses_stands _ _ _ _ _ _ _ _
@@ -277,9 +258,6 @@ sift-loop-preserved t c =
           (turned) _ c.after_at-at.ensures),
     )
 
-pub sift-shape_of-w : goal.sift-shape_of-w
-sift-shape_of-w t c = c.loop.invariant.0.len
-
 pub sift-returns : goal.sift-returns
 sift-returns t c = record { moved = c.loop.invariant.0; fewer = c.loop.invariant.1; sifted = λ d. sift_done _ _ _ _ _ _ d _ _ _ (c.loop.invariant.2 d) (omega arith) }
 
@@ -294,12 +272,6 @@ try_one-try_bare-requires t c = record {
   pushing = asks_own _ _ _ _ _ c.requires.entering;
   sieved = c.requires.sieved;
 }
-
-pub try_one-shape_of-w-then-more-eq0 : goal.try_one-shape_of-w-then-more-eq0
-try_one-shape_of-w-then-more-eq0 t c = (c.try_bare.ensures.tries _
-    c.requires.entering
-    (ap (disjunctions_at _) (sym c.tail_at-e.ensures)
-    ∙ sym c.disjunctions_at-more.ensures ∙ c.if-more-eq0.true)).moved.len
 
 pub try_one-returns-then-more-eq0 : goal.try_one-returns-then-more-eq0
 try_one-returns-then-more-eq0 t c = c.try_bare.ensures.tries _
@@ -333,13 +305,6 @@ try_one-back-requires t c =
     c.narrow.ensures _
     (c.narrow.ensures.failing c.in_default.is).0
 
-pub try_one-shape_of-w-in_default : goal.try_one-shape_of-w-in_default
-try_one-shape_of-w-in_default t c = (tries_fails _ _ _ _ _ _ _
-    c.enter.ensures c.requires.entering _
-    c.in_ok-log.was _ _
-    c.narrow.ensures
-    c.in_default.is _ c.back.ensures).moved.len
-
 pub try_one-returns-in_default : goal.try_one-returns-in_default
 try_one-returns-in_default t c = tries_fails _ _ _ _ _ _ _
     c.enter.ensures c.requires.entering _
@@ -353,13 +318,6 @@ try_one-back-requires-2 t c =
     c.in_ok-log.was _ _
     c.narrow.ensures _
     (c.narrow.ensures.standing _ _ c.in-Some.is).0
-
-pub try_one-shape_of-w : goal.try_one-shape_of-w
-try_one-shape_of-w t c = (tries_stands _ _ _ _ _ _ _
-    c.enter.ensures c.requires.entering _
-    c.in_ok-log.was _ _
-    c.narrow.ensures _ _
-    c.in-Some.is _ c.back-2.ensures).moved.len
 
 pub try_one-returns : goal.try_one-returns
 try_one-returns t c = tries_stands _ _ _ _ _ _ _

@@ -62,8 +62,5 @@ pub loop-preserved : goal.loop-preserved
 loop-preserved c = λ d. rw sub-add-eq (arcs_on _ _ _ _ _ d _ _ _ _ (c.loop.invariant d) (omega arith) _ _
     c.word_at-feature.ensures c.word_at-target.ensures)
 
-pub shape_of-w : goal.shape_of-w
-shape_of-w c = arcs_same _ _ _ _ _ c.requires _ _ _ _ (c.loop.invariant c.requires)
-
 pub returns : goal.returns
 returns c = λ d. arcs_done _ _ _ _ _ d _ _ _ _ (c.loop.invariant d) (omega arith)

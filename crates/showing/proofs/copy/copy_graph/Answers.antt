@@ -26,12 +26,6 @@ copy_nodes-requires c = let h = graph_here _ _ _ c.requires in
     graph_asks _ _ _ c.requires _ (c.nodes_of-count.ensures ∙ ap (λ (x : ℕ). x % number_step) c.word_at.ensures
     ∙ h.2) _ (c.number_at-number.ensures ∙ h.1)
 
-pub shape_of-w : goal.shape_of-w
-shape_of-w c = let h = graph_here _ _ _ c.requires in (graph_copied _ _ _ c.requires _ (c.nodes_of-count.ensures
-    ∙ ap (λ (x : ℕ). x % number_step) c.word_at.ensures
-    ∙ h.2) _ (c.number_at-number.ensures
-    ∙ h.1) _ _ c.copy_nodes.ensures).same
-
 pub returns : goal.returns
 returns c = λ d. let h = graph_here _ _ _ d in
     graph_copied _ _ _ d _ (c.nodes_of-count.ensures

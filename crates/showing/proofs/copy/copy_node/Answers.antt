@@ -14,10 +14,6 @@ pub copy_arcs-requires : goal.copy_arcs-requires
 copy_arcs-requires c = node_asks _ _ _ _ c.requires _ c.word_at-head.ensures
     (omega arith)
 
-pub shape_of-w : goal.shape_of-w
-shape_of-w c = (node_arcs _ _ _ _ c.requires _
-    c.word_at-head.ensures (omega arith) _ _ c.copy_arcs.ensures).same
-
 pub returns : goal.returns
 returns c = λ d. node_arcs _ _ _ _ d _ c.word_at-head.ensures (omega arith) _ _
     c.copy_arcs.ensures

@@ -56,9 +56,6 @@ put_alternatives-loop-preserved t c =
     ] in λ d. rw sub-add-eq (turn_on _ _ _ _ _ _ d _ _ _ _ (c.loop.invariant d) (omega arith) _
     c.mark_at-x.ensures _ _ (turned) _ c.after_at-at.ensures)
 
-pub put_alternatives-shape_of-w : goal.put_alternatives-shape_of-w
-put_alternatives-shape_of-w t c = offer_same _ _ _ _ _ _ c.requires _ _ _ _ (c.loop.invariant c.requires)
-
 pub put_alternatives-returns : goal.put_alternatives-returns
 put_alternatives-returns t c = λ d. offer_done _ _ _ _ _ _ d _ _ _ _ (c.loop.invariant d) (omega arith)
 
@@ -97,11 +94,6 @@ put_description-bounds-w-e t c = let h =
     later_long _ _ _ _ _ _ _ c.put_graph-e.ensures
     c.requires _ _ _
     c.put_disjunctions-rest.ensures in omega arith
-
-pub put_description-shape_of-w : goal.put_description-shape_of-w
-put_description-shape_of-w t c =
-    (describes _ _ _ _ _ _ _ c.put_graph-e.ensures _ _ _
-    c.put_disjunctions-rest.ensures c.requires).len
 
 pub put_description-returns : goal.put_description-returns
 put_description-returns t c = describes _ _ _ _ _ _ _ c.put_graph-e.ensures _ _ _
@@ -146,9 +138,6 @@ pub put_disjunctions-loop-preserved : goal.put_disjunctions-loop-preserved
 put_disjunctions-loop-preserved t c = λ d. rw sub-add-eq (go_on _ _ _ _ _ d _ _ _ _ _ (c.loop.invariant d) (omega arith) _
     c.alternatives_at-of.ensures _ _ _ _ c.put_one-one.ensures)
 
-pub put_disjunctions-shape_of-w : goal.put_disjunctions-shape_of-w
-put_disjunctions-shape_of-w t c = go_same _ _ _ _ _ c.requires _ _ _ _ _ (c.loop.invariant c.requires)
-
 pub put_disjunctions-returns : goal.put_disjunctions-returns
 put_disjunctions-returns t c = λ d. go_done _ _ _ _ _ d _ _ _ _ _ (c.loop.invariant d) (omega arith)
 
@@ -160,12 +149,6 @@ put_one-put_disjunctions-inner-requires t c = (
   omega (arith, c.decreases),
   vary_inner _ _ _ _ _ _ c.requires _ _ c.count_kept-tally.ensures _ c.in-One.is,
 )
-
-pub put_one-shape_of-w-in-One : goal.put_one-shape_of-w-in-One
-put_one-shape_of-w-in-One t c = (c.put_disjunctions-inner.ensures
-    (vary_inner _ _ _ _ _ _ c.requires _ _
-    c.count_kept-tally.ensures _
-    c.in-One.is)).0.len
 
 pub put_one-returns-in-One : goal.put_one-returns-in-One
 put_one-returns-in-One t c = λ d. vary_one _ _ _ _ _ _ d _ _ c.count_kept-tally.ensures _
@@ -231,16 +214,6 @@ put_one-put_alternatives-at-requires t c =
       vary_offers _ _ _ _ _ _ c.requires _ _ c.count_kept-tally.ensures
           _ (many),
     )
-
-pub put_one-shape_of-w : goal.put_one-shape_of-w
-put_one-shape_of-w t c =
-    let many : ((c.count_kept-tally.result.remnant ≡ Nothing) × (c.match-which.many ≡ 0))
-    ⊎ ((x : ℕ) × (c.count_kept-tally.result.remnant ≡ Several x) × (c.match-which.many ≡ x)) = elim c.match-which.branch [
-      | put_one-in-Nothing u ↦ inl (u.in-Nothing.is, u.many-is)
-      | put_one-in-Several u ↦ inr (u.in-Several.several, u.in-Several.is, u.many-is)
-    ] in (vary_several _ _ _ _ _ _ c.requires _ _
-    c.count_kept-tally.ensures _ (many)
-    _ _ c.put_alternatives-at.ensures).0.len
 
 pub put_one-returns : goal.put_one-returns
 put_one-returns t c =

@@ -6,7 +6,7 @@ use Rattle.writing.proofs.graph.write_graph.Goals as goal
 pub find-c-requires : goal.find-c-requires
 find-c-requires c =
     let old : _ × _ = writing_find c.args.n.count c.args.k c.args.w.now c.args.o c.requires c.clear.new.w
-    c.clear.ensures in record { i_lt_n = old.0; shape = old.1 }
+    c.clear.ensures in record { i_lt_n = old.0.0; shape = old.1 }
 
 pub number-requires : goal.number-requires
 number-requires c =
