@@ -43,7 +43,7 @@ choose-loop-init t c =
 
 pub choose-alternatives_at-count-requires : goal.choose-alternatives_at-count-requires
 choose-alternatives_at-count-requires t c =
-    going_here c.requires _ _ (c.loop.invariant.1 c.requires) c.loop.invariant.0 (omega arith)
+    (going_here c.requires _ _ (c.loop.invariant.1 c.requires) c.loop.invariant.0 (omega arith)).0
 
 pub choose-overflow_add-first : goal.choose-overflow_add-first
 choose-overflow_add-first t c =
@@ -94,7 +94,7 @@ pick-loop-init t c = (refl, λ k. rw sub-zero (goes_all k _ _))
 pub pick-mark_at-requires : goal.pick-mark_at-requires
 pick-mark_at-requires t c =
     let k = still-asks c.loop.invariant.0 c.requires in
-    let old : _ × _ = goes_here k _ _ _ (c.loop.invariant.1 k) (omega arith) in record { p_bound = old.0; p_bound_2 = old.1 }
+    let old : _ × _ = goes_here k _ _ _ (c.loop.invariant.1 k) (omega arith) in record { p_bound = old.0.0; p_bound_2 = old.1 }
 
 pub pick-kept-requires : goal.pick-kept-requires
 pick-kept-requires t c =
@@ -155,7 +155,7 @@ pick-returns-then-index-total t c =
 pub pick-after_at-g-requires : goal.pick-after_at-g-requires
 pick-after_at-g-requires t c =
     let k = still-asks c.loop.invariant.0 c.requires in
-    let old : _ × _ = goes_here k _ _ _ (c.loop.invariant.1 k) (omega arith) in record { p_bound = old.0; p_bound_2 = old.1 }
+    let old : _ × _ = goes_here k _ _ _ (c.loop.invariant.1 k) (omega arith) in record { p_bound = old.0.0; p_bound_2 = old.1 }
 
 pub pick-loop-preserved : goal.pick-loop-preserved
 pick-loop-preserved t c = (

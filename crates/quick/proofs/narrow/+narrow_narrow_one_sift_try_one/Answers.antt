@@ -200,7 +200,7 @@ pub sift-loop-init : goal.sift-loop-init
 sift-loop-init t c = (moved_none _ _ _ _ _ _ c.requires.alternating, fewer_none _, λ d. rw sub-zero (sift_start _ _ _ _ _ _ d))
 
 pub sift-mark_at-x-requires : goal.sift-mark_at-x-requires
-sift-mark_at-x-requires t c = let old : _ × _ = sift_here _ _ _ _ _ _ c.requires.alternating _ _ _ c.loop.invariant.0 (c.loop.invariant.2 c.requires.alternating) (omega arith) in record { p_bound = old.0; p_bound_2 = old.1 }
+sift-mark_at-x-requires t c = let old : _ × _ = sift_here _ _ _ _ _ _ c.requires.alternating _ _ _ c.loop.invariant.0 (c.loop.invariant.2 c.requires.alternating) (omega arith) in record { p_bound = old.0.0; p_bound_2 = old.1 }
 
 pub sift-kept-requires : goal.sift-kept-requires
 sift-kept-requires t c = c.mark_at-x.ensures.1
@@ -237,7 +237,7 @@ sift-after_at-at-requires t c =
       | sift-then-kept+in_default u ↦ failed _ _ _ (cc) u.try_one.ensures u.in_default.is u.drop.ensures u.w-is u.drops-is
       | sift-else-kept u ↦ skipped (cc) u.w-is u.drops-is
     ] in let old : _ × _ = turn_inside _ _ _ _ _ _ c.requires.alternating _ _ _ c.loop.invariant.0 (c.loop.invariant.2 c.requires.alternating) (omega arith) _ c.mark_at-x.ensures _ _ _
-    (turned) in record { p_bound = old.0; p_bound_2 = old.1 }
+    (turned) in record { p_bound = old.0.0; p_bound_2 = old.1 }
 
 pub sift-loop-preserved : goal.sift-loop-preserved
 sift-loop-preserved t c =
