@@ -13,7 +13,7 @@ listed-requires c =
 pub mark_at-x-requires : goal.mark_at-x-requires
 mark_at-x-requires c = let old : _ × _ = litup_asks c.loop-i.invariant
     c.requires c.loop-i-test.true
-    c.listed.ensures c.place_of-g.ensures in record { p_bound = old.0; p_bound_2 = old.1 }
+    c.listed.ensures c.place_of-g.ensures in record { p_bound = old.0.0; p_bound_2 = old.1 }
 
 pub light-requires : goal.light-requires
 light-requires c =

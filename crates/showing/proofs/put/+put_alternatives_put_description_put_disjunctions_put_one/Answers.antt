@@ -23,10 +23,10 @@ put_alternatives-loop-init t c = λ d. rw sub-zero (offer_start _ _ _ _ _ _ d)
 
 pub put_alternatives-mark_at-x-requires : goal.put_alternatives-mark_at-x-requires
 put_alternatives-mark_at-x-requires t c = let v = c.loop.invariant c.requires in
-    let old : _ × _ = offer_here _ _ _ _ _ _ c.requires _ _ _ _ v (omega arith) in record { p_bound = old.0; p_bound_2 = old.1 }
+    let old : _ × _ = offer_here _ _ _ _ _ _ c.requires _ _ _ _ v (omega arith) in record { p_bound = old.0.0; p_bound_2 = old.1 }
 
 pub put_alternatives-kept-requires : goal.put_alternatives-kept-requires
-put_alternatives-kept-requires t c = (c.mark_at-x.ensures.1, offer_long _ _ _ _ _ _ c.requires _ _ _ _ (c.loop.invariant c.requires))
+put_alternatives-kept-requires t c = c.mark_at-x.ensures.1
 
 pub put_alternatives-put_description-out-requires : goal.put_alternatives-put_description-out-requires
 put_alternatives-put_description-out-requires t c = let v = c.loop.invariant c.requires in (
@@ -43,7 +43,7 @@ put_alternatives-after_at-at-requires t c =
       | put_alternatives-then-kept u ↦ taken _ _ (cc) u.put_description-out.ensures u.w-is u.out-is
       | put_alternatives-else-kept u ↦ skipped (cc) u.w-is u.out-is
     ] in let v = c.loop.invariant c.requires in
-    let old : _ × _ = turn_inside _ _ _ _ _ _ c.requires _ _ _ _ v (omega arith) _ c.mark_at-x.ensures _ _ (turned) in record { p_bound = old.0; p_bound_2 = old.1 }
+    let old : _ × _ = turn_inside _ _ _ _ _ _ c.requires _ _ _ _ v (omega arith) _ c.mark_at-x.ensures _ _ (turned) in record { p_bound = old.0.0; p_bound_2 = old.1 }
 
 pub put_alternatives-loop-preserved : goal.put_alternatives-loop-preserved
 put_alternatives-loop-preserved t c =
@@ -113,7 +113,7 @@ pub put_disjunctions-loop-init : goal.put_disjunctions-loop-init
 put_disjunctions-loop-init t c = λ d. rw sub-zero (go_start _ _ _ _ _ d _ _ c.tail_at-e.ensures c.disjunctions_at-more.ensures)
 
 pub put_disjunctions-alternatives_at-of-requires : goal.put_disjunctions-alternatives_at-of-requires
-put_disjunctions-alternatives_at-of-requires t c = let v = c.loop.invariant c.requires in (go_here _ _ _ _ _ c.requires _ _ _ _ _ v (omega arith), (go_small _ _ _ _ _ c.requires _ _ _ _ _ v).1)
+put_disjunctions-alternatives_at-of-requires t c = let v = c.loop.invariant c.requires in go_here _ _ _ _ _ c.requires _ _ _ _ _ v (omega arith)
 
 pub put_disjunctions-overflow_add-at-in-loop : goal.put_disjunctions-overflow_add-at-in-loop
 put_disjunctions-overflow_add-at-in-loop t c = let v = c.loop.invariant c.requires in let h = go_here _ _ _ _ _ c.requires _ _ _ _ _ v (omega arith) in omega arith

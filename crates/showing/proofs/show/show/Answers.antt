@@ -10,8 +10,8 @@ pub write_graph-e-requires : goal.write_graph-e-requires
 write_graph-e-requires c = show_writes _ _ _ c.requires
 
 pub disjunctions-requires : goal.disjunctions-requires
-disjunctions-requires c = show_reads _ _ _ c.requires _ _
-    c.write_graph-e.ensures
+disjunctions-requires c = let (first, second, long) = show_reads _ _ _ c.requires _ _
+    c.write_graph-e.ensures in (first, second)
 
 pub overflow_add-w : goal.overflow_add-w
 overflow_add-w c = let h = show_near _ _ _ c.requires _ _
