@@ -38,7 +38,7 @@ pub struct Row {
     pub node: usize,
 }
 
-// What document 01 gives for an answer.
+// What document 01 gives for an answer, as the C interface has it (`bublastyr_unify`).
 pub fn told(answer: Answer) -> Row
     ensures { (result.number ≡ (row_of answer).number) × ((result.length ≡ (row_of answer).extent)
         × ((result.readings ≡ (row_of answer).readings) × (result.node ≡ (row_of answer).node))) }

@@ -1,6 +1,5 @@
 // What becomes of both areas when a call ends.
-ghost use Rattle.std.specs.Prelude.{◌≡◌, ◌++◌, ◌+◌, ◌≤◌, length, drop};
-ghost use Rattle.area.specs.Region.{region};
+ghost use Rattle.std.specs.Prelude.{◌≡◌, ◌++◌, ◌≤◌, length, drop};
 ghost use Rattle.theory.specs.Limits.{working_size};
 ghost use Rattle.theory.specs.Outcome.{wiped};
 
@@ -14,10 +13,10 @@ pub fn wipe(w: &mut [u32])
     w[..SIZE].fill(0);
 }
 
-// Copies the n words that stand from `from` on to the start of the result area.
-pub fn copy_out(w: &[u32], from: usize, res: &mut [u32], n: usize)
-    requires { (from + n ≤ length w.now) × (n ≤ length res.old) }
-    ensures { res.new ≡ region from n w.now ++ drop n res.old }
+// Copies words to the start of the result area.
+pub fn copy_out(words: &[u32], res: &mut [u32])
+    requires { length words.now ≤ length res.old }
+    ensures { res.new ≡ words.now ++ drop (length words.now) res.old }
 {
-    res[..n].copy_from_slice(&w[from..from + n]);
+    res[..words.len()].copy_from_slice(words);
 }

@@ -42,6 +42,6 @@ pub fn hand_over(made: Made, working: &[u32], res: &mut [u32]) -> Answer
     if res.len() < length {
         return Err(Refusal::NoRoom { length });
     }
-    copy_out(working, RESULT, res, length);
+    copy_out(&working[RESULT..RESULT + length], res);
     Ok(unified)
 }

@@ -62,6 +62,9 @@ module _ (used number : ℕ) (b : List ℕ) where
     unfolding intact
     intact_rest g g' h = simp (eq-eqb _ _ whole, f_is, s_is, eq-eqb _ _ g, eq-eqb _ _ g', eq-eqb _ _ h)
 
+pub not_both : (t : Bool) → t ≡ false → t ≡ true → ⊥
+not_both t e h = let z : ◌≡◌ {A = ℕ} 0 1 = cc in omega arith
+
 pub zeros_none : (n : ℕ) (l : List ℕ) → n ≡ 0 → true ≡ zeros (take n l)
 unfolding zeros
 zeros_none zero l e = refl

@@ -57,6 +57,7 @@ fn all_zero(bytes: &[u8]) -> bool
 }
 
 // Whether some bytes are the block of that number, of whose content the first `used` bytes are used.
+#[tactic(auto, using(crate::proofs::Laws::zeros_none), unfolding(crate::specs::Block::intact))]
 pub fn is_intact(block: &[u8], number: usize, used: usize) -> bool
     ensures { result ≡ intact used number block.now }
 {
@@ -64,22 +65,10 @@ pub fn is_intact(block: &[u8], number: usize, used: usize) -> bool
         return false;
     }
     let sums = sums_over(&block[..CHECKED]);
-    let first = read_pair(block, 508);
-    if first != sums.first {
-        return false;
-    }
-    let second = read_pair(block, 510);
-    if second != sums.second {
-        return false;
-    }
-    let stands = read_pair(block, 506);
-    if stands != number {
-        return false;
-    }
-    if CONTENT <= used {
-        return true;
-    }
-    all_zero(&block[used..CONTENT])
+    read_pair(block, 508) == sums.first
+        && read_pair(block, 510) == sums.second
+        && read_pair(block, 506) == number
+        && (CONTENT <= used || all_zero(&block[used..CONTENT]))
 }
 
 // Whether block k of a file is damaged; one that the file has not is.
@@ -91,8 +80,7 @@ pub fn is_damaged(file: &[u8], k: usize, used: usize) -> bool
     }
     let start = BLOCK * k;
     let stop = start + BLOCK;
-    let whole = is_intact(&file[start..stop], k, used);
-    !whole
+    !is_intact(&file[start..stop], k, used)
 }
 
 // Writes number and check behind the content of a block.

@@ -60,19 +60,18 @@ hint_none F w c e = record {
 }
 
 -- a union that leaves the chains as they are
-pub hint_calm : (F w w' : List ℕ) (f c at r : ℕ) → c < 1024 → 0 < r → r ≤ 2048 → Looked F w f (get_or w c 0) r → Hint F w c at → Calm w w' →
-    Hint F w' c (NEXT + (r - 1))
-hint_calm F w w' f c at r hc hr lr k t m =
-    let ri : r ≡ suc (r - 1) = omega arith in
-    let q : NEXT + (r - 1) - NEXT ≡ r - 1 = omega arith in
-    let e : get_or w' c 0 ≡ get_or w c 0 = m.firsts c hc (λ z. k.hit (r - 1) ri [] z) in
+pub hint_calm : (F w w' : List ℕ) (f c at r : ℕ) → c < 1024 → r < 2048 → Looked F w f (get_or w c 0) (suc r) → Hint F w c at → Calm w w' →
+    Hint F w' c (NEXT + r)
+hint_calm F w w' f c at r hc lr k t m =
+    let q : NEXT + r - NEXT ≡ r = omega arith in
+    let e : get_or w' c 0 ≡ get_or w c 0 = m.firsts c hc (λ z. k.hit r refl [] z) in
     let was : (xs : List ℕ) → Chain w' (get_or w' c 0) xs →
     Chain w (get_or w c 0) xs = λ xs d. subst (λ (z : ℕ). Chain w z xs) e
     (chain_same w' w (get_or w' c 0) xs (λ i b. sym (m.nexts i (chain_low w' (get_or w' c 0) xs i d b))) d) in
     record {
       low = omega arith;
       up = λ xs d. t.up xs (was xs d);
-      on = λ b xs d. rw q (first_mem F f xs (r - 1) (k.hit (r - 1) ri xs (was xs d)));
+      on = λ b xs d. rw q (first_mem F f xs r (k.hit r refl xs (was xs d)));
     }
 
 -- ---- the class c of the node x

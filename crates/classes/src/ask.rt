@@ -32,10 +32,7 @@ pub fn target_of(w: &Area, n: Nodes, x: usize, f: u32) -> Option<usize>
     let Held::Arcs(chain) = held_by(w, c) else {
         return None;
     };
-    let r = look(w, chain, f);
-    if r == 0 {
-        return None;
-    }
-    let y = target(w, r - 1);
+    let arc = look(w, chain, f)?;
+    let y = target(w, arc);
     Some(class_of(w, n, y))
 }

@@ -58,7 +58,7 @@ fn outset(w: &Area, k: usize, n: Nodes, x: usize, d: usize) -> usize
 // arc r is still on that of the class c.
 fn onward(w: &Area, k: usize, e: usize, n: Nodes, x: usize, c: usize, r: usize, at: usize) -> usize
     requires x_lt_n { x < n.count }
-    requires r_nonzero { (0 < r) × ((r ≤ LOADED) × (k ≤ ENTRIES)) }
+    requires r_bound { (r < LOADED) × (k ≤ ENTRIES) }
     requires turning { Turning (loaded_words w.now) n.count k e w.now c r at }
     ensures { Ordered (loaded_words w.now) n.count w.now x result }
 {
@@ -68,7 +68,7 @@ fn onward(w: &Area, k: usize, e: usize, n: Nodes, x: usize, c: usize, r: usize, 
     let d = find(w, n, x);
     if d == c {
         if e <= k + 3 {
-            return NEXT + (r - 1);
+            return NEXT + r;
         }
     }
     afresh(w, e, n, x)
@@ -114,14 +114,12 @@ fn visit(w: &mut Area, k: usize, n: Nodes, x: usize, t: usize, at: usize) -> Res
         return Err(Clash { k });
     }
     let f = loaded(w, t);
-    let s = locate(w, c, f, at);
-    let l = s.link;
-    let r = s.arc;
-    if r == 0 {
-        return Ok(hang(w, k, t, l, at));
-    }
+    let place = locate(w, c, f, at);
+    let Some(r) = place.arc else {
+        return Ok(hang(w, k, t, place.link, at));
+    };
     let p = target(w, t);
-    let q = target(w, r - 1);
+    let q = target(w, r);
     let e = unite(w, k, n, p, q)?;
     let a = onward(w, k, e, n, x, c, r, at);
     Ok(Came { k: e, at: a })
@@ -179,7 +177,14 @@ pub fn span(h: u32) -> usize
 }
 
 // The c nodes from x on, the first of which has its head at p. The log's entries then.
-pub fn nodes(w: &mut Area, k: usize, n: Nodes, x: usize, p: usize, c: usize) -> Result<usize, Clash>
+pub fn nodes(
+    w: &mut Area,
+    k: usize,
+    n: Nodes,
+    x: usize,
+    p: usize,
+    c: usize,
+) -> Result<usize, Clash>
     requires listing { Listing (loaded_words w.old) (targets w.old) n.count k w.old x p c }
     ensures { Listed (loaded_words w.old) (targets w.old) n.count k w.old x p c (log_of result)
         (clashes result) w.new }

@@ -1,24 +1,18 @@
 -- What stands in a list, and in the lists of rows, by position.
 -- Assumes nothing.
-use mathlib.Core.Path.{◌≡◌, refl, sym}
+use mathlib.Core.Path.{◌≡◌, refl, sym, ◌∙◌}
 use mathlib.Core.Logic.{◌⊎◌, inl, inr}
 use mathlib.Core.Bool.{Bool, true, false}
 use mathlib.Core.List.Memᴰ
 use mathlib.Core.List.{List, [], ◌∷◌, Memᴰ}
 use Prim.Native.Nat.{ℕ, zero, suc, ◌<◌, ◌≤◌}
 use native.Mathlib.Omega.{arith}
-use lib.ListN.{length, get_or}
+use lib.ListN.{length, get_or, replicate, length-replicate}
 use lib.Dec.{ltb}
 use Rattle.theory.specs.Join.{Edge}
 use Rattle.theory.proofs.Number.{TestLt, less, geq, test_lt}
-use Rattle.closing.specs.Rows.{spot_of, spot_mark, in_edges, in_pairs}
-
-pub below_or : (i n : ℕ) → (i < n) ⊎ (n ≤ i)
-below_or i n = go (ltb i n) (test_lt i n)
-  where
-    go : (t : Bool) → TestLt i n t → (i < n) ⊎ (n ≤ i)
-    go true (less h) = inl h
-    go false (geq h) = inr h
+use Rattle.closing.specs.Chains.{Clears}
+use Rattle.closing.specs.Rows.{spot_limit, spot_of, spot_mark, in_edges, in_pairs}
 
 -- the default does not count within a list
 pub getD_within : (l : List ℕ) (i d e : ℕ) → i < length l → get_or l i d ≡ get_or l i e
@@ -85,3 +79,12 @@ pub edges_length : (arcs ends : List ℕ) → length (in_edges arcs ends) ≤ le
 edges_length [] ends = omega arith
 edges_length (a ∷ arcs) [] = omega arith
 edges_length (a ∷ arcs) (b ∷ ends) = omega (arith, edges_length arcs ends)
+
+-- an array of zeros
+zeros : (n i : ℕ) → ◌≡◌ {A = ℕ} (get_or (replicate n 0) i 0) 0
+zeros zero i = refl
+zeros (suc n) zero = refl
+zeros (suc n) (suc i) = zeros n i
+
+pub clears : (n : ℕ) → n ≡ spot_limit → Clears (replicate n 0)
+clears n e = record { len = length-replicate n 0 ∙ e; each = zeros n }

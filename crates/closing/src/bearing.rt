@@ -9,6 +9,7 @@ use limits::wide;
 pub struct Clash;
 
 // Whether a label that holds 0, or an atom and 1, holds another atom.
+// What labels hold stays words, and no Option stands there: the memory is fixed, a word a label.
 fn against(held: u32, given: u32) -> bool
     ensures { Against held given result }
 {

@@ -1,4 +1,4 @@
-// What could stand where a word breaks a rule, or was to come where words end.
+// What could stand where a word breaks a rule, or was to come where words end: one number, as `explain` prints it (`Hinted`).
 ghost use Rattle.std.specs.Prelude.{◌≡◌};
 ghost use Rattle.roles.specs.Coded.{cause_of, role_of};
 ghost use Rattle.faults.specs.Hints.{kind, greatest_target, bound, hint, Hinted};

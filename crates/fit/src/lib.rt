@@ -25,7 +25,7 @@ pub enum Refusal {
 // Whether a structure satisfies a description; `number_of` gives document 01's number of each verdict.
 pub type Verdict = Result<bool, Refusal>;
 
-// Document 01's number.
+// Document 01's number, as the C interface has it (`bublastyr_fit`).
 pub fn number(verdict: Verdict) -> u32
     ensures { result ≡ number_of verdict }
 {

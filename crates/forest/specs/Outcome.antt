@@ -1,5 +1,6 @@
--- What a step gives, as the laws read it: entries of the log, frames on the stack, and whether it met a clash. Assumes nothing.
-use Rattle.std.specs.Prelude.{ℕ, Bool, true, false, Result, Ok, Err}
+-- What a step gives, as the laws read it: entries of the log, frames on the stack, and whether it met a clash; and an arc that is found.
+-- Assumes nothing.
+use Rattle.std.specs.Prelude.{ℕ, suc, Bool, true, false, Result, Ok, Err, Option, Some, None}
 use Rattle.forest.specs.declared.merge.Progress.{Progress}
 use Rattle.forest.specs.declared.merge.Clash.{Clash}
 
@@ -20,3 +21,8 @@ log_of (Err c) = c.k
 abbrev pub clashes : {A : Type 0} → Result A Clash → Bool
 clashes (Ok a) = false
 clashes (Err c) = true
+
+-- an arc counted from 1, or 0 where there is none
+abbrev pub arc_code : Option ℕ → ℕ
+arc_code None = 0
+arc_code (Some j) = suc j

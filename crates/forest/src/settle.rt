@@ -18,11 +18,9 @@ fn step(w: &mut Area, k: usize, s: usize, n: Nodes, x: usize, to: usize) -> Resu
 {
     let j = x - 1;
     let f = loaded(w, j);
-    let r = look(w, to, f);
-    if r == 0 {
+    let Some(i) = look(w, to, f) else {
         return Ok(Progress { k, s });
-    }
-    let i = r - 1;
+    };
     let p = target(w, j);
     let q = target(w, i);
     join(w, k, s, n, p, q)

@@ -1,14 +1,22 @@
-// The full step, on marks that the quick step left.
+// The full step, on marks that the quick step left, by either engine.
 ghost use Rattle.leaving.specs.Fulled.{Fulling, Fulls};
 
 use area::map::{Area, Nodes};
 use counting::choices::count_both;
 use leaving::leave::{Left, NoneLeft, leave};
 use limits::{CHOICE_LIMIT, DEPTH_LIMIT};
+use plain::expand::expand;
 use search::search::search;
 
+// What finds the consistent choices: the search, or the plain expansion to every choice.
+#[derive(Clone, Copy)]
+pub enum Engine {
+    Fast,
+    Plain,
+}
+
 // Drops every alternative that stands in no consistent choice, where k entries in the log are what is certain after the quick step.
-pub fn full(w: &mut Area, k: usize, n: Nodes) -> Result<Left, NoneLeft>
+pub fn full(engine: Engine, w: &mut Area, k: usize, n: Nodes) -> Result<Left, NoneLeft>
     requires { Fulling n.count k w.old }
     ensures { Fulls n.count k w.old result w.new }
 {
@@ -16,6 +24,9 @@ pub fn full(w: &mut Area, k: usize, n: Nodes) -> Result<Left, NoneLeft>
     if CHOICE_LIMIT < choices {
         return Err(NoneLeft::TooMany);
     }
-    let readings = search(w, k, n);
+    let readings = match engine {
+        Engine::Fast => search(w, k, n),
+        Engine::Plain => expand(w, k, n, choices),
+    };
     leave(w, k, n, readings)
 }

@@ -227,7 +227,6 @@ module _ (T : Tabs) (ks' : List ℕ) where
           cur = refl;
           start = refl;
           end = refl;
-          first = refl;
           bears = refl;
           ties = refl;
           height = refl;
@@ -255,7 +254,6 @@ module _ (T : Tabs) (ks' : List ℕ) where
           cur = refl;
           start = refl;
           end = refl;
-          first = refl;
           bears = refl;
           ties = refl;
           height = refl;

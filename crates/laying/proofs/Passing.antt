@@ -23,9 +23,10 @@ use Rattle.rows.proofs.Given.{then_nothing, then_assoc}
 use Rattle.laying.specs.Table.{RowPut, FourPut, AlternativePut}
 use Rattle.laying.specs.Step.{after_arc, after_atom, after_pen, Shares, after_opening, after_deeper, owner_of, after_beside}
 use Rattle.laying.specs.Step.{GroupOpening, GroupOpens, after_moving}
-use Rattle.laying.specs.Laying.{Tabs, LaidSoFar, SignComing, SignPassed}
+use Rattle.laying.specs.Laying.{Tabs, path_end, LaidSoFar, SignComing, SignPassed}
 use Rattle.laying.specs.declared.sign.At.{At}
 use Rattle.std.specs.Prelude.{Option, Some, None}
+use Rattle.std.proofs.lemmas.Option.{same_Some}
 use Rattle.laying.proofs.States.{if_is, if_not}
 use Rattle.laying.proofs.Held.{with_arcs, with_atoms, with_ties, with_alts, with_frames}
 use Rattle.laying.proofs.Signs.{arc_laid, atom_laid, tie_laid, pen_laid, open_laid, begun_laid, outer_is}
@@ -33,6 +34,19 @@ use Rattle.laying.proofs.Signs.{arc_laid, atom_laid, tie_laid, pen_laid, open_la
 -- nothing was given
 none_given : (T : Tabs) (at : At) (c : Core) (p : Pen) (x : Out) → LaidSoFar T at c p x → LaidSoFar T at c p (x then no_rows)
 none_given T at c p x s = subst (LaidSoFar T at c p) (sym (then_nothing x)) s
+
+-- the first shared path is still to end, or it has ended there
+no_end : (p : Pen) → None ≡ path_end p → true ≡ p.first
+no_end p q = go p.first q where
+  go : (b : Bool) → None ≡ if_so b None (Some p.end) → true ≡ b
+  go true q = refl
+  go false q = let z : ◌≡◌ {A = ℕ} 0 1 = cc in absurd (omega arith)
+
+an_end : (e : ℕ) (p : Pen) → Some e ≡ path_end p → (false ≡ p.first) × (e ≡ p.end)
+an_end e p q = go p.first q where
+  go : (b : Bool) → Some e ≡ if_so b None (Some p.end) → (false ≡ b) × (e ≡ p.end)
+  go true q = let z : ◌≡◌ {A = ℕ} 0 1 = cc in absurd (omega arith)
+  go false q = (refl, same_Some _ _ q)
 
 -- a state by another name
 next_as : (T : Tabs) (at : At) (t : Token) (T' : Tabs) (next r : At) → r ≡ next → SignPassed T at t (Some next) T' → SignPassed T at t (Some r) T'
@@ -53,18 +67,6 @@ module _ (T : Tabs) (at : At) where
       (λ c. arc_laid T at c.core c.pen c.done c.so_far f w' put))
 
   -- ---- `aN`
-  -- spots are low, whatever comes
-  few_spots : (t : Token) → SignComing T at t → (at.cur < spot_unit) × (at.end < spot_unit)
-  few_spots t c =
-      let few = c.few.arcs in
-      let long = length-append c.done.arcs (sign_gives t c.core c.pen).arcs in
-      let cur = c.so_far.views.cur in
-      let end = c.so_far.views.end in
-      let count = c.so_far.stands.spots in
-      let low = c.so_far.stands.cur in
-      let high = c.so_far.stands.end in
-      (omega (arith, few, long, cur, count, low), omega (arith, few, long, end, count, high))
-
   pub atom_passed : (k a : ℕ) (w' : List ℕ) (r : At) → k ≡ 97 → r ≡ after_atom at →
       RowPut T.atoms at.bears (at.cur + spot_unit * a) at.home w' → SignPassed T at (k, a) (Some r) (with_atoms T w')
   atom_passed k a w' r e q put =
@@ -91,40 +93,40 @@ module _ (T : Tabs) (at : At) where
 
   -- ---- `>`
   pub share_passed : (k n : ℕ) (r : At) (w' : List ℕ) → k ≡ 62 → Shares T.ties at r w' → SignPassed T at (k, n) (Some r) (with_ties T w')
-  share_passed k n r w' e h = go at.first refl where
-    go : (b : Bool) → at.first ≡ b → SignPassed T at (k, n) (Some r) (with_ties T w')
-    go true f =
+  share_passed k n r w' e h = go at.end refl where
+    go : (b : Option ℕ) → at.end ≡ b → SignPassed T at (k, n) (Some r) (with_ties T w')
+    go None f =
         let (q, w) = h.kept f in
-        next_as T at (k, n) (with_ties T w') (after_pen at at.start at.start at.cur false at.ties) r q
-        (subst (λ (l : List ℕ). SignPassed T at (k, n) (Some (after_pen at at.start at.start at.cur false at.ties)) (with_ties T l))
+        next_as T at (k, n) (with_ties T w') (after_pen at at.start at.start (Some at.cur) at.ties) r q
+        (subst (λ (l : List ℕ). SignPassed T at (k, n) (Some (after_pen at at.start at.start (Some at.cur) at.ties)) (with_ties T l))
         (sym w)
-        (subst (λ (m : ℕ). SignPassed T at (m, n) (Some (after_pen at at.start at.start at.cur false at.ties)) T) (sym e)
+        (subst (λ (m : ℕ). SignPassed T at (m, n) (Some (after_pen at at.start at.start (Some at.cur) at.ties)) T) (sym e)
         (λ c.
         let core = c.core in
         let pen = c.pen in
         let s = c.so_far in
         let v = s.views in
-        let first : true ≡ pen.first = sym f ∙ v.first in
-        let laid = pen_laid T at core pen c.done s (penned pen.start pen.start pen.cur false) at.start at.start at.cur
-        false v.start v.start v.cur refl s.stands.start s.stands.start s.stands.cur in
+        let first = no_end pen (sym f ∙ v.end) in
+        let laid = pen_laid T at core pen c.done s (penned pen.start pen.start pen.cur false) at.start at.start (Some at.cur)
+        v.start v.start (ap Some v.cur) s.stands.start s.stands.start s.stands.cur in
         let tie = homed core.frame.home (of_tie [] pen.end pen.cur) in
-        subst (λ (b : Bool). LaidSoFar T (after_pen at at.start at.start at.cur false at.ties) core
+        subst (λ (b : Bool). LaidSoFar T (after_pen at at.start at.start (Some at.cur) at.ties) core
         (penned pen.start pen.start (if_so b pen.cur pen.end) false) (c.done then if_so b no_rows tie)) first
-        (none_given T (after_pen at at.start at.start at.cur false at.ties) core
+        (none_given T (after_pen at at.start at.start (Some at.cur) at.ties) core
         (penned pen.start pen.start pen.cur false) c.done laid))))
-    go false f =
-        let (q, put) = h.tied f in
-        let next = after_pen at at.start at.start at.end false (at.ties + 1) in
+    go (Some end) f =
+        let (q, put) = h.tied end f in
+        let next = after_pen at at.start at.start at.end (at.ties + 1) in
         next_as T at (k, n) (with_ties T w') next r q
         (subst (λ (m : ℕ). SignPassed T at (m, n) (Some next) (with_ties T w')) (sym e)
         (λ c.
         let core = c.core in
         let pen = c.pen in
-        let first : false ≡ pen.first = sym f ∙ c.so_far.views.first in
+        let known = an_end end pen (sym f ∙ c.so_far.views.end) in
         let tie = homed core.frame.home (of_tie [] pen.end pen.cur) in
         subst (λ (b : Bool). LaidSoFar (with_ties T w') next core
-        (penned pen.start pen.start (if_so b pen.cur pen.end) false) (c.done then if_so b no_rows tie)) first
-        (tie_laid T at core pen c.done c.so_far (sym first) w' put)))
+        (penned pen.start pen.start (if_so b pen.cur pen.end) false) (c.done then if_so b no_rows tie)) known.0
+        (tie_laid T at core pen c.done c.so_far (sym known.0) end f known.1 w' put)))
 
   -- ---- `(`
   pub open_asks : (k n : ℕ) → k ≡ 40 → SignComing T at (k, n) →
@@ -201,7 +203,7 @@ module _ (T : Tabs) (at : At) where
       (subst (λ (z : ℕ). AlternativePut T.alts at.alts at.home at.alts z ks') v.cur alt)) in
       let laid = open_laid T at core pen c.done s fs' put in
       let all = begun_laid (with_frames T fs') (after_opening at) same pen c.done laid f.home k pen.cur (suc f.depth) pen.cur
-      at.cur pen ks' s.stands.home refl (omega (arith, depth, l)) new s.stands.cur v.cur v.start v.end v.first
+      at.cur pen ks' s.stands.home refl (omega (arith, depth, l)) new s.stands.cur v.cur v.start v.end refl
       (at.depth + 1) (omega (arith, depth)) at.alts v.alts in
       subst (λ (b : Bool). LaidSoFar (with_alts (with_frames T fs') ks') (after_deeper (after_opening at)) (if_so b deeper same) pen
       (c.done then if_so b begun no_rows))
@@ -254,7 +256,7 @@ module _ (T : Tabs) (at : At) where
       (subst (λ (z : ℕ). AlternativePut T.alts at.alts of at.group z w') v.base put)) in
       begun_laid T at core pen c.done s (outer core.around).home f.group f.base f.depth f.base at.base
       (penned f.base pen.start pen.end pen.first) w' low refl s.frames.0 new s.stands.base v.base v.start
-      v.end v.first at.depth v.depth at.group v.group))
+      v.end refl at.depth v.depth at.group v.group))
 
   -- ---- `[`, `&`, and the signs that do nothing
   pub moved_passed : (k n : ℕ) (r : At) → k ≢ 102 → k ≢ 97 → k ≢ 80 → k ≢ 62 → k ≢ 40 → k ≢ 41 → k ≢ 124 → r ≡ after_moving k at →
@@ -285,16 +287,15 @@ module _ (T : Tabs) (at : At) where
       (none_given T (after_moving k at) core (if_so (eqb k 91) begins-paths (if_so (eqb k 38) goes_Back pen)) c.done laid))))
     where
       by_kind : (a b : Bool) (core : Core) (pen : Pen) (x : Out) → LaidSoFar T at core pen x →
-          LaidSoFar T (if_so a (after_pen at at.cur at.cur at.end true at.ties)
-          (if_so b (after_pen at at.base at.start at.end at.first at.ties) at)) core
+          LaidSoFar T (if_so a (after_pen at at.cur at.cur None at.ties) (if_so b (after_pen at at.base at.start at.end at.ties) at)) core
           (if_so a (penned pen.cur pen.cur pen.end true)
           (if_so b (penned core.frame.base pen.start pen.end pen.first) pen)) x
       by_kind true b core pen x s =
           let v = s.views in
-          pen_laid T at core pen x s (penned pen.cur pen.cur pen.end true) at.cur at.cur at.end true v.cur v.cur
-          v.end refl s.stands.cur s.stands.cur s.stands.end
+          pen_laid T at core pen x s (penned pen.cur pen.cur pen.end true) at.cur at.cur None v.cur v.cur refl
+          s.stands.cur s.stands.cur s.stands.end
       by_kind false true core pen x s =
           let v = s.views in
           pen_laid T at core pen x s (penned core.frame.base pen.start pen.end pen.first) at.base at.start at.end
-          at.first v.base v.start v.end v.first s.stands.base s.stands.start s.stands.end
+          v.base v.start v.end s.stands.base s.stands.start s.stands.end
       by_kind false false core pen x s = s

@@ -2,10 +2,11 @@
 -- Assumes nothing.
 use Prim.Native.Nat.{ℕ, suc, ◌+◌, ◌*◌, ◌-◌, ◌<◌, ◌≤◌}
 use mathlib.Core.Path.{◌≡◌, refl, sym, ap, ap₂, subst, ◌∙◌}
-use mathlib.Core.Bool.{Bool, false}
+use mathlib.Core.Bool.{false}
 use mathlib.Core.List.{List, [], ◌∷◌, ◌++◌, append-nil}
 use native.Mathlib.Omega.{arith}
 use lib.ListN.{length, length-append}
+use Rattle.std.specs.Prelude.{Option, Some}
 use Rattle.theory.specs.Limits.{depth_limit}
 use Rattle.formulas.specs.Sheet.{of_atom, of_tie}
 use Rattle.rows.specs.Machine.{Alt, ShallowAlts, Out, ◌then◌, homed, begins, OpenFrame, framed, Core, cored, Pen, penned, outer}
@@ -17,7 +18,7 @@ use Rattle.rows.proofs.Depth.{shallow_both}
 use Rattle.rows.proofs.Steps.{stand_arc, stand_atom, stand_tie, stand_moved, stand_open, stand_begun}
 use Rattle.laying.specs.Table.{RowPut, FourPut, AlternativePut}
 use Rattle.laying.specs.Step.{after_arc, after_atom, after_pen, after_frame, after_opening, closed_to, owner_of}
-use Rattle.laying.specs.Laying.{Tabs, Hold, LaidSoFar}
+use Rattle.laying.specs.Laying.{Tabs, Hold, path_end, LaidSoFar}
 use Rattle.laying.specs.declared.sign.At.{At}
 use Rattle.laying.proofs.Held.{with_arcs, with_atoms, with_ties, with_alts, with_frames, row_as, hold_arc, hold_atom, hold_tie}
 use Rattle.laying.proofs.Held.{hold_alternative, hold_frame}
@@ -56,7 +57,6 @@ module _ (T : Tabs) (at : At) (c : Core) (p : Pen) (x : Out) (s : LaidSoFar T at
           cur = spots;
           start = v.start;
           end = v.end;
-          first = v.first;
           bears = v.bears ∙ none_more x.bears;
           ties = v.ties ∙ none_more x.shares;
           height = v.height;
@@ -88,7 +88,6 @@ module _ (T : Tabs) (at : At) (c : Core) (p : Pen) (x : Out) (s : LaidSoFar T at
           cur = v.cur;
           start = v.start;
           end = v.end;
-          first = v.first;
           bears = omega (arith, bears, more);
           ties = v.ties ∙ none_more x.shares;
           height = v.height;
@@ -98,15 +97,16 @@ module _ (T : Tabs) (at : At) (c : Core) (p : Pen) (x : Out) (s : LaidSoFar T at
       }
 
   -- `>` after the first path
-  pub tie_laid : p.first ≡ false → (w' : List ℕ) → RowPut T.ties at.ties (at.end + spot_unit * at.cur) at.home w' →
-      LaidSoFar (with_ties T w') (after_pen at at.start at.start at.end false (at.ties + 1)) c
+  pub tie_laid : p.first ≡ false → (e : ℕ) → at.end ≡ Some e → e ≡ p.end → (w' : List ℕ) →
+      RowPut T.ties at.ties (e + spot_unit * at.cur) at.home w' →
+      LaidSoFar (with_ties T w') (after_pen at at.start at.start at.end (at.ties + 1)) c
       (penned p.start p.start p.end false) (x then homed c.frame.home (of_tie [] p.end p.cur))
-  tie_laid first w' put =
+  tie_laid first e is same w' put =
       let v = s.views in
       let ties = v.ties in
       let more = one_more x.shares (c.frame.home, (p.end, p.cur)) in
-      let row = row_as T.ties at.ties (at.end + spot_unit * at.cur) at.home w' (length x.shares) (p.end + spot_unit * p.cur)
-      c.frame.home ties (ap₂ {C = ℕ} (λ (k l : ℕ). k + spot_unit * l) v.end v.cur) v.home put in
+      let row = row_as T.ties at.ties (e + spot_unit * at.cur) at.home w' (length x.shares) (p.end + spot_unit * p.cur)
+      c.frame.home ties (ap₂ {C = ℕ} (λ (k l : ℕ). k + spot_unit * l) same v.cur) v.home put in
       record {
         memory = with_row s.memory 4 (length x.shares) (p.end + spot_unit * p.cur) c.frame.home;
         holds = hold_tie T s.memory s.holds (length x.shares) (p.end + spot_unit * p.cur) c.frame.home w' row;
@@ -120,8 +120,7 @@ module _ (T : Tabs) (at : At) (c : Core) (p : Pen) (x : Out) (s : LaidSoFar T at
           depth = v.depth;
           cur = v.start;
           start = v.start;
-          end = v.end;
-          first = refl;
+          end = is ∙ ap Some same;
           bears = v.bears ∙ none_more x.bears;
           ties = omega (arith, ties, more);
           height = v.height;
@@ -131,9 +130,9 @@ module _ (T : Tabs) (at : At) (c : Core) (p : Pen) (x : Out) (s : LaidSoFar T at
       }
 
   -- nothing is given, and the pen moves
-  pub pen_laid : (q : Pen) (cur start end : ℕ) (first : Bool) → cur ≡ q.cur → start ≡ q.start → end ≡ q.end → first ≡ q.first →
-      q.cur < c.spot → q.start < c.spot → q.end < c.spot → LaidSoFar T (after_pen at cur start end first at.ties) c q x
-  pen_laid q cur start end first a b d e f g h =
+  pub pen_laid : (q : Pen) (cur start : ℕ) (end : Option ℕ) → cur ≡ q.cur → start ≡ q.start → end ≡ path_end q →
+      q.cur < c.spot → q.start < c.spot → q.end < c.spot → LaidSoFar T (after_pen at cur start end at.ties) c q x
+  pen_laid q cur start end a b d f g h =
       let v = s.views in
       record {
         memory = s.memory;
@@ -149,7 +148,6 @@ module _ (T : Tabs) (at : At) (c : Core) (p : Pen) (x : Out) (s : LaidSoFar T at
           cur = a;
           start = b;
           end = d;
-          first = e;
           bears = v.bears;
           ties = v.ties;
           height = v.height;
@@ -182,7 +180,6 @@ module _ (T : Tabs) (at : At) (c : Core) (p : Pen) (x : Out) (s : LaidSoFar T at
           cur = v.cur;
           start = v.start;
           end = v.end;
-          first = v.first;
           bears = v.bears;
           ties = v.ties;
           height = omega (arith, height);
@@ -201,18 +198,17 @@ module _ (T : Tabs) (at : At) (c : Core) (p : Pen) (x : Out) (s : LaidSoFar T at
 
   -- an alternative of o begins at the spot t, beside g, and the conjunction goes on in it at the spot b
   pub begun_laid : (o g t d b cur : ℕ) (q : Pen) (w' : List ℕ) → o < c.alt → b ≡ c.frame.base → d ≤ depth_limit →
-      AlternativePut T.alts at.alts o g t w' → q.cur < c.spot → cur ≡ q.cur → at.start ≡ q.start → at.end ≡ q.end →
-      at.first ≡ q.first → (n : ℕ) → n ≡ d → (l : ℕ) → l ≡ g →
+      AlternativePut T.alts at.alts o g t w' → q.cur < c.spot → cur ≡ q.cur → at.start ≡ q.start → at.end ≡ path_end q →
+      q.end ≡ p.end → (n : ℕ) → n ≡ d → (l : ℕ) → l ≡ g →
       LaidSoFar (with_alts T w') (after_frame at (at.alts + 1) at.base at.alts l n cur at.height)
       (cored c.spot (suc c.alt) (framed b c.alt g d) c.around) q (x then begins o g t d)
-  begun_laid o g t d b cur q w' low base deep put qcur ecur estart eend efirst n en l el =
+  begun_laid o g t d b cur q w' low base deep put qcur ecur estart eend same n en l el =
       let v = s.views in
       let alts = v.alts in
       let stands = s.stands in
       let qstart = s.stands.start in
       let qend = s.stands.end in
       let vstart = v.start in
-      let vend = v.end in
       let a : Alt = record { owner = o; group = g; spot = t; depth = d } in
       let new = subst (λ (k : ℕ). AlternativePut T.alts k o g t w') alts put in
       let bound = stands.base in
@@ -222,7 +218,7 @@ module _ (T : Tabs) (at : At) (c : Core) (p : Pen) (x : Out) (s : LaidSoFar T at
         holds = hold_alternative T s.memory s.holds c.alt o g t w' new;
         stands = stand_moved (with_alternative s.memory c.alt o g t)
             (cored c.spot (suc c.alt) (framed b c.alt g d) c.around) p (x then begins o g t d) begun q qcur
-            (omega (arith, qstart, vstart, estart)) (omega (arith, qend, vend, eend));
+            (omega (arith, qstart, vstart, estart)) (omega (arith, qend, same));
         views = record {
           spots = v.spots;
           alts = omega (arith, alts);
@@ -233,7 +229,6 @@ module _ (T : Tabs) (at : At) (c : Core) (p : Pen) (x : Out) (s : LaidSoFar T at
           cur = ecur;
           start = estart;
           end = eend;
-          first = efirst;
           bears = v.bears ∙ none_more x.bears;
           ties = v.ties ∙ none_more x.shares;
           height = v.height;
@@ -252,7 +247,7 @@ pub record OuterRead (w : List ℕ) (at : At) (h : ℕ) (fs : List OpenFrame) : 
   pub height : (closed_to w at h).height ≡ length (further_out fs)
   pub owner : owner_of w h ≡ (outer fs).home
   pub same : ((closed_to w at h).spots ≡ at.spots) × ((closed_to w at h).alts ≡ at.alts) × ((closed_to w at h).start ≡ at.start)
-      × ((closed_to w at h).end ≡ at.end) × ((closed_to w at h).first ≡ at.first) × ((closed_to w at h).bears ≡ at.bears)
+      × ((closed_to w at h).end ≡ at.end) × ((closed_to w at h).bears ≡ at.bears)
       × ((closed_to w at h).ties ≡ at.ties)
 
 outer_read : (T : Tabs) (M : Memory) (at : At) (h : ℕ) (fs : List OpenFrame) → Hold T M → FramesStand (M 10) (M 11) (M 12) (M 13) fs →
@@ -267,7 +262,7 @@ outer_read T M at h [] e f l =
       cur = refl;
       height = refl;
       owner = refl;
-      same = (refl, refl, refl, refl, refl, refl, refl);
+      same = (refl, refl, refl, refl, refl, refl);
     })
 outer_read T M at h (g ∷ gs) e f l =
     subst (λ (k : ℕ). OuterRead T.frames at k (g ∷ gs)) (sym l)
@@ -279,10 +274,9 @@ outer_read T M at h (g ∷ gs) e f l =
       cur = e.bases (length gs) ∙ f.0;
       height = refl;
       owner = e.homes (length gs) ∙ f.1;
-      same = (refl, refl, refl, refl, refl, refl, refl);
+      same = (refl, refl, refl, refl, refl, refl);
     })
 
 module _ (T : Tabs) (at : At) (c : Core) (p : Pen) (x : Out) (s : LaidSoFar T at c p x) where
   pub outer_is : OuterRead T.frames at at.height c.around
   outer_is = outer_read T s.memory at at.height c.around s.holds s.stands.frames s.views.height
-  -- `)`

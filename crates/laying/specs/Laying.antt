@@ -3,6 +3,7 @@
 use Rattle.std.specs.Prelude.{ℕ, suc, ◌*◌, ◌<◌, ◌≤◌, ◌≡◌, Bool, true, false, List, [], ◌∷◌, length, Option, Some, None}
 use Rattle.theory.specs.Limits.{depth_limit}
 use Rattle.signs.specs.Limits.{kind_unit}
+use Rattle.signs.specs.Machine.{if_so}
 use Rattle.rows.specs.Tokens.{Token, token_words, AllSmall}
 use Rattle.rows.specs.Flagged.{word_of}
 use Rattle.rows.specs.Machine.{Out, ◌then◌, ShallowAlts, OpenFrame, Core, Pen, sign_gives, sign_moves, sign_turns, emit}
@@ -40,6 +41,10 @@ pub record FewRows (x : Out) : Type 0 where
   pub shares : length x.shares ≤ row_limit
   pub alts : length x.alts < spot_unit
 
+-- where shared paths end, if the first has ended
+abbrev pub path_end : Pen → Option ℕ
+path_end p = if_so p.first None (Some p.end)
+
 -- the code's state is the machine's
 pub record Views (at : At) (c : Core) (p : Pen) (x : Out) : Type 0 where
   pub spots : at.spots ≡ c.spot
@@ -50,8 +55,7 @@ pub record Views (at : At) (c : Core) (p : Pen) (x : Out) : Type 0 where
   pub depth : at.depth ≡ c.frame.depth
   pub cur : at.cur ≡ p.cur
   pub start : at.start ≡ p.start
-  pub end : at.end ≡ p.end
-  pub first : at.first ≡ p.first
+  pub end : at.end ≡ path_end p
   pub bears : at.bears ≡ length x.bears
   pub ties : at.ties ≡ length x.shares
   pub height : at.height ≡ length c.around
@@ -99,8 +103,7 @@ begun_at true = record {
   depth = 1;
   cur = 0;
   start = 0;
-  end = 0;
-  first = false;
+  end = Some 0;
   bears = 0;
   ties = 0;
   height = 0;
@@ -114,8 +117,7 @@ begun_at false = record {
   depth = 0;
   cur = 0;
   start = 0;
-  end = 0;
-  first = false;
+  end = Some 0;
   bears = 0;
   ties = 0;
   height = 0;

@@ -1,6 +1,6 @@
 -- The state after each sign, by what it was.
 -- Assumes nothing: these are definitions.
-use Rattle.std.specs.Prelude.{ℕ, zero, suc, ◌+◌, ◌*◌, ◌<◌, ◌≤◌, ◌≡◌, ◌≢◌, Bool, true, false, List, eqb, length, get_or, Option, Some, None}
+use Rattle.std.specs.Prelude.{ℕ, zero, suc, ◌+◌, ◌*◌, ◌<◌, ◌≤◌, ◌≡◌, ◌≢◌, List, eqb, length, get_or, Option, Some, None}
 use Rattle.theory.specs.Limits.{depth_limit}
 use Rattle.signs.specs.Machine.{if_so}
 use Rattle.rows.specs.Laid.{spot_unit}
@@ -19,7 +19,6 @@ after_arc at = record {
   cur = at.spots;
   start = at.start;
   end = at.end;
-  first = at.first;
   bears = at.bears;
   ties = at.ties;
   height = at.height;
@@ -37,15 +36,14 @@ after_atom at = record {
   cur = at.cur;
   start = at.start;
   end = at.end;
-  first = at.first;
   bears = at.bears + 1;
   ties = at.ties;
   height = at.height;
 }
 
--- a pen that moved: the present spot, where shared paths begin and end, whether the first is still to end; and the rows of ties
-abbrev pub after_pen : At → ℕ → ℕ → ℕ → Bool → ℕ → At
-after_pen at cur start end first ties = record {
+-- a pen that moved: the present spot, where shared paths begin, and where they end, if the first has ended; and the rows of ties
+abbrev pub after_pen : At → ℕ → ℕ → Option ℕ → ℕ → At
+after_pen at cur start end ties = record {
   spots = at.spots;
   alts = at.alts;
   base = at.base;
@@ -55,7 +53,6 @@ after_pen at cur start end first ties = record {
   cur = cur;
   start = start;
   end = end;
-  first = first;
   bears = at.bears;
   ties = ties;
   height = at.height;
@@ -63,9 +60,9 @@ after_pen at cur start end first ties = record {
 
 -- `>`: the first path's end is kept, each other is tied to it
 pub record Shares (w : List ℕ) (at r : At) (w' : List ℕ) : Type 0 where
-  pub kept : at.first ≡ true → (r ≡ after_pen at at.start at.start at.cur false at.ties) × (w' ≡ w)
-  pub tied : at.first ≡ false → (r ≡ after_pen at at.start at.start at.end false (at.ties + 1))
-      × RowPut w at.ties (at.end + spot_unit * at.cur) at.home w'
+  pub kept : at.end ≡ None → (r ≡ after_pen at at.start at.start (Some at.cur) at.ties) × (w' ≡ w)
+  pub tied : (e : ℕ) → at.end ≡ Some e → (r ≡ after_pen at at.start at.start at.end (at.ties + 1))
+      × RowPut w at.ties (e + spot_unit * at.cur) at.home w'
 
 -- a frame: what is open, and the conjunction
 abbrev pub after_frame : At → ℕ → ℕ → ℕ → ℕ → ℕ → ℕ → ℕ → At
@@ -79,7 +76,6 @@ after_frame at alts base home group depth cur height = record {
   cur = cur;
   start = at.start;
   end = at.end;
-  first = at.first;
   bears = at.bears;
   ties = at.ties;
   height = height;
@@ -128,5 +124,5 @@ pub record GroupOpens (ks fs : List ℕ) (at : At) (flag : ℕ) (r : Option At) 
 
 -- `[` begins shared paths, `&` goes back to the conjunction's spot, other signs do nothing
 abbrev pub after_moving : ℕ → At → At
-after_moving k at = if_so (eqb k 91) (after_pen at at.cur at.cur at.end true at.ties)
-    (if_so (eqb k 38) (after_pen at at.base at.start at.end at.first at.ties) at)
+after_moving k at = if_so (eqb k 91) (after_pen at at.cur at.cur None at.ties)
+    (if_so (eqb k 38) (after_pen at at.base at.start at.end at.ties) at)

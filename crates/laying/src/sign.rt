@@ -1,5 +1,5 @@
 // What each sign of a formula does: the row that it gives, and the state after it.
-ghost use Rattle.std.specs.Prelude.{◌+◌, ◌*◌, ◌-◌, ◌<◌, ◌≤◌, ◌≡◌, false, length};
+ghost use Rattle.std.specs.Prelude.{◌+◌, ◌*◌, ◌-◌, ◌<◌, ◌≤◌, ◌≡◌, ℕ, Some, length};
 ghost use Rattle.theory.specs.Limits.{depth_limit};
 ghost use Rattle.signs.specs.Limits.{kind_unit};
 ghost use Rattle.rows.specs.Laid.{spot_unit};
@@ -16,7 +16,7 @@ use signs::word::{AND, BRACKET};
 const SPOT_UNIT: u32 = 2048;
 
 // The next spot and alternative; the conjunction's spot, its alternative, the first one beside that and how deep it is nested; the
-// present spot; where shared paths begin and end, and whether the first is still to end; the rows of atoms and ties; what stands open.
+// present spot; where shared paths begin, and where they end, if the first has ended; the rows of atoms and ties; what stands open.
 #[derive(Clone, Copy)]
 pub struct At {
     pub spots: u32,
@@ -27,8 +27,7 @@ pub struct At {
     pub depth: u32,
     pub cur: u32,
     pub start: u32,
-    pub end: u32,
-    pub first: bool,
+    pub end: Option<u32>,
     pub bears: u32,
     pub ties: u32,
     pub height: u32,
@@ -62,27 +61,27 @@ pub(crate) fn bear(atoms: &mut [u32], at: At, atom: u32) -> At
     }
 }
 
-// `>`
+// `>`: the first path's end is kept, each other is tied to it.
 pub(crate) fn share(ties: &mut [u32], at: At) -> At
-    requires { at.first ≡ false →
-        (at.ties < row_limit) × (2 * at.ties + 1 < length ties.old) × (at.cur < spot_unit) × (at.end < spot_unit) }
+    requires { (e : ℕ) → at.end ≡ Some e →
+        (at.ties < row_limit) × (2 * at.ties + 1 < length ties.old) × (at.cur < spot_unit) × (e < spot_unit) }
     ensures { Shares ties.old at result ties.new }
 {
     let back = At {
         cur: at.start,
-        first: false,
         ..at
     };
-    if at.first {
-        At {
-            end: at.cur,
+    match at.end {
+        None => At {
+            end: Some(at.cur),
             ..back
-        }
-    } else {
-        put_row(ties, at.ties, at.end + SPOT_UNIT * at.cur, at.home);
-        At {
-            ties: at.ties + 1,
-            ..back
+        },
+        Some(end) => {
+            put_row(ties, at.ties, end + SPOT_UNIT * at.cur, at.home);
+            At {
+                ties: at.ties + 1,
+                ..back
+            }
         }
     }
 }
@@ -198,7 +197,7 @@ pub(crate) fn move_on(at: At, kind: u32) -> At
     match kind {
         BRACKET => At {
             start: at.cur,
-            first: true,
+            end: None,
             ..at
         },
         AND => At { cur: at.base, ..at },

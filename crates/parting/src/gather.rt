@@ -31,7 +31,7 @@ pub fn gather_rows(rows: &[u32], homes: &[u32], k: usize, out: &mut [u32]) -> us
     n
 }
 
-// Marks the arcs from the root to the spot.
+// Marks the arcs from the root to the spot; the root is spot 0.
 pub fn mark_trail(arcs: &[u32], from: usize, on: &mut [bool])
     requires { TrailMarking (arc_table arcs.now) from on.old }
     ensures { TrailMarks (arc_table arcs.now) from on.old on.new }

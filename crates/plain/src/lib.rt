@@ -2,5 +2,4 @@
 #![tactic(auto)]
 
 pub mod expand;
-pub mod full;
 pub mod light;

@@ -1,7 +1,7 @@
 // What the programs have in common: a text is read, answered, and the answer printed.
 #![tactic(auto)]
 
-ghost use Rattle.std.specs.Prelude.{List, ℕ, length, take, IfSome, OnOk};
+ghost use Rattle.std.specs.Prelude.{◌≡◌, List, ℕ, length, take, IfSome, OnOk};
 ghost use Rattle.programs.specs.Said.{Answered, Prints};
 
 use std::io;
@@ -20,6 +20,13 @@ pub trait Program {
     fn answer(text: &[u8], out: &mut [u8]) -> usize
         requires { suffices (length out.old) }
         ensures { Answered (says (length out.old) text.now) result out.new };
+}
+
+// An area of so many zeros.
+pub fn area<const N: usize>() -> [u8; N]
+    ensures { length result ≡ N }
+{
+    [0; N]
 }
 
 // Prints what the program says of the text.

@@ -10,8 +10,7 @@ use std::io;
 use std::io::{Read, Write};
 use translate::answer::{Row, told};
 use translate::formula::formula;
-use vectors::lent::{MOST_ROOM, prepare, result_right, space};
-use vectors::{Run, Word};
+use vectors::lent::{MOST_ROOM, prepare, result_right, zeros};
 
 // A count for number 0, one for each number from 20 to 25, and one of what came out otherwise.
 const COUNTS: usize = 8;
@@ -25,9 +24,6 @@ const MOST_TEXT: usize = 8192;
 // At most so many vectors are run.
 const MOST_TURNS: u32 = 1000000;
 
-// What ends the vectors.
-const LAST: u32 = 4294967295;
-
 // What is stored of a vector, but for its text and its words.
 #[derive(Clone, Copy)]
 struct Vector {
@@ -36,87 +32,53 @@ struct Vector {
     told: u32,
 }
 
-fn text_space() -> [u8; MOST_TEXT] {
-    [0; MOST_TEXT]
-}
-
 // Whether a row has the stored number, and beside it what is told and nothing else.
 fn row_right(row: Row, v: Vector) -> bool {
-    if row.number != v.number {
-        return false;
+    let told = v.told as usize;
+    let (length, byte) = if v.number == 20 { (0, told) } else { (told, 0) };
+    row == Row {
+        number: v.number,
+        length,
+        byte,
     }
-    if v.number == 20 {
-        if row.length != 0 {
-            return false;
-        }
-        return row.byte == v.told as usize;
-    }
-    if row.byte != 0 {
-        return false;
-    }
-    row.length == v.told as usize
 }
 
 // Translates a text in this area: whether all comes out as stored.
 fn translated(v: Vector, text: &[u8], words: &[u32], res: &mut [u32]) -> bool {
     prepare(res);
-    let answer = formula(text, res);
-    let row = told(answer);
-    if row_right(row, v) {
-        return result_right(res, words);
-    }
-    false
+    let row = told(formula(text, res));
+    row_right(row, v) && result_right(res, words)
 }
 
 // Translates a text in an area of the stored length.
 fn lent(v: Vector, text: &[u8], words: &[u32]) -> bool {
+    let mut area: [u32; MOST_ROOM] = zeros();
     let room = v.room as usize;
-    if MOST_ROOM < room {
-        return false;
-    }
-    let mut here = space();
-    let result: &mut [u32] = &mut here;
-    translated(v, text, words, &mut result[..room])
-}
-
-// Reads the text and the words of a vector into these: whether they are there and it comes out as stored.
-fn read_in<R: Read>(
-    input: &mut R,
-    v: Vector,
-    text: &mut [u8],
-    words: &mut [u32],
-) -> io::Result<bool> {
-    let first = vectors::counted_bytes(input, text)?;
-    let Run::Of(n) = first else {
-        return Ok(false);
-    };
-    let second = vectors::counted(input, words)?;
-    let Run::Of(k) = second else {
-        return Ok(false);
-    };
-    Ok(lent(v, &text[..n], &words[..k]))
+    room <= MOST_ROOM && translated(v, text, words, &mut area[..room])
 }
 
 // Whether the text and the words of a vector are there and it comes out as stored.
 fn read<R: Read>(input: &mut R, v: Vector) -> io::Result<bool> {
-    let mut text = text_space();
-    let mut words = space();
-    read_in(input, v, &mut text, &mut words)
+    let mut text = [0; MOST_TEXT];
+    let Some(n) = vectors::counted_bytes(input, &mut text)? else {
+        return Ok(false);
+    };
+    let mut words: [u32; MOST_ROOM] = zeros();
+    let Some(k) = vectors::counted(input, &mut words)? else {
+        return Ok(false);
+    };
+    Ok(lent(v, &text[..n], &words[..k]))
 }
 
 // Which of the counts a number has.
 fn place(number: u32) -> usize
     ensures { result ≤ 7 }
 {
-    if number == 0 {
-        return 0;
+    match number {
+        0 => 0,
+        20..=25 => (number - 19) as usize,
+        _ => 7,
     }
-    if 20 <= number {
-        if number <= 25 {
-            return (number - 19) as usize;
-        }
-    }
-    7
 }
 
 // Which of the counts a vector belongs to.
@@ -124,64 +86,55 @@ fn column<R: Read>(input: &mut R, v: Vector) -> io::Result<usize>
     ensures { IfOk result (λ n. n ≤ 7) }
 {
     if read(input, v)? {
-        return Ok(place(v.number));
+        Ok(place(v.number))
+    } else {
+        Ok(7)
     }
-    Ok(7)
 }
 
 // Runs the next vector and counts what came of it. Whether there was one.
 fn turn<R: Read>(input: &mut R, counts: &mut [u32]) -> io::Result<bool> {
-    let word = vectors::next(input)?;
-    let Word::Is(room) = word else {
+    let Some(room) = vectors::next(input)? else {
         return Ok(false);
     };
-    if room == LAST {
+    if room == u32::MAX {
         return Ok(false);
     }
-    let mut row: [u32; ROW] = [0; ROW];
+    let mut row = [0; ROW];
     let filled = vectors::fill(input, &mut row)?;
-    let v = Vector {
-        room,
-        number: row[0],
-        told: row[1],
-    };
+    let [number, told] = row;
+    let v = Vector { room, number, told };
     vectors::count(counts, column(input, v)?);
     Ok(filled)
 }
 
 // Runs all vectors.
 fn all<R: Read>(input: &mut R, counts: &mut [u32]) -> io::Result<()> {
-    let mut turns = MOST_TURNS;
-    while 0 < turns {
-        let more = turn(input, counts)?;
-        if !more {
-            return Ok(());
+    for _ in 0..MOST_TURNS {
+        if !turn(input, counts)? {
+            break;
         }
-        turns -= 1;
     }
     Ok(())
 }
 
-fn say<W: Write>(output: &mut W, label: &[u8], n: u32) -> io::Result<()> {
-    output.write_all(label)?;
-    write!(output, "{n}")
-}
-
 // Says all counts.
-fn say_all<W: Write>(output: &mut W, counts: &[u32; COUNTS]) -> io::Result<()> {
-    say(output, b"translated, as stored with number 0: ", counts[0])?;
-    say(output, b"\nrefused, as stored with number 20: ", counts[1])?;
-    say(output, b", 21: ", counts[2])?;
-    say(output, b", 22: ", counts[3])?;
-    say(output, b", 23: ", counts[4])?;
-    say(output, b", 24: ", counts[5])?;
-    say(output, b", 25: ", counts[6])?;
-    say(output, b"\notherwise: ", counts[7])?;
-    output.write_all(b"\n")
+fn say_all<W: Write>(output: &mut W, counts: [u32; COUNTS]) -> io::Result<()> {
+    let [fine, bad, deep, clash, long, no_room, long_text, otherwise] = counts;
+    writeln!(output, "translated, as stored with number 0: {fine}")?;
+    write!(
+        output,
+        "refused, as stored with number 20: {bad}, 21: {deep}, "
+    )?;
+    writeln!(
+        output,
+        "22: {clash}, 23: {long}, 24: {no_room}, 25: {long_text}"
+    )?;
+    writeln!(output, "otherwise: {otherwise}")
 }
 
 fn main(rt: HostRuntime) -> io::Result<()> {
-    let mut counts: [u32; COUNTS] = [0; COUNTS];
+    let mut counts = [0; COUNTS];
     all(&mut rt.stdin(), &mut counts)?;
-    say_all(&mut rt.stdout(), &counts)
+    say_all(&mut rt.stdout(), counts)
 }

@@ -17,7 +17,7 @@ pub enum Cause {
     TooDeep,
 }
 
-// The number of a cause, 1 to 9.
+// The number of a cause, 1 to 9, as the C interface has it (`bublastyr_malformed`).
 pub fn cause_number(cause: Cause) -> u32
     ensures { result ≡ cause_number (cause_of cause) }
 {

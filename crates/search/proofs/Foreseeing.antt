@@ -26,7 +26,7 @@ use Rattle.search.specs.declared.agenda.Agenda.{Agenda}
 use Rattle.search.specs.Frames.{Slot, FramesOn, plan_on}
 use Rattle.search.specs.Searched.{Noting, Notes, Taking, taken_with, Takes}
 use Rattle.search.specs.Foreseen.{Foreseeing, Foresees}
-use Rattle.search.proofs.Slots.{lists_none}
+use Rattle.search.proofs.Slots.{slots_none}
 use Rattle.search.proofs.Finding.{finds_none, finds_leaf, finds_same, finds_taking, moved_noted}
 use Rattle.search.proofs.Taking.{asks_enter, clash_none, read}
 
@@ -73,7 +73,7 @@ module _ (n k : ℕ) (w : List ℕ) (g : ℕ) where
           (bare_good n k w g depth_limit d none s)
           ∙ resume_at_stop m (plan_on c.s c.l c.lies.end c.lies.to c.frames) (S ++ K ∷ [])
           ∙ ap (λ (fs : List Places). resume_at m fs (S ++ K ∷ []))
-          (bare_plan a c c.l c.frames (sym c.lists.is ∙ (lists_none a (e ∙ z)).is))
+          (bare_plan a c c.l c.frames (sym c.lists.is ∙ slots_none a (e ∙ z)))
           ∙ resume_at_leaf m (S ++ K ∷ [])
           );
     }

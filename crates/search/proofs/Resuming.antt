@@ -40,9 +40,9 @@ use Rattle.entering.proofs.Certain.{LoneOf, lone_alone}
 use Rattle.entering.proofs.Clearing.{clear_alone, clear_several}
 use Rattle.entering.proofs.Moves.{moved_words}
 use Rattle.search.specs.declared.agenda.Agenda.{Agenda}
-use Rattle.search.specs.Frames.{Slot, slots, Lists, onto, Frame, FramesOn, plan_on}
+use Rattle.search.specs.Frames.{first_at, first_more, Slot, slots, Lists, onto, Frame, FramesOn, plan_on}
 use Rattle.search.specs.Searched.{Noting, Notes, Resuming, resumed, Resumes, Branching, chosen, Branches}
-use Rattle.search.proofs.Slots.{lists_none, lists_size, lists_first}
+use Rattle.search.proofs.Slots.{slots_none, lists_size, lists_first}
 use Rattle.search.proofs.Planning.{reach, frames_reach, frames_wide, frames_onto, Before, Opened, opened, open_asks}
 use Rattle.search.proofs.Finding.{finds_none, finds_leaf, finds_same, finds_taking, moved_noted}
 
@@ -93,7 +93,7 @@ module _ (n k : ℕ) (w : List ℕ) (a : Agenda) where
   pub resumes_leaf : Resuming n k w a → a.frames ≡ 0 → Resumes n k w a 1 w
   resumes_leaf c₀ z = record {
     moved = stays c₀;
-    found = λ c. finds_same n k w c.es ([] ∷ []) (resumed c) 1 w (leaf c c.l c.frames (sym c.lists.is ∙ (lists_none a z).is))
+    found = λ c. finds_same n k w c.es ([] ∷ []) (resumed c) 1 w (leaf c c.l c.frames (sym c.lists.is ∙ slots_none a z))
         (finds_leaf n k w c.es c.s.holds);
   }
     where
@@ -106,15 +106,15 @@ module _ (n k : ℕ) (w : List ℕ) (a : Agenda) where
     -- the next disjunction, those after it in its frame, and the frames behind
     record Next (c : Resuming n k w a) : Type 0 where
       l : List Slot
-      lists : Lists a ((a.at0, a.more0) ∷ l)
-      some_left : 0 < a.more0
-      here : a.at0 < length c.s.t
+      lists : Lists a ((first_at a, first_more a) ∷ l)
+      some_left : 0 < (first_more a)
+      here : (first_at a) < length c.s.t
       of : ℕ
-      any : LyingAny n c.s.t (a.at0 + 1) of (5 - length l - 1)
-      of_is : alternatives_at w a.at0 ≡ of
+      any : LyingAny n c.s.t ((first_at a) + 1) of (5 - length l - 1)
+      of_is : alternatives_at w (first_at a) ≡ of
       among : AmongAnyOf c.s.U any
       clear : ClearAnyOf c.es c.s.m any
-      later : Frame n c.s.t c.s.U c.es c.s.m any.end (a.more0 - 1) (5 - length l)
+      later : Frame n c.s.t c.s.U c.es c.s.m any.end ((first_more a) - 1) (5 - length l)
       meets : any.to ≡ later.lies.from
       rest : FramesOn c.s l later.lies.end later.lies.to
       is : resumed c
@@ -125,20 +125,20 @@ module _ (n k : ℕ) (w : List ℕ) (a : Agenda) where
         let f = lists_first a c.l c.lists some in
         let G = subst (λ (z : List Slot). (G : FramesOn c.s z 0 0)
         × (plan_on c.s z 0 0 G ≡ plan_on c.s c.l 0 0 c.frames)) f.1 (c.frames, refl) in
-        go f.0 (record { few = c.lists.few; is = c.lists.is ∙ f.1 }) G.0.1 G.0.0.lies G.0.4
+        go f.0 (record { few = c.lists.few; wide = c.lists.wide; is = c.lists.is ∙ f.1 }) G.0.1 G.0.0.lies G.0.4
         G.0.0.lies.ds G.0.0.lies.at G.0.0.lies.many G.0.0.lies.nests G.0.0.among G.0.0.clear
         (ap (λ (fs : List Places). resume_at c.s.m fs (graphs c.es)) (sym G.1))
       where
-        go : (l : List Slot) → Lists a ((a.at0, a.more0) ∷ l) → 0 < a.more0 →
-            (x : LyingAll n c.s.t a.at0 a.more0 (5 - length l)) (rest : FramesOn c.s l x.end x.to)
-            (ds : Places) (stand : AtAll c.s.t a.at0 x.from ds x.end x.to) → places ds ≡ a.more0 →
-            NestsAll ds (5 - length l) → AmongAll c.s.U c.s.t a.at0 x.from ds x.end x.to stand →
-            ClearAll c.es c.s.t c.s.m a.at0 x.from ds x.end x.to stand →
+        go : (l : List Slot) → Lists a ((first_at a, first_more a) ∷ l) → 0 < (first_more a) →
+            (x : LyingAll n c.s.t (first_at a) (first_more a) (5 - length l)) (rest : FramesOn c.s l x.end x.to)
+            (ds : Places) (stand : AtAll c.s.t (first_at a) x.from ds x.end x.to) → places ds ≡ (first_more a) →
+            NestsAll ds (5 - length l) → AmongAll c.s.U c.s.t (first_at a) x.from ds x.end x.to stand →
+            ClearAll c.es c.s.t c.s.m (first_at a) x.from ds x.end x.to stand →
             resumed c ≡ resume_at c.s.m (ds ∷ plan_on c.s l x.end x.to rest) (graphs c.es) → Next c
         go l lists more x rest stop stand many nests among clear is = absurd (omega arith)
         go l lists more x rest (o also ds) stand many nests among clear is =
             let there = stand.2 in
-            let first = any_bounds c.s.t o (a.at0 + 1) x.from stand.0 stand.1 (omega arith) stand.4 in
+            let first = any_bounds c.s.t o ((first_at a) + 1) x.from stand.0 stand.1 (omega arith) stand.4 in
             let last = (all_bounds c.s.t ds stand.0 stand.1 x.end x.to first.1 stand.5).2 in
             record {
               l = l;
@@ -157,8 +157,8 @@ module _ (n k : ℕ) (w : List ℕ) (a : Agenda) where
                 many = refl;
                 nests = nests.1;
               };
-              of_is = alternatives_is w o ds a.at0 x.from x.end x.to
-                  (subst (λ (t : List ℕ). AtAll t a.at0 x.from (o also ds) x.end x.to) (sym c.s.loaded) stand);
+              of_is = alternatives_is w o ds (first_at a) x.from x.end x.to
+                  (subst (λ (t : List ℕ). AtAll t (first_at a) x.from (o also ds) x.end x.to) (sym c.s.loaded) stand);
               among = among.0;
               clear = clear.0;
               later = record {
@@ -185,30 +185,30 @@ module _ (n k : ℕ) (w : List ℕ) (a : Agenda) where
       many_words : length c.s.t ≡ 2048
       many_words = ap length (sym c.s.loaded) ∙ words_many w c.s.holds.long
 
-      pub resume_here : (a.at0 < 2048) × (16384 ≤ length w)
+      pub resume_here : ((first_at a) < 2048) × (16384 ≤ length w)
       resume_here = (omega (arith, (next c).here, many_words), c.s.holds.long)
 
-      pub resume_reach : reach (slots a) ≡ a.at0
+      pub resume_reach : reach (slots a) ≡ (first_at a)
       resume_reach = ap reach (next c).lists.is
 
-      pub resume_some : (0 < a.frames) × (0 < a.more0)
+      pub resume_some : (0 < a.frames) × (0 < (first_more a))
       resume_some =
-          (let h = lists_size a ((a.at0, a.more0) ∷ (next c).l) (next c).lists in omega arith, (next c).some_left)
+          (let h = lists_size a ((first_at a, first_more a) ∷ (next c).l) (next c).lists in omega arith, (next c).some_left)
 
       four : length (next c).l ≤ 4
-      four = omega (arith, lists_size a ((a.at0, a.more0) ∷ (next c).l) (next c).lists, (next c).lists.few)
+      four = omega (arith, lists_size a ((first_at a, first_more a) ∷ (next c).l) (next c).lists, (next c).lists.few)
 
-    module _ (count : ℕ) (e : count ≡ alternatives_at w a.at0) where
-      abbrev lies : (c : Resuming n k w a) → LyingAny n c.s.t (a.at0 + 1) count (5 - length (next c).l - 1)
+    module _ (count : ℕ) (e : count ≡ alternatives_at w (first_at a)) where
+      abbrev lies : (c : Resuming n k w a) → LyingAny n c.s.t ((first_at a) + 1) count (5 - length (next c).l - 1)
       lies c = any_many (sym (e ∙ (next c).of_is)) (next c).any
 
-      abbrev counted : (c : Resuming n k w a) → Alternatives w (a.at0 + 1) count
+      abbrev counted : (c : Resuming n k w a) → Alternatives w ((first_at a) + 1) count
       counted c = alternatives w c.s.holds.long c.s.loaded c.s.ground.few (lies c)
 
-      pub resume_counts : Resuming n k w a → Alternatives w (a.at0 + 1) count
+      pub resume_counts : Resuming n k w a → Alternatives w ((first_at a) + 1) count
       resume_counts c = counted c
 
-      module _ (which : Remnant) (after : ℕ) (tally : (s : Alternatives w (a.at0 + 1) count) → Tallied w s which after) where
+      module _ (which : Remnant) (after : ℕ) (tally : (s : Alternatives w ((first_at a) + 1) count) → Tallied w s which after) where
         abbrev told : (c : Resuming n k w a) → Tallied w (counted c) which after
         told c = tally (counted c)
 
@@ -231,22 +231,22 @@ module _ (n k : ℕ) (w : List ℕ) (a : Agenda) where
         }
 
         module _ (later : Agenda) (la : (s : Slot) (l : List Slot) → Lists a (s ∷ l) → Lists later l) where
-          pub resume_room : Resuming n k w a → (a.more0 - 1 ≡ 0) ⊎ (later.frames < 5)
-          resume_room c = inr (omega (arith, lists_size later (next c).l (la (a.at0, a.more0) (next c).l (next c).lists), four c))
+          pub resume_room : Resuming n k w a → ((first_more a) - 1 ≡ 0) ⊎ (later.frames < 5)
+          resume_room c = inr (omega (arith, lists_size later (next c).l (la (first_at a, first_more a) (next c).l (next c).lists), four c))
 
-          module _ (rest : Agenda) (lb : (l : List Slot) → Lists later l → Lists rest (onto after (a.more0 - 1) l)) where
+          module _ (rest : Agenda) (lb : (l : List Slot) → Lists later l → Lists rest (onto after ((first_more a) - 1) l)) where
             abbrev slots₂ : (c : Resuming n k w a) → List Slot
-            slots₂ c = onto (lies c).end (a.more0 - 1) (next c).l
+            slots₂ c = onto (lies c).end ((first_more a) - 1) (next c).l
 
             lists₂ : (c : Resuming n k w a) → Lists rest (slots₂ c)
-            lists₂ c = subst (λ (p : ℕ). Lists rest (onto p (a.more0 - 1) (next c).l)) (told c).after_is
-                (lb (next c).l (la (a.at0, a.more0) (next c).l (next c).lists))
+            lists₂ c = subst (λ (p : ℕ). Lists rest (onto p ((first_more a) - 1) (next c).l)) (told c).after_is
+                (lb (next c).l (la (first_at a, first_more a) (next c).l (next c).lists))
 
             abbrev frames₂ : (c : Resuming n k w a) →
                 (G : FramesOn c.s (slots₂ c) (lies c).end (lies c).to)
                 × ((S : List Graph) → resume_at c.s.m (plan_on c.s (slots₂ c) (lies c).end (lies c).to G) S
                 ≡ resume_at c.s.m (behind c) S)
-            frames₂ c = frames_onto n c.s.t c.s.U c.s.m c.es (lies c).end (a.more0 - 1) (5 - length (next c).l)
+            frames₂ c = frames_onto n c.s.t c.s.U c.s.m c.es (lies c).end ((first_more a) - 1) (5 - length (next c).l)
                 (next c).later (next c).l (next c).rest (lies c).end (lies c).to (omega arith) (omega (arith, (next c).meets))
                 (omega arith)
 
@@ -254,7 +254,7 @@ module _ (n k : ℕ) (w : List ℕ) (a : Agenda) where
             left_of c = plan_on c.s (slots₂ c) (lies c).end (lies c).to (frames₂ c).0
 
             deep : (c : Resuming n k w a) → length (slots₂ c) + (5 - length (next c).l - 1) ≤ 5
-            deep c = omega (arith, onto_length (lies c).end (a.more0 - 1) (next c).l, four c)
+            deep c = omega (arith, onto_length (lies c).end ((first_more a) - 1) (next c).l, four c)
 
             choice_is : (c : Resuming n k w a) → resumed c ≡ choose_at c.s.m (graphs c.es) (lies c).a (left_of c)
             choice_is c = (next c).is ∙ ap (λ (f : List Graph → Found). dive_any (graphs c.es) (keep_any c.s.m (lies c).a) f)
@@ -318,7 +318,7 @@ module _ (n k : ℕ) (w : List ℕ) (a : Agenda) where
                 pub one_asks : Resuming n k w a → Resuming n k w b
                 one_asks c = resuming₁ c
 
-                pub one_falls : Resuming n k w a → a.at0 < reach (slots b)
+                pub one_falls : Resuming n k w a → (first_at a) < reach (slots b)
                 one_falls c =
                     let r = frames_reach n c.s.t c.s.U c.s.m c.es (many_words c) (slots₁ c) (first + 1) (lone c).lies.from
                     (opened₁ c).frames in
@@ -359,7 +359,7 @@ module _ (n k : ℕ) (w : List ℕ) (a : Agenda) where
               free : (c : Resuming n k w a) → FreeAnyOf (lies c) c.es
               free c = clear_several c.s.m c.es (lies c) (more c).0 (more c).1 (next c).clear
 
-              abbrev choosing₁ : Resuming n k w a → Branching n k w (a.at0 + 1) count rest
+              abbrev choosing₁ : Resuming n k w a → Branching n k w ((first_at a) + 1) count rest
               choosing₁ c = record {
                 es = c.es;
                 s = c.s;
@@ -374,10 +374,10 @@ module _ (n k : ℕ) (w : List ℕ) (a : Agenda) where
                 frames = (frames₂ c).0;
               }
 
-              pub several_asks : Resuming n k w a → Branching n k w (a.at0 + 1) count rest
+              pub several_asks : Resuming n k w a → Branching n k w ((first_at a) + 1) count rest
               several_asks c = choosing₁ c
 
-              pub resumes_several : (r : ℕ) (w' : List ℕ) → Branches n k w (a.at0 + 1) count rest r w' → Resumes n k w a r w'
+              pub resumes_several : (r : ℕ) (w' : List ℕ) → Branches n k w ((first_at a) + 1) count rest r w' → Resumes n k w a r w'
               resumes_several r w' v = record {
                 moved = v.moved;
                 found = λ c. finds_same n k w c.es (chosen (choosing₁ c)) (resumed c) r w' (choice_is c

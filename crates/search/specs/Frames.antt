@@ -1,6 +1,6 @@
 -- What is left to go through, as the code has it, and the disjunctions that stand there.
 -- Assumes nothing: these are definitions.
-use Rattle.std.specs.Prelude.{ℕ, zero, suc, ◌-◌, ◌≤◌, ◌<◌, ◌≡◌, List, [], ◌∷◌, length, take}
+use Rattle.std.specs.Prelude.{ℕ, zero, suc, ◌-◌, ◌≤◌, ◌<◌, ◌≡◌, List, [], ◌∷◌, length, get_or}
 use Rattle.engine.specs.Placed.{Places}
 use Rattle.engine.specs.Marks.{Marking}
 use Rattle.loading.specs.Entry.{Entry}
@@ -9,18 +9,35 @@ use Rattle.entering.specs.Taken.{AmongAllOf}
 use Rattle.entering.specs.Clear.{ClearAllOf}
 use Rattle.entering.specs.Footing.{Footing}
 use Rattle.search.specs.declared.agenda.Agenda.{Agenda}
+use Rattle.search.specs.declared.agenda.Pending.{Pending}
 
 -- a frame: where its next disjunction stands, and how many are left in it
 abbrev pub Slot : Type 0
 Slot = ℕ × ℕ
 
+-- where nothing is left
+abbrev pub nowhere : Pending
+nowhere = record { at = 0; more = 0 }
+
+-- the first c of a stack, the last of them first
+abbrev pub downward : ℕ → List Pending → List Slot
+downward zero ps = []
+downward (suc c) ps = ((get_or ps c nowhere).at, (get_or ps c nowhere).more) ∷ downward c ps
+
 unfoldable pub slots : Agenda → List Slot
-slots a =
-    take a.frames ((a.at0, a.more0) ∷ (a.at1, a.more1) ∷ (a.at2, a.more2) ∷ (a.at3, a.more3) ∷ (a.at4, a.more4) ∷ [])
+slots a = downward a.frames a.stack
+
+-- the nearest frame, where one is left
+abbrev pub first_at : Agenda → ℕ
+first_at a = (get_or a.stack (a.frames - 1) nowhere).at
+
+abbrev pub first_more : Agenda → ℕ
+first_more a = (get_or a.stack (a.frames - 1) nowhere).more
 
 -- the frames of a are l
 pub record Lists (a : Agenda) (l : List Slot) : Type 0 where
   pub few : a.frames ≤ 5
+  pub wide : length a.stack ≡ 5
   pub is : slots a ≡ l
 
 -- a frame before others; one with nothing left is none

@@ -1,26 +1,25 @@
 // What is still to be gone through, frame by frame: the position of a frame's next disjunction, and how many are left in it.
-ghost use Rattle.std.specs.Prelude.{◌≡◌, ◌⊎◌, List, [], ◌∷◌, ◌+◌, ◌≤◌, ◌<◌, length};
-ghost use Rattle.area.specs.Map.{SIZE, LOADED};
+ghost use Rattle.std.specs.Prelude.{◌≡◌, ◌⊎◌, List, [], ◌∷◌, ◌+◌, ◌<◌};
+ghost use Rattle.area.specs.Map.{LOADED};
 ghost use Rattle.marks.specs.Positions.{tail_at, disjunctions_at};
 ghost use Rattle.search.specs.Frames.{Slot, Lists, onto};
 
+use area::map::Area;
 use marks::positions::{disjunctions_at, tail_at};
 
-// The first `frames` of five frames, the nearest first. Disjunctions stand at four depths, and those of the second input are behind
+// Of a frame: where its next disjunction stands, and how many are left.
+#[derive(Clone, Copy)]
+pub struct Pending {
+    pub at: usize,
+    pub more: usize,
+}
+
+// The first `frames` of five frames, the nearest last. Disjunctions stand at four depths, and those of the second input are behind
 // all of the first.
 #[derive(Clone, Copy)]
 pub struct Agenda {
     pub frames: usize,
-    pub at0: usize,
-    pub more0: usize,
-    pub at1: usize,
-    pub more1: usize,
-    pub at2: usize,
-    pub more2: usize,
-    pub at3: usize,
-    pub more3: usize,
-    pub at4: usize,
-    pub more4: usize,
+    pub stack: [Pending; 5],
 }
 
 // Nothing is left.
@@ -29,36 +28,18 @@ pub fn nothing() -> Agenda
 {
     Agenda {
         frames: 0,
-        at0: 0,
-        more0: 0,
-        at1: 0,
-        more1: 0,
-        at2: 0,
-        more2: 0,
-        at3: 0,
-        more3: 0,
-        at4: 0,
-        more4: 0,
+        stack: [Pending { at: 0, more: 0 }; 5],
     }
 }
 
-// What is left without the first frame.
+// What is left without the nearest frame.
 pub fn after(a: Agenda) -> Agenda
     requires { 0 < a.frames }
     ensures { (s : Slot) (l : List Slot) → Lists a (s ∷ l) → Lists result l }
 {
     Agenda {
         frames: a.frames - 1,
-        at0: a.at1,
-        more0: a.more1,
-        at1: a.at2,
-        more1: a.more2,
-        at2: a.at3,
-        more2: a.more3,
-        at3: a.at4,
-        more3: a.more4,
-        at4: 0,
-        more4: 0,
+        ..a
     }
 }
 
@@ -70,24 +51,15 @@ pub fn before(at: usize, more: usize, a: Agenda) -> Agenda
     if more == 0 {
         return a;
     }
-    Agenda {
-        frames: a.frames + 1,
-        at0: at,
-        more0: more,
-        at1: a.at0,
-        more1: a.more0,
-        at2: a.at1,
-        more2: a.more1,
-        at3: a.at2,
-        more3: a.more2,
-        at4: a.at3,
-        more4: a.more3,
-    }
+    let mut longer = a;
+    longer.stack[a.frames] = Pending { at, more };
+    longer.frames += 1;
+    longer
 }
 
 // The disjunctions of the description at g, and then what is left.
-pub fn descend(w: &[u32], g: usize, a: Agenda) -> Agenda
-    requires g_bound { (g < LOADED) × (SIZE ≤ length w.now) }
+pub fn descend(w: &Area, g: usize, a: Agenda) -> Agenda
+    requires g_bound { g < LOADED }
     requires g_bound_2 { tail_at w.now g < LOADED }
     requires fact { (disjunctions_at w.now (tail_at w.now g) ≡ 0) ⊎ (a.frames < 5) }
     ensures { (l : List Slot) → Lists a l →

@@ -1,6 +1,7 @@
 -- The machine that goes over the bytes: what may come next, and how many groups are open.
 -- Assumes nothing: these are definitions.
-use Rattle.std.specs.Prelude.{ℕ, zero, suc, ◌+◌, ◌*◌, ◌<◌, ◌≤◌, ◌-◌, ◌≡◌, Bool, true, false, List, [], ◌∷◌, eqb, ltb, length, get_or, Option, Some, None, Result, Ok, Err}
+use Rattle.std.specs.Prelude.{ℕ, zero, suc, ◌+◌, ◌*◌, ◌<◌, ◌≤◌, ◌-◌, ◌≡◌, Bool, true, false, List, [], ◌∷◌, eqb, ltb, length, get_or}
+use Rattle.std.specs.Prelude.{Option, Some, None, Result, Ok, Err}
 use Rattle.signs.specs.Limits.{largest_number}
 use Rattle.signs.specs.Signs.{Sign, nil_sign, top_sign, atom_sign, feature_sign, mark, sign_word}
 use Rattle.signs.specs.declared.reading.ReadError.{ReadError}
@@ -30,7 +31,8 @@ unfoldable pub started : Due → ℕ → ℕ → Option Seen
 started Operand g b = if_so (eqb b 78) (seen_at (Within N) g)
     (if_so (eqb b 84) (seen_at (Within T) g)
     (if_so (eqb b 97) (seen_at (Within Atom) g)
-    (if_so (eqb b 102) (seen_at (Within Arc) g) (if_so (eqb b 91) (seen_at (Clean Path) g) (if_so (eqb b 40) (seen_at (Clean Operand) (g + 1)) None)))))
+    (if_so (eqb b 102) (seen_at (Within Arc) g) (if_so (eqb b 91) (seen_at (Clean Path) g)
+    (if_so (eqb b 40) (seen_at (Clean Operand) (g + 1)) None)))))
 started Colon g b = if_so (eqb b 58) (seen_at (Clean Operand) g) None
 started Path g b = if_so (eqb b 60) (seen_at (Clean Steps) g) None
 started Steps g b = if_so (eqb b 102) (seen_at (Within Step) g) (if_so (eqb b 62) (seen_at (Clean Listed) g) None)

@@ -5,6 +5,7 @@ use mathlib.Core.List.{List, [], ◌∷◌, ◌++◌}
 use Prim.Native.Nat.{ℕ, zero, suc, ◌+◌, ◌≤◌, ◌<◌}
 use native.Mathlib.Omega.{arith}
 use lib.ListN.{length, get_or, set, take, drop}
+use lib.Dec.{eqb}
 use borrow.Author.Tests.{le-ltb, lt-ltb, eq-eqb, ne_eqb}
 use Rattle.theory.specs.Answer.{Answer, Call}
 use Rattle.theory.specs.Unified.{unified}
@@ -13,7 +14,7 @@ use Rattle.descriptions.specs.Outcome.{worked}
 use Rattle.theory.proofs.Table.{outcome_answer}
 use Rattle.suite.specs.declared.test.Test.{Test}
 use Rattle.suite.specs.declared.running.Running.{Running}
-use Rattle.suite.specs.Suite.{record_fault, fault_after, length_fault, passed_over, test_words, test_call, test_answer, result_after}
+use Rattle.suite.specs.Suite.{record_fault, fault_after, length_fault, test_words, test_call, test_answer, result_after}
 use Rattle.suite.specs.Suite.{AsAnswered, as_expected, first_after, noted_as, noted_record, row_sum, counts_sum, raised_at}
 
 -- ---- refusals
@@ -22,52 +23,47 @@ unfolding fault_after
 fault_stays zero space t h = absurd (h refl)
 fault_stays (suc n) space t h = refl
 
-module _ (n space : ℕ) (t : Test) (z : n ≡ 0) where
-  fault_fresh : record_fault space t ≡ fault_after n space t
-  unfolding fault_after
-  fault_fresh = rw z refl
+pub fault_fresh : (n space : ℕ) (t : Test) → n ≡ 0 → record_fault space t ≡ fault_after n space t
+unfolding fault_after
+fault_fresh n space t z = rw z refl
 
-  pub first_beyond : space < t.first + t.firsts → 31 ≡ fault_after n space t
+module _ (space : ℕ) (t : Test) where
+  pub first_beyond : space < t.first + t.firsts → 31 ≡ record_fault space t
   unfolding record_fault
-  first_beyond h = (rw (lt-ltb space (t.first + t.firsts) h, record_fault)) ∙ fault_fresh
+  first_beyond h = rw (lt-ltb space (t.first + t.firsts) h, record_fault)
 
   module _ (f : t.first + t.firsts ≤ space) where
-    pub second_beyond : space < t.second + t.seconds → 31 ≡ fault_after n space t
+    pub second_beyond : space < t.second + t.seconds → 31 ≡ record_fault space t
     unfolding record_fault
-    second_beyond h = (rw (le-ltb space (t.first + t.firsts) f, lt-ltb space (t.second + t.seconds) h, record_fault)) ∙ fault_fresh
+    second_beyond h = rw (le-ltb space (t.first + t.firsts) f, lt-ltb space (t.second + t.seconds) h, record_fault)
 
     module _ (s : t.second + t.seconds ≤ space) where
-      pub mode_beyond : 2 < t.mode → 32 ≡ fault_after n space t
+      pub mode_beyond : 2 < t.mode → 32 ≡ record_fault space t
       unfolding record_fault
       mode_beyond h =
-          (rw (
-            le-ltb space (t.first + t.firsts) f,
-            le-ltb space (t.second + t.seconds) s,
-            lt-ltb 2 t.mode h,
-            record_fault,
-          )) ∙ fault_fresh
+          rw (le-ltb space (t.first + t.firsts) f, le-ltb space (t.second + t.seconds) s, lt-ltb 2 t.mode h, record_fault)
 
-      pub number_beyond : t.mode ≤ 2 → 11 < t.number → 32 ≡ fault_after n space t
+      pub number_beyond : t.mode ≤ 2 → 11 < t.number → 32 ≡ record_fault space t
       unfolding record_fault
       number_beyond m h =
-          (rw (
+          rw (
             le-ltb space (t.first + t.firsts) f,
             le-ltb space (t.second + t.seconds) s,
             le-ltb 2 t.mode m,
             lt-ltb 11 t.number h,
             record_fault,
-          )) ∙ fault_fresh
+          )
 
-      pub none_beyond : t.mode ≤ 2 → t.number ≤ 11 → 0 ≡ fault_after n space t
+      pub none_beyond : t.mode ≤ 2 → t.number ≤ 11 → 0 ≡ record_fault space t
       unfolding record_fault
       none_beyond m h =
-          (rw (
+          rw (
             le-ltb space (t.first + t.firsts) f,
             le-ltb space (t.second + t.seconds) s,
             le-ltb 2 t.mode m,
             le-ltb 11 t.number h,
             record_fault,
-          )) ∙ fault_fresh
+          )
 
 pub too_many : (n : ℕ) → 64 < n → 30 ≡ length_fault n
 unfolding length_fault
@@ -77,26 +73,18 @@ pub not_many : (n : ℕ) → n ≤ 64 → 0 ≡ length_fault n
 unfolding length_fault
 not_many n h = rw (le-ltb 64 n h, length_fault)
 
-pub pass_all : (n : ℕ) → 64 < n → n ≡ passed_over n
-unfolding passed_over
-pass_all n h = rw (lt-ltb 64 n h, passed_over)
-
-pub pass_none : (n : ℕ) → n ≤ 64 → 0 ≡ passed_over n
-unfolding passed_over
-pass_none n h = rw (le-ltb 64 n h, passed_over)
-
 -- ---- the running record
-pub other_number : (t : Test) (n r : ℕ) → (t.number ≡ n → ⊥) → false ≡ as_expected t n r
+pub number_decides : (t : Test) (n r : ℕ) → (t.number ≡ n → ⊥) → eqb t.number n ≡ as_expected t n r
 unfolding as_expected
-other_number t n r h = rw (ne_eqb t.number n h) refl
-
-pub other_readings : (t : Test) (n r : ℕ) → t.number ≡ n → (t.readings ≡ r → ⊥) → false ≡ as_expected t n r
-unfolding as_expected
-other_readings t n r e h = rw (eq-eqb t.number n e, ne_eqb t.readings r h) refl
+number_decides t n r h = rw (ne_eqb t.number n h) refl
 
 pub both_agree : (t : Test) (n r : ℕ) → t.number ≡ n → t.readings ≡ r → true ≡ as_expected t n r
 unfolding as_expected
 both_agree t n r e h = rw (eq-eqb t.number n e, eq-eqb t.readings r h) refl
+
+pub readings_decide : (t : Test) (n r : ℕ) → t.number ≡ n → eqb t.readings r ≡ as_expected t n r
+unfolding as_expected
+readings_decide t n r e = rw (eq-eqb t.number n e) refl
 
 pub first_here : (at first : ℕ) → first ≡ 64 → at ≡ first_after at first
 unfolding first_after

@@ -3,8 +3,9 @@ use mathlib.Core.Path.{◌≡◌, refl, sym, ap, ◌∙◌, subst}
 use mathlib.Core.Bool.{Bool, true, false, not}
 use lib.Dec.{T, ltb, ltb→lt, nltb→le}
 use mathlib.Core.List.{List, [], ◌∷◌}
-use Prim.Native.Nat.{ℕ, zero, suc, ◌+◌, ◌≤◌, ◌<◌}
+use Prim.Native.Nat.{ℕ, zero, suc, ◌+◌, ◌-◌, ◌≤◌, ◌<◌}
 use native.Mathlib.Omega.{arith}
+use native.Mathlib.Numerals.{add-one}
 use lib.ListN.{length, get_or, set, replicate}
 use Rattle.theory.specs.Answer.{Answer}
 use Rattle.theory.proofs.Reading.{reads}
@@ -14,10 +15,12 @@ use Rattle.theory.specs.Rules.{Given, one, two, three, four, five, six, ten, sev
 use Rattle.descriptions.proofs.Table.{unified_given}
 use Rattle.suite.specs.declared.test.Test.{Test}
 use Rattle.suite.specs.declared.running.Running.{Running}
-use Rattle.suite.specs.Suite.{Night, no_test, length_fault, passed_over, record_fault, fault_after, table_fault, Within, Suited}
+use Rattle.suite.specs.declared.checks.Refusal.{Refusal}
+use Rattle.suite.specs.declared.checks.Refusal.TheVariants.{TooMany, BeyondArea, OutOfTable}
+use Rattle.suite.specs.Suite.{Night, no_test, length_fault, refusal_number, record_fault, fault_after, table_fault, Within, Suited}
 use Rattle.suite.specs.Suite.{night_left, Runnable, test_call, test_answer, AsAnswered, as_expected, noted_as, noted_record, row_sum}
 use Rattle.suite.specs.Suite.{counts_sum, no_counts, raised_at, begun_night, test_left, night_step, night_after}
-use Rattle.suite.proofs.Laws.{raised_total, too_many}
+use Rattle.suite.proofs.Laws.{fault_stays, fault_fresh, raised_total, too_many}
 
 -- a test of two numbers, with what it says
 pub data Tested (a b : ℕ) : Bool → Type 0 where
@@ -199,28 +202,38 @@ pub found_more : (space : ℕ) (ts : List Test) (i : ℕ)
 unfolding table_fault
 found_more space ts i = refl
 
+-- where none before it is refused, a record decides by itself
+pub found_fresh : (space : ℕ) (ts : List Test) (i : ℕ) → table_fault space ts i ≡ 0
+    → record_fault space (get_or ts i no_test) ≡ table_fault space ts (i + 1)
+found_fresh space ts i z = rw add-one (fault_fresh _ space (get_or ts i no_test) z ∙ found_more space ts i)
+
 -- a table that is too long is refused with 30, however many records are looked at
 pub found_long : (space : ℕ) (ts : List Test) (i : ℕ) → 64 < length ts → table_fault space ts i ≡ 30
 unfolding table_fault fault_after
 found_long space ts zero h = sym (too_many (length ts) h)
 found_long space ts (suc i) h = ap (λ (k : ℕ). fault_after k space (get_or ts i no_test)) (found_long space ts i h)
 
--- so the walk over the table may begin behind the records that need no look
-pub found_start : (space : ℕ) (ts : List Test) (n : ℕ) → n ≡ length ts → length_fault n ≡ table_fault space ts (passed_over n)
-unfolding passed_over
-found_start space ts n e = go (ltb 64 n) (tested 64 n)
-  where
-    go : (b : Bool) → Tested 64 n b → length_fault n ≡ table_fault space ts (elim b [ true ↦ n | false ↦ 0 ])
-    go true (less h) = sym (too_many n h) ∙ sym (found_long space ts n (omega (arith, e, h)))
-    go false h = found_none space ts n e
+-- no refusal has the number of none
+pub refused : (e : Refusal) → refusal_number e ≡ 0 → ⊥
+refused TooMany = λ z. omega arith
+refused BeyondArea = λ z. omega arith
+refused OutOfTable = λ z. omega arith
 
-pub passed_le : (n : ℕ) → passed_over n ≤ n
-unfolding passed_over
-passed_le n = go (ltb 64 n)
-  where
-    go : (b : Bool) → elim b [ true ↦ n | false ↦ 0 ] ≤ n
-    go true = omega arith
-    go false = omega arith
+-- a refusal that is found stays
+pub found_stays : (space : ℕ) (ts : List Test) (i j : ℕ) → (table_fault space ts i ≡ 0 → ⊥)
+    → table_fault space ts (j + i) ≡ table_fault space ts i
+unfolding table_fault
+found_stays space ts i zero h = let z : 0 + i ≡ i = omega arith in ap (table_fault space ts) z
+found_stays space ts i (suc j) h =
+    let e = found_stays space ts i j h in
+    let s : suc j + i ≡ suc (j + i) = omega arith in
+    ap (table_fault space ts) s ∙ sym (fault_stays (table_fault space ts (j + i)) space (get_or ts (j + i) no_test) (λ z. h (sym e ∙ z))) ∙ e
+
+pub found_to_end : (space : ℕ) (ts : List Test) (i n : ℕ) → i ≤ n → (table_fault space ts i ≡ 0 → ⊥)
+    → table_fault space ts i ≡ table_fault space ts n
+found_to_end space ts i n h f =
+    let e : n - i + i ≡ n = omega arith in
+    sym (found_stays space ts i (n - i) f) ∙ ap (table_fault space ts) e
 
 -- a refusal that is found stays, so none before it was found
 fault_zero : (n space : ℕ) (t : Test) → fault_after n space t ≡ 0 → (n ≡ 0) × (record_fault space t ≡ 0)

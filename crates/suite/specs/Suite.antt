@@ -1,11 +1,16 @@
 -- A night's suite over the table of numbers: which table is refused, what one test does to counts, record and areas, and what the whole
 -- table leaves.
 -- Assumes nothing: these are definitions.
-use Rattle.std.specs.Prelude.{◌≡◌, Bool, true, false, ◌&&◌, List, [], ◌∷◌, ◌++◌, ℕ, zero, suc, ◌+◌, ◌≤◌, ◌<◌, length, get_or, set, take, drop, replicate, ltb, eqb}
+use Rattle.std.specs.Prelude.{◌≡◌, Bool, true, false, ◌&&◌, List, [], ◌∷◌, ◌++◌, ℕ, zero, suc, ◌+◌, ◌≤◌, ◌<◌, length, get_or, set, take}
+use Rattle.std.specs.Prelude.{drop, replicate, ltb, eqb}
 use Rattle.theory.specs.Answer.{Answer, Call}
 use Rattle.theory.specs.Unified.{unified}
 use Rattle.theory.specs.Outcome.{Areas}
 use Rattle.descriptions.specs.Outcome.{worked}
+use Rattle.std.specs.Prelude.{Result}
+use Rattle.std.specs.declared.result.Result.TheVariants.{Ok, Err}
+use Rattle.suite.specs.declared.checks.Refusal.{Refusal}
+use Rattle.suite.specs.declared.checks.Refusal.TheVariants.{TooMany, BeyondArea, OutOfTable}
 use Rattle.suite.specs.declared.test.Test.{Test}
 use Rattle.suite.specs.declared.running.Running.{Running}
 
@@ -41,9 +46,15 @@ unfoldable pub table_fault : ℕ → List Test → ℕ → ℕ
 table_fault space tests zero = length_fault (length tests)
 table_fault space tests (suc i) = fault_after (table_fault space tests i) space (get_or tests i no_test)
 
--- the records that need no look: all of a table that is too long, else none
-unfoldable pub passed_over : ℕ → ℕ
-passed_over n = elim (ltb 64 n) [ true ↦ n | false ↦ 0 ]
+-- the number of a suite: 0 where it is not refused
+abbrev pub refusal_number : Refusal → ℕ
+refusal_number TooMany = 30
+refusal_number BeyondArea = 31
+refusal_number OutOfTable = 32
+
+abbrev pub number_of : Result (Unit {0}) Refusal → ℕ
+number_of (Ok x) = 0
+number_of (Err e) = refusal_number e
 
 -- both descriptions of a record stand within the area
 abbrev pub Within : ℕ → Test → Type 0

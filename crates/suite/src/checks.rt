@@ -1,68 +1,71 @@
 // What a table is refused for, looked at before any test runs.
 ghost use Rattle.std.specs.Prelude.{◌≡◌, ◌+◌, length};
-ghost use Rattle.suite.specs.Suite.{fault_after, length_fault, passed_over, table_fault};
+ghost use Rattle.suite.specs.Suite.{number_of, length_fault, record_fault, table_fault};
 
-use crate::test::{Test, row};
+use crate::test::Test;
 use limits::wide;
+
+// "30 over 64 records, 31 a record names words beyond the area, 32 a record with a mode above 2 or an expected number above" the greatest.
+#[derive(Clone, Copy, Debug, PartialEq, Eq)]
+pub enum Refusal {
+    TooMany,
+    BeyondArea,
+    OutOfTable,
+}
+
+// The number of a suite: 0 where it is not refused.
+pub fn number(checked: Result<(), Refusal>) -> u32
+    ensures { result ≡ number_of checked }
+{
+    match checked {
+        Ok(()) => 0,
+        Err(Refusal::TooMany) => 30,
+        Err(Refusal::BeyondArea) => 31,
+        Err(Refusal::OutOfTable) => 32,
+    }
+}
 
 // "at most 64 records"
 const LIMIT: usize = 64;
 
-// The refusal that stands once one record more is looked at: the lowest record's, 31 before 32.
-pub fn judged(number: u32, test: Test, space: usize) -> u32
-    ensures { result ≡ fault_after number space test }
+// Whether a record is fine: of its refusals 31 stands before 32.
+pub fn judged(test: Test, space: usize) -> Result<(), Refusal>
+    ensures { number_of result ≡ record_fault space test }
 {
     let first_end = wide(test.first) + wide(test.firsts);
     let second_end = wide(test.second) + wide(test.seconds);
-    if number != 0 {
-        return number;
-    }
     if space < first_end {
-        return 31;
+        return Err(Refusal::BeyondArea);
     }
     if space < second_end {
-        return 31;
+        return Err(Refusal::BeyondArea);
     }
     if 2 < test.mode {
-        return 32;
+        return Err(Refusal::OutOfTable);
     }
     if 11 < test.number {
-        return 32;
+        return Err(Refusal::OutOfTable);
     }
-    0
+    Ok(())
 }
 
-// 30 for a table that is too long.
-pub fn counted(n: usize) -> u32
-    ensures { result ≡ length_fault n }
+// Whether a table of n records is not too long.
+pub fn counted(n: usize) -> Result<(), Refusal>
+    ensures { number_of result ≡ length_fault n }
 {
     if LIMIT < n {
-        return 30;
+        return Err(Refusal::TooMany);
     }
-    0
+    Ok(())
 }
 
-// The records that need no look: all of a table that is too long.
-fn skipped(n: usize) -> usize
-    ensures { result ≡ passed_over n }
+// Whether a table over an area of so many words may run: the lowest record that is refused decides.
+pub(crate) fn checked(tests: &[Test], space: usize) -> Result<(), Refusal>
+    ensures { number_of result ≡ table_fault space tests.now (length tests.now) }
 {
-    if LIMIT < n {
-        return n;
+    counted(tests.len())?;
+    for test in tests {
+        judged(*test, space)?;
     }
-    0
-}
-
-// The refusal of a table of n records over an area of so many words; 0 for none.
-pub(crate) fn checked(tests: &[Test], n: usize, space: usize) -> u32
-    requires { n ≡ length tests.now }
-    ensures { result ≡ table_fault space tests.now n }
-{
-    let mut number = counted(n);
-    let mut i = skipped(n);
-    while i < n {
-        let test = row(tests, i);
-        number = judged(number, test, space);
-        i += 1;
-    }
-    number
+    Ok(())
 }

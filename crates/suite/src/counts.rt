@@ -14,20 +14,12 @@ pub(crate) fn none() -> [[u32; 12]; 3]
 }
 
 // One cell is raised.
-pub(crate) fn raised(counts: [[u32; 12]; 3], test: Test, seen: Row) -> [[u32; 12]; 3]
+pub(crate) fn raised(mut counts: [[u32; 12]; 3], test: Test, seen: Row) -> [[u32; 12]; 3]
     requires { (test.mode < 3) × ((seen.number < 12) × (counts_sum counts < 64)) }
     ensures { result ≡ raised_at counts test.mode seen.number }
 {
-    let mut next = counts;
     let mode = wide(test.mode);
     let number = wide(seen.number);
-    next[mode][number] += 1;
-    next
-}
-
-// The counts go to an array that is lent.
-pub(crate) fn put(counts: &mut [[u32; 12]; 3], next: [[u32; 12]; 3])
-    ensures { counts.new ≡ next }
-{
-    *counts = next;
+    counts[mode][number] += 1;
+    counts
 }

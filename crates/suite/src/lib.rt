@@ -7,12 +7,12 @@ pub mod running;
 pub mod test;
 
 ghost use Rattle.std.specs.Prelude.{◌≡◌, length};
-ghost use Rattle.suite.specs.Suite.{Within, Runnable, AsAnswered, begun_night, night_after, Suited};
+ghost use Rattle.suite.specs.Suite.{Within, Runnable, AsAnswered, begun_night, night_after, Suited, number_of};
 
-use crate::checks::checked;
-use crate::counts::{none, put, raised};
-use crate::running::{Running, begun, note, noted};
-use crate::test::{Test, row};
+use crate::checks::{Refusal, checked};
+use crate::counts::{none, raised};
+use crate::running::{Running, begun, noted};
+use crate::test::Test;
 use answering::answer::{Row, told};
 use limits::wide;
 use unify::unify;
@@ -33,29 +33,23 @@ fn one(test: Test, words: &[u32], res: &mut [u32], working: &mut [u32]) -> Row
 
 // Every test, one after the other; the record is updated after each.
 fn each(
-    n: usize,
     tests: &[Test],
     words: &[u32],
     res: &mut [u32],
     working: &mut [u32],
     running: &mut Running,
 ) -> [[u32; 12]; 3]
-    requires { Runnable n (length words.now) tests.now }
+    requires { Runnable (length tests.now) (length words.now) tests.now }
     ensures { record { counts = result; running = running.new; result = res.new; working = working.new }
-        ≡ night_after words.now tests.now (begun_night res.old working.old) n }
+        ≡ night_after words.now tests.now (begun_night res.old working.old) (length tests.now) }
 {
-    let mut held = begun();
-    note(running, held);
+    *running = begun();
     let mut counts = none();
-    let mut i: usize = 0;
-    while i < n {
-        let test = row(tests, i);
-        let seen = one(test, words, res, working);
-        held = noted(held, test, seen);
-        note(running, held);
-        let next = raised(counts, test, seen);
+    for test in tests {
+        let seen = one(*test, words, res, working);
+        *running = noted(*running, *test, seen);
+        let next = raised(counts, *test, seen);
         counts = next;
-        i += 1;
     }
     counts
 }
@@ -69,14 +63,14 @@ pub fn suite(
     working: &mut [u32],
     running: &mut Running,
     counts: &mut [[u32; 12]; 3],
-) -> u32
+) -> Result<(), Refusal>
     ensures { Suited words.now tests.now
         (record {
           counts = counts.old;
           running = running.old;
           result = res.old;
           working = working.old;
-        }) result
+        }) (number_of result)
         (record {
           counts = counts.new;
           running = running.new;
@@ -84,13 +78,8 @@ pub fn suite(
           working = working.new;
         }) }
 {
-    let n = tests.len();
-    let space = words.len();
-    let number = checked(tests, n, space);
-    if number != 0 {
-        return number;
-    }
-    let all = each(n, tests, words, res, working, running);
-    put(counts, all);
-    number
+    checked(tests, words.len())?;
+    let all = each(tests, words, res, working, running);
+    *counts = all;
+    Ok(())
 }

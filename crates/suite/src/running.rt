@@ -14,13 +14,6 @@ pub struct Running {
     pub first: u32,
 }
 
-// The record holds this now: the one function that changes it.
-pub(crate) fn note(running: &mut Running, next: Running)
-    ensures { running.new ≡ next }
-{
-    *running = next;
-}
-
 // A record before any test.
 pub(crate) fn begun() -> Running
     ensures { result ≡ begun_record }
@@ -36,13 +29,7 @@ pub(crate) fn begun() -> Running
 pub fn agreed(test: Test, seen: Row) -> bool
     ensures { result ≡ as_expected test seen.number seen.readings }
 {
-    if test.number != seen.number {
-        return false;
-    }
-    if test.readings != seen.readings {
-        return false;
-    }
-    true
+    test.number == seen.number && test.readings == seen.readings
 }
 
 // The record after one test more.
@@ -50,24 +37,20 @@ pub(crate) fn noted(held: Running, test: Test, seen: Row) -> Running
     requires { (held.run < 64) × (held.good < 64) }
     ensures { result ≡ noted_record test seen.number seen.readings held }
 {
-    let good = agreed(test, seen);
-    if good {
+    let run = held.run + 1;
+    if agreed(test, seen) {
         return Running {
-            run: held.run + 1,
+            run,
             good: held.good + 1,
-            first: held.first,
+            ..held
         };
     }
     if held.first == 64 {
         return Running {
-            run: held.run + 1,
-            good: held.good,
+            run,
             first: held.run,
+            ..held
         };
     }
-    Running {
-        run: held.run + 1,
-        good: held.good,
-        first: held.first,
-    }
+    Running { run, ..held }
 }

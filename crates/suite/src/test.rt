@@ -1,6 +1,4 @@
 // A test of the table.
-ghost use Rattle.std.specs.Prelude.{◌≡◌, ◌<◌, length, get_or};
-ghost use Rattle.suite.specs.Suite.{no_test};
 
 // A test: mode, expected number and readings, and where in the word area the two descriptions stand: start and number of words.
 #[repr(C)]
@@ -13,12 +11,4 @@ pub struct Test {
     pub firsts: u32,
     pub second: u32,
     pub seconds: u32,
-}
-
-// The test at i.
-pub(crate) fn row(tests: &[Test], i: usize) -> Test
-    requires { i < length tests.now }
-    ensures { result ≡ get_or tests.now i no_test }
-{
-    tests[i]
 }

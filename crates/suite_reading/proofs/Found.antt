@@ -9,8 +9,8 @@ use mathlib.Core.List.{List, [], ◌∷◌}
 use lib.ListN.{length, get_or, drop}
 use Rattle.call_text.specs.declared.number.Token.{Token}
 use Rattle.call_text.specs.declared.number.Token.TheVariants.{Is, Over, Bad}
-use Rattle.call_text.specs.declared.call.Words.{Words}
-use Rattle.call_text.specs.declared.call.Words.TheVariants as words
+use Rattle.std.specs.Prelude.{Some, None, Result, Ok, Err}
+use Rattle.call_text.specs.declared.call.Run.{Run}
 use Rattle.call_text.specs.Token.{Start, is, token}
 use Rattle.call_text.specs.Call.{Taken, counted, done}
 use Rattle.call_text.specs.Finding.{FindsRun}
@@ -18,20 +18,19 @@ use Rattle.call_text.proofs.Tokens.{meant}
 use Rattle.call_text.proofs.Runs.{Other}
 use Rattle.call_text.proofs.Calls as calls
 use Rattle.suite.specs.declared.test.Test.{Test}
-use Rattle.suite.specs.Suite.{no_test, fault_after, length_fault, table_fault}
+use Rattle.suite.specs.Suite.{no_test, number_of, record_fault, fault_after, length_fault, table_fault}
 use Rattle.suite.proofs.Runs.{found_none, found_more}
 use Rattle.suite_reading.specs.Tests.{TypedTest, number_then, words_then, descriptions_then, leading_test, followed, tests_in}
 use Rattle.suite_reading.specs.Tests.{expected_test, expected_in, all_expected}
-use Rattle.suite_reading.specs.Finding.{TestPlaces, FindsTest, there, nowhere, Judges, fine, bad}
+use Rattle.suite_reading.specs.Finding.{TestPlaces, Found, FindsTest, there, nowhere, Judgement, Judges, fine, bad}
 use Rattle.suite_reading.specs.declared.tests.Place.{Place}
-use Rattle.suite_reading.specs.declared.tests.Found.{Found}
-use Rattle.suite_reading.specs.declared.tests.Found.TheVariants as found
-use Rattle.suite_reading.specs.declared.tests.Judgement.{Judgement}
-use Rattle.suite_reading.specs.declared.tests.Judgement.TheVariants.{Fine, BadInput}
+use Rattle.std.specs.Result.{result_and}
+use Rattle.suite.specs.declared.checks.Refusal.{Refusal}
+use Rattle.suite.specs.declared.checks.Refusal.TheVariants.{TooMany, BeyondArea, OutOfTable}
 
 -- ---- finding a test
-absent : (text : List ℕ) (o : Option TypedTest) → o ≡ none → FindsTest text o found.Wrong
-absent text o e = subst (λ (o : Option TypedTest). FindsTest text o found.Wrong) (sym e) nowhere
+absent : (text : List ℕ) (o : Option TypedTest) → o ≡ none → FindsTest text o None
+absent text o e = subst (λ (o : Option TypedTest). FindsTest text o None) (sym e) nowhere
 
 -- both descriptions, after the text that comes after the mode
 module _ (text : List ℕ) (named m n k : ℕ) (cs : List ℕ) where
@@ -56,34 +55,28 @@ module _ (text : List ℕ) (named m n k : ℕ) (cs : List ℕ) where
   unfolding descriptions_then
   parts = refl
 
-  pub lacks_first : (r : Words) → FindsRun text (counted cs) r → r ≡ words.Wrong → FindsTest text whole found.Wrong
-  lacks_first r f e = absent text whole (sym parts ∙ ap (words_then second) (subst (FindsRun text (counted cs)) e f))
+  pub lacks_first : counted cs ≡ none → FindsTest text whole None
+  lacks_first e = absent text whole (sym parts ∙ ap (words_then second) e)
 
-  module _ (r : Words) (f : FindsRun text (counted cs) r) (a s q : ℕ) (e : r ≡ words.Run a s q) where
-    one : FindsRun text (counted cs) (words.Run a s q)
-    one = subst (FindsRun text (counted cs)) e f
-
-    ahead : (xs : List ℕ) × (some (xs, drop q text) ≡ counted cs)
-    ahead = calls.there text (counted cs) q one.2
+  module _ (r : Run) (one : FindsRun text (counted cs) (Some r)) where
+    ahead : (xs : List ℕ) × (some (xs, drop r.next text) ≡ counted cs)
+    ahead = calls.there text (counted cs) r.next one.2
 
     abbrev rest : Option Taken
-    rest = counted (drop q text)
+    rest = counted (drop r.next text)
 
     abbrev last : Taken → Option TypedTest
-    last t = some (both (ahead.0, drop q text) t)
+    last t = some (both (ahead.0, drop r.next text) t)
 
     onward : words_then last rest ≡ whole
     onward = ap (words_then second) ahead.1 ∙ parts
 
-    pub lacks_second : (w : Words) → FindsRun text rest w → w ≡ words.Wrong → FindsTest text whole found.Wrong
-    lacks_second w g d = absent text whole (sym onward ∙ ap (words_then last) (subst (FindsRun text rest) d g))
+    pub lacks_second : rest ≡ none → FindsTest text whole None
+    lacks_second e = absent text whole (sym onward ∙ ap (words_then last) e)
 
-    module _ (w : Words) (g : FindsRun text rest w) (b u z : ℕ) (d : w ≡ words.Run b u z) where
-      two : FindsRun text rest (words.Run b u z)
-      two = subst (FindsRun text rest) d g
-
-      after : (ys : List ℕ) × (some (ys, drop z text) ≡ rest)
-      after = calls.there text rest z two.2
+    module _ (w : Run) (two : FindsRun text rest (Some w)) where
+      after : (ys : List ℕ) × (some (ys, drop w.next text) ≡ rest)
+      after = calls.there text rest w.next two.2
 
       abbrev place : Place
       place = record {
@@ -91,24 +84,24 @@ module _ (text : List ℕ) (named m n k : ℕ) (cs : List ℕ) where
         number = n;
         readings = k;
         named = named;
-        first = s;
-        firsts = a;
-        second = u;
-        seconds = b;
-        next = z;
+        first = r.start;
+        firsts = r.count;
+        second = w.start;
+        seconds = w.count;
+        next = w.next;
       }
 
-      pub finds_both : FindsTest text whole (found.Test place)
+      pub finds_both : FindsTest text whole (Some place)
       finds_both =
-          let t : TypedTest = both (ahead.0, drop q text) (after.0, drop z text) in
-          subst (λ (o : Option TypedTest). FindsTest text o (found.Test place)) (ap (words_then last) after.1 ∙ onward)
+          let t : TypedTest = both (ahead.0, drop r.next text) (after.0, drop w.next text) in
+          subst (λ (o : Option TypedTest). FindsTest text o (Some place)) (ap (words_then last) after.1 ∙ onward)
           (there t place (record {
             mode = refl;
             number = refl;
             readings = refl;
             after_mode = refl;
-            the_first = record { few = one.0; left = drop q text; stand = one.1 ∙ sym ahead.1 };
-            the_second = record { few = two.0; left = drop z text; stand = two.1 ∙ sym after.1 };
+            the_first = record { few = one.0; left = drop r.next text; stand = one.1 ∙ sym ahead.1 };
+            the_second = record { few = two.0; left = drop w.next text; stand = two.1 ∙ sym after.1 };
             after = refl;
           }))
 
@@ -130,14 +123,14 @@ module _ (text cs : List ℕ) where
   unfolding leading_test
   begins = refl
 
-  pub lacks_mode : (r : Token) → meant text r ≡ token cs → Other r → FindsTest text (leading_test cs) found.Wrong
+  pub lacks_mode : (r : Token) → meant text r ≡ token cs → Other r → FindsTest text (leading_test cs) None
   lacks_mode r e o = absent text (leading_test cs) (sym begins ∙ number_stops next text (token cs) r e o)
 
   module _ (m p : ℕ) (mode : is m (drop p text) ≡ token cs) where
     with_mode : next m (drop p text) ≡ leading_test cs
     with_mode = ap (number_then next) mode ∙ begins
 
-    pub lacks_number : (r : Token) → meant text r ≡ token (drop p text) → Other r → FindsTest text (leading_test cs) found.Wrong
+    pub lacks_number : (r : Token) → meant text r ≡ token (drop p text) → Other r → FindsTest text (leading_test cs) None
     lacks_number r e o =
         absent text (leading_test cs) (sym with_mode ∙ number_stops (third m (drop p text)) text (token (drop p text)) r e o)
 
@@ -145,7 +138,7 @@ module _ (text cs : List ℕ) where
       with_number : third m (drop p text) n (drop q text) ≡ leading_test cs
       with_number = ap (number_then (third m (drop p text))) number ∙ with_mode
 
-      pub lacks_readings : (r : Token) → meant text r ≡ token (drop q text) → Other r → FindsTest text (leading_test cs) found.Wrong
+      pub lacks_readings : (r : Token) → meant text r ≡ token (drop q text) → Other r → FindsTest text (leading_test cs) None
       lacks_readings r e o =
           absent text (leading_test cs)
           (sym with_number ∙ number_stops (descriptions_then m (drop p text) n) text (token (drop q text)) r e o)
@@ -157,18 +150,18 @@ module _ (text cs : List ℕ) where
 
 -- ---- what a find says
 module _ (text : List ℕ) where
-  pub found_none_there : (o : Option TypedTest) (f : Found) → FindsTest text o f → f ≡ found.Wrong → none ≡ o
+  pub found_none_there : (o : Option TypedTest) (f : Found) → FindsTest text o f → f ≡ None → none ≡ o
   found_none_there o f (there t p places) e = let z : ◌≡◌ {A = ℕ} 0 1 = cc in absurd (omega arith)
   found_none_there o f nowhere e = refl
 
   -- a test that was found, and where its parts stand
-  pub found_test : (o : Option TypedTest) (f : Found) → FindsTest text o f → (p : Place) → f ≡ found.Test p →
+  pub found_test : (o : Option TypedTest) (f : Found) → FindsTest text o f → (p : Place) → f ≡ Some p →
       (t : TypedTest) × (some t ≡ o) × TestPlaces text t p
   found_test o f (there t p' places) p e = let same : p' ≡ p = cc in (t, refl, subst (TestPlaces text t) same places)
   found_test o f nowhere p e = let z : ◌≡◌ {A = ℕ} 0 1 = cc in absurd (omega arith)
 
   -- the same of a test that is known to stand there
-  pub found_places : (o : Option TypedTest) (f : Found) → FindsTest text o f → (p : Place) → f ≡ found.Test p →
+  pub found_places : (o : Option TypedTest) (f : Found) → FindsTest text o f → (p : Place) → f ≡ Some p →
       (t : TypedTest) → o ≡ some t → TestPlaces text t p
   found_places o f finds p e t here =
       let (t', same, places) = found_test o f finds p e in
@@ -180,9 +173,9 @@ abbrev pub faults : ℕ → List TypedTest → ℕ
 faults r [] = r
 faults r (t ∷ ts) = faults (fault_after r 0 (expected_in t)) ts
 
-abbrev pub judgement : ℕ → Option (List TypedTest) → Judgement
-judgement r none = BadInput
-judgement r (some ts) = Fine (faults r ts)
+abbrev pub judgement : ℕ → Option (List TypedTest) → Option ℕ
+judgement r none = none
+judgement r (some ts) = some (faults r ts)
 
 judgement_followed : (r : ℕ) (t : TypedTest) (o : Option (List TypedTest))
     → judgement (fault_after r 0 (expected_in t)) o ≡ judgement r (followed t o)
@@ -215,17 +208,17 @@ tests_more : (n : ℕ) (cs : List ℕ) (o : Option TypedTest) → o ≡ leading_
 unfolding tests_in
 tests_more n cs o e = ap (by_test n) e ∙ by_test_is n (leading_test cs)
 
-module _ (text : List ℕ) (whole : Judgement) (refusal at left : ℕ) (g : judgement refusal (tests_in left (drop at text)) ≡ whole) where
+module _ (text : List ℕ) (whole : Option ℕ) (refusal at left : ℕ) (g : judgement refusal (tests_in left (drop at text)) ≡ whole) where
   module _ (end : left ≤ 0) (d : Bool) (e : d ≡ done (drop at text)) where
     judged_end : judgement refusal (by_end d) ≡ whole
     judged_end =
         let z : 0 ≡ left = omega arith in
         ap (judgement refusal) (tests_end (drop at text) d e ∙ ap (λ (n : ℕ). tests_in n (drop at text)) z) ∙ g
 
-    pub judged_fine : d ≡ true → Fine refusal ≡ whole
+    pub judged_fine : d ≡ true → some refusal ≡ whole
     judged_fine h = ap (λ (b : Bool). judgement refusal (by_end b)) (sym h) ∙ judged_end
 
-    pub judged_more : d ≡ false → BadInput ≡ whole
+    pub judged_more : d ≡ false → none ≡ whole
     judged_more h = ap (λ (b : Bool). judgement refusal (by_end b)) (sym h) ∙ judged_end
 
   module _ (more : 0 < left) (f : Found) (find : FindsTest text (leading_test (drop at text)) f) where
@@ -234,10 +227,10 @@ module _ (text : List ℕ) (whole : Judgement) (refusal at left : ℕ) (g : judg
         let z : suc (left - 1) ≡ left = omega arith in
         ap (judgement refusal) (tests_more (left - 1) (drop at text) o e ∙ ap (λ (n : ℕ). tests_in n (drop at text)) z) ∙ g
 
-    pub judged_stops : f ≡ found.Wrong → BadInput ≡ whole
+    pub judged_stops : f ≡ None → none ≡ whole
     judged_stops e = one_more none (found_none_there text (leading_test (drop at text)) f find e)
 
-    pub judged_goes : (p : Place) → f ≡ found.Test p → (test : Test) → test ≡ expected_test p.mode p.number p.readings →
+    pub judged_goes : (p : Place) → f ≡ Some p → (test : Test) → test ≡ expected_test p.mode p.number p.readings →
         (r : ℕ) → r ≡ fault_after refusal 0 test → judgement r (tests_in (left - 1) (drop p.next text)) ≡ whole
     judged_goes p e test te r re =
         let (t, same, places) = found_test text (leading_test (drop at text)) f find p e in
@@ -292,9 +285,25 @@ faults_are ts n h =
     sym (ap (λ (r : ℕ). faults r ts) (found_none 0 tests n (sym h ∙ sym (expected_many ts)))
     ∙ faults_so_far ts (table_fault 0 tests) (found_more 0 tests))
 
-pub judges : (n : ℕ) (cs : List ℕ) (j : Judgement) → j ≡ judgement (length_fault n) (tests_in n cs) → Judges n (tests_in n cs) j
-judges n cs j e = subst (Judges n (tests_in n cs)) (sym e) (go (tests_in n cs) (tests_many n cs))
+-- what comes of a judgement
+abbrev number_in : Judgement → Option ℕ
+number_in None = none
+number_in (Some r) = some (number_of r)
+
+pub judges : (n : ℕ) (cs : List ℕ) (j : Judgement) → number_in j ≡ judgement (length_fault n) (tests_in n cs) → Judges n (tests_in n cs) j
+judges n cs j e = go j (tests_in n cs) (tests_many n cs) e
   where
-    go : (o : Option (List TypedTest)) → Many n o → Judges n o (judgement (length_fault n) o)
-    go none h = bad
-    go (some ts) h = subst (λ (r : ℕ). Judges n (some ts) (Fine r)) (faults_are ts n h) (fine ts h)
+    go : (j : Judgement) (o : Option (List TypedTest)) → Many n o → number_in j ≡ judgement (length_fault n) o → Judges n o j
+    go None none h e = bad
+    go None (some ts) h e = let z : ◌≡◌ {A = ℕ} 0 1 = cc in absurd (omega arith)
+    go (Some r) none h e = let z : ◌≡◌ {A = ℕ} 0 1 = cc in absurd (omega arith)
+    go (Some r) (some ts) h e = fine ts r h (some-injective _ _ e ∙ sym (faults_are ts n h))
+
+-- the refusal so far, and else that of one record more
+pub and_then_after : (v r : Result (Unit {0}) Refusal) (space : ℕ) (t : Test) → number_of r ≡ record_fault space t
+    → number_of (result_and v r) ≡ fault_after (number_of v) space t
+unfolding fault_after
+and_then_after (Ok x) r space t e = e
+and_then_after (Err TooMany) r space t e = refl
+and_then_after (Err BeyondArea) r space t e = refl
+and_then_after (Err OutOfTable) r space t e = refl

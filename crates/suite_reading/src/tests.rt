@@ -3,10 +3,10 @@ ghost use Rattle.std.specs.Prelude.{◌≡◌, drop};
 ghost use Rattle.suite_reading.specs.Tests.{descriptions_then, leading_test, tests_in, expected_test};
 ghost use Rattle.suite_reading.specs.Finding.{FindsTest, Judges};
 
-use call_text::call::{Words, find_counted, is_over};
+use call_text::call::{find_counted, is_over};
 use call_text::number::{Token, read_token};
 use limits::wide;
-use suite::checks::{counted, judged};
+use suite::checks::{Refusal, counted, judged};
 use suite::test::Test;
 
 // A test in a text: what is expected, where the text goes on after its mode, where the words of both descriptions stand and how many
@@ -24,14 +24,7 @@ pub struct Place {
     pub next: usize,
 }
 
-// A test was found; or there is none.
-#[derive(Clone, Copy)]
-pub enum Found {
-    Test(Place),
-    Wrong,
-}
-
-// The rest of a test whose mode ended at `named`: both descriptions, from p on.
+// The rest of a test whose mode ended at `named`: both descriptions, from p on; or there are none.
 fn find_descriptions(
     text: &[u8],
     p: usize,
@@ -39,63 +32,49 @@ fn find_descriptions(
     mode: u32,
     number: u32,
     readings: u32,
-) -> Found
+) -> Option<Place>
     ensures { FindsTest text.now
         (descriptions_then mode (drop named text.now) number readings (drop p text.now)) result }
 {
-    let one = find_counted(text, p);
-    let Words::Run { count, start, next } = one else {
-        return Found::Wrong;
-    };
-    let two = find_counted(text, next);
-    let Words::Run {
-        count: other,
-        start: begin,
-        next: after,
-    } = two
-    else {
-        return Found::Wrong;
-    };
-    Found::Test(Place {
-        mode: mode,
-        number: number,
-        readings: readings,
-        named: named,
-        first: start,
-        firsts: count,
-        second: begin,
-        seconds: other,
-        next: after,
+    let one = find_counted(text, p)?;
+    let two = find_counted(text, one.next)?;
+    Some(Place {
+        mode,
+        number,
+        readings,
+        named,
+        first: one.start,
+        firsts: one.count,
+        second: two.start,
+        seconds: two.count,
+        next: two.next,
     })
 }
 
-// The test that begins at p.
-pub fn find_test(text: &[u8], p: usize) -> Found
+// The test that begins at p, if there is one.
+pub fn find_test(text: &[u8], p: usize) -> Option<Place>
     ensures { FindsTest text.now (leading_test (drop p text.now)) result }
 {
-    let one = read_token(text, p);
     let Token::Is {
         value: mode,
         next: named,
-    } = one
+    } = read_token(text, p)
     else {
-        return Found::Wrong;
+        return None;
     };
-    let two = read_token(text, named);
     let Token::Is {
         value: number,
         next: third,
-    } = two
+    } = read_token(text, named)
     else {
-        return Found::Wrong;
+        return None;
     };
-    let three = read_token(text, third);
     let Token::Is {
         value: readings,
         next: words,
-    } = three
+    } = read_token(text, third)
     else {
-        return Found::Wrong;
+        return None;
     };
     find_descriptions(text, words, named, mode, number, readings)
 }
@@ -115,31 +94,19 @@ pub fn expected(place: Place) -> Test
     }
 }
 
-// The refusal of the tests, 0 for none; or the text has no such tests.
-#[derive(Clone, Copy)]
-pub enum Judgement {
-    Fine(u32),
-    BadInput,
-}
-
-// Looks at n tests, which are all that stands from p on.
-pub fn judge_tests(text: &[u8], p: usize, n: u32) -> Judgement
+// Looks at n tests, which are all that stands from p on: whether they may run; or nothing, where the text has no such tests.
+pub fn judge_tests(text: &[u8], p: usize, n: u32) -> Option<Result<(), Refusal>>
     ensures { Judges n (tests_in n (drop p text.now)) result }
 {
-    let mut refusal = counted(wide(n));
+    let mut verdict = counted(wide(n));
     let mut at = p;
-    let mut left = n;
-    while 0 < left {
-        let found = find_test(text, at);
-        let Found::Test(place) = found else {
-            return Judgement::BadInput;
-        };
-        refusal = judged(refusal, expected(place), 0);
+    for _ in 0..n {
+        let place = find_test(text, at)?;
+        verdict = verdict.and(judged(expected(place), 0));
         at = place.next;
-        left -= 1;
     }
     if is_over(text, at) {
-        return Judgement::Fine(refusal);
+        return Some(verdict);
     }
-    Judgement::BadInput
+    None
 }

@@ -4,39 +4,33 @@ ghost use Rattle.suite_reading.specs.Text.{next_named, name_byte, blank_byte, bl
 ghost use Rattle.suite_reading.specs.Text.{FindsName};
 
 // Whether the bytes after this one stand in a name.
+#[tactic(auto, unfolding(crate::specs::Text::next_named))]
 fn goes_on(named: bool, byte: u8) -> bool
     ensures { result ≡ next_named named byte }
 {
-    if named {
-        return byte != 10;
-    }
-    byte == 35
+    if named { byte != b'\n' } else { byte == b'#' }
 }
 
 // A byte of a name, as numbers see it.
+#[tactic(auto, unfolding(crate::specs::Text::name_byte))]
 fn name_byte(byte: u8) -> u8
     ensures { result ≡ name_byte byte }
 {
-    if byte < 32 {
-        return byte;
-    }
-    if byte == 127 {
-        return byte;
-    }
-    32
+    if byte.is_ascii_control() { byte } else { b' ' }
 }
 
 // A byte, as numbers see it.
+#[tactic(auto, unfolding(crate::specs::Text::blank_byte))]
 fn blank_byte(named: bool, byte: u8) -> u8
     ensures { result ≡ blank_byte named byte }
 {
     if named {
-        return name_byte(byte);
+        name_byte(byte)
+    } else if byte == b'#' {
+        b' '
+    } else {
+        byte
     }
-    if byte == 35 {
-        return 32;
-    }
-    byte
 }
 
 // Writes the text without its names to out, which is as long.
@@ -45,12 +39,9 @@ pub fn blank(text: &[u8], out: &mut [u8])
     ensures { out.new ≡ blanked false text.now }
 {
     let mut named = false;
-    let mut i: usize = 0;
-    while i < text.len() {
-        let byte = text[i];
-        out[i] = blank_byte(named, byte);
-        named = goes_on(named, byte);
-        i += 1;
+    for (i, byte) in text.iter().enumerate() {
+        out[i] = blank_byte(named, *byte);
+        named = goes_on(named, *byte);
     }
 }
 
@@ -58,15 +49,12 @@ pub fn blank(text: &[u8], out: &mut [u8])
 fn after_hash(run: &[u8]) -> usize
     ensures { (result ≤ length run.now) × (drop result run.now ≡ from_hash run.now) }
 {
-    let mut at: usize = 0;
-    while at < run.len() {
-        let byte = run[at];
-        at += 1;
-        if byte == 35 {
-            return at;
+    for (at, byte) in run.iter().enumerate() {
+        if *byte == b'#' {
+            return at + 1;
         }
     }
-    at
+    run.len()
 }
 
 // Where spaces end that stand from p on.
@@ -75,15 +63,12 @@ pub fn after_spaces(run: &[u8], p: usize) -> usize
     ensures { ((p ≤ result) × (result ≤ length run.now))
         × (drop result run.now ≡ spaces_off (drop p run.now)) }
 {
-    let mut at = p;
-    while at < run.len() {
-        let byte = run[at];
-        if byte != 32 {
+    for at in p..run.len() {
+        if run[at] != b' ' {
             return at;
         }
-        at += 1;
     }
-    at
+    run.len()
 }
 
 // From where to where the name in a run of bytes stands.
@@ -99,13 +84,13 @@ pub fn find_name(run: &[u8]) -> Name
 {
     let hash = after_hash(run);
     let from = after_spaces(run, hash);
-    let mut to = from;
-    while to < run.len() {
-        let byte = run[to];
-        if byte == 10 {
-            return Name { from: from, to: to };
+    for to in from..run.len() {
+        if run[to] == b'\n' {
+            return Name { from, to };
         }
-        to += 1;
     }
-    Name { from: from, to: to }
+    Name {
+        from,
+        to: run.len(),
+    }
 }

@@ -2,7 +2,6 @@
 ghost use Rattle.std.specs.Prelude.{◌≡◌, length};
 ghost use Rattle.theory.specs.Limits.{input_limit};
 ghost use Rattle.formulas.specs.Formula.{Formula};
-ghost use Rattle.laying.specs.Laying.{Roomy};
 ghost use Rattle.translate.specs.Translated.{Translated};
 ghost use Rattle.translate.specs.Stages.{TreeTabled, TreeSettled, TreeLaid, LaidSettled, TreeMarked, TreeRead};
 ghost use Rattle.translate.specs.Stages.{TreeTold};
@@ -69,28 +68,7 @@ fn settle_rows(
     )
 }
 
-// Lays out the marked signs in these tables, and settles the formula: "21 over 4 disjunctions nested in the text".
-fn lay_in(
-    signs: &[u32],
-    flagged: bool,
-    arcs: &mut [u32],
-    atoms: &mut [u32],
-    ties: &mut [u32],
-    alts: &mut [u32],
-    frames: &mut [u32],
-    res: &mut [u32],
-) -> Result<usize, Refusal>
-    requires tree_marked { (φ : Formula) × TreeMarked φ signs.now (length signs.now) flagged }
-    requires roomy { Roomy (record { arcs = arcs.now; atoms = atoms.old; ties = ties.old; alts = alts.old; frames = frames.old }) }
-    ensures { (φ : Formula) → TreeMarked φ signs.now (length signs.now) flagged →
-        TreeTold φ res.old result res.new }
-{
-    let laid = lay(signs, flagged, arcs, atoms, ties, alts, frames);
-    let rows = laid.ok_or(Refusal::TooDeep)?;
-    settle_rows(arcs, atoms, ties, alts, rows, res)
-}
-
-// Lays out the marked signs, and settles the formula.
+// Lays out the marked signs in tables, and settles the formula: "21 over 4 disjunctions nested in the text".
 fn lay_tree(signs: &[u32], flagged: bool, res: &mut [u32]) -> Result<usize, Refusal>
     requires { (φ : Formula) × TreeMarked φ signs.now (length signs.now) flagged }
     ensures { (φ : Formula) → TreeMarked φ signs.now (length signs.now) flagged →
@@ -101,7 +79,7 @@ fn lay_tree(signs: &[u32], flagged: bool, res: &mut [u32]) -> Result<usize, Refu
     let mut ties = [0; 2 * ROWS];
     let mut alts = [0; 4 * SPOTS];
     let mut frames = [0; 4 * ROWS];
-    lay_in(
+    let laid = lay(
         signs,
         flagged,
         &mut arcs,
@@ -109,8 +87,9 @@ fn lay_tree(signs: &[u32], flagged: bool, res: &mut [u32]) -> Result<usize, Refu
         &mut ties,
         &mut alts,
         &mut frames,
-        res,
-    )
+    );
+    let rows = laid.ok_or(Refusal::TooDeep)?;
+    settle_rows(&arcs, &atoms, &ties, &alts, rows, res)
 }
 
 // Marks the groups that have alternatives, and goes on.

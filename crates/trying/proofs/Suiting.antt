@@ -1,7 +1,7 @@
 -- What the roots say under a feature, as it is looked up. Assumes nothing.
 use mathlib.Core.Path.{◌≡◌, sym, ap, ◌∙◌, subst}
 use mathlib.Core.List.{List, []}
-use Prim.Native.Nat.{ℕ, suc, ◌-◌, ◌≤◌, ◌<◌}
+use Prim.Native.Nat.{ℕ, suc, ◌<◌}
 use native.Mathlib.Omega.{arith}
 use lib.ListN.{get_or}
 use Rattle.area.specs.Region.{loaded_words}
@@ -46,31 +46,30 @@ module _ (n : ℕ) (w : List ℕ) (x : ℕ) (a : Anchored n w x) where
       clashes = λ y. let i : ◌≡◌ {A = ℕ} 0 1 = cc in absurd (omega arith);
     }
 
-    module _ (some : 0 < r) where
-      found : (es : List Entry) (k : ℕ) (h : Holds n es k w) → Under h f (r - 1)
-      found es k h xs t = (chained es k h).hit (r - 1) (omega arith) xs t
+    module _ (j : ℕ) (found_is : r ≡ suc j) where
+      found : (es : List Entry) (k : ℕ) (h : Holds n es k w) → Under h f j
+      found es k h xs t = (chained es k h).hit j found_is xs t
 
-      pub suits_low : (r - 1 < 2047) × (get_or (targets w) (r - 1) 0 < n)
+      pub suits_low : (j < 2047) × (get_or (targets w) j 0 < n)
       suits_low =
           let l = a.low in let e = a.is in
-          let z : r ≡ suc (r - 1) = omega arith in
-          target_low n w 0 a.some a.c classed f (omega arith) (r - 1)
-          (subst (Looked (loaded_words w) w f (get_or w a.c 0)) z (subst (λ (z : ℕ). Looked (loaded_words w) w f z r) a.is m))
+          target_low n w 0 a.some a.c classed f (omega arith) j
+          (subst (Looked (loaded_words w) w f (get_or w a.c 0)) found_is (subst (λ (z : ℕ). Looked (loaded_words w) w f z r) a.is m))
           a.labelled
 
-      module _ (c : ℕ) (cl : Classed n w (get_or (targets w) (r - 1) 0) c) where
-        held_is : (es : List Entry) (k : ℕ) (h : Holds n es k w) → target_code h (r - 1) ≡ get_or w c 0
+      module _ (c : ℕ) (cl : Classed n w (get_or (targets w) j 0) c) where
+        held_is : (es : List Entry) (k : ℕ) (h : Holds n es k w) → target_code h j ≡ get_or w c 0
         held_is es k h = ap (λ (z : ℕ). get_or w z 0) (sym (cl.is es k h))
 
         pub suits_inside : c < n
-        suits_inside = asked_low n w (get_or (targets w) (r - 1) 0) suits_low.1 c cl a.labelled
+        suits_inside = asked_low n w (get_or (targets w) j 0) suits_low.1 c cl a.labelled
 
         pub suits_same : get_or w c 0 ≡ v → Suits n w f v Agrees
         suits_same z = record {
           agrees = λ y es k h q p.
               let e = head_is es k h in
               let t = root_chain n es k w h a.some (omega (arith, a.low)) in
-              let d : q ≡ r - 1 = first_det (loaded_words w) f t.0 q (r - 1) (p t.0 t.1) (found es k h t.0 t.1) in
+              let d : q ≡ j = first_det (loaded_words w) f t.0 q j (p t.0 t.1) (found es k h t.0 t.1) in
               ap (λ (i : ℕ). target_code h i) d ∙ held_is es k h ∙ z;
           clashes = λ y. let i : ◌≡◌ {A = ℕ} 0 1 = cc in absurd (omega arith);
         }
@@ -78,7 +77,7 @@ module _ (n : ℕ) (w : List ℕ) (x : ℕ) (a : Anchored n w x) where
         pub suits_other : (get_or w c 0 ≡ v → ⊥) → (get_or w c 0 ≡ 0 → ⊥) → Suits n w f v Clashes
         suits_other u z = record {
           agrees = λ y. let i : ◌≡◌ {A = ℕ} 0 1 = cc in absurd (omega arith);
-          clashes = λ y es k h. (r - 1, (found es k h, ((λ i. u (sym (held_is es k h) ∙ i)), λ i. z (sym (held_is es k h) ∙ i))));
+          clashes = λ y es k h. (j, (found es k h, ((λ i. u (sym (held_is es k h) ∙ i)), λ i. z (sym (held_is es k h) ∙ i))));
         }
 
 pub suits_unsure : (n : ℕ) (w : List ℕ) (f v : ℕ) → Suits n w f v Unsure

@@ -25,11 +25,10 @@ fn suit(w: &Area, n: Nodes, x: usize, f: u32, v: u32, t: &[u32]) -> Guess
     requires atom_code { AtomCode v }
     ensures { Suits n.count w.now f v result }
 {
-    let r = look_through(w, x, f, t);
-    if r == 0 {
+    let Some(arc) = look_through(w, x, f, t) else {
         return Guess::Agrees;
-    }
-    let y = target(w, r - 1);
+    };
+    let y = target(w, arc);
     let c = class_of(w, n, y);
     let held = held_by(w, c);
     match held {

@@ -9,12 +9,13 @@ ghost use Rattle.opening.specs.Opening.{Opening};
 ghost use Rattle.answering.specs.Number.{row_of};
 ghost use Rattle.answering.specs.Caused.{Caused};
 
-use crate::making::{Engine, make};
+use crate::making::make;
 use answering::answer::{Answer, Refusal};
 use answering::areas::wipe;
 use answering::cause::cause_in;
 use answering::hand::hand_over;
 use area::map::SIZE;
+use full::full::Engine;
 use layout::reading::judge;
 use limits::INPUT_LIMIT;
 

@@ -1,17 +1,15 @@
 // What a mode makes of two inputs, in the working area.
 ghost use Rattle.std.specs.Prelude.{◌≤◌};
-ghost use Rattle.leaving.specs.Fulled.{Fulling, Fulls};
 ghost use Rattle.opening.specs.Opening.{Opening};
 ghost use Rattle.unify.specs.Making.{Begins, Makes, Completing, Completes};
 
 use answering::answer::Unified;
 use answering::hand::{Failure, Made};
 use finding_clash::finding::clash_node;
-use full::full::full;
+use full::full::{Engine, full};
 use leaving::leave::{Left, NoneLeft};
 use marks::marking::{clear_marks, douse};
 use opening::{Opened, open};
-use plain::full::full_by_choices;
 use quick::quick::quick;
 use showing::show::show;
 
@@ -29,31 +27,13 @@ fn begin(w: &mut [u32], a: &[u32], b: &[u32]) -> Result<Opened, Failure>
     Ok(opened)
 }
 
-// What finds the consistent choices in mode 2: the search, or the plain expansion to every choice.
-#[derive(Clone, Copy)]
-pub enum Engine {
-    Fast,
-    Plain,
-}
-
-// The full step by either engine.
-fn full_by(engine: Engine, w: &mut [u32], k: usize, n: usize) -> Result<Left, NoneLeft>
-    requires { Fulling n k w.old }
-    ensures { Fulls n k w.old result w.new }
-{
-    match engine {
-        Engine::Fast => full(w, k, n),
-        Engine::Plain => full_by_choices(w, k, n),
-    }
-}
-
 // The full step after the quick one.
 fn complete(engine: Engine, w: &mut [u32], k: usize, n: usize) -> Made
     requires { Completing n k w.old }
     ensures { Completes n k w.old result w.new }
 {
     douse(w);
-    match full_by(engine, w, k, n) {
+    match full(engine, w, k, n) {
         Err(NoneLeft::TooMany) => Err(Failure::TooMany),
         Err(NoneLeft::NoChoice) => Err(Failure::NoChoice),
         Ok(Left { log, readings }) => {

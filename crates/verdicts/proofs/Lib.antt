@@ -1,2 +1,2 @@
--- `Laws` has what is said and counted of a test, return by return.
+-- `Laws` has a cell of the table that is raised.
 pub mod Laws

@@ -6,8 +6,8 @@ use answering::answer::Row;
 use suite::running::agreed;
 use suite::test::Test;
 
-// As expected; refused, as expected; otherwise than expected; not run.
-#[derive(Clone, Copy)]
+// As expected; refused, as expected; otherwise than expected; not run. Four answers, none of which is a failure.
+#[derive(Clone, Copy, Debug, PartialEq, Eq)]
 pub enum Verdict {
     Good,
     Refused,
@@ -16,37 +16,24 @@ pub enum Verdict {
 }
 
 // Whether a number decides anything.
+#[tactic(auto, unfolding(crate::specs::Verdicts::decides))]
 fn decides(number: u32) -> bool
     ensures { result ≡ decides number }
 {
-    if number == 0 {
-        return true;
-    }
-    if number == 6 {
-        return true;
-    }
-    if number == 10 {
-        return true;
-    }
-    number == 11
+    matches!(number, 0 | 6 | 10 | 11)
 }
 
 // What is said of a test to which this came.
+#[tactic(auto, unfolding(crate::specs::Verdicts::verdict_of))]
 pub fn verdict_of(test: Test, seen: Row) -> Verdict
     ensures { result ≡ verdict_of test seen.number seen.readings }
 {
-    let good = agreed(test, seen);
-    let decided = decides(seen.number);
-    if good {
-        if decided {
-            return Verdict::Good;
-        }
-        return Verdict::Refused;
+    match (agreed(test, seen), decides(seen.number)) {
+        (true, true) => Verdict::Good,
+        (true, false) => Verdict::Refused,
+        (false, true) => Verdict::Other,
+        (false, false) => Verdict::NotRun,
     }
-    if decided {
-        return Verdict::Other;
-    }
-    Verdict::NotRun
 }
 
 // The tests as expected, those otherwise, and those not run.
@@ -69,6 +56,7 @@ pub fn none() -> Totals
 }
 
 // One test more.
+#[tactic(auto, unfolding(crate::specs::Verdicts::totals_after))]
 pub fn added(totals: Totals, what: Verdict) -> Totals
     requires { (totals.good < 64) × ((totals.other < 64) × (totals.missed < 64)) }
     ensures { result ≡ totals_after what totals }
@@ -76,18 +64,15 @@ pub fn added(totals: Totals, what: Verdict) -> Totals
     match what {
         Verdict::Good | Verdict::Refused => Totals {
             good: totals.good + 1,
-            other: totals.other,
-            missed: totals.missed,
+            ..totals
         },
         Verdict::Other => Totals {
-            good: totals.good,
             other: totals.other + 1,
-            missed: totals.missed,
+            ..totals
         },
         Verdict::NotRun => Totals {
-            good: totals.good,
-            other: totals.other,
             missed: totals.missed + 1,
+            ..totals
         },
     }
 }

@@ -1,5 +1,5 @@
 -- What the contracts of the writer cite. Assumes nothing.
-use Rattle.std.specs.Prelude.{◌≡◌, ◌⊎◌, ℕ, suc, ◌+◌, ◌*◌, ◌-◌, ◌≤◌, ◌<◌, max, length, get_or}
+use Rattle.std.specs.Prelude.{◌≡◌, ◌⊎◌, ℕ, suc, ◌+◌, ◌*◌, ◌≤◌, ◌<◌, max, length, get_or}
 use mathlib.Core.List.{List, [], Memᴰ}
 use Rattle.theory.specs.Net.{Graph, nodeAt, arcsOf, Rising, InOrder, met, Canonical, Joined}
 use Rattle.theory.specs.Layout.{arc_words, node_words, nodes_words}
@@ -26,8 +26,8 @@ pub record Kept (k at at' : ℕ) (w w' : List ℕ) : Type 0 where
 pub data Better (F : List ℕ) (low best j : ℕ) : ℕ → Type 0 where
   under : get_or F j 0 < low → Better F low best j best
   only : low ≤ get_or F j 0 → best ≡ 0 → Better F low best j (suc j)
-  less : low ≤ get_or F j 0 → get_or F j 0 < get_or F (best - 1) 0 → Better F low best j (suc j)
-  more : low ≤ get_or F j 0 → 0 < best → get_or F (best - 1) 0 ≤ get_or F j 0 → Better F low best j best
+  less : (i : ℕ) → low ≤ get_or F j 0 → best ≡ suc i → get_or F j 0 < get_or F i 0 → Better F low best j (suc j)
+  more : (i : ℕ) → low ≤ get_or F j 0 → best ≡ suc i → get_or F i 0 ≤ get_or F j 0 → Better F low best j best
 
 -- of the arcs of a chain all but those of rest are passed, and best is the one with the least feature from low on
 pub record Passed (F : List ℕ) (low : ℕ) (chain rest : List ℕ) (best : ℕ) : Type 0 where

@@ -12,4 +12,4 @@ returns-then-file-k c = let e = intact_short c.args.used c.args.k c.args.file.no
 
 pub returns : goal.returns
 returns c = let e : (512 * c.args.k + 512) - 512 * c.args.k ≡ 512 = omega arith in
-    rw c.is_intact-whole.ensures (rw e)
+    rw c.is_intact.ensures (rw e)

@@ -1,6 +1,6 @@
 -- `forest::settle::step` meets its contract. Assumes nothing.
 use Prim.Native.Nat.{ℕ, suc, ◌-◌, ◌<◌}
-use mathlib.Core.Path.{◌≡◌, subst}
+use mathlib.Core.Path.{◌≡◌, refl, subst}
 use native.Mathlib.Omega.{arith}
 use lib.ListN.{get_or}
 use Rattle.area.specs.Region.{loaded_words}
@@ -30,21 +30,20 @@ loaded-f-requires c =
     c.requires.fact in
     omega arith
 
-pub look-r-requires : goal.look-r-requires
-look-r-requires c =
+pub look-requires : goal.look-requires
+look-requires c =
     let F = loaded_words c.args.w.now in
     let T = targets c.args.w.now in
     record {
       runs = after_runs c.requires.working.G c.requires.working.H F T c.args.n.count c.args.k c.args.s c.args.x c.args.to c.requires.working.fs c.args.w.now c.args.n.in_area (omega arith) c.requires.working.state;
     }
 
-pub returns-then-r-eq0 : goal.returns-then-r-eq0
-returns-then-r-eq0 c =
+pub returns-in_default : goal.returns-in_default
+returns-in_default c =
     let F = loaded_words c.args.w.now in
     let T = targets c.args.w.now in
-    let lk : Looked F c.args.w.now (get_or F (c.args.x - 1) 0) c.args.to c.look-r.result =
-    subst (λ (v : ℕ). Looked F c.args.w.now v c.args.to c.look-r.result) c.loaded-f.ensures c.look-r.ensures in
-    turned_miss F T c.args.n.count c.args.k c.args.s c.args.x c.args.to c.args.w.now c.args.n.in_area (omega arith) c.requires.fact c.requires.working (rw c.if-r-eq0.true at lk)
+    turned_miss F T c.args.n.count c.args.k c.args.s c.args.x c.args.to c.args.w.now c.args.n.in_area (omega arith) c.requires.fact c.requires.working
+    (subst (λ (v : ℕ). Looked F c.args.w.now v c.args.to 0) c.loaded-f.ensures c.in_default.ensures)
 
 pub target-p-requires : goal.target-p-requires
 target-p-requires c =
@@ -60,28 +59,24 @@ pub target-q-requires : goal.target-q-requires
 target-q-requires c =
     let F = loaded_words c.args.w.now in
     let T = targets c.args.w.now in
-    let lk : Looked F c.args.w.now (get_or F (c.args.x - 1) 0) c.args.to c.look-r.result =
-    subst (λ (v : ℕ). Looked F c.args.w.now v c.args.to c.look-r.result) c.loaded-f.ensures
-    c.look-r.ensures in
-    let rp = some c.look-r.result c.if-r-eq0.false in
-    let ri : c.look-r.result ≡ suc (c.look-r.result - 1) = omega arith in
+    let lk : Looked F c.args.w.now (get_or F (c.args.x - 1) 0) c.args.to (suc c.in-Some.i) =
+    subst (λ (v : ℕ). Looked F c.args.w.now v c.args.to (suc c.in-Some.i)) c.loaded-f.ensures
+    c.in-Some.ensures in
     let mt = match_target c.requires.working.G c.requires.working.H F T c.args.n.count c.args.k c.args.s c.args.x c.args.to c.requires.working.fs c.args.w.now c.args.n.in_area (omega arith) c.requires.working.state
-    c.requires.fact c.look-r.result (c.look-r.result - 1) lk ri in
-    let mi : c.look-r.result - 1 < 2047 = mt.1 in
+    c.requires.fact (suc c.in-Some.i) c.in-Some.i lk refl in
+    let mi : c.in-Some.i < 2047 = mt.1 in
     omega arith
 
 pub join-requires : goal.join-requires
 join-requires c =
     let F = loaded_words c.args.w.now in
     let T = targets c.args.w.now in
-    let lk : Looked F c.args.w.now (get_or F (c.args.x - 1) 0) c.args.to c.look-r.result =
-    subst (λ (v : ℕ). Looked F c.args.w.now v c.args.to c.look-r.result)
-    c.loaded-f.ensures c.look-r.ensures in
-    let rp = some c.look-r.result c.if-r-eq0.false in
-    let ri : c.look-r.result ≡ suc (c.look-r.result - 1) = omega arith in
+    let lk : Looked F c.args.w.now (get_or F (c.args.x - 1) 0) c.args.to (suc c.in-Some.i) =
+    subst (λ (v : ℕ). Looked F c.args.w.now v c.args.to (suc c.in-Some.i))
+    c.loaded-f.ensures c.in-Some.ensures in
     let mt = match_target c.requires.working.G c.requires.working.H F T c.args.n.count c.args.k c.args.s c.args.x c.args.to c.requires.working.fs c.args.w.now c.args.n.in_area (omega arith) c.requires.working.state
-    c.requires.fact c.look-r.result (c.look-r.result - 1) lk ri in
-    let mi : c.look-r.result - 1 < 2047 = mt.1 in record {
+    c.requires.fact (suc c.in-Some.i) c.in-Some.i lk refl in
+    let mi : c.in-Some.i < 2047 = mt.1 in record {
       x_lt_n = (
         omega (
           arith,
@@ -98,14 +93,12 @@ pub returns : goal.returns
 returns c =
     let F = loaded_words c.args.w.now in
     let T = targets c.args.w.now in
-    let lk : Looked F c.args.w.now (get_or F (c.args.x - 1) 0) c.args.to c.look-r.result =
-    subst (λ (v : ℕ). Looked F c.args.w.now v c.args.to c.look-r.result)
-    c.loaded-f.ensures c.look-r.ensures in
-    let rp = some c.look-r.result c.if-r-eq0.false in
-    let ri : c.look-r.result ≡ suc (c.look-r.result - 1) = omega arith in
+    let lk : Looked F c.args.w.now (get_or F (c.args.x - 1) 0) c.args.to (suc c.in-Some.i) =
+    subst (λ (v : ℕ). Looked F c.args.w.now v c.args.to (suc c.in-Some.i))
+    c.loaded-f.ensures c.in-Some.ensures in
     let mt = match_target c.requires.working.G c.requires.working.H F T c.args.n.count c.args.k c.args.s c.args.x c.args.to c.requires.working.fs c.args.w.now c.args.n.in_area (omega arith) c.requires.working.state
-    c.requires.fact c.look-r.result (c.look-r.result - 1) lk ri in
-    let mi : c.look-r.result - 1 < 2047 = mt.1 in
-    turned_hit F T c.args.n.count c.args.k c.args.s c.args.x c.args.to c.args.w.now c.args.n.in_area (omega arith) c.requires.fact c.requires.working c.look-r.result (c.look-r.result - 1) _ _ _ c.join.new.w lk ri
+    c.requires.fact (suc c.in-Some.i) c.in-Some.i lk refl in
+    let mi : c.in-Some.i < 2047 = mt.1 in
+    turned_hit F T c.args.n.count c.args.k c.args.s c.args.x c.args.to c.args.w.now c.args.n.in_area (omega arith) c.requires.fact c.requires.working (suc c.in-Some.i) c.in-Some.i _ _ _ c.join.new.w lk refl
     (rw (c.target-p.ensures, c.target-q.ensures) at
     c.join.ensures)

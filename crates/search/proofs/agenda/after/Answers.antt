@@ -4,4 +4,4 @@ use mathlib.Core.Path.{refl}
 use Rattle.search.proofs.agenda.after.Goals as goal
 
 pub returns : goal.returns
-returns c = lists_after _ _ refl refl refl refl refl refl refl refl refl
+returns c = lists_after _ _ refl refl

@@ -8,9 +8,5 @@ use Rattle.search.proofs.agenda.before.Goals as goal
 pub returns-then-more-eq0 : goal.returns-then-more-eq0
 returns-then-more-eq0 c = lists_same _ _ c.args.more (omega arith)
 
-pub overflow_add-result : goal.overflow_add-result
-overflow_add-result c = ⊎_elim (λ z. absurd (omega arith)) (λ h. omega arith) c.requires
-
 pub returns : goal.returns
-returns c = lists_before _ _ _ _ (λ e. omega arith) (⊎_elim (λ z. absurd (omega arith)) (λ h. h) c.requires) refl refl refl
-    refl refl refl refl refl refl refl refl
+returns c = lists_before _ _ _ _ (λ e. omega arith) (⊎_elim (λ z. absurd (omega arith)) (λ h. h) c.requires) refl refl

@@ -4,4 +4,4 @@ use mathlib.Core.Path.{refl}
 use Rattle.search.proofs.agenda.nothing.Goals as goal
 
 pub returns : goal.returns
-returns c = lists_none _ refl
+returns c = lists_none _ refl refl

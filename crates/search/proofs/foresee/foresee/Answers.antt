@@ -34,6 +34,6 @@ pub returns : goal.returns
 returns c =
     let none = ap (disjunctions_at c.args.w.now) (sym c.tail_at-e.ensures) ∙ sym c.disjunctions_at-more.ensures
     ∙ c.if-more-ne0.false in
-    foresees_one c.args.n c.args.k c.args.w.now c.args.g c.args.left c.if-left-ne0.false none
-    (subst (Guesses c.args.n c.args.k c.args.w.now c.args.g) c.in-Agrees.is
+    foresees_one c.args.n.count c.args.k c.args.w.now c.args.g c.args.left c.if-left-ne0.false none
+    (subst (Guesses c.args.n.count c.args.k c.args.w.now c.args.g) c.in-Agrees.is
     c.guess-told.ensures)

@@ -1,6 +1,7 @@
 -- The cycle of `choose`, `resume` and `take` meets its contracts: each step goes on to the whole, and the position of what is left rises.
 -- Assumes nothing.
 use native.Mathlib.Omega.{arith}
+use native.Mathlib.Nat.{sub-zero, sub-add-eq}
 use mathlib.Core.Path.{refl, ◌∙◌}
 use mathlib.Core.Logic.{⊎_elim}
 use Rattle.search.proofs.Finding.{finds_small}
@@ -13,55 +14,46 @@ use Rattle.search.proofs.Resuming.{one_opens, one_asks, one_falls, one_notes, re
 use Rattle.search.proofs.search.+choose_resume_take.Goals as goal
 use Rattle.search.proofs.search.+choose_resume_take.Goals.{choose-then-kept, choose-else-kept}
 
-pub choose-loop-left-init : goal.choose-loop-left-init
-choose-loop-left-init t c = (choose_moved _ _ _ _ _ _ c.requires, λ d. choose_start _ _ _ _ _ _ d)
+pub choose-loop-init : goal.choose-loop-init
+choose-loop-init t c = (choose_moved _ _ _ _ _ _ c.requires, λ d. rw sub-zero (choose_start _ _ _ _ _ _ d))
 
 pub choose-mark_at-x-requires : goal.choose-mark_at-x-requires
-choose-mark_at-x-requires t c = let old : _ × _ = choose_here _ _ _ _ _ _ c.requires _ _ _ _ c.loop-left.invariant.0 (c.loop-left.invariant.1 c.requires) (omega arith) in record { p_bound = old.0; p_bound_2 = old.1 }
+choose-mark_at-x-requires t c = let old : _ × _ = choose_here _ _ _ _ _ _ c.requires _ _ _ _ c.loop.invariant.0 (c.loop.invariant.1 c.requires) (omega arith) in record { p_bound = old.0; p_bound_2 = old.1 }
 
 pub choose-after_at-next-requires : goal.choose-after_at-next-requires
-choose-after_at-next-requires t c = let old : _ × _ = choose_here _ _ _ _ _ _ c.requires _ _ _ _ c.loop-left.invariant.0 (c.loop-left.invariant.1 c.requires) (omega arith) in record { p_bound = old.0; p_bound_2 = old.1 }
+choose-after_at-next-requires t c = let old : _ × _ = choose_here _ _ _ _ _ _ c.requires _ _ _ _ c.loop.invariant.0 (c.loop.invariant.1 c.requires) (omega arith) in record { p_bound = old.0; p_bound_2 = old.1 }
 
 pub choose-kept-requires : goal.choose-kept-requires
 choose-kept-requires t c =
-    (c.mark_at-x.ensures.1, omega (arith, c.loop-left.invariant.0.len, c.requires.s.holds.long))
+    c.mark_at-x.ensures.1
 
 pub choose-take-found-requires : goal.choose-take-found-requires
 choose-take-found-requires t c =
-    let on = (c.loop-left.invariant.1 c.requires).on in (
+    let on = (c.loop.invariant.1 c.requires).on in (
       omega arith,
-      choose_asks _ _ _ _ _ _ c.requires _ _ _ _ c.loop-left.invariant.0 (c.loop-left.invariant.1 c.requires) (omega arith) _ c.mark_at-x.ensures (cc),
+      choose_asks _ _ _ _ _ _ c.requires _ _ _ _ c.loop.invariant.0 (c.loop.invariant.1 c.requires) (omega arith) _ c.mark_at-x.ensures (cc),
     )
 
 pub choose-overflow_add-sum : goal.choose-overflow_add-sum
 choose-overflow_add-sum t c =
-    let x = choose_small _ _ _ _ _ _ c.requires _ _ _ _ (c.loop-left.invariant.1 c.requires) in
+    let x = choose_small _ _ _ _ _ _ c.requires _ _ _ _ (c.loop.invariant.1 c.requires) in
     let y = finds_small _ _ _ _ _ _ _ (c.take-found.ensures.found
-    (choose_asks _ _ _ _ _ _ c.requires _ _ _ _ c.loop-left.invariant.0 (c.loop-left.invariant.1 c.requires) (omega arith) _ c.mark_at-x.ensures (cc))) in
+    (choose_asks _ _ _ _ _ _ c.requires _ _ _ _ c.loop.invariant.0 (c.loop.invariant.1 c.requires) (omega arith) _ c.mark_at-x.ensures (cc))) in
     omega arith
 
-pub choose-overflow_sub-left : goal.choose-overflow_sub-left
-choose-overflow_sub-left t c = omega arith
-
-pub choose-loop-left-smaller : goal.choose-loop-left-smaller
-choose-loop-left-smaller t c = omega arith
-
-pub choose-loop-left-preserved : goal.choose-loop-left-preserved
-choose-loop-left-preserved t c =
-    let turned : Turn c.args.n c.args.k c.loop-left.w c.loop-left.at
-    c.mark_at-x.result c.args.a c.loop-left.sum c.if-kept.sum c.if-kept.w = elim c.if-kept.branch [
+pub choose-loop-preserved : goal.choose-loop-preserved
+choose-loop-preserved t c =
+    let turned : Turn c.args.n.count c.args.k c.loop.w c.loop.at
+    c.mark_at-x.result c.args.a c.loop.sum c.if-kept.sum c.if-kept.w = elim c.if-kept.branch [
       | choose-then-kept u ↦ took _ _ (cc) u.take-found.ensures u.w-is (u.sum-is ∙ u.capped-sum.ensures)
       | choose-else-kept u ↦ skipped (cc) u.w-is u.sum-is
     ] in (
-      turn_moved _ _ _ _ _ _ c.requires _ _ _ _ c.loop-left.invariant.0 (c.loop-left.invariant.1 c.requires) (omega arith) _ c.mark_at-x.ensures _ _ (turned),
-      λ d. turn_on _ _ _ _ _ _ d _ _ _ _ c.loop-left.invariant.0 (c.loop-left.invariant.1 d) (omega arith) _ c.mark_at-x.ensures _ _ (turned) _ c.after_at-next.ensures,
+      turn_moved _ _ _ _ _ _ c.requires _ _ _ _ c.loop.invariant.0 (c.loop.invariant.1 c.requires) (omega arith) _ c.mark_at-x.ensures _ _ (turned),
+      λ d. rw sub-add-eq (turn_on _ _ _ _ _ _ d _ _ _ _ c.loop.invariant.0 (c.loop.invariant.1 d) (omega arith) _ c.mark_at-x.ensures _ _ (turned) _ c.after_at-next.ensures),
     )
 
-pub choose-shape_of-w : goal.choose-shape_of-w
-choose-shape_of-w t c = c.loop-left.invariant.0.len
-
 pub choose-returns : goal.choose-returns
-choose-returns t c = record { moved = c.loop-left.invariant.0; found = λ d. choose_done _ _ _ _ _ _ d _ _ _ _ (c.loop-left.invariant.1 d) (omega arith) }
+choose-returns t c = record { moved = c.loop.invariant.0; found = λ d. choose_done _ _ _ _ _ _ d _ _ _ _ (c.loop.invariant.1 d) (omega arith) }
 
 pub resume-returns-then-a-eq0 : goal.resume-returns-then-a-eq0
 resume-returns-then-a-eq0 t c = resumes_leaf _ _ _ _ c.requires (omega arith)
@@ -133,10 +125,6 @@ resume-note-requires t c = one_notes _ _ _ _ c.if-a-eq0.false _
     c.descend-inner.ensures _ _ c.resume-found.ensures
     c.requires
 
-pub resume-shape_of-w-in-One : goal.resume-shape_of-w-in-One
-resume-shape_of-w-in-One t c = c.note.ensures.len
-    ∙ c.resume-found.ensures.moved.len
-
 pub resume-returns-in-One : goal.resume-returns-in-One
 resume-returns-in-One t c = resumes_one _ _ _ _ c.if-a-eq0.false _
     c.alternatives_at-count.ensures _ _ c.count_kept-tally.ensures _
@@ -182,9 +170,6 @@ resume-choose-requires t c = (
       c.requires,
 )
 
-pub resume-shape_of-w-in-Several : goal.resume-shape_of-w-in-Several
-resume-shape_of-w-in-Several t c = c.choose.ensures.moved.len
-
 pub resume-returns-in-Several : goal.resume-returns-in-Several
 resume-returns-in-Several t c = resumes_several _ _ _ _ c.if-a-eq0.false _ c.alternatives_at-count.ensures _ _
     c.count_kept-tally.ensures _
@@ -197,9 +182,6 @@ take-foresee-told-requires t c = record { a = c.args.a; many = refl; taking = c.
 pub take-note-requires : goal.take-note-requires
 take-note-requires t c = alone_notes _ _ _ _ _ c.requires
 
-pub take-shape_of-w-in-Agrees : goal.take-shape_of-w-in-Agrees
-take-shape_of-w-in-Agrees t c = c.note.ensures.len
-
 pub take-returns-in-Agrees : goal.take-returns-in-Agrees
 take-returns-in-Agrees t c = takes_one _ _ _ _ _ c.requires _
     c.foresee-told.ensures c.in-Agrees.is _
@@ -211,9 +193,6 @@ take-returns-in-Clashes t c = takes_none _ _ _ _ _ c.requires _ c.foresee-told.e
 
 pub take-enter-requires : goal.take-enter-requires
 take-enter-requires t c = asks_enter _ _ _ _ _ c.requires
-
-pub take-shape_of-w-in_default : goal.take-shape_of-w-in_default
-take-shape_of-w-in_default t c = c.enter.ensures.len
 
 pub take-returns-in_default : goal.take-returns-in_default
 take-returns-in_default t c = takes_clash _ _ _ _ _ _ _ c.enter.ensures
@@ -249,11 +228,6 @@ take-note-requires-2 t c = take_notes _ _ _ _ _ _ _
     c.in-Some.is _
     c.descend-inner.ensures _ _
     c.resume-found.ensures _ c.back.ensures
-
-pub take-shape_of-w : goal.take-shape_of-w
-take-shape_of-w t c = c.note-2.ensures.len ∙ c.back.ensures.len
-    ∙ c.resume-found.ensures.moved.len
-    ∙ c.enter.ensures.len
 
 pub take-returns : goal.take-returns
 take-returns t c = takes_found _ _ _ _ _ _ _

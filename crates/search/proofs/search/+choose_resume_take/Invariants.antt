@@ -15,9 +15,6 @@ decreases-resume l = 3 * (2048 - reach (slots l.a))
 abbrev pub decreases-take : goal.decreases-take
 decreases-take l = 3 * (2048 - l.g) + 1
 
-abbrev pub invariant-choose-loop-left : goal.invariant-choose-loop-left
-invariant-choose-loop-left l =
-    Moved l.k l.initial.w l.k l.w × ((c : Branching l.n l.k l.initial.w l.p l.count l.a) → Going l.n l.k l.initial.w l.p l.count l.a c l.left l.at l.sum l.w)
-
-abbrev pub decreases-choose-loop-left : goal.decreases-choose-loop-left
-decreases-choose-loop-left l = l.left
+abbrev pub invariant-choose-loop : goal.invariant-choose-loop
+invariant-choose-loop l =
+    Moved l.k l.initial.w l.k l.w × ((c : Branching l.n.count l.k l.initial.w l.p l.count l.a) → Going l.n.count l.k l.initial.w l.p l.count l.a c (l.count - l.counter) l.at l.sum l.w)

@@ -1,27 +1,32 @@
--- `suite::checks::checked` meets its contract. The loop's invariant: what is found of the first i records. Assumes nothing.
-use Rattle.std.proofs.Common.{◌≡◌, ◌+◌, ℕ, arith, ap, sym, ◌∙◌, add-one}
-use Rattle.suite.specs.Suite.{fault_after, table_fault}
-use Rattle.suite.proofs.Runs.{found_start, found_more, passed_le}
+-- `suite::checks::checked` meets its contract. The loop's invariant: of the records so far none is refused. Assumes nothing.
+use Rattle.std.proofs.Common.{◌≡◌, ◌+◌, length, arith, refl, sym, ap, ◌∙◌}
+use Rattle.std.proofs.lemmas.Result.{err_from_is_err_and}
+use Rattle.suite.specs.Suite.{table_fault}
+use Rattle.suite.proofs.Runs.{refused, found_none, found_fresh, found_to_end}
 use Rattle.suite.proofs.checks.checked.Goals as goal
 
-pub loop-i-init : goal.loop-i-init
-loop-i-init c =
-    let e = c.skipped-i.ensures in
-    record {
-      near = rw e (passed_le c.args.n);
-      found = c.counted-number.ensures ∙ found_start c.args.space c.args.tests.now c.args.n c.requires
-          ∙ ap (table_fault c.args.space c.args.tests.now) (sym e);
-    }
+pub returns-in_err-counted : goal.returns-in_err-counted
+returns-in_err-counted c =
+    let p = err_from_is_err_and c.from_residual.result c.from_residual.ensures.1 in
+    let e = c.in_err-counted.ensures ∙ found_none c.args.space c.args.tests.now _ refl in
+    rw (p.1, p.2) (e ∙ found_to_end c.args.space c.args.tests.now 0 _ (omega arith) (λ z. refused c.in_err-counted.field-0.0 (e ∙ z)))
 
-pub loop-i-preserved : goal.loop-i-preserved
-loop-i-preserved c = record {
-  near = omega arith;
-  found = rw add-one (c.judged-number.ensures
-      ∙ (rw (c.loop-i.invariant.found, c.row-test.ensures) (found_more c.args.space c.args.tests.now c.loop-i.i)));
-}
+pub loop-test-init : goal.loop-test-init
+loop-test-init c = sym (c.in_ok-counted.ensures ∙ found_none c.args.space c.args.tests.now _ refl)
+
+pub returns-in_err-judged : goal.returns-in_err-judged
+returns-in_err-judged c =
+    let p = err_from_is_err_and c.from_residual-in_err-judged.result c.from_residual-in_err-judged.ensures.1 in
+    let e = c.in_err-judged.ensures ∙ found_fresh c.args.space c.args.tests.now c.loop-test.test-index c.loop-test.invariant in
+    rw (p.1, p.2)
+    (e ∙ found_to_end c.args.space c.args.tests.now (c.loop-test.test-index + 1) _ (omega arith)
+    (λ z. refused c.in_err-judged.field-0.0 (e ∙ z)))
+
+pub loop-test-preserved : goal.loop-test-preserved
+loop-test-preserved c =
+    sym (c.in_ok-judged.ensures ∙ found_fresh c.args.space c.args.tests.now c.loop-test.test-index c.loop-test.invariant)
 
 pub returns : goal.returns
 returns c =
-    let near = c.loop-i.invariant.near in
-    let e : c.loop-i.i ≡ c.args.n = omega arith in
-    c.loop-i.invariant.found ∙ ap (table_fault c.args.space c.args.tests.now) e
+    let e : c.loop-test.test-index ≡ length c.args.tests.now = omega arith in
+    sym c.loop-test.invariant ∙ ap (table_fault c.args.space c.args.tests.now) e

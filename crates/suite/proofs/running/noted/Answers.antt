@@ -3,8 +3,8 @@ use native.Mathlib.Omega.{arith}
 use Rattle.suite.proofs.Laws.{noted_good, noted_first, noted_later}
 use Rattle.suite.proofs.running.noted.Goals as goal
 
-pub returns-then-good : goal.returns-then-good
-returns-then-good c = noted_good _ _ _ _ (cc)
+pub returns-then-agreed : goal.returns-then-agreed
+returns-then-agreed c = noted_good _ _ _ _ (cc)
 
 pub returns-then-held-eq64 : goal.returns-then-held-eq64
 returns-then-held-eq64 c = noted_first _ _ _ _ (cc) (omega arith)

@@ -1,62 +1,33 @@
 -- `suite_reading::tests::judge_tests` meets its contract: the tests that are left are judged as all are.
 -- Assumes nothing.
-use Prim.Native.Nat.{ℕ}
+use Prim.Native.Nat.{◌+◌, ◌-◌}
 use native.Mathlib.Omega.{arith}
-use mathlib.Core.Path.{◌≡◌, ap, ◌∙◌}
+use mathlib.Core.Path.{◌≡◌, refl, ap, ◌∙◌}
 use lib.ListN.{drop}
-use Rattle.suite.specs.Suite.{length_fault}
-use Rattle.suite_reading.specs.Tests.{tests_in}
-use Rattle.suite_reading.specs.declared.tests.Found.TheVariants.{Wrong}
-use Rattle.suite_reading.proofs.Found.{judgement, judged_fine, judged_more, judged_stops, judged_goes, judges}
+use Rattle.suite.specs.Suite.{number_of}
+use Rattle.suite_reading.proofs.Found.{judged_fine, judged_more, judged_stops, judged_goes, judges, and_then_after}
 use Rattle.suite_reading.proofs.tests.judge_tests.Goals as goal
 
-pub wide-requires : goal.wide-requires
-wide-requires c = tt
+pub returns-in_err-place : goal.returns-in_err-place
+returns-in_err-place c =
+    rw c.from_residual.ensures (judges c.args.n (drop c.args.p c.args.text.now) _
+    (judged_stops c.args.text.now _ (number_of c.loop.verdict) c.loop.at _ c.loop.invariant (omega arith) _ c.in_err-place.ensures refl))
 
-pub counted-refusal-requires : goal.counted-refusal-requires
-counted-refusal-requires c = tt
-
-pub loop-left-init : goal.loop-left-init
-loop-left-init c =
-    ap (λ (r : ℕ). judgement r (tests_in c.args.n (drop c.args.p c.args.text.now)))
-    (c.counted-refusal.ensures ∙ ap length_fault c.wide.ensures)
-
-pub find_test-found-requires : goal.find_test-found-requires
-find_test-found-requires c = tt
-
-pub returns-in_default : goal.returns-in_default
-returns-in_default c =
-    let gone : c.find_test-found.result ≡ Wrong = cc in
-    judges c.args.n (drop c.args.p c.args.text.now) _
-    (judged_stops c.args.text.now _ c.loop-left.refusal c.loop-left.at c.loop-left.left c.loop-left.invariant c.loop-left-test.true c.find_test-found.result c.find_test-found.ensures gone)
-
-pub expected-requires : goal.expected-requires
-expected-requires c = tt
-
-pub judged-refusal-requires : goal.judged-refusal-requires
-judged-refusal-requires c = tt
-
-pub overflow_sub-left : goal.overflow_sub-left
-overflow_sub-left c = omega arith
-
-pub loop-left-smaller : goal.loop-left-smaller
-loop-left-smaller c = omega arith
-
-pub loop-left-preserved : goal.loop-left-preserved
-loop-left-preserved c =
-    judged_goes c.args.text.now _ c.loop-left.refusal c.loop-left.at c.loop-left.left c.loop-left.invariant c.loop-left-test.true c.find_test-found.result c.find_test-found.ensures
-    c.in-Test.place c.in-Test.is
-    c.expected.result c.expected.ensures c.judged-refusal.result c.judged-refusal.ensures
-
-pub is_over-requires : goal.is_over-requires
-is_over-requires c = tt
+pub loop-preserved : goal.loop-preserved
+loop-preserved c =
+    let left : c.args.n - (c.loop.counter + 1) ≡ c.args.n - c.loop.counter - 1 = omega arith in
+    rw left (judged_goes c.args.text.now _ (number_of c.loop.verdict) c.loop.at _ c.loop.invariant (omega arith) _ c.in_ok-place.ensures
+    c.in_ok-place.place refl c.expected.result c.expected.ensures _
+    (ap number_of c.and-verdict.ensures ∙ and_then_after c.loop.verdict c.judged.result 0 c.expected.result c.judged.ensures))
 
 pub returns-then-is_over : goal.returns-then-is_over
 returns-then-is_over c =
     judges c.args.n (drop c.args.p c.args.text.now) _
-    (judged_fine c.args.text.now _ c.loop-left.refusal c.loop-left.at c.loop-left.left c.loop-left.invariant (omega arith) c.is_over.result c.is_over.ensures c.if-is_over.true)
+    (judged_fine c.args.text.now _ (number_of c.loop.verdict) c.loop.at _ c.loop.invariant (omega arith) c.is_over.result c.is_over.ensures
+    c.if-is_over.true)
 
 pub returns : goal.returns
 returns c =
     judges c.args.n (drop c.args.p c.args.text.now) _
-    (judged_more c.args.text.now _ c.loop-left.refusal c.loop-left.at c.loop-left.left c.loop-left.invariant (omega arith) c.is_over.result c.is_over.ensures c.if-is_over.false)
+    (judged_more c.args.text.now _ (number_of c.loop.verdict) c.loop.at _ c.loop.invariant (omega arith) c.is_over.result c.is_over.ensures
+    c.if-is_over.false)

@@ -1,6 +1,6 @@
 -- `trying::guess::guess_through` meets its contract. Assumes nothing.
 use mathlib.Core.Path.{sym, ◌∙◌, subst}
-use mathlib.Core.Logic.{inl, inr, ⊎_elim}
+use mathlib.Core.Logic.{inl, inr}
 use native.Mathlib.Omega.{arith}
 use Rattle.forest.proofs.Contents.{told_atom, told_code}
 use Rattle.forest.proofs.Walks.{some}

@@ -1,8 +1,6 @@
 -- `trying::guess::lead_all` meets its contract. The loop's invariant: the first i arcs lead to leaves that say nothing new. Assumes
 -- nothing.
-use Prim.Native.Nat.{ℕ}
 use mathlib.Core.Path.{◌≡◌, subst}
-use mathlib.Core.Logic.{⊎_elim}
 use native.Mathlib.Omega.{arith}
 use Rattle.trying.specs.Leaf.{LeafTold, FirstLeaves}
 use Rattle.trying.proofs.Leading.{leaves_none, leaves_more, all_agree, all_stop}
