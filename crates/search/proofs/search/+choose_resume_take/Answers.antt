@@ -18,10 +18,10 @@ pub choose-loop-init : goal.choose-loop-init
 choose-loop-init t c = (choose_moved _ _ _ _ _ _ c.requires, λ d. rw sub-zero (choose_start _ _ _ _ _ _ d))
 
 pub choose-mark_at-x-requires : goal.choose-mark_at-x-requires
-choose-mark_at-x-requires t c = let old : _ × _ = choose_here _ _ _ _ _ _ c.requires _ _ _ _ c.loop.invariant.0 (c.loop.invariant.1 c.requires) (omega arith) in record { p_bound = old.0; p_bound_2 = old.1 }
+choose-mark_at-x-requires t c = let old : _ × _ = choose_here _ _ _ _ _ _ c.requires _ _ _ _ c.loop.invariant.0 (c.loop.invariant.1 c.requires) (omega arith) in record { p_bound = old.0.0; p_bound_2 = old.1 }
 
 pub choose-after_at-next-requires : goal.choose-after_at-next-requires
-choose-after_at-next-requires t c = let old : _ × _ = choose_here _ _ _ _ _ _ c.requires _ _ _ _ c.loop.invariant.0 (c.loop.invariant.1 c.requires) (omega arith) in record { p_bound = old.0; p_bound_2 = old.1 }
+choose-after_at-next-requires t c = let old : _ × _ = choose_here _ _ _ _ _ _ c.requires _ _ _ _ c.loop.invariant.0 (c.loop.invariant.1 c.requires) (omega arith) in record { p_bound = old.0.0; p_bound_2 = old.1 }
 
 pub choose-kept-requires : goal.choose-kept-requires
 choose-kept-requires t c =
@@ -59,7 +59,7 @@ pub resume-returns-then-a-eq0 : goal.resume-returns-then-a-eq0
 resume-returns-then-a-eq0 t c = resumes_leaf _ _ _ _ c.requires (omega arith)
 
 pub resume-alternatives_at-count-requires : goal.resume-alternatives_at-count-requires
-resume-alternatives_at-count-requires t c = resume_here _ _ _ _ c.if-a-eq0.false c.requires
+resume-alternatives_at-count-requires t c = (resume_here _ _ _ _ c.if-a-eq0.false c.requires).0
 
 pub resume-overflow_add-at : goal.resume-overflow_add-at
 resume-overflow_add-at t c = let h =
@@ -97,7 +97,7 @@ resume-descend-inner-requires t c =
     c.alternatives_at-count.ensures _ _
     c.count_kept-tally.ensures _ c.after-later.ensures _
     c.before-rest.ensures _ c.in-One.is
-    c.requires in record { g_bound = old.0; g_bound_2 = old.1.0; fact = old.1.1 }
+    c.requires in record { g_bound = old.0.0; g_bound_2 = old.1.0; fact = old.1.1 }
 
 pub resume-resume-found-requires : goal.resume-resume-found-requires
 resume-resume-found-requires t c = (
@@ -202,7 +202,7 @@ pub take-descend-inner-requires : goal.take-descend-inner-requires
 take-descend-inner-requires t c =
     let old : _ × (_ × _) = take_opens _ _ _ _ _ _ _ c.enter.ensures
     c.requires _
-    c.in-Some.is in record { g_bound = old.0; g_bound_2 = old.1.0; fact = old.1.1 }
+    c.in-Some.is in record { g_bound = old.0.0; g_bound_2 = old.1.0; fact = old.1.1 }
 
 pub take-resume-found-requires : goal.take-resume-found-requires
 take-resume-found-requires t c = (
