@@ -4,10 +4,11 @@ use mathlib.Core.Logic.{◌⊎◌, inl, inr}
 use mathlib.Core.List.{List, [], ◌++◌}
 use Prim.Native.Nat.{ℕ, ◌+◌, ◌≤◌, ◌<◌}
 use native.Mathlib.Omega.{arith}
-use lib.ListN.{length, drop, replicate, length-append}
+use lib.ListN.{length, take, drop, replicate, length-append, length-take}
+use Rattle.std.specs.Array.{IsFirstChunk}
 use lib.Seq.{drop_at}
 use Rattle.std.proofs.Math.ListN.{drop_of_length-le}
-use Rattle.std.proofs.lemmas.List.{append-nil}
+use Rattle.std.proofs.lemmas.List.{append-nil, take-append-drop}
 use Rattle.theory.specs.Limits.{input_limit, working_size}
 use Rattle.theory.specs.Descr.{Desc}
 use Rattle.theory.specs.Layout.{words}
@@ -83,6 +84,30 @@ module _ (c : Call) (s w : List ℕ) where
 
         pub bad_second : Image c.first → ¬ (Image c.second) → Outcome c areas (told 5) areas
         bad_second i h = refused 5 (omega arith) (omega arith) (five m l fa fb i h)
+
+-- ---- the area v is lent as the first words of w, and given back
+module _ (c : Call) (s v w : List ℕ) (k : IsFirstChunk w v working_size) where
+  abbrev behind : List ℕ
+  behind = drop working_size w
+
+  lent_back : v ++ behind ≡ w
+  lent_back = ap (λ (l : List ℕ). l ++ behind) k.same ∙ take-append-drop working_size w
+
+  pub lent_long : working_size ≤ length v
+  lent_long = let e : length v ≡ length (take working_size w) = ap length k.same in omega (arith, e, k.enough, length-take working_size w)
+
+  -- as it was
+  pub lent_kept : (r : Row) → Outcome c (record { result = s; working = w }) r (record { result = s; working = w }) →
+      Outcome c (record { result = s; working = w }) r (record { result = s; working = v ++ behind })
+  lent_kept r o =
+      subst (λ (z : List ℕ). Outcome c (record { result = s; working = w }) r (record { result = s; working = z })) (sym lent_back) o
+
+  -- as v' with what stands behind
+  pub lent_changed : (r : Row) (s' v' : List ℕ) →
+      Outcome c (record { result = s; working = v ++ behind }) r (record { result = s'; working = v' ++ behind }) →
+      Outcome c (record { result = s; working = w }) r (record { result = s'; working = v' ++ behind })
+  lent_changed r s' v' o =
+      subst (λ (z : List ℕ). Outcome c (record { result = s; working = z }) r (record { result = s'; working = v' ++ behind })) lent_back o
 
 -- a judgement that is not "accepted"
 pub no_image : (ws : List ℕ) (r : Bool) → r ≡ false → Judged ws r → ¬ (Image ws)
