@@ -46,18 +46,6 @@ module _ (used number : ℕ) (b : List ℕ) where
     s_is : (sums 0 0 (take checked_size b)).1 ≡ s
     s_is = ap (λ (p : ℕ × ℕ). p.1) e
 
-    pub intact_first : (pair_at b 508 ≡ f → ⊥) → false ≡ intact used number b
-    unfolding intact
-    intact_first h = simp (eq-eqb _ _ whole, f_is, ne_eqb _ _ h)
-
-    pub intact_second : pair_at b 508 ≡ f → (pair_at b 510 ≡ s → ⊥) → false ≡ intact used number b
-    unfolding intact
-    intact_second g h = simp (eq-eqb _ _ whole, f_is, s_is, eq-eqb _ _ g, ne_eqb _ _ h)
-
-    pub intact_number : pair_at b 508 ≡ f → pair_at b 510 ≡ s → (pair_at b 506 ≡ number → ⊥) → false ≡ intact used number b
-    unfolding intact
-    intact_number g g' h = simp (eq-eqb _ _ whole, f_is, s_is, eq-eqb _ _ g, eq-eqb _ _ g', ne_eqb _ _ h)
-
     pub intact_rest : pair_at b 508 ≡ f → pair_at b 510 ≡ s → pair_at b 506 ≡ number → intact used number b ≡ zeros (take (content_size - used) (drop used b))
     unfolding intact
     intact_rest g g' h = simp (eq-eqb _ _ whole, f_is, s_is, eq-eqb _ _ g, eq-eqb _ _ g', eq-eqb _ _ h)

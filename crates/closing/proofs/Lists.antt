@@ -2,16 +2,16 @@
 -- Assumes nothing.
 use mathlib.Core.Path.{◌≡◌, refl, sym, ◌∙◌}
 use mathlib.Core.Logic.{◌⊎◌, inl, inr}
-use mathlib.Core.Bool.{Bool, true, false}
 use mathlib.Core.List.Memᴰ
 use mathlib.Core.List.{List, [], ◌∷◌, Memᴰ}
 use Prim.Native.Nat.{ℕ, zero, suc, ◌<◌, ◌≤◌}
 use native.Mathlib.Omega.{arith}
 use lib.ListN.{length, get_or, replicate, length-replicate}
-use lib.Dec.{ltb}
 use Rattle.theory.specs.Join.{Edge}
-use Rattle.theory.proofs.Number.{TestLt, less, geq, test_lt}
+use Rattle.std.specs.Prelude.{None}
+use Rattle.closing.specs.Labels.{Labels}
 use Rattle.closing.specs.Chains.{Clears}
+use Rattle.closing.specs.Bearing.{AtomsBearing}
 use Rattle.closing.specs.Rows.{spot_limit, spot_of, spot_mark, in_edges, in_pairs}
 
 -- the default does not count within a list
@@ -80,11 +80,20 @@ edges_length [] ends = omega arith
 edges_length (a ∷ arcs) [] = omega arith
 edges_length (a ∷ arcs) (b ∷ ends) = omega (arith, edges_length arcs ends)
 
--- an array of zeros
-zeros : (n i : ℕ) → ◌≡◌ {A = ℕ} (get_or (replicate n 0) i 0) 0
-zeros zero i = refl
-zeros (suc n) zero = refl
-zeros (suc n) (suc i) = zeros n i
+-- an array of one value
+pub alike_all : {A : Type 0} (x : A) (n i : ℕ) → get_or (replicate n x) i x ≡ x
+alike_all x zero i = refl
+alike_all x (suc n) zero = refl
+alike_all x (suc n) (suc i) = alike_all x n i
 
 pub clears : (n : ℕ) → n ≡ spot_limit → Clears (replicate n 0)
-clears n e = record { len = length-replicate n 0 ∙ e; each = zeros n }
+clears n e = record { len = length-replicate n 0 ∙ e; each = alike_all 0 n }
+
+-- no label holds an atom yet
+pub none_held : (ends L : List ℕ) → Labels ends L → (n : ℕ) → n ≡ spot_limit → AtomsBearing L (replicate n None)
+none_held ends L g n e = record {
+  len = g.len;
+  low = g.low;
+  wide = length-replicate n None ∙ e;
+  clear = alike_all None n;
+}

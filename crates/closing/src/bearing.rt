@@ -8,19 +8,18 @@ use limits::wide;
 #[derive(Clone, Copy, Debug, PartialEq, Eq)]
 pub struct Clash;
 
-// Whether a label that holds 0, or an atom and 1, holds another atom.
-// What labels hold stays words, and no Option stands there: the memory is fixed, a word a label.
-fn against(held: u32, given: u32) -> bool
+// Whether a label that holds an atom, if any, holds another one.
+fn against(held: Option<u32>, given: u32) -> bool
     ensures { Against held given result }
 {
-    held != 0 && held != given
+    held.is_some_and(|atom| atom != given)
 }
 
 // Gives each label its atom, unless there is a clash.
 pub fn bear(
     labels: &[u32; SPOT_LIMIT],
     heads: &[u32; SPOT_LIMIT],
-    holds: &mut [u32; SPOT_LIMIT],
+    holds: &mut [Option<u32>; SPOT_LIMIT],
     atoms: &[u32],
 ) -> Result<(), Clash>
     requires { AtomsBearing labels.now holds.old }
@@ -28,11 +27,11 @@ pub fn bear(
 {
     for &row in atoms {
         let label = wide(labels[spot(row)]);
-        let given = mark(row) + 1;
+        let given = mark(row);
         if heads[label] != 0 || against(holds[label], given) {
             return Err(Clash);
         }
-        holds[label] = given;
+        holds[label] = Some(given);
     }
     Ok(())
 }

@@ -7,15 +7,17 @@ mod window;
 
 use crate::alike::{AREA, alike};
 use crate::window::{TEXT_ROOM, Window, refill};
-use call_text::call::{Counts, Ends, call_end, read_call};
+use call_text::call::{call_end, read_call};
 use call_text::number::{Token, read_token};
 use std::io;
 use std::io::{Read, Write};
+use vectors::lent::zeros;
 
 // At most so many calls are run.
 const MOST_TURNS: u32 = 4000000000;
 
-// A call was run, alike or not, and its text has so many bytes; or nothing is left; or what is left is no call.
+// A call was run, alike or not, and its text has so many bytes; or nothing is left; or what is left is no call. Each is an answer, which
+// the report tells.
 #[derive(Clone, Copy)]
 enum Turn {
     Ran { same: bool, bytes: usize },
@@ -34,34 +36,22 @@ struct Report {
 
 // Whether only spaces and newlines are left.
 fn is_over(text: &[u8]) -> bool {
-    let token = read_token(text, 0);
-    match token {
-        Token::Over => true,
-        Token::Is { value: _, next: _ } => false,
-        Token::Bad => false,
-    }
+    matches!(read_token(text, 0), Token::Over)
 }
 
 // Runs the call that the text is, whose inputs are read into these.
 fn run_call(text: &[u8], first: &mut [u32], second: &mut [u32]) -> Turn {
-    let bytes = text.len();
-    let call = read_call(text, first, second);
-    let Counts::Good {
-        mode: _,
-        first: n,
-        second: m,
-    } = call
-    else {
+    let Some(call) = read_call(text, first, second) else {
         return Turn::Bad;
     };
-    if first.len() < n {
+    if first.len() < call.first || second.len() < call.second {
         return Turn::Bad;
     }
-    if second.len() < m {
-        return Turn::Bad;
+    let same = alike(&first[..call.first], &second[..call.second]);
+    Turn::Ran {
+        same,
+        bytes: text.len(),
     }
-    let same = alike(&first[..n], &second[..m]);
-    Turn::Ran { same, bytes }
 }
 
 // Runs the call that the text begins with.
@@ -69,8 +59,7 @@ fn run_next(text: &[u8], first: &mut [u32], second: &mut [u32]) -> Turn {
     if is_over(text) {
         return Turn::Over;
     }
-    let ends = call_end(text, 0);
-    let Ends::At(end) = ends else {
+    let Some(end) = call_end(text, 0) else {
         return Turn::Bad;
     };
     if text.len() < end {
@@ -116,10 +105,7 @@ fn run_between(
     first: &mut [u32],
     second: &mut [u32],
 ) -> Turn {
-    if text.len() < end {
-        return Turn::Bad;
-    }
-    if end < start {
+    if text.len() < end || end < start {
         return Turn::Bad;
     }
     run_next(&text[start..end], first, second)
@@ -127,19 +113,12 @@ fn run_between(
 
 // Where the next call begins after one of so many bytes.
 fn after(window: Window, bytes: usize) -> Window {
-    let start = window.start;
-    let end = window.end;
-    let over = window.over;
-    if end < start {
-        return window;
-    }
-    if end - start < bytes {
+    if window.end < window.start || window.end - window.start < bytes {
         return window;
     }
     Window {
-        start: start + bytes,
-        end,
-        over,
+        start: window.start + bytes,
+        ..window
     }
 }
 
@@ -161,8 +140,7 @@ fn all<R: Read>(
         unlike: 0,
         bad: 0,
     };
-    let mut turns = MOST_TURNS;
-    while 0 < turns {
+    for _ in 0..MOST_TURNS {
         window = refill(input, text, window)?;
         let step = run_between(text, window.start, window.end, first, second);
         match step {
@@ -177,19 +155,15 @@ fn all<R: Read>(
                 return Ok(bad_next(report));
             }
         }
-        turns -= 1;
     }
     Ok(report)
 }
 
 // The report where the next call is none.
 fn bad_next(report: Report) -> Report {
-    let bad = next(report.calls);
     Report {
-        calls: report.calls,
-        alike: report.alike,
-        unlike: report.unlike,
-        bad,
+        bad: next(report.calls),
+        ..report
     }
 }
 
@@ -215,18 +189,15 @@ fn say_all<W: Write>(output: &mut W, report: Report) -> io::Result<()> {
     output.write_all(b"\n")
 }
 
+// Room for the text: a function of its own, so that no other proof spells out so many zeros.
 fn text_space() -> [u8; TEXT_ROOM] {
     [0; TEXT_ROOM]
 }
 
-fn input_space() -> [u32; AREA] {
-    [0; AREA]
-}
-
 fn main(rt: HostRuntime) -> io::Result<()> {
     let mut text = text_space();
-    let mut first = input_space();
-    let mut second = input_space();
+    let mut first: [u32; AREA] = zeros();
+    let mut second: [u32; AREA] = zeros();
     let report = all(&mut rt.stdin(), &mut text, &mut first, &mut second)?;
     say_all(&mut rt.stdout(), report)
 }

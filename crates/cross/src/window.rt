@@ -22,20 +22,12 @@ pub const TEXT_ROOM: usize = 131072;
 fn to_front(text: &mut [u8], start: usize, end: usize) -> usize
     ensures { result ≤ length text.new }
 {
-    let mut count: usize = 0;
-    let mut at = start;
-    while at < end {
-        if text.len() <= at {
-            return count;
-        }
-        if at < count {
-            return count;
-        }
-        text[count] = text[at];
-        count += 1;
-        at += 1;
+    let end = end.min(text.len());
+    if end < start {
+        return 0;
     }
-    count
+    text.copy_within(start..end, 0);
+    end - start
 }
 
 // Reads on, where a whole call may not stand there.

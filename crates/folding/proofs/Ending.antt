@@ -4,8 +4,8 @@ use Prim.Native.Nat.{ℕ, suc, ◌+◌, ◌-◌, ◌≤◌, ◌<◌}
 use native.Mathlib.Omega.{arith}
 use mathlib.Core.Path.{◌≡◌, refl, ap, sym, subst, ◌∙◌}
 use mathlib.Core.List.{List, [], ◌∷◌, ◌++◌, append_assoc, append-nil}
-use lib.ListN.{length, set, length-set}
-use lib.Seq.{get_or-set_same, get_or-set_other}
+use lib.ListN.{length, get_or, set, take, drop, length-set}
+use lib.Seq.{get_or-set_same, get_or-set_other, drop-cons, get_or-take, length-take-le}
 use Rattle.layout.specs.Standing.{Stands}
 use Rattle.layout.proofs.Standing.{stands_cons, stands_frame}
 use Rattle.folding.specs.Buffer.{WordsEnd, Grows, PutsBefore}
@@ -121,6 +121,19 @@ module _ (b : List ℕ) (len : ℕ) (xs rest : List ℕ) where
         go : (l : List ℕ) → length l ≡ 0 → l ++ v.written ≡ xs → v.written ≡ xs
         go [] e w = w
         go (y ∷ l) e w = absurd (omega arith)
+
+-- of the first `count` words of xs those from `left` on are written, the last of them first
+abbrev pub Back : (b : List ℕ) (len : ℕ) (xs : List ℕ) (count left : ℕ) (c : List ℕ) (at : ℕ) → Type 0
+Back b len xs count left c at = PutsBefore b len (drop left (take count xs)) c at
+
+-- one word more is written before them
+module _ (b : List ℕ) (len : ℕ) (xs : List ℕ) (count : ℕ) (few : count ≤ length xs) where
+  pub back_more : (left at at' : ℕ) (c c' : List ℕ) → left < count → Back b len xs count (suc left) c at →
+      PutsBefore c at (get_or xs left 0 ∷ []) c' at' → Back b len xs count left c' at'
+  back_more left at at' c c' l u v =
+      let size : length (take count xs) ≡ count = length-take-le count xs few in
+      rw (drop-cons (take count xs) left 0 (omega (arith, size)))
+      (rw (get_or-take count xs left 0 l) (puts_on b c c' len at at' (drop (suc left) (take count xs)) (get_or xs left 0 ∷ []) u v))
 
 -- what goes on writing has the room that was there
 pub room_on : {hm₀ alts b₀ hm b : List ℕ} {len at : ℕ} → SettlingRoom hm₀ alts b₀ len → length hm ≡ length hm₀ → Grows b₀ len b at →

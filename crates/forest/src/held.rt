@@ -6,7 +6,7 @@ ghost use Rattle.forest.specs.Held.{held_by, bears};
 use area::map::{Area, HELD};
 use limits::wide;
 
-// A chain by its first arc, counted from 1, or an atom by its head.
+// A chain by its first arc, counted from 1, or an atom by its head: three contents of a class, and none of them a failure.
 #[derive(Clone, Copy)]
 pub enum Held {
     Nothing,

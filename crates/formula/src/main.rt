@@ -1,71 +1,35 @@
 // The program `formula`: the text of a formula from standard input, what comes of it to standard output.
 #![tactic(auto)]
 
-ghost use Rattle.std.specs.Prelude.{◌≡◌, ◌≤◌, length, take, List, ℕ, IfSome, OnOk};
-ghost use Rattle.std.specs.Io.KnownBytes.{Appends};
-ghost use Rattle.answer_text.specs.declared.line.Written.TheVariants.{Bytes};
-ghost use Rattle.formula_text.specs.Printed.{Prints, Replied};
+ghost use Rattle.std.specs.Prelude.{◌≤◌};
+ghost use Rattle.formula_text.specs.Printed.{Prints};
 
-use answer_text::line::Written;
 use formula_text::reply;
+use programs::{Program, area, run};
 use std::io;
-use std::io::{Read, Write};
-use streams::read_full;
 
 // "25 text over 4,096 bytes": room for one byte more is enough to tell.
 const TEXT_ROOM: usize = 4097;
 
-fn text_space() -> [u8; TEXT_ROOM] {
-    [0; TEXT_ROOM]
-}
-
 // What is printed has at most 11,400 bytes (`prints_small`).
 const OUT_ROOM: usize = 16384;
 
-fn out_space() -> [u8; OUT_ROOM]
-    ensures { length result ≡ 16384 }
-{
-    [0; OUT_ROOM]
-}
+#[derive(Clone, Copy)]
+struct Formula;
 
-// Writes what is printed for the text to the start of out, and answers how many bytes that is. There is always room.
-fn answer(text: &[u8], out: &mut [u8]) -> usize
-    requires { 16384 ≤ length out.old }
-    ensures { Replied text.now out.old out.new (Bytes result) }
-{
-    let written = reply(text, out);
-    match written {
-        Written::Bytes(n) => n,
-        Written::NoRoom => 0,
+impl Program for Formula {
+    ghost says = { λ room text said. Prints text said };
+
+    ghost suffices = { λ room. 16384 ≤ room };
+
+    // There is always room.
+    fn answer(text: &[u8], out: &mut [u8]) -> usize {
+        reply(text, out).unwrap_or(0)
     }
 }
 
-// Prints what comes of the text.
-fn print<W: Write>(output: &mut W, text: &[u8], out: &mut [u8]) -> io::Result<()>
-    requires { 16384 ≤ length out.old }
-    ensures { OnOk result ((said : List ℕ) × Prints text.now said × Appends (W.contents output.old) (W.contents output.new) said) }
-{
-    let n = answer(text, out);
-    output.write_all(&out[..n])
-}
-
-// Reads the text, and prints what comes of it.
-fn run<R: Read, W: Write>(
-    input: &mut R,
-    output: &mut W,
-    text: &mut [u8],
-    out: &mut [u8],
-) -> io::Result<()>
-    requires { 16384 ≤ length out.old }
-    ensures { OnOk result (IfSome (R.remaining input.old) (λ all. (said : List ℕ)
-        × Prints (take (length text.old) all) said × Appends (W.contents output.old) (W.contents output.new) said)) }
-{
-    let n = read_full(input, text)?;
-    print(output, &text[..n], out)
-}
-
 fn main(rt: HostRuntime) -> io::Result<()> {
-    let mut text = text_space();
-    let mut out = out_space();
-    run(&mut rt.stdin(), &mut rt.stdout(), &mut text, &mut out)
+    let mut text = area::<TEXT_ROOM>();
+    let mut out = area::<OUT_ROOM>();
+    run::<Formula, _, _>(&mut rt.stdin(), &mut rt.stdout(), &mut text, &mut out)
 }

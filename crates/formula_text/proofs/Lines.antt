@@ -12,6 +12,17 @@ use Rattle.answer_text.specs.Going.{Appends}
 use Rattle.answer_text.proofs.Goings.{named}
 use Rattle.formula_text.specs.Printed.{after_number, told_line}
 
+-- after 21, 22, 23 and 25 nothing is told
+pub nothing_told : (r : Answer) → ((n : ℕ) → r ≡ Ok n → ⊥) → ((i : ℕ) → r ≡ Err (BadText i) → ⊥)
+    → ((n : ℕ) → r ≡ Err (NoRoom n) → ⊥) → newline ≡ after_number r ++ newline
+nothing_told (Ok n) d b m = absurd (d n refl)
+nothing_told (Err (BadText i)) d b m = absurd (b i refl)
+nothing_told (Err TooDeep) d b m = refl
+nothing_told (Err Clash) d b m = refl
+nothing_told (Err TooLong) d b m = refl
+nothing_told (Err (NoRoom n)) d b m = absurd (m n refl)
+nothing_told (Err LongText) d b m = refl
+
 -- the first line by the number of an answer
 pub line_told : (r : Answer) (n : ℕ) (dst end : List ℕ) (q : Option ℕ) → n ≡ number_in r → Appends (told_line n r) dst 0 end q →
     Appends (told_line (number_in r) r) dst 0 end q

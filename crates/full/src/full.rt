@@ -8,7 +8,8 @@ use limits::{CHOICE_LIMIT, DEPTH_LIMIT};
 use plain::expand::expand;
 use search::search::search;
 
-// What finds the consistent choices: the search, or the plain expansion to every choice.
+// What finds the consistent choices: the search, or the plain expansion to every choice. A value, since a closure over the area would
+// have to say all that both promise once more.
 #[derive(Clone, Copy)]
 pub enum Engine {
     Fast,

@@ -18,6 +18,7 @@ const TEXT_ROOM: usize = 720896;
 // What is printed has at most 280,000 bytes (`serves_small`).
 const OUT_ROOM: usize = 280000;
 
+#[derive(Clone, Copy)]
 struct Librarian;
 
 impl Program for Librarian {

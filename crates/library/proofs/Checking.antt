@@ -3,28 +3,18 @@
 use Prim.Native.Nat.{ℕ, zero, suc, ◌+◌, ◌*◌, ◌-◌, ◌≤◌, ◌<◌}
 use native.Mathlib.Numerals.{sub-one}
 use native.Mathlib.Nat.{not-suc-le-zero}
-use mathlib.Core.Path.{◌≡◌, refl, sym, ap}
-use mathlib.Core.Bool.{Bool, true, false}
+use mathlib.Core.Path.{◌≡◌, refl}
+use mathlib.Core.Bool.{true, false}
 use mathlib.Core.List.{List}
 use lib.Dec.{leb, ltb}
-use borrow.Author.Tests.{eq-eqb, ne_eqb, le-leb, lt-leb, leb-true, ltb-true}
-use Rattle.blocks.specs.Block.{whichever, pair_at, intact, block_of}
+use borrow.Author.Tests.{leb-true, ltb-true}
+use Rattle.blocks.specs.Block.{pair_at}
 use Rattle.blocks.proofs.Whole.{whichever_true}
-use Rattle.library.specs.Index.{room_of, first_part, Index, index_of}
-use Rattle.library.specs.Check.{held_by, block_among, holder_of, checked_in, held_checked, checked_by, block_checked}
-use Rattle.std.specs.Prelude.{Some, None, Ok, Err}
-use Rattle.library.specs.declared.index.IndexError.{IndexError}
-use Rattle.library.specs.declared.survey.CheckError.TheVariants as error
+use Rattle.library.specs.Index.{room_of, first_part}
+use Rattle.library.specs.Check.{held_by, block_among, holder_of}
+use Rattle.std.specs.Prelude.{None}
 
 module _ (first n k : ℕ) where
-  pub among_before : k < first → false ≡ block_among first n k
-  unfolding block_among
-  among_before h = simp (lt-leb _ _ h)
-
-  pub among_test : first ≤ k → ltb (k - first) (room_of n) ≡ block_among first n k
-  unfolding block_among
-  among_test h = sym (ap (λ (t : Bool). whichever t (ltb (k - first) (room_of n)) false) (le-leb first k h))
-
   pub among_means : block_among first n k ≡ true → (first ≤ k) × (k - first < room_of n)
   unfolding block_among
   among_means e =
@@ -48,31 +38,3 @@ module _ (k : ℕ) where
   unfolding holder_of
   holder_none zero p b h = refl
   holder_none (suc c) p b h = absurd (not-suc-le-zero h)
-
-module _ (k count : ℕ) (f : List ℕ) where
-  pub held_start : k ≡ 0 → Ok None ≡ held_checked k count f
-  unfolding held_checked
-  held_start h = simp (eq-eqb _ _ h)
-
-  module _ (later : k ≡ 0 → ⊥) where
-    pub held_nobody : holder_of k count 2 (block_of 0 f) ≡ None → Err error.NoBlock ≡ held_checked k count f
-    unfolding held_checked checked_in
-    held_nobody e = sym (simp (ne_eqb _ _ later) (rw e))
-
-    module _ (id used : ℕ) (held : holder_of k count 2 (block_of 0 f) ≡ held_by id used) where
-      pub held_whole : intact used k (block_of k f) ≡ true → Ok None ≡ held_checked k count f
-      unfolding held_checked checked_in
-      held_whole e = sym (simp (ne_eqb _ _ later) (rw held (rw e)))
-
-      pub held_costs : intact used k (block_of k f) ≡ false → Ok (Some id) ≡ held_checked k count f
-      unfolding held_checked checked_in
-      held_costs e = sym (simp (ne_eqb _ _ later) (rw held (rw e)))
-
-module _ (k : ℕ) (f : List ℕ) where
-  pub checked_good : (count : ℕ) → Ok count ≡ index_of f → held_checked k count f ≡ block_checked k f
-  unfolding block_checked checked_by
-  checked_good count e = ap (λ (x : Index). checked_by x k f) e
-
-  pub checked_refused : (e : IndexError) → Err e ≡ index_of f → Err (error.Index e) ≡ block_checked k f
-  unfolding block_checked checked_by
-  checked_refused error e = ap (λ (x : Index). checked_by x k f) e

@@ -16,36 +16,14 @@ use Rattle.library.specs.Index.{room_of, used_by, entry_good, index_good, found,
 use Rattle.std.specs.Prelude.{None, Ok, Err}
 use Rattle.library.specs.declared.index.IndexError.TheVariants.{BadLength, BadStart, BadIndex}
 
-pub used_over : (n : ℕ) → 60 < n → 506 ≡ used_by n
-unfolding used_by
-used_over n h = simp (lt-leb _ _ h)
-
 pub used_within : (n : ℕ) → n ≤ 60 → 2 + 8 * n ≡ used_by n
 unfolding used_by
 used_within n h = simp (le-leb _ _ h)
 
-module _ (low next p : ℕ) (b : List ℕ) where
-  pub entry_low : pair_at b p < low → false ≡ entry_good low next p b
-  unfolding entry_good
-  entry_low h = simp (lt-leb _ _ h)
-
-  module _ (rises : low ≤ pair_at b p) where
-    pub entry_gap : (pair_at b (p + 2) ≡ next → ⊥) → false ≡ entry_good low next p b
-    unfolding entry_good
-    entry_gap h = simp (le-leb _ _ rises, ne_eqb _ _ h)
-
-    module _ (follows : pair_at b (p + 2) ≡ next) where
-      pub entry_few : pair_at b (p + 4) < 3 → false ≡ entry_good low next p b
-      unfolding entry_good
-      entry_few h = simp (le-leb _ _ rises, eq-eqb _ _ follows, lt-leb _ _ h)
-
-      pub entry_many : 3 ≤ pair_at b (p + 4) → 1024 < pair_at b (p + 4) → false ≡ entry_good low next p b
-      unfolding entry_good
-      entry_many h k = simp (le-leb _ _ rises, eq-eqb _ _ follows, le-leb _ _ h, lt-leb _ _ k)
-
-      pub entry_last : 3 ≤ pair_at b (p + 4) → pair_at b (p + 4) ≤ 1024 → eqb (pair_at b (p + 6)) 0 ≡ entry_good low next p b
-      unfolding entry_good
-      entry_last h k = simp (le-leb _ _ rises, eq-eqb _ _ follows, le-leb _ _ h, le-leb _ _ k)
+pub entry_last : (low next p : ℕ) (b : List ℕ) → low ≤ pair_at b p → pair_at b (p + 2) ≡ next → 3 ≤ pair_at b (p + 4) → pair_at b (p + 4) ≤ 1024
+    → eqb (pair_at b (p + 6)) 0 ≡ entry_good low next p b
+unfolding entry_good
+entry_last low next p b rises follows h k = simp (le-leb _ _ rises, eq-eqb _ _ follows, le-leb _ _ h, le-leb _ _ k)
 
 pub index_stop : (c low next p : ℕ) (b : List ℕ) (total : ℕ) → 0 < c → entry_good low next p b ≡ false → index_good c low next p b total ≡ false
 unfolding index_good

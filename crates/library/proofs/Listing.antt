@@ -1,20 +1,14 @@
 -- Laws of listing, in the form in which the functions' returns ask them.
 -- Assumes nothing.
-use Prim.Native.Nat.{ℕ, zero, suc, ◌+◌, ◌*◌, ◌≤◌, ◌<◌}
+use Prim.Native.Nat.{ℕ, zero, suc, ◌+◌, ◌*◌, ◌<◌}
 use native.Mathlib.Omega.{arith}
 use mathlib.Core.Path.{◌≡◌, refl, sym, ap, ◌∙◌}
 use mathlib.Core.List.{List, [], ◌∷◌, ◌++◌, append_assoc}
 use lib.ListN.{length, get_or, drop, set, length-append}
 use lib.Seq.{set_at, drop-cons}
 use native.Mathlib.Numerals.{add-one}
-use borrow.Author.Tests.{le-leb, lt-leb}
-use Rattle.blocks.specs.Block.{pair_at, block_of}
-use Rattle.library.specs.Index.{index_of}
+use Rattle.blocks.specs.Block.{pair_at}
 use Rattle.library.specs.Contents.{listing}
-use Rattle.library.specs.List.{Listed, list_answer_of, list_answer_by, list_answer, list_by, ListsEntries, ListsLibrary}
-use Rattle.std.specs.Prelude.{Ok, Err}
-use Rattle.library.specs.declared.index.IndexError.{IndexError}
-use Rattle.library.specs.declared.list.ListError.TheVariants as error
 
 module _ (b : List ℕ) where
   list_length : (c p : ℕ) → length (listing c p b) ≡ 2 * c
@@ -56,21 +50,3 @@ module _ (b : List ℕ) where
       let more : listing (i + 1) 2 b ≡ front ++ (x ∷ y ∷ []) = list_more i 2 in
       ap (λ (l : List ℕ). set l (2 * i + 1) y) (one ∙ apart) ∙ two ∙ append_assoc front (x ∷ []) (y ∷ tail)
       ∙ sym (append_assoc front (x ∷ y ∷ []) tail) ∙ ap (λ (l : List ℕ). l ++ tail) (sym more)
-
-module _ (count : ℕ) (f area area' : List ℕ) where
-  pub lists_short : length area < 2 * count → area' ≡ area → ListsEntries count f area area' (Err (error.NoRoom (2 * count)))
-  unfolding list_answer_of
-  lists_short h a = record { answer = rw (lt-leb _ _ h); leaves = a }
-
-  pub lists_all : 2 * count ≤ length area → area' ≡ listing count 2 (block_of 0 f) ++ drop (2 * count) area → ListsEntries count f area area' (Ok (2 * count))
-  unfolding list_answer_of
-  lists_all h a = record { answer = rw (le-leb _ _ h); leaves = a }
-
-module _ (f area area' : List ℕ) where
-  pub lists_good : (count : ℕ) (r : Listed) → Ok count ≡ index_of f → ListsEntries count f area area' r → ListsLibrary f area area' r
-  unfolding list_answer list_answer_by list_by
-  lists_good count r e s = record { answer = s.answer ∙ rw (← e); leaves = s.leaves ∙ rw (← e) }
-
-  pub lists_refused : (e : IndexError) → Err e ≡ index_of f → area' ≡ area → ListsLibrary f area area' (Err (error.Index e))
-  unfolding list_answer list_answer_by
-  lists_refused error e a = record { answer = rw (← e); leaves = a }

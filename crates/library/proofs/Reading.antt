@@ -13,11 +13,10 @@ use borrow.Author.Tests.{le-leb, lt-leb}
 use Rattle.blocks.specs.Block.{intact, block_of}
 use Rattle.layout.specs.Judged.{Judged}
 use Rattle.layout.proofs.Whole.{accepted_decodes, refused_decodes}
-use Rattle.library.specs.Index.{first_part, room_of, placed, index_of}
-use Rattle.library.specs.Read.{Fetched, quad_at, words_from, whole_blocks, has_read, imaged, fetch_answer_at, fetch_answer_found, sought, fetch_answer_by, fetch_answer, words_found, words_by, words_asked, FetchesAt, FetchesFound, Fetches}
-use Rattle.std.specs.Prelude.{Option, None, Ok, Err}
+use Rattle.library.specs.Index.{first_part, room_of, index_of}
+use Rattle.library.specs.Read.{Fetched, quad_at, words_from, whole_blocks, has_read, imaged, fetch_answer_at, sought, fetch_answer_by, fetch_answer, words_by, words_asked, FetchesAt, FetchesFound, Fetches}
+use Rattle.std.specs.Prelude.{Ok, Err}
 use Rattle.library.specs.declared.index.IndexError.{IndexError}
-use Rattle.library.specs.declared.index.Place.{Place}
 use Rattle.library.specs.declared.read.ReadError.TheVariants as error
 
 pub not_stop : (t : Bool) → not t ≡ true → t ≡ false
@@ -83,10 +82,6 @@ module _ (ws : List ℕ) (j : Bool) (judged : Judged ws j) where
   imaged_not e = ap has_read ((refused_decodes ws j judged).0 (λ a. let z : ◌≡◌ {A = ℕ} 0 1 = cc in omega arith))
 
 module _ (k n : ℕ) (f area area' : List ℕ) where
-  pub fetches_damaged : whole_blocks (room_of n) k n f ≡ false → area' ≡ area → FetchesAt k n f area area' (Err error.Damaged)
-  unfolding fetch_answer_at
-  fetches_damaged e a = record { answer = rw e; leaves = a }
-
   module _ (whole : whole_blocks (room_of n) k n f ≡ true) where
     pub fetches_malformed : imaged (words_from k 0 n f) ≡ false → area' ≡ area → FetchesAt k n f area area' (Err error.Malformed)
     unfolding fetch_answer_at
@@ -111,15 +106,6 @@ module _ (f dst space : List ℕ) (k n : ℕ) (long : length space ≡ 1024) (fe
 
     pub copied_not : r ≡ false → imaged (words_from k 0 n f) ≡ false
     copied_not a = ap imaged (sym copied_words) ∙ imaged_not dst r judged a
-
-module _ (f area area' : List ℕ) (x : Option Place) (r : Fetched) where
-  pub fetches_found : (k n : ℕ) → x ≡ placed k n → FetchesAt k n f area area' r → FetchesFound x f area area' r
-  unfolding fetch_answer_found words_found
-  fetches_found k n e d = rw e (record { answer = d.answer; leaves = d.leaves })
-
-  pub fetches_none : x ≡ None → r ≡ Err error.Absent → area' ≡ area → FetchesFound x f area area' r
-  unfolding fetch_answer_found words_found
-  fetches_none e h a = rw e (rw h (record { answer = refl; leaves = a }))
 
 module _ (f : List ℕ) (id : ℕ) (area area' : List ℕ) where
   pub fetches_good : (count : ℕ) (r : Fetched) → Ok count ≡ index_of f → FetchesFound (sought id count f) f area area' r → Fetches f id area area' r

@@ -52,7 +52,7 @@ fn list_entries(file: &[u8], count: usize, area: &mut [u32]) -> Result<usize, Li
 }
 
 // Lists the entries of a library to the start of the area. So many words are listed, two an entry.
-#[tactic(auto, using(crate::proofs::Listing::lists_good, crate::proofs::Listing::lists_refused))]
+#[tactic(auto, unfolding(crate::specs::List::list_answer, crate::specs::List::list_answer_by, crate::specs::List::list_by))]
 pub fn list(file: &[u8], area: &mut [u32]) -> Result<usize, ListError>
     ensures { ListsLibrary file.now area.old area.new result }
 {

@@ -93,6 +93,7 @@ fn read_description(
 }
 
 // Reads the description of an identifier in a library whose index is good.
+#[tactic(auto, unfolding(crate::specs::Read::fetch_answer_found, crate::specs::Read::words_found))]
 fn read_indexed(
     file: &[u8],
     count: usize,
@@ -110,7 +111,7 @@ fn read_indexed(
 }
 
 // Reads the description of an identifier of a library to the start of the area. So many words are read.
-#[tactic(auto, using(crate::proofs::Reading::fetches_good, crate::proofs::Reading::fetches_refused))]
+#[tactic(auto, using(crate::proofs::Reading::fetches_refused))]
 pub fn fetch(file: &[u8], identifier: u32, area: &mut [u32]) -> Result<usize, ReadError>
     ensures { Fetches file.now identifier area.old area.new result }
 {

@@ -57,6 +57,7 @@ fn find_holder(start: &[u8], count: usize, k: usize) -> Option<Holder>
 }
 
 // Checks block k of a library whose index is good.
+#[tactic(auto, unfolding(crate::specs::Check::held_checked, crate::specs::Check::checked_in))]
 fn check_held(file: &[u8], count: usize, k: usize) -> Result<Option<usize>, CheckError>
     requires { Ok count ≡ index_of file.now }
     ensures { result ≡ held_checked k count file.now }
@@ -75,7 +76,7 @@ fn check_held(file: &[u8], count: usize, k: usize) -> Result<Option<usize>, Chec
 }
 
 // Checks block k of a library: the identifier of the description that its damage costs, or none where it is whole.
-#[tactic(auto, using(crate::proofs::Checking::checked_good, crate::proofs::Checking::checked_refused))]
+#[tactic(auto, unfolding(crate::specs::Check::block_checked, crate::specs::Check::checked_by))]
 pub fn check_block(file: &[u8], k: usize) -> Result<Option<usize>, CheckError>
     ensures { result ≡ block_checked k file.now }
 {

@@ -11,8 +11,9 @@ use lib.ListN.{length, length-append, get_or}
 use Rattle.theory.specs.Limits.{choice_limit, depth_limit}
 use Rattle.theory.specs.Net.{Graph}
 use Rattle.theory.specs.Descr.{agree}
-use Rattle.area.specs.Map.{SIZE, WORDS, NODES, MARKS, RESULT}
+use Rattle.area.specs.Map.{SIZE, NODES, MARKS, RESULT}
 use Rattle.area.specs.Region.{loaded_words}
+use Rattle.area.specs.Log.{Later, Undone}
 use Rattle.area.proofs.Region.{words_same, words_many}
 use Rattle.engine.specs.Marks.{Marking, keep}
 use Rattle.engine.specs.Search.{Found, lit}
@@ -24,8 +25,9 @@ use Rattle.layout.proofs.Standing.{stands_frame}
 use Rattle.loading.specs.Entry.{graphs}
 use Rattle.marks.specs.Marked.{marking, lights}
 use Rattle.marks.proofs.Marks.{or_none, or_assoc, marking_frame, lights_frame}
-use Rattle.classes.specs.Holds.{Holds, Since, Remembers, Backs}
-use Rattle.classes.proofs.Laws.{holds_frame, since_refl, since_trans, since_frame}
+use Rattle.classes.specs.Holds.{Holds, Since}
+use Rattle.classes.proofs.Amid.{undone_back, undone_holds}
+use Rattle.classes.proofs.Laws.{holds_few, holds_frame, since_refl, since_later, since_trans, since_frame}
 use Rattle.counting.specs.Counted.{CountedBoth}
 use Rattle.leaving.specs.Found.{Searching, Searches}
 use Rattle.leaving.specs.Fulled.{Fulling}
@@ -38,8 +40,7 @@ use Rattle.choosing.proofs.Nth.{entries_of, new_of}
 use Rattle.choosing.proofs.Newly.{way_new}
 use Rattle.choosing.proofs.Finds.{found_up, up_none, up_more, up_all, counted_ways}
 use Rattle.plain.proofs.Turns.{turns_count}
-use Rattle.std.specs.Prelude.{Option, Some, None}
-use Rattle.plain.specs.Joined.{Choice, whole, Joins}
+use Rattle.plain.proofs.Joining.{Choice, whole}
 use Rattle.plain.proofs.Kept.{way_kept}
 
 -- of the first `next` choices so many were found, and what they take is lit; else all is as it was
@@ -158,33 +159,6 @@ pub record Gone (n k : ℕ) (w₀ : List ℕ) (total next found : ℕ) (w : List
 pub gone_none : (n k : ℕ) (w₀ : List ℕ) (total : ℕ) → Gone n k w₀ total 0 0 w₀
 gone_none n k w₀ total = record { below = omega arith; few = omega arith; upto = λ c. upto_none c }
 
-pub gone_as : {n k : ℕ} {w₀ : List ℕ} {total next f g : ℕ} {w w' : List ℕ} → g ≡ f → w' ≡ w → Gone n k w₀ total next f w →
-    Gone n k w₀ total next g w'
-gone_as {n} {k} {w₀} {total} {next} {f} {g} {w} {w'} p q u =
-    subst (λ (v : List ℕ). Gone n k w₀ total next g v) (sym q) (subst (λ (d : ℕ). Gone n k w₀ total next d w) (sym p) u)
-
--- ---- what was pushed for a choice is taken back
-pub record TakenBack (n k : ℕ) (w₁ : List ℕ) (many : ℕ) (w₃ : List ℕ) : Type 0 where
-  pub len : length w₃ ≡ length w₁
-  pub rest : (j : ℕ) → WORDS ≤ j → get_or w₃ j 0 ≡ get_or w₁ j 0
-  pub since : Since k w₁ k w₃
-  pub holds : (b : Choice n k w₁ many) → Holds n b.es k w₃
-
-module _ {n k : ℕ} {w₁ : List ℕ} {many : ℕ} {r : Option ℕ} {w₂ : List ℕ} (v : Joins n k w₁ many r w₂) where
-  pub joined_asks : {log : ℕ} → r ≡ Some log → Remembers k log w₂
-  joined_asks {log} z = record { w₀ = w₁; since = (v.joined log z).0 }
-
-  pub joined_back : {log : ℕ} → r ≡ Some log → {w₃ : List ℕ} → Backs k log w₂ w₃ → TakenBack n k w₁ many w₃
-  joined_back {log} z {w₃} t = record {
-    len = t.len ∙ v.len;
-    rest = λ j h. t.rest j h ∙ v.rest j h;
-    since = t.since w₁ (v.joined log z).0;
-    holds = λ b. t.holds n b.es w₁ b.holds (v.joined log z).0;
-  }
-
-  pub clashed_back : r ≡ None → TakenBack n k w₁ many w₂
-  clashed_back z = record { len = v.len; rest = v.rest; since = (v.clashed z).0; holds = λ b. ((v.clashed z).1 b).0 }
-
 -- ---- one choice more: of those that are left the next one is listed
 pub record Step (n k : ℕ) (w₀ : List ℕ) (total next found many : ℕ) (w₁ : List ℕ) : Type 0 where
   pub pre : Expanding n k w₀ total
@@ -252,13 +226,19 @@ module _ {n k : ℕ} {w₀ : List ℕ} {total next found many : ℕ} {w₁ : Lis
       let c = s.pre.searching in
       omega (arith, turns_count w₁ RESULT (way c next) many (stands c), way_few c.p.inputs (marking w₀) next, (listed c).holds.below)
 
-  -- what was pushed for it is taken back
-  module _ {w₃ : List ℕ} (t : TakenBack n k w₁ many w₃) where
+  -- it is joined as far as it goes, and taken back
+  module _ {e : ℕ} {w₂ w₃ : List ℕ} (l : Later k w₁ e w₂) (t : Undone k e w₂ w₃) where
     module _ (c : Searching n k w₀) where
+      back : Later k w₁ k w₃
+      back = undone_back (listed c).holds l t
+
       taken_back : UpTo c next found w₃
       taken_back =
-          upto_frame c (listed c) t.len (λ j a b. t.rest j (omega arith)) (λ j a. t.rest j (omega arith))
-          (since_trans k w₀ k w₁ k w₃ (listed c).since t.since) (t.holds (choice c))
+          let o = (listed c).holds in
+          upto_frame c (listed c) back.len (λ j a b. back.rest j (omega arith)) (λ j a. back.rest j (omega arith))
+          (since_trans k w₀ k w₁ k w₃ (listed c).since
+          (since_later k w₁ k w₃ (holds_few n c.stage.es k w₁ o) o.state.logged back))
+          (undone_holds o l t)
 
       abbrev lighting : Lighting w₃ many
       lighting = record {
@@ -266,7 +246,7 @@ module _ {n k : ℕ} {w₀ : List ℕ} {total next found many : ℕ} {w₁ : Lis
         few = step_few;
         ts = way c next;
         stands = stands_frame w₁ w₃ (words_of (way c next)) RESULT (RESULT + many)
-            (λ j a b x. (omega (arith, t.len), t.rest j (omega arith))) (stands c);
+            (λ j a b x. (omega (arith, back.len), back.rest j (omega arith))) (stands c);
         each = λ x i. way_kept c.p.inputs w₃ taken_back.holds.long (loaded_is c taken_back) next x
             (subst (λ (m : Marking). Memᴰ x (way_both c.p.inputs m next)) (sym taken_back.marks) i);
       }

@@ -14,7 +14,6 @@ use Rattle.layout.proofs.Standing.{stands_length}
 use Rattle.loading.specs.Entry.{Entry}
 use Rattle.choosing.specs.Ways.{Take, take_word, words_of}
 use Rattle.choosing.proofs.Nth.{entries_of, new_of}
-use Rattle.plain.specs.Joined.{news}
 
 -- the next one after the first i, of those that stand from p on
 pub record Turn (w : List ℕ) (p : ℕ) (ts : List Take) (i : ℕ) : Type 0 where
@@ -54,6 +53,9 @@ pub turns_count : (w : List ℕ) (p : ℕ) (ts : List Take) (many : ℕ) → Sta
 turns_count w p ts many s = omega (arith, stands_length w (words_of ts) p (p + many) s, words_many ts)
 
 -- ---- those that are to be pushed
+abbrev pub news : List Take → List Entry
+news ts = entries_of (new_of ts)
+
 -- one before others
 onto : Bool → Entry → List Entry → List Entry
 onto b e l = elim b [ true ↦ e ∷ l | false ↦ l ]

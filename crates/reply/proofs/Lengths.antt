@@ -25,8 +25,7 @@ use Rattle.descriptions.proofs.Table.{unified_given}
 use Rattle.call_text.specs.Token.{largest}
 use Rattle.call_text.specs.Call.{Typed, heard}
 use Rattle.answer_text.specs.Answer.{bad_text, Wrote}
-use Rattle.answer_text.specs.declared.line.Written.{Written}
-use Rattle.answer_text.specs.declared.line.Written.TheVariants.{Bytes}
+use Rattle.std.specs.Prelude.{Some}
 use Rattle.answer_text.proofs.Answers.{text-small, wrote-fits}
 use Rattle.unify.proofs.NodeSizes.{given_low}
 use Rattle.reply.specs.Printed.{answered, spoken, printed}
@@ -133,8 +132,8 @@ printed_small text = go (heard text)
     go (some c) = spoken_small (record { mode = c.mode; first = c.first; second = c.second })
 
 -- in 32,768 bytes `reply` always has room, and what it writes there is what `meet` prints
-pub always_printed : (text out out' : List ℕ) (r : Written) → 32768 ≤ length out → Wrote (printed text) out out' r
-    → (r ≡ Bytes (length (printed text))) × (take (length (printed text)) out' ≡ printed text)
+pub always_printed : (text out out' : List ℕ) (r : Rattle.std.specs.Prelude.Option ℕ) → 32768 ≤ length out → Wrote (printed text) out out' r
+    → (r ≡ Some (length (printed text))) × (take (length (printed text)) out' ≡ printed text)
 always_printed text out out' r h w =
     let k = printed_small text in
     let e = wrote-fits (printed text) out out' r w (omega arith) in

@@ -15,11 +15,11 @@ use Rattle.theory.specs.Outcome.{Areas, Outcome, Row}
 use Rattle.theory.proofs.Areas.{given_writes}
 use Rattle.descriptions.proofs.Areas.{Writes, nothing, result}
 use Rattle.theory.proofs.Table.{outcome_answer}
-use Rattle.call_text.specs.Call.{Typed, heard, heard_in, upon, Heard}
+use Rattle.std.specs.Prelude.{Some, None}
+use Rattle.std.proofs.lemmas.Option.{same_Some}
+use Rattle.call_text.specs.Call.{Answer, Typed, heard, heard_in, upon, Heard}
 use Rattle.call_text.specs.declared.call.Counts.{Counts}
-use Rattle.call_text.specs.declared.call.Counts.TheVariants.{Good, BadInput}
 use Rattle.answer_text.specs.Answer.{second_line, answer_text, bad_text, Wrote}
-use Rattle.answer_text.specs.declared.line.Written.{Written}
 use Rattle.call_text.proofs.Calls.{with_room}
 use Rattle.reply.specs.Printed.{in_text, answered, spoken, ReplyTold, printed}
 
@@ -38,7 +38,7 @@ module _ (c : theory.Call) (before after : Areas) (r : Row) (ls : length before.
   said = ap in_text answered_is
 
   -- what is written of the answer, with its number and node
-  pub reply_told : (text out out' : List ℕ) (w : Written) → text ≡ spoken c → Wrote text out out' w →
+  pub reply_told : (text out out' : List ℕ) (w : Rattle.std.specs.Prelude.Option ℕ) → text ≡ spoken c → Wrote text out out' w →
       ReplyTold c out out' (record { written = w; number = r.number; node = r.node })
   reply_told text out out' w e h = record {
     wrote = subst (λ (x : List ℕ). Wrote x out out' w) e h;
@@ -101,7 +101,7 @@ front ws l l' n e f = ap₂ {C = List ℕ} take e f ∙ take-append_seam ws (dro
 front_room : (ws l l' : List ℕ) (n : ℕ) → n ≡ length ws → l' ≡ upon ws l → n ≤ length l'
 front_room ws l l' n e f = let i = ap length f in let j = length-append ws (drop (length ws) l) in omega arith
 
-module _ (text first second first' second' : List ℕ) (r : Counts) (lf : length first ≡ 2048) (ls : length second ≡ 2048)
+module _ (text first second first' second' : List ℕ) (r : Answer) (lf : length first ≡ 2048) (ls : length second ≡ 2048)
     (h : Heard (heard_in (length first) (length second) text) first second first' second' r) where
   -- there is room for every call
   is_heard : Heard (heard text) first second first' second' r
@@ -109,18 +109,27 @@ module _ (text first second first' second' : List ℕ) (r : Counts) (lf : length
       subst (λ (o : Option Typed). Heard o first second first' second' r)
       (with_room (length first) (length second) text (omega arith) (omega arith)) h
 
-  pub heard_bad : r ≡ BadInput → heard text ≡ none
+  pub heard_bad : r ≡ None → heard text ≡ none
   heard_bad q = go (heard text) is_heard
     where
       go : (o : Option Typed) → Heard o first second first' second' r → o ≡ none
       go none k = refl
       go (some c) k = let e = k.answer in let z : ◌≡◌ {A = ℕ} 0 1 = cc in absurd (omega arith)
 
-  pub printed_bad : r ≡ BadInput → bad_text ≡ printed text
+  pub printed_bad : r ≡ None → bad_text ≡ printed text
   unfolding printed
   printed_bad q = sym (ap printed_for (heard_bad q))
 
-  module _ (mode n m : ℕ) (q : r ≡ Good mode n m) where
+  module _ (counts : Counts) (q : r ≡ Some counts) where
+    abbrev mode : ℕ
+    mode = counts.mode
+
+    abbrev n : ℕ
+    n = counts.first
+
+    abbrev m : ℕ
+    m = counts.second
+
     -- the inputs stand at the start of each list
     abbrev Stands : Option Typed → Type 0
     Stands o = (n ≤ length first') × (m ≤ length second') × (o ≡ some (typed mode (take n first') (take m second')))
@@ -131,10 +140,10 @@ module _ (text first second first' second' : List ℕ) (r : Counts) (lf : length
         go : (o : Option Typed) → Heard o first second first' second' r → Stands o
         go none k = let e = k.answer in let z : ◌≡◌ {A = ℕ} 0 1 = cc in absurd (omega arith)
         go (some c) k =
-            let e : Good mode n m ≡ Good c.mode (length c.first) (length c.second) = sym q ∙ k.answer in
-            let x : mode ≡ c.mode = cc in
-            let y : n ≡ length c.first = cc in
-            let z : m ≡ length c.second = cc in
+            let e : counts ≡ record { mode = c.mode; first = length c.first; second = length c.second } = same_Some _ _ (sym q ∙ k.answer) in
+            let x : mode ≡ c.mode = ap (λ (v : Counts). v.mode) e in
+            let y : n ≡ length c.first = ap (λ (v : Counts). v.first) e in
+            let z : m ≡ length c.second = ap (λ (v : Counts). v.second) e in
             let f = front c.first first first' n y k.the_first in
             let g = front c.second second second' m z k.the_second in (
               front_room c.first first first' n y k.the_first,
@@ -154,5 +163,5 @@ module _ (text first second first' second' : List ℕ) (r : Counts) (lf : length
     printed_good = sym (ap printed_for heard_good)
 
 -- ---- a text by another name
-pub wrote_same : (x y dst dst' : List ℕ) (r : Written) → x ≡ y → Wrote x dst dst' r → Wrote y dst dst' r
+pub wrote_same : (x y dst dst' : List ℕ) (r : Rattle.std.specs.Prelude.Option ℕ) → x ≡ y → Wrote x dst dst' r → Wrote y dst dst' r
 wrote_same x y dst dst' r e h = subst (λ (z : List ℕ). Wrote z dst dst' r) e h

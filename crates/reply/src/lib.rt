@@ -7,33 +7,27 @@ ghost use Rattle.reply.specs.Printed.{result_size, spoken, ReplyTold, printed};
 ghost use Rattle.theory.specs.Limits.{working_size};
 
 use answer_text::answer::{write_answer, write_bad};
-use answer_text::line::Written;
 use answering::answer::told;
-use call_text::call::{Counts, read_call};
+use call_text::call::read_call;
 use unify::unify;
 
-// "Its result area has 2,048 words", and so have the inputs at most.
-const RESULT_SIZE: usize = 2048;
-
-fn space() -> [u32; RESULT_SIZE]
-    ensures { length result ≡ result_size }
+// An area of N words: a function of its own, so that no proof spells out so many zeros.
+pub fn zeros<const N: usize>() -> [u32; N]
+    ensures { length result ≡ N }
 {
-    [0; RESULT_SIZE]
+    [0; N]
 }
+
+// "Its result area has 2,048 words", and so have the inputs at most.
+pub const RESULT_SIZE: usize = 2048;
 
 // "its working area 16,384"
-const WORKING_SIZE: usize = 16384;
+pub const WORKING_SIZE: usize = 16384;
 
-fn working_space() -> [u32; WORKING_SIZE]
-    ensures { length result ≡ working_size }
-{
-    [0; WORKING_SIZE]
-}
-
-// What was written of an answer, and its number and node.
-#[derive(Clone, Copy)]
+// What was written of an answer, if it had room, and its number and node.
+#[derive(Clone, Copy, Debug, PartialEq, Eq)]
 pub struct Replied {
-    pub written: Written,
+    pub written: Option<usize>,
     pub number: u32,
     pub node: usize,
 }
@@ -53,23 +47,12 @@ fn answer_in(
 {
     let came = unify(mode, first, second, res, working);
     let row = told(came);
-    let number = row.number;
-    let length = row.length;
-    let readings = row.readings;
-    let node = row.node;
-    if number == 0 {
-        let written = write_answer(out, number, length, readings, &res[..length]);
-        return Replied {
-            written,
-            number,
-            node,
-        };
-    }
-    let written = write_answer(out, number, length, readings, &res[..0]);
+    let shown = if row.number == 0 { row.length } else { 0 };
+    let written = write_answer(out, row.number, row.length, row.readings, &res[..shown]);
     Replied {
         written,
-        number,
-        node,
+        number: row.number,
+        node: row.node,
     }
 }
 
@@ -78,42 +61,35 @@ pub fn answer_told(mode: u32, first: &[u32], second: &[u32], out: &mut [u8]) -> 
     ensures { ReplyTold (record { mode = mode; first = first.now; second = second.now })
         out.old out.new result }
 {
-    let mut result = space();
-    let mut working = working_space();
+    let mut result: [u32; RESULT_SIZE] = zeros();
+    let mut working: [u32; WORKING_SIZE] = zeros();
     answer_in(mode, first, second, &mut result, &mut working, out)
 }
 
 // Unifies two inputs, and writes the answer to the start of out.
-pub fn answer(mode: u32, first: &[u32], second: &[u32], out: &mut [u8]) -> Written
+pub fn answer(mode: u32, first: &[u32], second: &[u32], out: &mut [u8]) -> Option<usize>
     ensures { Wrote (spoken (record { mode = mode; first = first.now; second = second.now }))
         out.old out.new result }
 {
-    let replied = answer_told(mode, first, second, out);
-    replied.written
+    answer_told(mode, first, second, out).written
 }
 
 // Answers the call that the text is, whose inputs are read into these, and writes what `meet` prints to the start of out.
-fn reply_in(text: &[u8], first: &mut [u32], second: &mut [u32], out: &mut [u8]) -> Written
+fn reply_in(text: &[u8], first: &mut [u32], second: &mut [u32], out: &mut [u8]) -> Option<usize>
     requires { (length first.old ≡ result_size) × (length second.old ≡ result_size) }
     ensures { Wrote (printed text.now) out.old out.new result }
 {
-    let call = read_call(text, first, second);
-    let Counts::Good {
-        mode,
-        first: n,
-        second: m,
-    } = call
-    else {
+    let Some(call) = read_call(text, first, second) else {
         return write_bad(out);
     };
-    answer(mode, &first[..n], &second[..m], out)
+    answer(call.mode, &first[..call.first], &second[..call.second], out)
 }
 
 // Answers the call that the text is, and writes what `meet` prints to the start of out.
-pub fn reply(text: &[u8], out: &mut [u8]) -> Written
+pub fn reply(text: &[u8], out: &mut [u8]) -> Option<usize>
     ensures { Wrote (printed text.now) out.old out.new result }
 {
-    let mut first = space();
-    let mut second = space();
+    let mut first: [u32; RESULT_SIZE] = zeros();
+    let mut second: [u32; RESULT_SIZE] = zeros();
     reply_in(text, &mut first, &mut second, out)
 }

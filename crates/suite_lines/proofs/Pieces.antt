@@ -6,8 +6,7 @@ use mathlib.Core.List.{List, [], ◌∷◌, ◌++◌}
 use lib.ListN.{length, take, drop, length-take, length-drop}
 use Rattle.answer_text.specs.Answer.{newline, readings_label, labelled, after_spaces}
 use Rattle.answer_text.specs.Going.{Appends}
-use Rattle.answer_text.specs.declared.line.Written.{Written}
-use Rattle.answer_text.specs.declared.line.Written.TheVariants.{Bytes, NoRoom}
+use Rattle.std.specs.Prelude.{Option, Some, None}
 use Rattle.answer_text.proofs.Goings.{Turned, turns_begin, turns_go, turns_stop, nothing}
 use Rattle.suite.specs.declared.test.Test.{Test}
 use Rattle.suite_reading.specs.Text.{FindsName}
@@ -33,18 +32,18 @@ pub begins : {dst xs : List ℕ} {at : ℕ} {pieces : List (List ℕ)} → xs �
 begins {dst} {xs} {at} {pieces} e = record { turned = turns_begin dst at xs (joined pieces) e }
 
 module _ {dst₀ xs dst piece next : List ℕ} {rest : List (List ℕ)} {at end : ℕ} (l : Left dst₀ at xs dst end (piece ∷ next ∷ rest)) where
-  pub goes : {q : Written} {n : ℕ} (mid : List ℕ) → Appends piece dst end mid q → q ≡ Bytes n → Left dst₀ at xs mid n (next ∷ rest)
+  pub goes : (n : ℕ) (mid : List ℕ) → Appends piece dst end mid (Some n) → Left dst₀ at xs mid n (next ∷ rest)
   unfolding joined
-  goes {q} {n} mid f e =
+  goes n mid f =
       let ys = joined (next ∷ rest) in
-      record { turned = turns_go dst₀ at xs dst end (piece ++ ys) l.turned piece ys mid q refl f n e }
+      record { turned = turns_go dst₀ at xs dst end (piece ++ ys) l.turned piece ys mid (Some n) refl f n refl }
 
-  pub stops : {q : Written} (mid : List ℕ) → Appends piece dst end mid q → NoRoom ≡ q → Appends xs dst₀ at mid NoRoom
+  pub stops : (mid : List ℕ) → Appends piece dst end mid None → Appends xs dst₀ at mid None
   unfolding joined
-  stops {q} mid f e =
-      let ys = joined (next ∷ rest) in turns_stop dst₀ at xs dst end (piece ++ ys) l.turned piece ys mid q refl f e
+  stops mid f =
+      let ys = joined (next ∷ rest) in turns_stop dst₀ at xs dst end (piece ++ ys) l.turned piece ys mid None refl f refl
 
-pub ends : {dst₀ xs dst piece : List ℕ} {at end : ℕ} → Left dst₀ at xs dst end (piece ∷ []) → (mid : List ℕ) (q : Written) →
+pub ends : {dst₀ xs dst piece : List ℕ} {at end : ℕ} → Left dst₀ at xs dst end (piece ∷ []) → (mid : List ℕ) (q : Option ℕ) →
     Appends piece dst end mid q → Appends xs dst₀ at mid q
 unfolding joined
 ends l mid q f old whole left g = f old whole left (l.turned old whole left g)
@@ -115,18 +114,18 @@ module _ (run name : List ℕ) (from to i : ℕ) (f : FindsName run name from to
 
 -- ---- the line of a test
 module _ (t : Test) (n r : ℕ) (dst : List ℕ) (at : ℕ) where
-  pub good_said : (w : Verdict) → w ≡ Good → Appends (verdict_text w t n r) dst at dst (Bytes at)
+  pub good_said : (w : Verdict) → w ≡ Good → Appends (verdict_text w t n r) dst at dst (Some at)
   unfolding verdict_text
-  good_said w e = subst (λ (v : Verdict). Appends (verdict_text v t n r) dst at dst (Bytes at)) (sym e) (nothing dst at)
+  good_said w e = subst (λ (v : Verdict). Appends (verdict_text v t n r) dst at dst (Some at)) (sym e) (nothing dst at)
 
-  pub said : (v w : Verdict) (end : List ℕ) (q : Written) → w ≡ v → Appends (verdict_text v t n r) dst at end q →
+  pub said : (v w : Verdict) (end : List ℕ) (q : Option ℕ) → w ≡ v → Appends (verdict_text v t n r) dst at end q →
       Appends (verdict_text w t n r) dst at end q
   said v w end q e f = subst (λ (u : Verdict). Appends (verdict_text u t n r) dst at end q) (sym e) f
 
   module _ (i : ℕ) (name : List ℕ) where
-    pub good_line : (w : Verdict) → w ≡ Good → Appends (line_of i name w t n r) dst at dst (Bytes at)
+    pub good_line : (w : Verdict) → w ≡ Good → Appends (line_of i name w t n r) dst at dst (Some at)
     unfolding line_of
-    good_line w e = subst (λ (v : Verdict). Appends (line_of i name v t n r) dst at dst (Bytes at)) (sym e) (nothing dst at)
+    good_line w e = subst (λ (v : Verdict). Appends (line_of i name v t n r) dst at dst (Some at)) (sym e) (nothing dst at)
 
     pub line_begins : (w : Verdict) → (w ≡ Good → ⊥) →
         Left dst at (line_of i name w t n r) dst at (shown_name i name ∷ verdict_text w t n r ∷ [])

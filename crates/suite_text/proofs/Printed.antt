@@ -14,14 +14,14 @@ use Rattle.call_text.proofs.Tokens.{meant, said}
 use Rattle.call_text.proofs.Runs.{Other}
 use Rattle.answer_text.specs.Answer.{newline, answer_label, labelled, bad_text, Wrote}
 use Rattle.answer_text.specs.Going.{Appends}
-use Rattle.answer_text.specs.declared.line.Written.{Written}
+use Rattle.std.specs.Prelude.{Some, None, Result}
+use Rattle.std.proofs.lemmas.Option.{same_Some}
+use Rattle.suite.specs.declared.checks.Refusal.{Refusal}
 use Rattle.answer_text.proofs.Goings.{wrote}
-use Rattle.suite.specs.Suite.{table_fault}
+use Rattle.suite.specs.Suite.{number_of, table_fault}
 use Rattle.suite_reading.specs.Text.{next_named, blanked}
 use Rattle.suite_reading.specs.Tests.{TypedTest, number_then, tests_in, typed_suite, all_expected}
-use Rattle.suite_reading.specs.Finding.{Judges, fine, bad}
-use Rattle.suite_reading.specs.declared.tests.Judgement.{Judgement}
-use Rattle.suite_reading.specs.declared.tests.Judgement.TheVariants.{Fine, BadInput}
+use Rattle.suite_reading.specs.Finding.{Judgement, Judges, fine, bad}
 use Rattle.suite_reading.proofs.Found.{number_stops}
 use Rattle.suite_text.specs.Report.{tests_report, reported, typed_printed, suite_text_limit, suite_printed, MayRun, ReportWrote}
 
@@ -35,8 +35,8 @@ pub blanked_length : (text numbers : List ℕ) → numbers ≡ blanked false tex
 blanked_length text numbers e = ap length e ∙ blanked_size false text
 
 -- ---- what was judged
-judged_none : (n : ℕ) (o : Option (List TypedTest)) (j : Judgement) → Judges n o j → j ≡ BadInput → o ≡ none
-judged_none n o j (fine ts l) e = let z : ◌≡◌ {A = ℕ} 0 1 = cc in absurd (omega arith)
+judged_none : (n : ℕ) (o : Option (List TypedTest)) (j : Judgement) → Judges n o j → j ≡ None → o ≡ none
+judged_none n o j (fine ts v l f) e = let z : ◌≡◌ {A = ℕ} 0 1 = cc in absurd (omega arith)
 judged_none n o j bad e = refl
 
 record JudgedFine (n : ℕ) (o : Option (List TypedTest)) (refusal : ℕ) : Type 0 where
@@ -45,9 +45,10 @@ record JudgedFine (n : ℕ) (o : Option (List TypedTest)) (refusal : ℕ) : Type
   count : length tests ≡ n
   fault : table_fault 0 (all_expected tests) (length tests) ≡ refusal
 
-judged_some : (n : ℕ) (o : Option (List TypedTest)) (j : Judgement) → Judges n o j → (r : ℕ) → j ≡ Fine r → JudgedFine n o r
-judged_some n o j (fine ts l) r e = record { tests = ts; are = refl; count = l; fault = cc }
-judged_some n o j bad r e = let z : ◌≡◌ {A = ℕ} 0 1 = cc in absurd (omega arith)
+judged_some : (n : ℕ) (o : Option (List TypedTest)) (j : Judgement) → Judges n o j → (v : Result (Unit {0}) Refusal) → j ≡ Some v
+    → JudgedFine n o (number_of v)
+judged_some n o j (fine ts u l f) v e = record { tests = ts; are = refl; count = l; fault = sym f ∙ ap number_of (same_Some _ _ e) }
+judged_some n o j bad v e = let z : ◌≡◌ {A = ℕ} 0 1 = cc in absurd (omega arith)
 
 report_refused : (text : List ℕ) (ts : List TypedTest) (r : ℕ) → (r ≡ 0 → ⊥) → tests_report r text ts ≡ labelled answer_label r ++ newline
 report_refused text ts zero h = absurd (h refl)
@@ -81,12 +82,15 @@ module _ (text numbers : List ℕ) (same_text : numbers ≡ blanked false text) 
       suite_is = suite_by ∙ ap (λ (t : Token). number_then (λ n rest. tests_in n rest) (meant numbers t)) e
 
       module _ (j : Judgement) (judges : Judges n (tests_in n (drop next numbers)) j) where
-        pub printed_bad_tests : j ≡ BadInput → bad_text ≡ typed_printed text
+        pub printed_bad_tests : j ≡ None → bad_text ≡ typed_printed text
         printed_bad_tests b = sym (printed_by none (suite_is ∙ judged_none n (tests_in n (drop next numbers)) j judges b))
 
-        module _ (refusal : ℕ) (b : j ≡ Fine refusal) where
+        module _ (verdict : Result (Unit {0}) Refusal) (b : j ≡ Some verdict) where
+          abbrev refusal : ℕ
+          refusal = number_of verdict
+
           there : JudgedFine n (tests_in n (drop next numbers)) refusal
-          there = judged_some n (tests_in n (drop next numbers)) j judges refusal b
+          there = judged_some n (tests_in n (drop next numbers)) j judges verdict b
 
           is_report : typed_printed text ≡ tests_report refusal text there.tests
           unfolding reported
@@ -94,7 +98,7 @@ module _ (text numbers : List ℕ) (same_text : numbers ≡ blanked false text) 
               ∙ ap (λ (k : ℕ). tests_report k text there.tests) there.fault
 
           -- a suite that is refused
-          pub wrote_refused : (refusal ≡ 0 → ⊥) → (v : ℕ) → v ≡ refusal → (out out' : List ℕ) (w : Written) →
+          pub wrote_refused : (refusal ≡ 0 → ⊥) → (v : ℕ) → v ≡ refusal → (out out' : List ℕ) (w : Rattle.std.specs.Prelude.Option ℕ) →
               Appends (labelled answer_label v ++ newline) out 0 out' w → Wrote (typed_printed text) out out' w
           wrote_refused h v same out out' w f =
               let line : labelled answer_label v ++ newline ≡ typed_printed text =
@@ -105,7 +109,7 @@ module _ (text numbers : List ℕ) (same_text : numbers ≡ blanked false text) 
           pub may_run : refusal ≡ 0 → MayRun n (tests_in n (drop next numbers))
           may_run z = subst (MayRun n) (sym there.are) (there.count, there.fault ∙ z)
 
-          pub wrote_run : refusal ≡ 0 → (out out' : List ℕ) (w : Written) → ReportWrote text (tests_in n (drop next numbers)) out out' w →
+          pub wrote_run : refusal ≡ 0 → (out out' : List ℕ) (w : Rattle.std.specs.Prelude.Option ℕ) → ReportWrote text (tests_in n (drop next numbers)) out out' w →
               Wrote (typed_printed text) out out' w
           wrote_run z out out' w f =
               let line : tests_report 0 text there.tests ≡ typed_printed text =

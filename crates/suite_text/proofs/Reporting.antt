@@ -8,8 +8,7 @@ use native.Mathlib.Numerals.{add-one}
 use lib.ListN.{length, drop, get_or, set}
 use Rattle.answer_text.specs.Answer.{Wrote}
 use Rattle.answer_text.specs.Going.{Going as Going·text, Appends}
-use Rattle.answer_text.specs.declared.line.Written.{Written}
-use Rattle.answer_text.specs.declared.line.Written.TheVariants.{Bytes, NoRoom}
+use Rattle.std.specs.Prelude.{Some, None}
 use Rattle.answer_text.proofs.Goings.{Turned, turns_begin, turns_go, turns_stop, wrote}
 use Rattle.suite.specs.Suite.{no_test, table_fault, Runnable}
 use Rattle.suite.proofs.Runs.{found_fine}
@@ -179,14 +178,14 @@ module _ (text numbers₀ : List ℕ) (n : ℕ) (whole out₀ out table : List �
     here = ap (λ (l : List TypedTest). left_over text i l table totals) x.next.are
         ∙ line_first text i now_tested x.next.others table totals
 
-    module _ (mid : List ℕ) (q : Written) (f : Appends (test_line text i now_tested) out end mid q) where
-      pub reporting_stops : NoRoom ≡ q → Wrote whole out₀ mid NoRoom
+    module _ (mid : List ℕ) (q : Rattle.std.specs.Prelude.Option ℕ) (f : Appends (test_line text i now_tested) out end mid q) where
+      pub reporting_stops : None ≡ q → Wrote whole out₀ mid None
       reporting_stops e =
-          wrote whole out₀ mid NoRoom
+          wrote whole out₀ mid None
           (turns_stop out₀ 0 whole out end (left_over text i g.rest table totals) g.turned (test_line text i now_tested)
           (left_over text (i + 1) x.next.others then_table then_totals) mid q here f e)
 
-      pub reporting_goes : (k : ℕ) → q ≡ Bytes k → (next : ℕ) → now_tested.after ≡ drop next numbers₀ →
+      pub reporting_goes : (k : ℕ) → q ≡ Some k → (next : ℕ) → now_tested.after ≡ drop next numbers₀ →
           Reporting text numbers₀ n whole out₀ mid then_table then_totals next k (i + 1)
       reporting_goes k e next a = record {
         still = x.others;
@@ -210,7 +209,7 @@ module _ (text numbers₀ : List ℕ) (n : ℕ) (whole out₀ out table : List �
       }
 
   -- no test is left
-  pub reporting_ends : n ≤ i → (mid : List ℕ) (q : Written) → Appends (summary table totals) out end mid q → Wrote whole out₀ mid q
+  pub reporting_ends : n ≤ i → (mid : List ℕ) (q : Rattle.std.specs.Prelude.Option ℕ) → Appends (summary table totals) out end mid q → Wrote whole out₀ mid q
   unfolding test_lines table_of totals_of
   reporting_ends h mid q f =
       let none : g.rest ≡ [] = no_tests (drop at numbers₀) g.rest (let a = g.adds in let c = g.count in omega arith) in
@@ -226,7 +225,7 @@ abbrev pub whole_of : List ℕ → Option (List TypedTest) → List ℕ
 whole_of text none = []
 whole_of text (some ts) = tests_report 0 text ts
 
-pub wrote_whole : (text : List ℕ) (n : ℕ) (o : Option (List TypedTest)) (out out' : List ℕ) (r : Written) → MayRun n o →
+pub wrote_whole : (text : List ℕ) (n : ℕ) (o : Option (List TypedTest)) (out out' : List ℕ) (r : Rattle.std.specs.Prelude.Option ℕ) → MayRun n o →
     Wrote (whole_of text o) out out' r → ReportWrote text o out out' r
 wrote_whole text n none out out' r h w = absurd h
 wrote_whole text n (some ts) out out' r h w = w
@@ -239,15 +238,6 @@ whole_starts text numbers₀ p n h out = go (tests_in n (drop p numbers₀)) ref
         Reporting text numbers₀ n (whole_of text o) out out no_table no_totals p 0 0
     go none e h = absurd h
     go (some ts) e h = reporting_starts text numbers₀ p n ts e h.0 h.1 out
-
--- what is lent keeps its length
-pub record Kept (first second result working table out first' second' result' working' table' out' : List ℕ) : Type 0 where
-  pub firsts : length first' ≡ length first
-  pub seconds : length second' ≡ length second
-  pub results : length result' ≡ length result
-  pub workings : length working' ≡ length working
-  pub tables : length table' ≡ length table
-  pub outs : length out' ≡ length out
 
 -- the same table and totals, by other names
 pub reporting_same : {text numbers₀ : List ℕ} {n : ℕ} {whole out₀ out table table' : List ℕ} {totals totals' : Totals} {at end i : ℕ} →

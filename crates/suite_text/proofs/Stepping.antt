@@ -2,16 +2,15 @@
 use mathlib.Core.Path.{◌≡◌, refl, sym, ap, subst, ◌∙◌}
 use mathlib.Core.Option.{none}
 use mathlib.Core.List.{List}
-use Prim.Native.Nat.{ℕ, ◌-◌, ◌≤◌, ◌<◌}
+use Prim.Native.Nat.{ℕ, ◌-◌, ◌≤◌, ◌<◌, min}
 use native.Mathlib.Omega.{arith}
 use lib.ListN.{length, take, drop}
 use Rattle.suite.specs.declared.test.Test.{Test}
 use Rattle.suite_reading.specs.Text.{spaces_off, name_in}
 use Rattle.suite_reading.specs.Tests.{TypedTest, leading_test, expected_test, expected_in}
-use Rattle.suite_reading.specs.Finding.{TestPlaces, FindsTest}
+use Rattle.suite_reading.specs.Finding.{TestPlaces, Found, FindsTest}
 use Rattle.suite_reading.specs.declared.tests.Place.{Place}
-use Rattle.suite_reading.specs.declared.tests.Found.{Found}
-use Rattle.suite_reading.specs.declared.tests.Found.TheVariants as found
+use Rattle.std.specs.Prelude.{Some, None}
 use Rattle.verdicts.specs.declared.verdict.Verdict.{Verdict}
 use Rattle.verdicts.specs.declared.verdict.Totals.{Totals}
 use Rattle.verdicts.specs.Verdicts.{verdict_of, totals_after, numbers as all-numbers, cell_of, raised_cell}
@@ -21,6 +20,10 @@ use Rattle.suite_reading.proofs.Found.{found_places, found_none_there}
 use Rattle.suite_text.proofs.Answers.{number_low}
 use Rattle.suite_text.proofs.Rests.{after_shorter, held_place, run_order, run_is}
 use Rattle.suite_text.proofs.Reporting.{Reporting, Going, reporting_next}
+
+-- a place, or the end where that comes first
+pub lowest : (p n r : ℕ) → r ≡ min p n → (r ≤ n) × ((p ≤ n → r ≡ p) × (n < p → r ≡ n))
+lowest p n r e = (omega arith, (λ h. omega arith, λ h. omega arith))
 
 -- the test that is left first, and where its parts were found
 pub record Step {text numbers : List ℕ} {n : ℕ} {whole out₀ out table : List ℕ} {totals : Totals} {at end i : ℕ}
@@ -35,14 +38,14 @@ module _ {text numbers : List ℕ} {n : ℕ} {whole out₀ out table : List ℕ}
   there = reporting_next text numbers n whole out₀ out table totals at end i g more
 
   -- a test is left, so one was found
-  pub none_wrong : f ≡ found.Wrong → ⊥
+  pub none_wrong : f ≡ None → ⊥
   none_wrong e =
       let gone : none ≡ leading_test (drop at numbers) = found_none_there numbers (leading_test (drop at numbers)) f finds e in
       let here = there.next.leads in
       let z : ◌≡◌ {A = ℕ} 0 1 = cc in
       omega arith
 
-  pub stepping : {p : Place} → f ≡ found.Test p → Step g p
+  pub stepping : {p : Place} → f ≡ Some p → Step g p
   stepping {p} e = record {
     going = there;
     places = found_places numbers (leading_test (drop at numbers)) f finds p e there.next.test there.next.leads;

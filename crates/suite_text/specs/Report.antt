@@ -8,7 +8,6 @@ use Rattle.theory.specs.Answer.{Answer}
 use Rattle.theory.specs.Unified.{unified}
 use Rattle.reply.specs.Printed.{result_size}
 use Rattle.answer_text.specs.Answer.{newline, answer_label, labelled, bad_text, Wrote}
-use Rattle.answer_text.specs.declared.line.Written.{Written}
 use Rattle.suite.specs.Suite.{table_fault}
 use Rattle.verdicts.specs.declared.verdict.Verdict.{Verdict}
 use Rattle.verdicts.specs.declared.verdict.Totals.{Totals}
@@ -85,6 +84,6 @@ MayRun n none = ⊥
 MayRun n (some ts) = (length ts ≡ n) × (table_fault 0 (all_expected ts) (length ts) ≡ 0)
 
 -- the report on tests stands at the start of out, or has no room there
-abbrev pub ReportWrote : List ℕ → Option (List TypedTest) → List ℕ → List ℕ → Written → Type 0
+abbrev pub ReportWrote : List ℕ → Option (List TypedTest) → List ℕ → List ℕ → Rattle.std.specs.Prelude.Option ℕ → Type 0
 ReportWrote text none out out' r = ⊥
 ReportWrote text (some ts) out out' r = Wrote (tests_report 0 text ts) out out' r

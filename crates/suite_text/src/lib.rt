@@ -12,12 +12,14 @@ ghost use Rattle.verdicts.specs.Verdicts.{no_table};
 ghost use Rattle.suite_text.specs.Report.{TestAnswers, MayRun, ReportWrote, typed_printed, suite_text_limit, suite_printed};
 
 use answer_text::answer::write_bad;
-use answer_text::line::{Written, put_last, wide};
+use answer_text::line::put_last;
 use answering::answer::{Row, told};
 use call_text::call::read_words;
 use call_text::number::{Token, read_token};
+use reply::{RESULT_SIZE, WORKING_SIZE, zeros};
+use suite::checks::number;
 use suite_lines::lines::{put_line, put_summary};
-use suite_reading::tests::{Found, Judgement, Place, expected, find_test, judge_tests};
+use suite_reading::tests::{Place, expected, find_test, judge_tests};
 use suite_reading::text::{after_spaces, blank};
 use unify::unify;
 use verdicts::table::{no_table, raise};
@@ -26,23 +28,7 @@ use verdicts::verdict::{added, none, verdict_of};
 // The most bytes that a text may have.
 pub const TEXT_LIMIT: usize = 1048576;
 
-// The areas that a call needs, and room for both inputs.
-const RESULT_SIZE: usize = 2048;
-
-fn space() -> [u32; RESULT_SIZE]
-    ensures { length result ≡ result_size }
-{
-    [0; RESULT_SIZE]
-}
-
-const WORKING_SIZE: usize = 16384;
-
-fn working_space() -> [u32; WORKING_SIZE]
-    ensures { length result ≡ working_size }
-{
-    [0; WORKING_SIZE]
-}
-
+// Room for a text: a function of its own, so that no other proof spells out so many zeros.
 fn numbers_space() -> [u8; TEXT_LIMIT]
     ensures { length result ≡ suite_text_limit }
 {
@@ -71,16 +57,6 @@ fn run_test(
     told(answer)
 }
 
-// A place, or the end where that comes first.
-fn at_most(p: usize, n: usize) -> usize
-    ensures { (result ≤ n) × ((p ≤ n → result ≡ p) × (n < p → result ≡ n)) }
-{
-    if p < n {
-        return p;
-    }
-    n
-}
-
 // Runs n tests, which are all that stands from p on, and writes the report on them to the start of out.
 fn run_tests(
     text: &[u8],
@@ -93,7 +69,7 @@ fn run_tests(
     working: &mut [u32],
     table: &mut [u32],
     out: &mut [u8],
-) -> Written
+) -> Option<usize>
     requires first_len { (length first.old ≡ result_size) × (length second.old ≡ result_size) }
     requires res_len { (length res.old ≡ result_size) × (length working.old ≡ working_size) }
     requires table_value { table.old ≡ no_table }
@@ -103,29 +79,20 @@ fn run_tests(
 {
     let mut totals = none();
     let mut at = p;
-    let mut end: usize = 0;
-    let mut i: usize = 0;
-    while i < n {
-        let found = find_test(numbers, at);
-        let Found::Test(place) = found else {
-            return Written::NoRoom;
-        };
+    let mut end = 0;
+    for i in 0..n {
+        let place = find_test(numbers, at)?;
         let seen = run_test(numbers, place, first, second, res, working);
         let test = expected(place);
         let what = verdict_of(test, seen);
-        let from = at_most(place.named, numbers.len());
-        let to = after_spaces(numbers, at_most(place.next, numbers.len()));
-        let line = put_line(out, end, i, &text[from..to], what, test, seen);
-        let Written::Bytes(after) = line else {
-            return Written::NoRoom;
-        };
+        let from = place.named.min(numbers.len());
+        let to = after_spaces(numbers, place.next.min(numbers.len()));
+        end = put_line(out, end, i, &text[from..to], what, test, seen)?;
         raise(table, place.mode, seen.number);
         totals = added(totals, what);
-        end = after;
         at = place.next;
-        i += 1;
     }
-    put_summary(out, end, &table[..], totals)
+    put_summary(out, end, table, totals)
 }
 
 // Writes the report on the text to the start of out; `numbers` is the text without its names.
@@ -138,23 +105,22 @@ fn report_on(
     working: &mut [u32],
     table: &mut [u32],
     out: &mut [u8],
-) -> Written
+) -> Option<usize>
     requires first_len { (length first.old ≡ result_size) × (length second.old ≡ result_size) }
     requires res_len { (length res.old ≡ result_size) × (length working.old ≡ working_size) }
     requires table_value { table.old ≡ no_table }
     requires numbers_value { numbers.now ≡ blanked false text.now }
     ensures { Wrote (typed_printed text.now) out.old out.new result }
 {
-    let start = read_token(numbers, 0);
-    let Token::Is { value: n, next } = start else {
+    let Token::Is { value: n, next } = read_token(numbers, 0) else {
         return write_bad(out);
     };
-    let judgement = judge_tests(numbers, next, n);
-    let Judgement::Fine(refusal) = judgement else {
+    let Some(verdict) = judge_tests(numbers, next, n) else {
         return write_bad(out);
     };
+    let refusal = number(verdict);
     if refusal != 0 {
-        return put_last(out, 0, b"answer ", wide(refusal));
+        return put_last(out, 0, b"answer ", u64::from(refusal));
     }
     run_tests(
         text, numbers, next, n as usize, first, second, res, working, table, out,
@@ -171,7 +137,7 @@ fn report_in(
     working: &mut [u32],
     table: &mut [u32],
     out: &mut [u8],
-) -> Written
+) -> Option<usize>
     requires first_len { (length first.old ≡ result_size) × (length second.old ≡ result_size) }
     requires res_len { (length res.old ≡ result_size) × (length working.old ≡ working_size) }
     requires table_value { table.old ≡ no_table }
@@ -179,11 +145,11 @@ fn report_in(
     ensures { Wrote (typed_printed text.now) out.old out.new result }
 {
     blank(text, numbers);
-    report_on(text, &numbers[..], first, second, res, working, table, out)
+    report_on(text, numbers, first, second, res, working, table, out)
 }
 
 // Runs the suite that the text is, and writes what is printed for it to the start of out.
-pub fn report(text: &[u8], out: &mut [u8]) -> Written
+pub fn report(text: &[u8], out: &mut [u8]) -> Option<usize>
     ensures { Wrote (suite_printed text.now) out.old out.new result }
 {
     let n = text.len();
@@ -191,10 +157,10 @@ pub fn report(text: &[u8], out: &mut [u8]) -> Written
         return write_bad(out);
     }
     let mut numbers = numbers_space();
-    let mut first = space();
-    let mut second = space();
-    let mut result = space();
-    let mut working = working_space();
+    let mut first: [u32; RESULT_SIZE] = zeros();
+    let mut second: [u32; RESULT_SIZE] = zeros();
+    let mut result: [u32; RESULT_SIZE] = zeros();
+    let mut working: [u32; WORKING_SIZE] = zeros();
     let mut table = no_table();
     report_in(
         text,

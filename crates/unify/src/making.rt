@@ -34,6 +34,7 @@ fn complete(engine: Engine, w: &mut Area, k: usize, n: Nodes) -> Made
     ensures { Completes n.count k w.old result w.new }
 {
     douse(w);
+    // No `?` here: `leaving` knows nothing of how a call ends, and `answering` nothing of the full step.
     match full(engine, w, k, n) {
         Err(NoneLeft::TooMany) => Err(Failure::TooMany),
         Err(NoneLeft::NoChoice) => Err(Failure::NoChoice),

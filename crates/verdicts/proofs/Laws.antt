@@ -1,10 +1,22 @@
--- The table of counts: one cell is raised. Assumes nothing.
+-- How often a verdict was given, and the table of counts: one cell is raised. Assumes nothing.
 use mathlib.Core.Path.{◌≡◌, refl}
 use mathlib.Core.List.{List}
+use mathlib.Core.Logic.{◌⊎◌, inl, inr}
 use Prim.Native.Nat.{ℕ, ◌+◌, ◌*◌, ◌<◌}
 use lib.ListN.{length, get_or, set, length-set}
 use Rattle.suite.proofs.Cells.{all_zero}
-use Rattle.verdicts.specs.Verdicts.{numbers, cells, cell_of, no_table, raised_cell}
+use Rattle.verdicts.specs.Verdicts.{totals_after, numbers, cells, cell_of, no_table, raised_cell}
+use Rattle.verdicts.specs.declared.verdict.Verdict.{Verdict}
+use Rattle.verdicts.specs.declared.verdict.Verdict.TheVariants.{Good, Refused}
+use Rattle.verdicts.specs.declared.verdict.Totals.{Totals}
+
+-- ---- how often
+module _ (s : Totals) where
+  pub one_good : (w : Verdict) → (w ≡ Good) ⊎ (w ≡ Refused) →
+      record { good = s.good + 1; other = s.other; missed = s.missed } ≡ totals_after w s
+  unfolding totals_after
+  one_good w (inl e) = rw e refl
+  one_good w (inr e) = rw e refl
 
 -- ---- the table
 pub no_cell : (j : ℕ) → get_or no_table j 0 ≡ 0

@@ -15,8 +15,8 @@ slice_bounds-report_in-end c = take_count _ _ (omega arith)
 pub report_in-requires : goal.report_in-requires
 report_in-requires c =
     let taken = length-take (length c.args.text.now) c.numbers_space-numbers.result in record {
-      first_len = (c.space-first.ensures, c.space-second.ensures);
-      res_len = (c.space-result.ensures, c.working_space-working.ensures);
+      first_len = (c.zeros-first.ensures, c.zeros-second.ensures);
+      res_len = (c.zeros-result.ensures, c.zeros-working.ensures);
       table_value = c.no_table-table.ensures;
       numbers_len = omega arith;
     }

@@ -1,14 +1,8 @@
-use Prim.Native.Nat.{◌-◌}
 use lib.ListN.{drop}
 use Rattle.suite_reading.specs.Tests.{tests_in}
-use Rattle.suite_text.proofs.Reporting.{Reporting, Kept, whole_of}
+use Rattle.suite_text.proofs.Reporting.{Reporting, whole_of}
 use Rattle.suite_text.proofs.run_tests.Given as goal
 
 abbrev pub invariant-loop-i : goal.invariant-loop-i
 invariant-loop-i l =
     Reporting l.text l.numbers l.n (whole_of l.text (tests_in l.n (drop l.p l.numbers))) l.initial.out l.out l.table l.totals l.at l.end l.i
-    × Kept l.initial.first l.initial.second l.initial.res l.initial.working l.initial.table l.initial.out l.first l.second l.res l.working l.table l.out
-
-abbrev pub decreases-loop-i : goal.decreases-loop-i
-decreases-loop-i l =
-    l.n - l.i

@@ -6,6 +6,6 @@ use Rattle.explaining.proofs.line.fault_line.Goals as goal
 
 pub returns : goal.returns
 returns c = (
-  told_of _ c.args.cause _ _ _ _ c.requires.1 c.cause_number-number.ensures c.word_at-word.ensures c.hint-hinted.ensures,
+  told_of _ c.args.fault _ _ _ c.requires.1 c.cause_number.ensures c.word_at.ensures c.hint.ensures,
   fault_small _ _ _ _ (omega arith) (omega arith) (omega arith) (omega arith),
 )

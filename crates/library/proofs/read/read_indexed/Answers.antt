@@ -1,8 +1,7 @@
 -- `library::read::read_indexed` meets its contract.
 -- Assumes nothing.
-use mathlib.Core.Path.{refl, sym, ◌∙◌}
+use mathlib.Core.Path.{sym, ◌∙◌}
 use Rattle.library.proofs.Good.{opens, found_placed}
-use Rattle.library.proofs.Reading.{fetches_found, fetches_none}
 use Rattle.library.proofs.read.read_indexed.Goals as goal
 
 pub slice_bounds-find-end : goal.slice_bounds-find-end
@@ -11,11 +10,5 @@ slice_bounds-find-end c = sym (opens c.args.file.now c.args.count c.requires).si
 pub find-requires : goal.find-requires
 find-requires c = let o = opens c.args.file.now c.args.count c.requires in (o.size, o.few)
 
-pub returns-in_default : goal.returns-in_default
-returns-in_default c = fetches_none c.args.file.now c.args.area.now c.args.area.now _ _ (sym c.find.ensures ∙ c.in_default.is) refl refl
-
 pub read_description-requires : goal.read_description-requires
 read_description-requires c = found_placed c.args.file.now c.args.identifier c.args.count c.in-Some.place.first c.in-Some.place.words c.requires (sym c.in-Some.is ∙ c.find.ensures)
-
-pub returns : goal.returns
-returns c = fetches_found c.args.file.now c.args.area.now c.read_description.new.area _ c.read_description.result c.in-Some.place.first c.in-Some.place.words (sym c.find.ensures ∙ c.in-Some.is) c.read_description.ensures

@@ -2,7 +2,7 @@
 -- Assumes nothing.
 use native.Mathlib.Omega.{arith}
 use mathlib.Core.Path.{◌∙◌}
-use Rattle.library_writing.proofs.Asked.{tail_length, listable_none, listable_odd, listable_full, listable_low, listable_high, listable_long, listable_step}
+use Rattle.library_writing.proofs.Asked.{listable_none, listable_odd, listable_full, listable_low, listable_high, listable_long, listable_step}
 use Rattle.library_writing.proofs.entries.+is_listable.Goals as goal
 
 pub returns-then-entries-eq0 : goal.returns-then-entries-eq0
@@ -26,11 +26,6 @@ returns-then-identifier-ge-IDENTIFIERS t c =
 pub returns-then-wide-gt-INPUT_LIMIT : goal.returns-then-wide-gt-INPUT_LIMIT
 returns-then-wide-gt-INPUT_LIMIT t c =
     listable_long c.args.left c.args.low c.args.entries.now (omega arith) (omega arith) (omega arith) (omega arith) (omega arith)
-
-pub is_listable-requires : goal.is_listable-requires
-is_listable-requires t c =
-    let n = tail_length 2 c.args.entries.now in
-    (omega arith, tt)
 
 pub returns : goal.returns
 returns t c =

@@ -1,11 +1,10 @@
 -- The proof of the cycle of calls {is_sound}. The measure is the number of words that the entries have.
 -- Assumes nothing.
 use native.Mathlib.Omega.{arith}
-use mathlib.Core.Path.{sym, ◌∙◌}
+use mathlib.Core.Path.{◌∙◌}
 use lib.ListN.{take}
-use lib.Seq.{length-take-le}
 use Rattle.library.proofs.Reading.{imaged_yes, imaged_not}
-use Rattle.library_writing.proofs.Asked.{tail_length, none_sound, sound_short, sound_stop, sound_step}
+use Rattle.library_writing.proofs.Asked.{none_sound, sound_short, sound_stop, sound_step}
 use Rattle.library_writing.proofs.entries.+is_sound.Goals as goal
 
 pub returns-then-entries-lt2 : goal.returns-then-entries-lt2
@@ -14,14 +13,6 @@ returns-then-entries-lt2 t c = none_sound c.args.entries.now c.args.words.now c.
 pub returns-then-words-count : goal.returns-then-words-count
 returns-then-words-count t c =
     sound_short c.args.entries.now c.args.words.now c.if-entries-lt2.false (omega arith)
-
-pub slice_bounds-judge-end : goal.slice_bounds-judge-end
-slice_bounds-judge-end t c = sym (length-take-le c.wide-count.result c.args.words.now c.if-words-count.false)
-
-pub is_sound-requires : goal.is_sound-requires
-is_sound-requires t c =
-    let n = tail_length 2 c.args.entries.now in
-    (omega arith, tt)
 
 pub returns-then-judge : goal.returns-then-judge
 returns-then-judge t c =

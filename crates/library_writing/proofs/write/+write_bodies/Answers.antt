@@ -6,14 +6,9 @@ use Prim.Native.Nat.{◌*◌}
 use mathlib.Core.List.{◌++◌}
 use lib.ListN.{drop, length-append, length-drop}
 use lib.Seq.{length-take-le}
-use Rattle.library_writing.proofs.Asked.{tail_length, pairs_first, blocks_first, reach_first, sound_first}
+use Rattle.library_writing.proofs.Asked.{tail_length, blocks_first, reach_first, sound_first}
 use Rattle.library_writing.proofs.Poured.{one_body, no_body}
 use Rattle.library_writing.proofs.write.+write_bodies.Goals as goal
-
-pub blocks_for-here-requires : goal.blocks_for-here-requires
-blocks_for-here-requires t c =
-    let few = (pairs_first c.args.entries.now c.if-entries-ge2.true c.requires.0.pairs).0 in
-    omega arith
 
 pub slice_bounds-write_description-end : goal.slice_bounds-write_description-end
 slice_bounds-write_description-end t c =
@@ -56,10 +51,6 @@ slice_bounds-write_bodies-start t c =
     let d = length-drop size c.args.out.now in
     let front = length-take-le size c.args.out.now (omega arith) in
     omega arith
-
-pub overflow_add-next : goal.overflow_add-next
-overflow_add-next t c =
-    record { fits = omega arith }
 
 pub slice_bounds-write_bodies-count-then-entries-ge2-2 : goal.slice_bounds-write_bodies-count-then-entries-ge2-2
 slice_bounds-write_bodies-count-then-entries-ge2-2 t c =

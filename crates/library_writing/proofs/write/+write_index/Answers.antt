@@ -1,36 +1,15 @@
 -- The proof of the cycle of calls {write_index}. The measure is the number of words that the entries have.
 -- Assumes nothing.
 use native.Mathlib.Omega.{arith}
-use mathlib.Core.Path.{◌∙◌}
-use Rattle.library_writing.proofs.Asked.{tail_length, pairs_first, reach_first}
+use Rattle.library_writing.proofs.Asked.{tail_length, reach_first}
 use Rattle.library_writing.proofs.Poured.{one_entry, no_entry}
 use Rattle.library_writing.proofs.write.+write_index.Goals as goal
-
-pub put_entry-requires : goal.put_entry-requires
-put_entry-requires t c =
-    omega arith
-
-pub overflow_add-at : goal.overflow_add-at
-overflow_add-at t c =
-    record { fits = omega arith }
-
-pub blocks_for-requires : goal.blocks_for-requires
-blocks_for-requires t c =
-    let few = (pairs_first c.args.entries.now c.if-entries-ge2.true c.requires.0.pairs).0 in
-    omega arith
-
-pub overflow_add-next : goal.overflow_add-next
-overflow_add-next t c =
-    record { fits = omega arith }
 
 pub write_index-requires : goal.write_index-requires
 write_index-requires t c =
     let n = tail_length 2 c.args.entries.now in
     let next = reach_first c.args.next c.args.entries.now c.if-entries-ge2.true c.requires.0 in
     (omega arith, (rw c.blocks_for.ensures.0 (rw c.wide-words.ensures next), omega arith))
-
-pub shape_of-start : goal.shape_of-start
-shape_of-start t c = c.write_index.auto.start ∙ c.put_entry.auto.start
 
 pub returns-then-entries-ge2 : goal.returns-then-entries-ge2
 returns-then-entries-ge2 t c =

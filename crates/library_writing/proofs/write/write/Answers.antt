@@ -42,9 +42,6 @@ returns-then-file-need c =
     writes_short c.args.entries.now c.args.words.now c.args.file.now c.args.file.now listed good (512 * (1 + c.count_blocks.result)) (omega arith)
     c.if-file-need.true refl
 
-pub slice_bounds-write_file-end-2 : goal.slice_bounds-write_file-end-2
-slice_bounds-write_file-end-2 c = sym (length-take-le (512 * (1 + c.count_blocks.result)) c.args.file.now c.if-file-need.false)
-
 pub write_file-requires : goal.write_file-requires
 write_file-requires c =
     let listed = sym c.is_listable.ensures ∙ c.if-not-is_listable.false in

@@ -5,12 +5,14 @@ use Rattle.suite_reading.specs.Text.{name_in}
 use Rattle.suite_lines.proofs.Pieces.{unnamed, so_named}
 use Rattle.suite_lines.proofs.lines.put_name.Goals as goal
 
-pub returns-then-from-to : goal.returns-then-from-to
-returns-then-from-to c =
+pub returns-then-name : goal.returns-then-name
+returns-then-name c =
     named _ _ c.args.out.now c.args.at c.put_labelled.new.dst c.put_labelled.result
-    (unnamed c.args.run.now (name_in c.args.run.now) c.find_name-name.result.from c.find_name-name.result.to c.args.i c.find_name-name.ensures (omega arith)) c.put_labelled.ensures
+    (unnamed c.args.run.now (name_in c.args.run.now) c.find_name-name.result.from c.find_name-name.result.to c.args.i
+    c.find_name-name.ensures c.if-name.true) c.put_labelled.ensures
 
 pub returns : goal.returns
 returns c =
     named _ _ c.args.out.now c.args.at c.put_run.new.dst c.put_run.result
-    (so_named c.args.run.now (name_in c.args.run.now) c.find_name-name.result.from c.find_name-name.result.to c.args.i c.find_name-name.ensures (λ e. omega arith)) c.put_run.ensures
+    (so_named c.args.run.now (name_in c.args.run.now) c.find_name-name.result.from c.find_name-name.result.to c.args.i
+    c.find_name-name.ensures c.if-name.false) c.put_run.ensures

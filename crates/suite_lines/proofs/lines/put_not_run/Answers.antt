@@ -1,25 +1,21 @@
 -- `suite_lines::lines::put_not_run` meets its contract. Assumes nothing.
-use mathlib.Core.Path.{◌≡◌}
-use Rattle.answer_text.specs.declared.line.Written.TheVariants.{NoRoom}
 use Rattle.suite_lines.proofs.Pieces.{goes, stops, ends, not_run_begins}
 use Rattle.suite_lines.proofs.lines.put_not_run.Goals as goal
 
-pub returns-in_default : goal.returns-in_default
-returns-in_default c =
+pub returns-in_err-two : goal.returns-in_err-two
+returns-in_err-two c =
     let begun = not_run_begins c.args.test c.args.seen.number c.args.seen.readings c.args.out.now c.args.at in
-    let gone : NoRoom ≡ c.put_labelled-one.result = cc in
-    stops begun c.put_labelled-one.new.dst c.put_labelled-one.ensures gone
+    rw c.from_residual.ensures (stops begun c.put_labelled.new.dst c.in_err-two.ensures)
 
-pub returns-in_default-expected : goal.returns-in_default-expected
-returns-in_default-expected c =
+pub returns-in_err-three : goal.returns-in_err-three
+returns-in_err-three c =
     let begun = not_run_begins c.args.test c.args.seen.number c.args.seen.readings c.args.out.now c.args.at in
-    let left₁ = goes begun c.put_labelled-one.new.dst c.put_labelled-one.ensures c.in-Bytes.is in
-    let gone : NoRoom ≡ c.put_labelled-expected.result = cc in
-    stops left₁ c.put_labelled-expected.new.dst c.put_labelled-expected.ensures gone
+    let left₁ = goes begun c.in_ok-two.two c.put_labelled.new.dst c.in_ok-two.ensures in
+    rw c.from_residual-in_err-three.ensures (stops left₁ c.put_labelled-2.new.dst c.in_err-three.ensures)
 
 pub returns : goal.returns
 returns c =
     let begun = not_run_begins c.args.test c.args.seen.number c.args.seen.readings c.args.out.now c.args.at in
-    let left₁ = goes begun c.put_labelled-one.new.dst c.put_labelled-one.ensures c.in-Bytes.is in
-    let left₂ = goes left₁ c.put_labelled-expected.new.dst c.put_labelled-expected.ensures c.in-Bytes-expected.is in
+    let left₁ = goes begun c.in_ok-two.two c.put_labelled.new.dst c.in_ok-two.ensures in
+    let left₂ = goes left₁ c.in_ok-three.three c.put_labelled-2.new.dst c.in_ok-three.ensures in
     ends left₂ c.put_last.new.dst c.put_last.result c.put_last.ensures

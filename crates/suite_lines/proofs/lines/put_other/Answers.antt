@@ -1,38 +1,29 @@
 -- `suite_lines::lines::put_other` meets its contract. Assumes nothing.
-use mathlib.Core.Path.{◌≡◌, ◌∙◌}
-use Rattle.answer_text.specs.declared.line.Written.TheVariants.{NoRoom}
 use Rattle.suite_lines.proofs.Pieces.{goes, stops, ends, other_begins}
 use Rattle.suite_lines.proofs.lines.put_other.Goals as goal
 
-pub returns-in_default : goal.returns-in_default
-returns-in_default c =
+pub returns-in_err-two : goal.returns-in_err-two
+returns-in_err-two c =
     let begun = other_begins c.args.test c.args.seen.number c.args.seen.readings c.args.out.now c.args.at in
-    let gone : NoRoom ≡ c.put_labelled-one.result = cc in
-    stops begun c.put_labelled-one.new.dst c.put_labelled-one.ensures gone
+    rw c.from_residual.ensures (stops begun c.put_labelled.new.dst c.in_err-two.ensures)
 
-pub returns-in_default-expected : goal.returns-in_default-expected
-returns-in_default-expected c =
+pub returns-in_err-three : goal.returns-in_err-three
+returns-in_err-three c =
     let begun = other_begins c.args.test c.args.seen.number c.args.seen.readings c.args.out.now c.args.at in
-    let left₁ = goes begun c.put_labelled-one.new.dst c.put_labelled-one.ensures c.in-Bytes.is in
-    let gone : NoRoom ≡ c.put_labelled-expected.result = cc in
-    stops left₁ c.put_labelled-expected.new.dst c.put_labelled-expected.ensures gone
+    let left₁ = goes begun c.in_ok-two.two c.put_labelled.new.dst c.in_ok-two.ensures in
+    rw c.from_residual-in_err-three.ensures (stops left₁ c.put_labelled-2.new.dst c.in_err-three.ensures)
 
-pub returns-in_default-came : goal.returns-in_default-came
-returns-in_default-came c =
+pub returns-in_err-four : goal.returns-in_err-four
+returns-in_err-four c =
     let begun = other_begins c.args.test c.args.seen.number c.args.seen.readings c.args.out.now c.args.at in
-    let left₁ = goes begun c.put_labelled-one.new.dst c.put_labelled-one.ensures c.in-Bytes.is in
-    let left₂ = goes left₁ c.put_labelled-expected.new.dst c.put_labelled-expected.ensures c.in-Bytes-expected.is in
-    let gone : NoRoom ≡ c.put_labelled-came.result = cc in
-    stops left₂ c.put_labelled-came.new.dst c.put_labelled-came.ensures gone
-
-pub shape_of-out : goal.shape_of-out
-shape_of-out c =
-    c.put_last.auto.dst ∙ c.put_labelled-came.auto.dst ∙ c.put_labelled-expected.auto.dst ∙ c.put_labelled-one.auto.dst
+    let left₁ = goes begun c.in_ok-two.two c.put_labelled.new.dst c.in_ok-two.ensures in
+    let left₂ = goes left₁ c.in_ok-three.three c.put_labelled-2.new.dst c.in_ok-three.ensures in
+    rw c.from_residual-in_err-four.ensures (stops left₂ c.put_labelled-3.new.dst c.in_err-four.ensures)
 
 pub returns : goal.returns
 returns c =
     let begun = other_begins c.args.test c.args.seen.number c.args.seen.readings c.args.out.now c.args.at in
-    let left₁ = goes begun c.put_labelled-one.new.dst c.put_labelled-one.ensures c.in-Bytes.is in
-    let left₂ = goes left₁ c.put_labelled-expected.new.dst c.put_labelled-expected.ensures c.in-Bytes-expected.is in
-    let left₃ = goes left₂ c.put_labelled-came.new.dst c.put_labelled-came.ensures c.in-Bytes-came.is in
+    let left₁ = goes begun c.in_ok-two.two c.put_labelled.new.dst c.in_ok-two.ensures in
+    let left₂ = goes left₁ c.in_ok-three.three c.put_labelled-2.new.dst c.in_ok-three.ensures in
+    let left₃ = goes left₂ c.in_ok-four.four c.put_labelled-3.new.dst c.in_ok-four.ensures in
     ends left₃ c.put_last.new.dst c.put_last.result c.put_last.ensures

@@ -1,34 +1,29 @@
 -- `suite_lines::lines::put_row` meets its contract. Assumes nothing.
-use mathlib.Core.Path.{◌≡◌}
-use Rattle.answer_text.specs.declared.line.Written.TheVariants.{NoRoom}
 use Rattle.suite_lines.proofs.Pieces.{goes, stops, ends, row_begins}
 use Rattle.suite_lines.proofs.lines.put_row.Goals as goal
 
-pub returns-in_default : goal.returns-in_default
-returns-in_default c =
+pub returns-in_err-two : goal.returns-in_err-two
+returns-in_err-two c =
     let begun = row_begins c.args.out.now c.args.at c.args.mode c.args.row.now in
-    let gone : NoRoom ≡ c.put_labelled-one.result = cc in
-    stops begun c.put_labelled-one.new.dst c.put_labelled-one.ensures gone
+    rw c.from_residual.ensures (stops begun c.put_labelled.new.dst c.in_err-two.ensures)
 
-pub returns-in_default-colon : goal.returns-in_default-colon
-returns-in_default-colon c =
+pub returns-in_err-three : goal.returns-in_err-three
+returns-in_err-three c =
     let begun = row_begins c.args.out.now c.args.at c.args.mode c.args.row.now in
-    let left₁ = goes begun c.put_labelled-one.new.dst c.put_labelled-one.ensures c.in-Bytes.is in
-    let gone : NoRoom ≡ c.put-colon.result = cc in
-    stops left₁ c.put-colon.new.dst c.put-colon.ensures gone
+    let left₁ = goes begun c.in_ok-two.two c.put_labelled.new.dst c.in_ok-two.ensures in
+    rw c.from_residual-in_err-three.ensures (stops left₁ c.put.new.dst c.in_err-three.ensures)
 
-pub returns-in_default-counts : goal.returns-in_default-counts
-returns-in_default-counts c =
+pub returns-in_err-four : goal.returns-in_err-four
+returns-in_err-four c =
     let begun = row_begins c.args.out.now c.args.at c.args.mode c.args.row.now in
-    let left₁ = goes begun c.put_labelled-one.new.dst c.put_labelled-one.ensures c.in-Bytes.is in
-    let left₂ = goes left₁ c.put-colon.new.dst c.put-colon.ensures c.in-Bytes-colon.is in
-    let gone : NoRoom ≡ c.put_after_spaces-counts.result = cc in
-    stops left₂ c.put_after_spaces-counts.new.dst c.put_after_spaces-counts.ensures gone
+    let left₁ = goes begun c.in_ok-two.two c.put_labelled.new.dst c.in_ok-two.ensures in
+    let left₂ = goes left₁ c.in_ok-three.three c.put.new.dst c.in_ok-three.ensures in
+    rw c.from_residual-in_err-four.ensures (stops left₂ c.put_after_spaces.new.dst c.in_err-four.ensures)
 
 pub returns : goal.returns
 returns c =
     let begun = row_begins c.args.out.now c.args.at c.args.mode c.args.row.now in
-    let left₁ = goes begun c.put_labelled-one.new.dst c.put_labelled-one.ensures c.in-Bytes.is in
-    let left₂ = goes left₁ c.put-colon.new.dst c.put-colon.ensures c.in-Bytes-colon.is in
-    let left₃ = goes left₂ c.put_after_spaces-counts.new.dst c.put_after_spaces-counts.ensures c.in-Bytes-counts.is in
-    ends left₃ c.put.new.dst c.put.result c.put.ensures
+    let left₁ = goes begun c.in_ok-two.two c.put_labelled.new.dst c.in_ok-two.ensures in
+    let left₂ = goes left₁ c.in_ok-three.three c.put.new.dst c.in_ok-three.ensures in
+    let left₃ = goes left₂ c.in_ok-four.four c.put_after_spaces.new.dst c.in_ok-four.ensures in
+    ends left₃ c.put-2.new.dst c.put-2.result c.put-2.ensures

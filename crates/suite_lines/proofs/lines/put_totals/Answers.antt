@@ -1,34 +1,29 @@
 -- `suite_lines::lines::put_totals` meets its contract. Assumes nothing.
-use mathlib.Core.Path.{◌≡◌}
-use Rattle.answer_text.specs.declared.line.Written.TheVariants.{NoRoom}
 use Rattle.suite_lines.proofs.Pieces.{goes, stops, ends, totals_begins}
 use Rattle.suite_lines.proofs.lines.put_totals.Goals as goal
 
-pub returns-in_default : goal.returns-in_default
-returns-in_default c =
+pub returns-in_err-two : goal.returns-in_err-two
+returns-in_err-two c =
     let begun = totals_begins c.args.out.now c.args.at c.args.totals in
-    let gone : NoRoom ≡ c.put_labelled-one.result = cc in
-    stops begun c.put_labelled-one.new.dst c.put_labelled-one.ensures gone
+    rw c.from_residual.ensures (stops begun c.put_labelled.new.dst c.in_err-two.ensures)
 
-pub returns-in_default-other : goal.returns-in_default-other
-returns-in_default-other c =
+pub returns-in_err-three : goal.returns-in_err-three
+returns-in_err-three c =
     let begun = totals_begins c.args.out.now c.args.at c.args.totals in
-    let left₁ = goes begun c.put_labelled-one.new.dst c.put_labelled-one.ensures c.in-Bytes.is in
-    let gone : NoRoom ≡ c.put_labelled-other.result = cc in
-    stops left₁ c.put_labelled-other.new.dst c.put_labelled-other.ensures gone
+    let left₁ = goes begun c.in_ok-two.two c.put_labelled.new.dst c.in_ok-two.ensures in
+    rw c.from_residual-in_err-three.ensures (stops left₁ c.put_labelled-2.new.dst c.in_err-three.ensures)
 
-pub returns-in_default-left : goal.returns-in_default-left
-returns-in_default-left c =
+pub returns-in_err-four : goal.returns-in_err-four
+returns-in_err-four c =
     let begun = totals_begins c.args.out.now c.args.at c.args.totals in
-    let left₁ = goes begun c.put_labelled-one.new.dst c.put_labelled-one.ensures c.in-Bytes.is in
-    let left₂ = goes left₁ c.put_labelled-other.new.dst c.put_labelled-other.ensures c.in-Bytes-other.is in
-    let gone : NoRoom ≡ c.put_labelled-left.result = cc in
-    stops left₂ c.put_labelled-left.new.dst c.put_labelled-left.ensures gone
+    let left₁ = goes begun c.in_ok-two.two c.put_labelled.new.dst c.in_ok-two.ensures in
+    let left₂ = goes left₁ c.in_ok-three.three c.put_labelled-2.new.dst c.in_ok-three.ensures in
+    rw c.from_residual-in_err-four.ensures (stops left₂ c.put_labelled-3.new.dst c.in_err-four.ensures)
 
 pub returns : goal.returns
 returns c =
     let begun = totals_begins c.args.out.now c.args.at c.args.totals in
-    let left₁ = goes begun c.put_labelled-one.new.dst c.put_labelled-one.ensures c.in-Bytes.is in
-    let left₂ = goes left₁ c.put_labelled-other.new.dst c.put_labelled-other.ensures c.in-Bytes-other.is in
-    let left₃ = goes left₂ c.put_labelled-left.new.dst c.put_labelled-left.ensures c.in-Bytes-left.is in
+    let left₁ = goes begun c.in_ok-two.two c.put_labelled.new.dst c.in_ok-two.ensures in
+    let left₂ = goes left₁ c.in_ok-three.three c.put_labelled-2.new.dst c.in_ok-three.ensures in
+    let left₃ = goes left₂ c.in_ok-four.four c.put_labelled-3.new.dst c.in_ok-four.ensures in
     ends left₃ c.put_run.new.dst c.put_run.result c.put_run.ensures

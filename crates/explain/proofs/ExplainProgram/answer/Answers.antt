@@ -1,0 +1,12 @@
+-- There is always room.
+use Rattle.std.proofs.Common.{arith}
+use Rattle.call_text.specs.Call.{heard}
+use Rattle.explaining.specs.Explained.{ExplainedText}
+use Rattle.programs.proofs.Written.{answered}
+use Rattle.explain.proofs.ExplainProgram.answer.Goals as goal
+
+pub returns : goal.returns
+returns c =
+    let told = c.explain_text.ensures in
+    rw c.unwrap_or.ensures (answered (ExplainedText (heard c.args.text.now)) _ _ _ _ told.wrote told.explained
+        (λ long. absurd (omega (arith, told.small, c.requires, long))))

@@ -1,0 +1,13 @@
+-- There is always room.
+use Rattle.std.proofs.Common.{◌≡◌, refl, arith}
+use Rattle.std.specs.Prelude.{Option, Some, None}
+use Rattle.meet.proofs.Printing.{never_without}
+use Rattle.programs.proofs.Written.{answered}
+use Rattle.reply.specs.Printed.{printed}
+use Rattle.reply.proofs.Lengths.{printed_small}
+use Rattle.meet.proofs.MeetProgram.answer.Goals as goal
+
+pub returns : goal.returns
+returns c =
+    rw c.unwrap_or.ensures (answered (λ said. said ≡ printed c.args.text.now) _ _ _ _ c.reply.ensures refl
+    (λ long. absurd (omega (arith, printed_small c.args.text.now, c.requires, long))))

@@ -1,0 +1,11 @@
+-- What is said where there is room; no room, nothing said.
+use Rattle.std.proofs.Common.{◌≡◌, ◌≤◌, ℕ, List, length, arith, refl}
+use Rattle.suite_text.specs.Report.{suite_printed}
+use Rattle.programs.proofs.Written.{answered}
+use Rattle.report.proofs.ReportProgram.answer.Goals as goal
+
+pub returns : goal.returns
+returns c =
+    let text = suite_printed c.args.text.now in
+    rw c.unwrap_or.ensures (answered (λ said. length text ≤ length c.args.out.now → said ≡ text) _ _ _ _ c.report.ensures
+        (λ _. refl) (λ long room. absurd (omega (arith, long, room))))
