@@ -17,7 +17,7 @@ use Rattle.loading.specs.Entry.{Entry, graphs}
 use Rattle.loading.specs.Loaded.{nodes_in}
 use Rattle.classes.specs.Holds.{Holds}
 use Rattle.classes.proofs.Laws.{holds_agree}
-use Rattle.opening.specs.declared.Opened.TheVariants as opened
+use Rattle.std.specs.Prelude.{Some}
 use Rattle.area.specs.Map.{SECOND}
 use Rattle.opening.specs.Opening.{Acceptable, definite, Opens}
 use Rattle.writing.specs.Writing.{Writing}
@@ -40,7 +40,7 @@ joined n e es k w h c = go (join (graphs (e ∷ es))) refl
     go (some G) q = (G, join_some e.graph (graphs es) c G q)
     go none q = absurd (holds_agree n (e ∷ es) k w h (join_none e.graph (graphs es) c q))
 
-pub ready : (v a b w : List ℕ) (n k : ℕ) → Acceptable a b → Opens v a b (opened.Joined n k) w → Writing n k w 0
+pub ready : (v a b w : List ℕ) (n k : ℕ) → Acceptable a b → Opens v a b (Some (record { nodes = n; log = k })) w → Writing n k w 0
 ready v a b w n k i o =
     let d = i.first.0 in
     let e = i.second.0 in

@@ -3,11 +3,11 @@ ghost use Rattle.std.specs.Prelude.{◌≤◌, length};
 ghost use Rattle.area.specs.Map.{SIZE};
 ghost use Rattle.opening.specs.Opening.{Opening};
 
-use crate::areas::work_space;
+use crate::areas::MOST_WORK;
 use area::map::RESULT;
-use layout::reading::{Judgement, judge};
-use opening::{Opened, open};
-use vectors::lent::starts;
+use layout::reading::judge;
+use opening::open;
+use vectors::lent::zeros;
 use writing::graph::write_graph;
 
 // An input has at most so many words here.
@@ -17,52 +17,31 @@ const LONGEST: usize = 1024;
 fn written(w: &[u32], r: usize, words: &[u32]) -> bool
     requires { SIZE ≤ length w.now }
 {
-    let n = words.len();
-    if n <= r {
+    let Some((last, front)) = words.split_last() else {
         return false;
-    }
-    if n - r != 1 {
-        return false;
-    }
-    if words[r] != 0 {
-        return false;
-    }
-    let from = RESULT;
-    starts(&w[from..], &words[..r])
+    };
+    front.len() == r && *last == 0 && w[RESULT..].starts_with(front)
 }
 
 // Whether the joined graph, or the clash, is the stored one.
 fn opened(w: &mut [u32], a: &[u32], b: &[u32], number: u32, words: &[u32]) -> bool
     requires { Opening w.old a.now b.now }
 {
-    let came = open(w, a, b);
-    let Opened::Joined { nodes, log } = came else {
+    let Some(came) = open(w, a, b) else {
         return number == 6;
     };
-    let r = write_graph(w, log, nodes, 0);
-    if number == 0 {
-        return written(w, r, words);
-    }
-    false
+    let r = write_graph(w, came.log, came.nodes, 0);
+    number == 0 && written(w, r, words)
 }
 
 // Whether two inputs are well formed and what comes of joining their definite graphs is what is stored.
 pub fn joined(a: &[u32], b: &[u32], number: u32, words: &[u32]) -> bool {
-    if LONGEST < a.len() {
+    if LONGEST < a.len() || LONGEST < b.len() {
         return false;
     }
-    if LONGEST < b.len() {
+    if !judge(a) || !judge(b) {
         return false;
     }
-    let first = judge(a);
-    let Judgement::Accepted = first else {
-        return false;
-    };
-    let second = judge(b);
-    let Judgement::Accepted = second else {
-        return false;
-    };
-    let mut there = work_space();
-    let w: &mut [u32] = &mut there;
-    opened(w, a, b, number, words)
+    let mut w: [u32; MOST_WORK] = zeros();
+    opened(&mut w, a, b, number, words)
 }

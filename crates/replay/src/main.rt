@@ -11,14 +11,13 @@ mod joining;
 
 ghost use Rattle.std.specs.Prelude.{◌≤◌, IfOk};
 
-use crate::areas::{MOST_WORK, work_space, working_right};
+use crate::areas::{MOST_WORK, working_right};
 use crate::joining::joined;
 use answering::answer::{Answer, Row, told};
 use std::io;
 use std::io::{Read, Write};
 use unify::{plain, unify};
-use vectors::lent::{MOST_ROOM, prepare, result_right, space};
-use vectors::{Run, Word};
+use vectors::lent::{MOST_ROOM, prepare, result_right, zeros};
 
 // How many kinds of vectors there are; another word ends them.
 const KINDS: u32 = 3;
@@ -50,16 +49,10 @@ struct Vector {
 
 // Whether a row has the stored number, length, readings and node.
 fn row_right(row: Row, v: Vector) -> bool {
-    if row.number != v.number {
-        return false;
-    }
-    if row.length != v.length as usize {
-        return false;
-    }
-    if row.readings != v.readings {
-        return false;
-    }
-    row.node == v.node as usize
+    row.number == v.number
+        && row.length == v.length as usize
+        && row.readings == v.readings
+        && row.node == v.node as usize
 }
 
 // Unifies in these areas, by the plain engine or in the stored mode.
@@ -91,12 +84,7 @@ fn unified(
     prepare(working);
     let answer = answered(plainly, v.mode, a, b, res, working);
     let row = told(answer);
-    if row_right(row, v) {
-        if result_right(res, words) {
-            return working_right(v.number, working);
-        }
-    }
-    false
+    row_right(row, v) && result_right(res, words) && working_right(v.number, working)
 }
 
 // Unifies in these areas, in mode 2 by both engines: whether all comes out as stored.
@@ -108,29 +96,21 @@ fn unified_both(
     res: &mut [u32],
     working: &mut [u32],
 ) -> bool {
-    if unified(false, v, a, b, words, res, working) {
-        if v.mode == 2 {
-            return unified(true, v, a, b, words, res, working);
-        }
-        return true;
+    if !unified(false, v, a, b, words, res, working) {
+        return false;
     }
-    false
+    v.mode != 2 || unified(true, v, a, b, words, res, working)
 }
 
 // Unifies in areas of the stored lengths.
 fn lent(v: Vector, a: &[u32], b: &[u32], words: &[u32]) -> bool {
     let room = v.room as usize;
     let work = v.work as usize;
-    if MOST_ROOM < room {
+    if MOST_ROOM < room || MOST_WORK < work {
         return false;
     }
-    if MOST_WORK < work {
-        return false;
-    }
-    let mut here = space();
-    let result: &mut [u32] = &mut here;
-    let mut there = work_space();
-    let working: &mut [u32] = &mut there;
+    let mut result: [u32; MOST_ROOM] = zeros();
+    let mut working: [u32; MOST_WORK] = zeros();
     unified_both(v, a, b, words, &mut result[..room], &mut working[..work])
 }
 
@@ -142,16 +122,10 @@ fn fitted(a: &[u32], b: &[u32], number: u32) -> bool {
 
 // Whether what comes of a vector is what is stored.
 fn as_stored(v: Vector, a: &[u32], b: &[u32], words: &[u32]) -> bool {
-    let kind = v.kind;
-    match kind {
+    match v.kind {
         0 => lent(v, a, b, words),
         1 => fitted(a, b, v.number),
-        _ => {
-            if joined(a, b, v.number, words) {
-                return lent(v, a, b, words);
-            }
-            false
-        }
+        _ => joined(a, b, v.number, words) && lent(v, a, b, words),
     }
 }
 
@@ -163,16 +137,13 @@ fn read_in<R: Read>(
     b: &mut [u32],
     words: &mut [u32],
 ) -> io::Result<bool> {
-    let first = vectors::counted(input, a)?;
-    let Run::Of(n) = first else {
+    let Some(n) = vectors::counted(input, a)? else {
         return Ok(false);
     };
-    let second = vectors::counted(input, b)?;
-    let Run::Of(m) = second else {
+    let Some(m) = vectors::counted(input, b)? else {
         return Ok(false);
     };
-    let third = vectors::counted(input, words)?;
-    let Run::Of(k) = third else {
+    let Some(k) = vectors::counted(input, words)? else {
         return Ok(false);
     };
     Ok(as_stored(v, &a[..n], &b[..m], &words[..k]))
@@ -180,9 +151,9 @@ fn read_in<R: Read>(
 
 // Whether the words of a vector are there and it comes out as stored.
 fn read<R: Read>(input: &mut R, v: Vector) -> io::Result<bool> {
-    let mut a = space();
-    let mut b = space();
-    let mut words = space();
+    let mut a: [u32; MOST_ROOM] = zeros();
+    let mut b: [u32; MOST_ROOM] = zeros();
+    let mut words: [u32; MOST_ROOM] = zeros();
     read_in(input, v, &mut a, &mut b, &mut words)
 }
 
@@ -200,14 +171,13 @@ fn column<R: Read>(input: &mut R, v: Vector) -> io::Result<usize>
 
 // Runs the next vector and counts what came of it. Whether there was one.
 fn turn<R: Read>(input: &mut R, counts: &mut [u32]) -> io::Result<bool> {
-    let word = vectors::next(input)?;
-    let Word::Is(kind) = word else {
+    let Some(kind) = vectors::next(input)? else {
         return Ok(false);
     };
     if KINDS <= kind {
         return Ok(false);
     }
-    let mut row: [u32; ROW] = [0; ROW];
+    let mut row = [0; ROW];
     let filled = vectors::fill(input, &mut row)?;
     let v = Vector {
         kind,
@@ -225,13 +195,10 @@ fn turn<R: Read>(input: &mut R, counts: &mut [u32]) -> io::Result<bool> {
 
 // Runs all vectors.
 fn all<R: Read>(input: &mut R, counts: &mut [u32]) -> io::Result<()> {
-    let mut turns = MOST_TURNS;
-    while 0 < turns {
-        let more = turn(input, counts)?;
-        if !more {
+    for _ in 0..MOST_TURNS {
+        if !turn(input, counts)? {
             return Ok(());
         }
-        turns -= 1;
     }
     Ok(())
 }
@@ -251,10 +218,8 @@ fn say<W: Write>(
     requires { from ≤ 26 }
 {
     output.write_all(label)?;
-    let mut i: usize = 0;
-    while i < 12 {
-        say_count(output, b" ", counts[from + i])?;
-        i += 1;
+    for count in &counts[from..from + 12] {
+        say_count(output, b" ", *count)?;
     }
     say_count(output, b", otherwise: ", counts[from + 12])?;
     output.write_all(b"\n")
@@ -283,7 +248,7 @@ fn say_all<W: Write>(output: &mut W, counts: &[u32; ALL_COUNTS]) -> io::Result<(
 }
 
 fn main(rt: HostRuntime) -> io::Result<()> {
-    let mut counts: [u32; ALL_COUNTS] = [0; ALL_COUNTS];
+    let mut counts = [0; ALL_COUNTS];
     all(&mut rt.stdin(), &mut counts)?;
     say_all(&mut rt.stdout(), &counts)
 }

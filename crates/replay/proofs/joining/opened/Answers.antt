@@ -4,4 +4,4 @@ use Rattle.replay.proofs.joining.opened.Goals as goal
 
 pub write_graph-r-requires : goal.write_graph-r-requires
 write_graph-r-requires c =
-    ready c.args.w.now c.args.a.now c.args.b.now c.open-came.new.w c.in-Joined.nodes c.in-Joined.log c.requires.inputs c.in-Joined.ensures
+    ready c.args.w.now c.args.a.now c.args.b.now c.open.new.w c.in-Some.came.nodes c.in-Some.came.log c.requires.inputs c.in-Some.ensures
