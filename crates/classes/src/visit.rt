@@ -177,14 +177,7 @@ pub fn span(h: u32) -> usize
 }
 
 // The c nodes from x on, the first of which has its head at p. The log's entries then.
-pub fn nodes(
-    w: &mut Area,
-    k: usize,
-    n: Nodes,
-    x: usize,
-    p: usize,
-    c: usize,
-) -> Result<usize, Clash>
+pub fn nodes(w: &mut Area, k: usize, n: Nodes, x: usize, p: usize, c: usize) -> Result<usize, Clash>
     requires listing { Listing (loaded_words w.old) (targets w.old) n.count k w.old x p c }
     ensures { Listed (loaded_words w.old) (targets w.old) n.count k w.old x p c (log_of result)
         (clashes result) w.new }

@@ -1,6 +1,7 @@
 // A merge of two classes.
 // It puts one chain before the other and leaves a frame on the stack: the part of the chain that came, up to what was there, whose arcs
 // have yet to be compared with those after it.
+// The log's entries k stay a number of their own beside w and n: callers keep them as marks to go back to, and most steps give them alone.
 ghost use Rattle.std.specs.Prelude.{◌≡◌, true, false, ◌<◌};
 ghost use Rattle.area.specs.Map.{NODES};
 ghost use Rattle.forest.specs.declared.held.Held.TheVariants.{Arcs};

@@ -45,16 +45,7 @@ fn suit(w: &Area, n: Nodes, x: usize, f: u32, v: u32, t: &[u32]) -> Guess
 }
 
 // The arc i of the d arcs of the root of the graph at g, whose number is `base`, and the leaf that it leads to.
-fn lead(
-    w: &Area,
-    n: Nodes,
-    g: usize,
-    base: usize,
-    d: usize,
-    x: usize,
-    i: usize,
-    t: &[u32],
-) -> Guess
+fn lead(w: &Area, n: Nodes, g: usize, base: usize, d: usize, x: usize, i: usize, t: &[u32]) -> Guess
     requires anchored { Anchored n.count w.now x }
     requires sieves { Sieves w.now t.now x }
     requires base_bound { (base < NODES) × ((i < d) × (g + 2 + 3 * d ≤ LOADED)) }

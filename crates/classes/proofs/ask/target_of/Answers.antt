@@ -45,10 +45,10 @@ target-y-requires c =
     let k : Looked (loaded_words c.args.w.now) c.args.w.now c.args.f (get_or c.args.w.now c.class_of-c.result 0)
     (suc c.in_ok-arc.arc) = subst (λ (z : ℕ). Looked (loaded_words c.args.w.now) c.args.w.now c.args.f z (suc c.in_ok-arc.arc))
     chain.0 c.in_ok-arc.ensures in (target_low c.args.n.count c.args.w.now c.args.x c.requires.x_lt_n
-          c.class_of-c.result c.class_of-c.ensures c.args.f
-          (omega arith) c.in_ok-arc.arc
-          k
-          c.requires.labelled).0
+    c.class_of-c.result c.class_of-c.ensures c.args.f
+    (omega arith) c.in_ok-arc.arc
+    k
+    c.requires.labelled).0
 
 pub class_of-requires : goal.class_of-requires
 class_of-requires c =

@@ -24,7 +24,7 @@ loop-disjunction-init t c = (λ k. multiply_none _ _ _ k _ _ c.tail_at-e.ensures
 
 pub alternatives_at-count-requires : goal.alternatives_at-count-requires
 alternatives_at-count-requires t c = multiply_here _ _ _ c.requires _ _ _
-      (c.loop-disjunction.invariant.0 c.requires) (omega arith)
+    (c.loop-disjunction.invariant.0 c.requires) (omega arith)
 
 pub overflow_add-at-in-loop-disjunction : goal.overflow_add-at-in-loop-disjunction
 overflow_add-at-in-loop-disjunction t c = let h = multiply_here _ _ _ c.requires _ _ _

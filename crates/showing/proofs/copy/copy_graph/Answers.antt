@@ -16,7 +16,7 @@ overflow_cast-number c = let h = graph_here _ _ _ c.requires in let a = h.1 in l
 
 pub word_at-requires : goal.word_at-requires
 word_at-requires c = let h = (graph_here _ _ _ c.requires).0 in
-      omega arith
+    omega arith
 
 pub overflow_add-g : goal.overflow_add-g
 overflow_add-g c = let h = (graph_here _ _ _ c.requires).0 in omega arith

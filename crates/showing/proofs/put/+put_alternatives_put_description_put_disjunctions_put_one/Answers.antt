@@ -104,7 +104,7 @@ put_disjunctions-tail_at-e-requires t c = (go_reads _ _ _ _ _ c.requires).0
 
 pub put_disjunctions-disjunctions_at-more-requires : goal.put_disjunctions-disjunctions_at-more-requires
 put_disjunctions-disjunctions_at-more-requires t c = let h = (go_reads _ _ _ _ _ c.requires).1 in
-      omega arith
+    omega arith
 
 pub put_disjunctions-overflow_add-at : goal.put_disjunctions-overflow_add-at
 put_disjunctions-overflow_add-at t c = let h = (go_reads _ _ _ _ _ c.requires).1 in omega arith

@@ -62,7 +62,7 @@ bounds-t-i-then-t-i-eq0 c =
 
 pub next-y-requires : goal.next-y-requires
 next-y-requires c = runs_below _ _ c.loop-y.invariant.1.runs
-      (some _ c.loop-y-test.true)
+    (some _ c.loop-y-test.true)
 
 pub loop-y-smaller : goal.loop-y-smaller
 loop-y-smaller c =
