@@ -3,14 +3,13 @@ ghost use Rattle.std.specs.Prelude.{◌≡◌, ◌++◌, ◌≤◌, length, drop
 ghost use Rattle.theory.specs.Limits.{working_size};
 ghost use Rattle.theory.specs.Outcome.{wiped};
 
-use area::map::SIZE;
+use area::map::Area;
 
-// Zeroes the first 16,384 words.
-pub fn wipe(w: &mut [u32])
-    requires { working_size ≤ length w.old }
+// Zeroes the working area.
+pub fn wipe(w: &mut Area)
     ensures { w.new ≡ wiped working_size w.old }
 {
-    w[..SIZE].fill(0);
+    w.fill(0);
 }
 
 // Copies words to the start of the result area.

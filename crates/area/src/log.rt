@@ -1,15 +1,15 @@
 // An undo log in the working area: the body is the words before LOG, and the log has an entry a word from LOG on, 4,096 of them at most.
-ghost use Rattle.std.specs.Prelude.{◌≡◌, ◌+◌, ◌*◌, ◌≤◌, ◌<◌, length};
-ghost use Rattle.area.specs.Map.{LOG, SIZE, ENTRIES, ENTRY_MOST};
+ghost use Rattle.std.specs.Prelude.{◌≡◌, ◌+◌, ◌*◌, ◌≤◌, ◌<◌};
+ghost use Rattle.area.specs.Map.{LOG, ENTRIES, ENTRY_MOST};
 ghost use Rattle.area.specs.Log.{Logged, Stores, Undone};
 
-use crate::map::{ENTRY_STEP, LOG};
+use crate::map::{Area, ENTRY_STEP, LOG};
 use limits::wide;
 
 // Stores v at i of the body, and what stood there in the log, which has n entries. The entries after it.
-pub fn put(w: &mut [u32], n: usize, i: usize, v: u32) -> usize
+pub fn put(w: &mut Area, n: usize, i: usize, v: u32) -> usize
     requires logged { Logged n w.old }
-    requires i_bound { (i < LOG) × ((n < ENTRIES) × ((v < ENTRY_MOST) × (SIZE ≤ length w.old))) }
+    requires i_bound { (i < LOG) × ((n < ENTRIES) × (v < ENTRY_MOST)) }
     ensures { Stores n w.old i v result w.new }
 {
     let old = w[i];
@@ -19,7 +19,7 @@ pub fn put(w: &mut [u32], n: usize, i: usize, v: u32) -> usize
 }
 
 // Takes the entries from n down to m back.
-pub fn undo(w: &mut [u32], n: usize, m: usize)
+pub fn undo(w: &mut Area, n: usize, m: usize)
     requires logged { Logged n w.old }
     requires m_le_n { m ≤ n }
     ensures { Undone m n w.old w.new }

@@ -11,6 +11,9 @@
 //   14,336  2,048  unused
 //
 // The tables go by the numbers of nodes, and MARKS by those of marks, which are below NODES.
+ghost use Rattle.std.specs.Prelude.{◌≤◌};
+ghost use Rattle.area.specs.Map.{NODES};
+
 pub const NODES: usize = 1024;
 
 // An entry of the log is address + ENTRY_STEP * old value, a pending comparison from + FRAME_STEP * to.
@@ -39,3 +42,13 @@ pub const RESULT: usize = 12288;
 
 // The words of the area that are used.
 pub const SIZE: usize = 16384;
+
+// The working area.
+pub type Area = [u32; SIZE];
+
+// How many nodes are loaded: each has a number below that.
+#[derive(Clone, Copy, Debug, PartialEq, Eq)]
+pub struct Nodes {
+    pub count: usize,
+    ghost in_area: { count ≤ NODES },
+}

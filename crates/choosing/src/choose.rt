@@ -5,7 +5,7 @@ ghost use Rattle.choosing.specs.Told.{told_beside};
 
 use crate::sum::sum_choices;
 use crate::word::word_of;
-use area::map::{RESULT, SECOND};
+use area::map::{Area, RESULT, SECOND};
 use counting::choices::count_choices;
 use limits::DEPTH_LIMIT;
 use marks::marking::kept;
@@ -24,7 +24,7 @@ fn beside_other(which: Remnant, new: bool) -> bool
 
 // The way with the number c of the `total` through the description at g, from `at` on. How many words there are then.
 #[cycle(choose_pick)]
-fn choose(w: &mut [u32], g: usize, left: u32, c: u32, total: u32, new: bool, at: usize) -> usize
+fn choose(w: &mut Area, g: usize, left: u32, c: u32, total: u32, new: bool, at: usize) -> usize
     requires { ChoosingIn w.old g left total at }
     ensures { ChoosesIn w.old g left c total new at result w.new }
 {
@@ -51,7 +51,7 @@ fn choose(w: &mut [u32], g: usize, left: u32, c: u32, total: u32, new: bool, at:
 
 // The same through the one of the `count` alternatives from p on that has the choice with the number i, over all kept ones.
 #[cycle(choose_pick)]
-fn pick(w: &mut [u32], p: usize, count: usize, left: u32, i: u32, new: bool, at: usize) -> usize
+fn pick(w: &mut Area, p: usize, count: usize, left: u32, i: u32, new: bool, at: usize) -> usize
     requires { Picking w.old p count left at }
     ensures { Picks w.old p count left i new at result w.new }
 {
@@ -72,7 +72,7 @@ fn pick(w: &mut [u32], p: usize, count: usize, left: u32, i: u32, new: bool, at:
 }
 
 // The way with the number c through both inputs. How many words it has.
-pub fn choose_both(w: &mut [u32], c: u32) -> usize
+pub fn choose_both(w: &mut Area, c: u32) -> usize
     requires { ChoosingBoth w.old c }
     ensures { ChoosesBoth w.old c result w.new }
 {

@@ -1,12 +1,13 @@
 // The number of choices with one of some alternatives.
 ghost use Rattle.choosing.specs.Chosen.{Summing, Sums};
 
+use area::map::Area;
 use counting::choices::{capped, count_choices};
 use marks::marking::kept;
 use marks::positions::{after_at, mark_at};
 
 // The sum over the kept ones of the `count` alternatives from p on, stopping at 4,097.
-pub fn sum_choices(w: &[u32], p: usize, count: usize, left: u32) -> u32
+pub fn sum_choices(w: &Area, p: usize, count: usize, left: u32) -> u32
     requires { Summing w.now p count left }
     ensures { Sums w.now p count left result }
 {

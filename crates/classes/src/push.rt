@@ -1,12 +1,11 @@
 // Graphs are pushed and taken back.
-ghost use Rattle.std.specs.Prelude.{◌+◌, ◌≤◌, ◌<◌, length};
-ghost use Rattle.area.specs.Map.{SIZE};
+ghost use Rattle.std.specs.Prelude.{◌+◌, ◌<◌};
 ghost use Rattle.forest.specs.Outcome.{log_of, clashes};
 ghost use Rattle.classes.specs.Holds.{Adding, Adds, Pushing, Pushes, Remembers, Backs, Starts, Labelled, Classed};
 
 use crate::visit::nodes;
 use area::log::undo;
-use area::map::{HELD, NEXT, NODES, PARENT};
+use area::map::{Area, HELD, NEXT, NODES, Nodes, PARENT};
 use forest::chain::loaded;
 use forest::forest::find;
 use forest::merge::Clash;
@@ -14,8 +13,7 @@ use forest::settle::unite;
 use packing::{nodes_of, number_of};
 
 // Nothing is pushed: each number is its own class, which holds nothing.
-pub fn start(w: &mut [u32])
-    requires { SIZE ≤ length w.old }
+pub fn start(w: &mut Area)
     ensures { Starts w.old w.new }
 {
     for i in 0..NODES {
@@ -27,9 +25,9 @@ pub fn start(w: &mut [u32])
 }
 
 // The graph at g, of c nodes from the number `base` on: its root joins all roots, and then its nodes come. The log's entries then.
-fn add(w: &mut [u32], k: usize, n: usize, g: usize, base: usize, c: usize) -> Result<usize, Clash>
-    requires { Adding n k w.old g base c }
-    ensures { Adds n k w.old g base c (log_of result) (clashes result) w.new }
+fn add(w: &mut Area, k: usize, n: Nodes, g: usize, base: usize, c: usize) -> Result<usize, Clash>
+    requires { Adding n.count k w.old g base c }
+    ensures { Adds n.count k w.old g base c (log_of result) (clashes result) w.new }
 {
     let e = unite(w, k, n, 0, base)?;
     nodes(w, e, n, base, g + 1, c)
@@ -37,9 +35,9 @@ fn add(w: &mut [u32], k: usize, n: usize, g: usize, base: usize, c: usize) -> Re
 
 // The graph whose header is at g is pushed where the log has k entries. The log's entries then; or None, where the graph clashes with
 // those that are there, and is taken back.
-pub fn push(w: &mut [u32], k: usize, n: usize, g: usize) -> Option<usize>
-    requires { Pushing n k w.old g }
-    ensures { Pushes n k w.old g result w.new }
+pub fn push(w: &mut Area, k: usize, n: Nodes, g: usize) -> Option<usize>
+    requires { Pushing n.count k w.old g }
+    ensures { Pushes n.count k w.old g result w.new }
 {
     let head = loaded(w, g);
     let c = nodes_of(head);
@@ -54,7 +52,7 @@ pub fn push(w: &mut [u32], k: usize, n: usize, g: usize) -> Option<usize>
 }
 
 // Back from k entries in the log to the m of a mark.
-pub fn back(w: &mut [u32], k: usize, m: usize)
+pub fn back(w: &mut Area, k: usize, m: usize)
     requires { Remembers m k w.old }
     ensures { Backs m k w.old w.new }
 {
@@ -62,10 +60,10 @@ pub fn back(w: &mut [u32], k: usize, m: usize)
 }
 
 // The class of the number x.
-pub fn class_of(w: &[u32], n: usize, x: usize) -> usize
-    requires x_lt_n { x < n }
-    requires labelled { Labelled n w.now }
-    ensures { Classed n w.now x result }
+pub fn class_of(w: &Area, n: Nodes, x: usize) -> usize
+    requires x_lt_n { x < n.count }
+    requires labelled { Labelled n.count w.now }
+    ensures { Classed n.count w.now x result }
 {
     find(w, n, x)
 }

@@ -1,7 +1,7 @@
 // The arcs and atoms of a graph meet the classes of its nodes.
-ghost use Rattle.std.specs.Prelude.{◌≡◌, true, false, ◌+◌, ◌*◌, ◌-◌, ◌≤◌, ◌<◌, length, get_or};
+ghost use Rattle.std.specs.Prelude.{◌≡◌, true, false, ◌+◌, ◌*◌, ◌-◌, ◌≤◌, ◌<◌, get_or};
 ghost use Rattle.theory.specs.Limits.{code_limit};
-ghost use Rattle.area.specs.Map.{SIZE, NODES, LOADED, NEXT, LOG, ENTRIES, TARGETS, ENTRY_MOST};
+ghost use Rattle.area.specs.Map.{LOADED, NEXT, LOG, ENTRIES, TARGETS, ENTRY_MOST};
 ghost use Rattle.area.specs.Log.{Logged};
 ghost use Rattle.area.specs.Region.{loaded_words};
 ghost use Rattle.forest.specs.Held.{AtomCode};
@@ -12,7 +12,7 @@ ghost use Rattle.classes.specs.Came.{log_after, link_after};
 ghost use Rattle.classes.specs.Nodes.{Follows, Hung, Batched, Run, Noding, Noded, Listing, Listed};
 
 use area::log::put;
-use area::map::{HELD, NEXT};
+use area::map::{Area, HELD, NEXT, Nodes};
 use forest::chain::{loaded, locate, rises, target};
 use forest::forest::find;
 use forest::held::{Held, bears_atom, held_by};
@@ -29,10 +29,10 @@ pub struct Came {
 }
 
 // 1 where the chain of the class of x rises, or 0.
-fn afresh(w: &[u32], k: usize, n: usize, x: usize) -> usize
-    requires x_lt_n { (x < n) × ((n ≤ NODES) × (SIZE ≤ length w.now)) }
-    requires steady { Steady n k w.now }
-    ensures { Ordered (loaded_words w.now) n w.now x result }
+fn afresh(w: &Area, k: usize, n: Nodes, x: usize) -> usize
+    requires x_lt_n { x < n.count }
+    requires steady { Steady n.count k w.now }
+    ensures { Ordered (loaded_words w.now) n.count w.now x result }
 {
     let c = find(w, n, x);
     match held_by(w, c) {
@@ -43,10 +43,10 @@ fn afresh(w: &[u32], k: usize, n: usize, x: usize) -> usize
 }
 
 // The link to begin with for the d arcs of x. Where they are few, each is looked for by itself.
-fn outset(w: &[u32], k: usize, n: usize, x: usize, d: usize) -> usize
-    requires x_lt_n { (x < n) × ((n ≤ NODES) × (SIZE ≤ length w.now)) }
-    requires steady { Steady n k w.now }
-    ensures { Ordered (loaded_words w.now) n w.now x result }
+fn outset(w: &Area, k: usize, n: Nodes, x: usize, d: usize) -> usize
+    requires x_lt_n { x < n.count }
+    requires steady { Steady n.count k w.now }
+    ensures { Ordered (loaded_words w.now) n.count w.now x result }
 {
     if d < 4 {
         return 0;
@@ -56,11 +56,11 @@ fn outset(w: &[u32], k: usize, n: usize, x: usize, d: usize) -> usize
 
 // The link to go on from after a union that took the log from k entries to e: where it took three at most, no chain has changed, and the
 // arc r is still on that of the class c.
-fn onward(w: &[u32], k: usize, e: usize, n: usize, x: usize, c: usize, r: usize, at: usize) -> usize
-    requires x_lt_n { (x < n) × ((n ≤ NODES) × (SIZE ≤ length w.now)) }
+fn onward(w: &Area, k: usize, e: usize, n: Nodes, x: usize, c: usize, r: usize, at: usize) -> usize
+    requires x_lt_n { x < n.count }
     requires r_bound { (r < LOADED) × (k ≤ ENTRIES) }
-    requires turning { Turning (loaded_words w.now) n k e w.now c r at }
-    ensures { Ordered (loaded_words w.now) n w.now x result }
+    requires turning { Turning (loaded_words w.now) n.count k e w.now c r at }
+    ensures { Ordered (loaded_words w.now) n.count w.now x result }
 {
     if at == 0 {
         return 0;
@@ -75,8 +75,8 @@ fn onward(w: &[u32], k: usize, e: usize, n: usize, x: usize, c: usize, r: usize,
 }
 
 // y follows the arc t, which nothing follows yet: 0 takes no entry.
-fn follow(w: &mut [u32], k: usize, t: usize, y: u32) -> usize
-    requires t_bound { (t < TARGETS) × ((y < ENTRY_MOST) × (SIZE ≤ length w.old)) }
+fn follow(w: &mut Area, k: usize, t: usize, y: u32) -> usize
+    requires t_bound { (t < TARGETS) × (y < ENTRY_MOST) }
     requires logged { Logged k w.old × (k < ENTRIES) }
     requires t_value { get_or w.old (NEXT + t) 0 ≡ 0 }
     ensures { Follows k w.old t y result w.new }
@@ -88,8 +88,8 @@ fn follow(w: &mut [u32], k: usize, t: usize, y: u32) -> usize
 }
 
 // The arc t goes onto a chain at the link l. The link to go on from is that after t, or 0 where `at` is.
-fn hang(w: &mut [u32], k: usize, t: usize, l: usize, at: usize) -> Came
-    requires l_bound { (l < LOG) × ((t < TARGETS) × (SIZE ≤ length w.old)) }
+fn hang(w: &mut Area, k: usize, t: usize, l: usize, at: usize) -> Came
+    requires l_bound { (l < LOG) × (t < TARGETS) }
     requires logged { Logged k w.old × (k + 2 ≤ ENTRIES) }
     requires t_value { get_or w.old (NEXT + t) 0 ≡ 0 }
     ensures { Hung k w.old t l at result.k result.at w.new }
@@ -102,12 +102,11 @@ fn hang(w: &mut [u32], k: usize, t: usize, l: usize, at: usize) -> Came
 }
 
 // The arc t of the node x: it goes onto the chain of its class, or its target joins that of the arc there with its feature.
-fn visit(w: &mut [u32], k: usize, n: usize, x: usize, t: usize, at: usize) -> Result<Came, Clash>
-    requires n_bound { (n ≤ NODES) × (SIZE ≤ length w.old) }
-    requires x_lt_n { (x < n) × (t < TARGETS) }
-    requires coming { Coming (loaded_words w.old) (targets w.old) n k w.old x t }
-    requires ordered { Ordered (loaded_words w.old) n w.old x at }
-    ensures { VisitedInOrder (loaded_words w.old) (targets w.old) n k w.old x t (log_after result)
+fn visit(w: &mut Area, k: usize, n: Nodes, x: usize, t: usize, at: usize) -> Result<Came, Clash>
+    requires x_lt_n { (x < n.count) × (t < TARGETS) }
+    requires coming { Coming (loaded_words w.old) (targets w.old) n.count k w.old x t }
+    requires ordered { Ordered (loaded_words w.old) n.count w.old x at }
+    ensures { VisitedInOrder (loaded_words w.old) (targets w.old) n.count k w.old x t (log_after result)
         (link_after result) (clashes result) w.new }
 {
     let c = find(w, n, x);
@@ -127,11 +126,11 @@ fn visit(w: &mut [u32], k: usize, n: usize, x: usize, t: usize, at: usize) -> Re
 }
 
 // The atom's head v of the node x meets what its class holds. The log's entries then.
-fn mark(w: &mut [u32], k: usize, n: usize, x: usize, v: u32) -> Result<usize, Clash>
-    requires n_bound { (n ≤ NODES) × ((x < n) × (SIZE ≤ length w.old)) }
+fn mark(w: &mut Area, k: usize, n: Nodes, x: usize, v: u32) -> Result<usize, Clash>
+    requires x_lt_n { x < n.count }
     requires atom_code { AtomCode v × (v < ENTRY_MOST) }
-    requires heading { Heading (loaded_words w.old) (targets w.old) n k w.old x v }
-    ensures { Headed (loaded_words w.old) (targets w.old) n k w.old x v (log_of result) (clashes result)
+    requires heading { Heading (loaded_words w.old) (targets w.old) n.count k w.old x v }
+    ensures { Headed (loaded_words w.old) (targets w.old) n.count k w.old x v (log_of result) (clashes result)
         w.new }
 {
     let c = find(w, n, x);
@@ -143,11 +142,10 @@ fn mark(w: &mut [u32], k: usize, n: usize, x: usize, v: u32) -> Result<usize, Cl
 }
 
 // The d arcs of the node x that stand from `from` on. The log's entries then.
-fn arcs(w: &mut [u32], k: usize, n: usize, x: usize, from: usize, d: usize) -> Result<usize, Clash>
-    requires n_bound { (n ≤ NODES) × (SIZE ≤ length w.old) }
-    requires x_lt_n { (x < n) × (from + 2 * d ≤ LOADED) }
-    requires batched { Batched (loaded_words w.old) (targets w.old) n k w.old x from d }
-    ensures { Run (loaded_words w.old) (targets w.old) n k w.old x from d (log_of result)
+fn arcs(w: &mut Area, k: usize, n: Nodes, x: usize, from: usize, d: usize) -> Result<usize, Clash>
+    requires x_lt_n { (x < n.count) × (from + 2 * d ≤ LOADED) }
+    requires batched { Batched (loaded_words w.old) (targets w.old) n.count k w.old x from d }
+    ensures { Run (loaded_words w.old) (targets w.old) n.count k w.old x from d (log_of result)
         (clashes result) w.new }
 {
     let at = outset(w, k, n, x, d);
@@ -159,10 +157,9 @@ fn arcs(w: &mut [u32], k: usize, n: usize, x: usize, from: usize, d: usize) -> R
 }
 
 // The node x, whose head stands at p. The log's entries then.
-fn node(w: &mut [u32], k: usize, n: usize, x: usize, p: usize) -> Result<usize, Clash>
-    requires n_bound { (n ≤ NODES) × (SIZE ≤ length w.old) }
-    requires noding { Noding (loaded_words w.old) (targets w.old) n k w.old x p }
-    ensures { Noded (loaded_words w.old) (targets w.old) n k w.old x p (log_of result) (clashes result)
+fn node(w: &mut Area, k: usize, n: Nodes, x: usize, p: usize) -> Result<usize, Clash>
+    requires noding { Noding (loaded_words w.old) (targets w.old) n.count k w.old x p }
+    ensures { Noded (loaded_words w.old) (targets w.old) n.count k w.old x p (log_of result) (clashes result)
         w.new }
 {
     let h = loaded(w, p);
@@ -180,17 +177,9 @@ pub fn span(h: u32) -> usize
 }
 
 // The c nodes from x on, the first of which has its head at p. The log's entries then.
-pub fn nodes(
-    w: &mut [u32],
-    k: usize,
-    n: usize,
-    x: usize,
-    p: usize,
-    c: usize,
-) -> Result<usize, Clash>
-    requires n_bound { (n ≤ NODES) × (SIZE ≤ length w.old) }
-    requires listing { Listing (loaded_words w.old) (targets w.old) n k w.old x p c }
-    ensures { Listed (loaded_words w.old) (targets w.old) n k w.old x p c (log_of result)
+pub fn nodes(w: &mut Area, k: usize, n: Nodes, x: usize, p: usize, c: usize) -> Result<usize, Clash>
+    requires listing { Listing (loaded_words w.old) (targets w.old) n.count k w.old x p c }
+    ensures { Listed (loaded_words w.old) (targets w.old) n.count k w.old x p c (log_of result)
         (clashes result) w.new }
 {
     let mut e = k;
@@ -203,10 +192,9 @@ pub fn nodes(
 }
 
 // One node, x, whose head stands at p: the same as `node`, by the loop that a push goes through, so that the step is there once.
-pub fn one_node(w: &mut [u32], k: usize, n: usize, x: usize, p: usize) -> Result<usize, Clash>
-    requires n_bound { (n ≤ NODES) × (SIZE ≤ length w.old) }
-    requires noding { Noding (loaded_words w.old) (targets w.old) n k w.old x p }
-    ensures { Noded (loaded_words w.old) (targets w.old) n k w.old x p (log_of result) (clashes result)
+pub fn one_node(w: &mut Area, k: usize, n: Nodes, x: usize, p: usize) -> Result<usize, Clash>
+    requires noding { Noding (loaded_words w.old) (targets w.old) n.count k w.old x p }
+    ensures { Noded (loaded_words w.old) (targets w.old) n.count k w.old x p (log_of result) (clashes result)
         w.new }
 {
     nodes(w, k, n, x, p, 1)

@@ -5,7 +5,7 @@ ghost use Rattle.theory.specs.Limits.{choice_stop};
 ghost use Rattle.marks.specs.Readable.{Readable};
 ghost use Rattle.counting.specs.Counted.{Counted, CountedBoth};
 
-use area::map::SECOND;
+use area::map::{Area, SECOND};
 use limits::CHOICE_STOP;
 use marks::marking::kept;
 use marks::positions::{after_at, alternatives_at, disjunctions_at, mark_at, tail_at};
@@ -19,7 +19,7 @@ pub fn capped(x: u32) -> u32
 
 // The number of choices of the description at p, under which alternatives nest at most `left` deep: the product over its disjunctions
 // of the sum over their kept alternatives.
-pub fn count_choices(w: &[u32], p: usize, left: u32) -> u32
+pub fn count_choices(w: &Area, p: usize, left: u32) -> u32
     requires { Readable w.now p left }
     ensures { Counted w.now p left result }
 {
@@ -43,7 +43,7 @@ pub fn count_choices(w: &[u32], p: usize, left: u32) -> u32
 }
 
 // The number of choices of both inputs together.
-pub fn count_both(w: &[u32], left: u32) -> u32
+pub fn count_both(w: &Area, left: u32) -> u32
     requires { Readable w.now 0 left × Readable w.now SECOND left }
     ensures { CountedBoth w.now left result }
 {

@@ -179,6 +179,9 @@ module _ (w : List ℕ) (c d b : ℕ) (is_c : c ≡ word_nodes (get_or w WORDS 0
     pub second_low : b ≤ NODES
     second_low = let f = lies.few in omega arith
 
+    pub all_low : b + d ≤ NODES
+    all_low = let f = lies.few in let t = two in omega arith
+
     module _ (w₁ : List ℕ) (stripped : Strips w c d w₁) where
       pub push_asked : BothPushing (b + d) w₁
       push_asked = let e = length_bare a.h in let l = stripped.len in let m = a.long in let t = two in record {

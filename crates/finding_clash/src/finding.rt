@@ -3,12 +3,12 @@ ghost use Rattle.finding_clash.specs.TwoGraphs.{Stripping, Strips, BothPushing, 
 
 use crate::heads::bare;
 use crate::notes::{first_clash, note_heads};
-use area::map::{SECOND, WORDS};
+use area::map::{Area, Nodes, SECOND, WORDS};
 use classes::push::{push, start};
 use packing::{nodes_of, number_of};
 
 // The atoms of both graphs, which have c and d nodes, are taken out.
-fn strip(w: &mut [u32], c: usize, d: usize)
+fn strip(w: &mut Area, c: usize, d: usize)
     requires { Stripping w.old c d }
     ensures { Strips w.old c d w.new }
 {
@@ -17,9 +17,9 @@ fn strip(w: &mut [u32], c: usize, d: usize)
 }
 
 // Both graphs, which do not clash, are pushed: there are n numbers.
-fn push_both(w: &mut [u32], n: usize)
-    requires { BothPushing n w.old }
-    ensures { BothPushes n w.old w.new }
+fn push_both(w: &mut Area, n: Nodes)
+    requires { BothPushing n.count w.old }
+    ensures { BothPushes n.count w.old w.new }
 {
     start(w);
     let Some(k) = push(w, 0, n, 0) else {
@@ -30,7 +30,7 @@ fn push_both(w: &mut [u32], n: usize)
 
 // The smallest node, counting the first graph's nodes and then the second's, whose class holds a clash. Nothing of the area is of use
 // afterwards.
-pub fn clash_node(w: &mut [u32]) -> usize
+pub fn clash_node(w: &mut Area) -> usize
     requires { Locating w.old }
     ensures { Locates w.old result w.new }
 {
@@ -38,8 +38,9 @@ pub fn clash_node(w: &mut [u32]) -> usize
     let second = w[WORDS + SECOND];
     let d = nodes_of(second);
     let b = number_of(second);
+    let n = Nodes { count: b + d };
     strip(w, c, d);
-    push_both(w, b + d);
-    note_heads(w, b + d, c, b, c + d);
-    first_clash(w, b + d, c, b, c + d)
+    push_both(w, n);
+    note_heads(w, n, c, b, c + d);
+    first_clash(w, n, c, b, c + d)
 }

@@ -1,11 +1,11 @@
 // The atoms' heads of a loaded graph are taken out, and the heads of its nodes kept from MARKS on, which nothing needs after a clash.
 ghost use Rattle.finding_clash.specs.Heads.{NodeBaring, NodeBares, Baring, Bares};
 
-use area::map::MARKS;
+use area::map::{Area, MARKS};
 use limits::{CODE_LIMIT, wide};
 
 // The head of the node at p is kept as that of node i, and is 0 if it is an atom's. Where the node ends.
-fn bare_node(w: &mut [u32], p: usize, i: usize) -> usize
+fn bare_node(w: &mut Area, p: usize, i: usize) -> usize
     requires { NodeBaring w.old p i }
     ensures { NodeBares w.old p i result w.new }
 {
@@ -19,7 +19,7 @@ fn bare_node(w: &mut [u32], p: usize, i: usize) -> usize
 }
 
 // The same for the `count` nodes from p on, the first of which is node i.
-pub(crate) fn bare(w: &mut [u32], p: usize, count: usize, i: usize)
+pub(crate) fn bare(w: &mut Area, p: usize, count: usize, i: usize)
     requires { Baring w.old p count i }
     ensures { Bares w.old p count i w.new }
 {

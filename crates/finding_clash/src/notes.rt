@@ -1,11 +1,11 @@
 // STACK + c, which is free once both graphs are pushed, has a note of what the class c bears: 0 nothing, 1 arcs, 2 a clash, or the head
 // of its atom.
-ghost use Rattle.std.specs.Prelude.{◌≡◌, ◌+◌, ◌≤◌, ◌<◌, length};
-ghost use Rattle.area.specs.Map.{NODES, SIZE};
+ghost use Rattle.std.specs.Prelude.{◌≡◌, ◌+◌, ◌≤◌, ◌<◌};
+ghost use Rattle.area.specs.Map.{NODES};
 ghost use Rattle.finding_clash.specs.Notes.{Mixes, engine_number, NotesAsked, NotesOne, NotesAll, ClashSought};
 
 use area::clearing::clear;
-use area::map::{MARKS, STACK};
+use area::map::{Area, MARKS, Nodes, STACK};
 use forest::forest::find;
 use limits::CODE_LIMIT;
 
@@ -41,10 +41,10 @@ fn engine_number(i: usize, c: usize, b: usize) -> usize
 }
 
 // The head of node i is noted.
-fn note_head(w: &mut [u32], n: usize, c: usize, b: usize, i: usize, m: usize)
+fn note_head(w: &mut Area, n: Nodes, c: usize, b: usize, i: usize, m: usize)
     requires i_lt_m { (i < m) × (b ≤ NODES) }
-    requires notes_asked { NotesAsked n c b m w.old }
-    ensures { NotesOne n c b i w.old w.new }
+    requires notes_asked { NotesAsked n.count c b m w.old }
+    ensures { NotesOne n.count c b i w.old w.new }
 {
     let x = engine_number(i, c, b);
     let r = find(w, n, x);
@@ -54,22 +54,22 @@ fn note_head(w: &mut [u32], n: usize, c: usize, b: usize, i: usize, m: usize)
 }
 
 // The heads of all m nodes are noted.
-pub(crate) fn note_heads(w: &mut [u32], n: usize, c: usize, b: usize, m: usize)
+pub(crate) fn note_heads(w: &mut Area, n: Nodes, c: usize, b: usize, m: usize)
     requires b_bound { b ≤ NODES }
-    requires notes_asked { NotesAsked n c b m w.old }
-    ensures { NotesAll n c b m w.old w.new }
+    requires notes_asked { NotesAsked n.count c b m w.old }
+    ensures { NotesAll n.count c b m w.old w.new }
 {
-    clear(w, STACK, n);
+    clear(w, STACK, n.count);
     for i in 0..m {
         note_head(w, n, c, b, i, m);
     }
 }
 
 // The first of m nodes whose class has a clash noted, or m.
-pub(crate) fn first_clash(w: &[u32], n: usize, c: usize, b: usize, m: usize) -> usize
+pub(crate) fn first_clash(w: &Area, n: Nodes, c: usize, b: usize, m: usize) -> usize
     requires b_bound { b ≤ NODES }
-    requires notes_asked { NotesAsked n c b m w.now }
-    ensures { ClashSought n c b m w.now result }
+    requires notes_asked { NotesAsked n.count c b m w.now }
+    ensures { ClashSought n.count c b m w.now result }
 {
     for i in 0..m {
         let x = engine_number(i, c, b);

@@ -1,9 +1,9 @@
 // What a class holds: nothing, a chain of arcs, or an atom. HELD + c has it for the class c.
-ghost use Rattle.std.specs.Prelude.{◌≡◌, ◌≤◌, ◌<◌, length};
-ghost use Rattle.area.specs.Map.{NODES, SIZE};
+ghost use Rattle.std.specs.Prelude.{◌≡◌, ◌<◌};
+ghost use Rattle.area.specs.Map.{NODES};
 ghost use Rattle.forest.specs.Held.{held_by, bears};
 
-use area::map::HELD;
+use area::map::{Area, HELD};
 use limits::wide;
 
 // A chain by its first arc, counted from 1, or an atom by its head: three contents of a class, and none of them a failure.
@@ -18,8 +18,8 @@ pub enum Held {
 const LAST_ARC: u32 = 2048;
 
 // What the class c holds.
-pub fn held_by(w: &[u32], c: usize) -> Held
-    requires { (c < NODES) × (SIZE ≤ length w.now) }
+pub fn held_by(w: &Area, c: usize) -> Held
+    requires { c < NODES }
     ensures { result ≡ held_by w.now c }
 {
     let h = w[HELD + c];
@@ -33,8 +33,8 @@ pub fn held_by(w: &[u32], c: usize) -> Held
 }
 
 // Whether the class c holds an atom.
-pub fn bears_atom(w: &[u32], c: usize) -> bool
-    requires { (c < NODES) × (SIZE ≤ length w.now) }
+pub fn bears_atom(w: &Area, c: usize) -> bool
+    requires { c < NODES }
     ensures { result ≡ bears (held_by w.now c) }
 {
     w[HELD + c] > LAST_ARC

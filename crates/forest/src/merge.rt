@@ -1,8 +1,9 @@
 // A merge of two classes.
 // It puts one chain before the other and leaves a frame on the stack: the part of the chain that came, up to what was there, whose arcs
 // have yet to be compared with those after it.
-ghost use Rattle.std.specs.Prelude.{◌≡◌, true, false, ◌≤◌, ◌<◌, length};
-ghost use Rattle.area.specs.Map.{SIZE, NODES};
+// The log's entries k stay a number of their own beside w and n: callers keep them as marks to go back to, and most steps give them alone.
+ghost use Rattle.std.specs.Prelude.{◌≡◌, true, false, ◌<◌};
+ghost use Rattle.area.specs.Map.{NODES};
 ghost use Rattle.forest.specs.declared.held.Held.TheVariants.{Arcs};
 ghost use Rattle.forest.specs.Held.{held_by, Covered};
 ghost use Rattle.forest.specs.Roots.{Fusing, ByItself};
@@ -13,7 +14,7 @@ use crate::chain::last;
 use crate::forest::{adopt, find, link, yields};
 use crate::held::{Held, held_by};
 use area::log::put;
-use area::map::{FRAME_STEP, HELD, NEXT, PARENT, STACK};
+use area::map::{Area, FRAME_STEP, HELD, NEXT, Nodes, PARENT, STACK};
 
 // The log's entries and the frames on the stack after a step.
 #[derive(Clone, Copy)]
@@ -43,42 +44,39 @@ fn covered(came: Held, there: Held) -> bool
 }
 
 // The class b goes under the class a, which holds what b holds. The log's entries after it.
-fn tuck(w: &mut [u32], k: usize, s: usize, n: usize, a: usize, b: usize) -> usize
-    requires n_bound { (n ≤ NODES) × (SIZE ≤ length w.old) }
-    requires fusing { Fusing n w.old a b }
+fn tuck(w: &mut Area, k: usize, s: usize, n: Nodes, a: usize, b: usize) -> usize
+    requires fusing { Fusing n.count w.old a b }
     requires covered { Covered (held_by w.old b) (held_by w.old a) }
-    requires some_state { SomeState n k s w.old }
-    ensures { Merged n k s w.old a b result s false w.new }
+    requires some_state { SomeState n.count k s w.old }
+    ensures { Merged n.count k s w.old a b result s false w.new }
 {
     link(w, k, n, a, b)
 }
 
 // The node b, a class by itself that holds nothing, goes under the class a. The log's entries after it.
-fn take_in(w: &mut [u32], k: usize, s: usize, n: usize, a: usize, b: usize) -> usize
-    requires n_bound { (n ≤ NODES) × (SIZE ≤ length w.old) }
-    requires fusing { Fusing n w.old a b × ByItself w.old b }
-    requires some_state { SomeState n k s w.old }
-    ensures { Merged n k s w.old a b result s false w.new }
+fn take_in(w: &mut Area, k: usize, s: usize, n: Nodes, a: usize, b: usize) -> usize
+    requires fusing { Fusing n.count w.old a b × ByItself w.old b }
+    requires some_state { SomeState n.count k s w.old }
+    ensures { Merged n.count k s w.old a b result s false w.new }
 {
     adopt(w, k, n, a, b)
 }
 
 // The class b goes under the class a, where both have chains, from p and from q.
 fn knit(
-    w: &mut [u32],
+    w: &mut Area,
     k: usize,
     s: usize,
-    n: usize,
+    n: Nodes,
     a: usize,
     b: usize,
     p: usize,
     q: usize,
 ) -> Progress
-    requires n_bound { (n ≤ NODES) × (SIZE ≤ length w.old) }
-    requires fusing { Fusing n w.old a b }
+    requires fusing { Fusing n.count w.old a b }
     requires b_value { (held_by w.old b ≡ Arcs p) × (held_by w.old a ≡ Arcs q) }
-    requires some_state { SomeState n k s w.old }
-    ensures { Merged n k s w.old a b result.k result.s false w.new }
+    requires some_state { SomeState n.count k s w.old }
+    ensures { Merged n.count k s w.old a b result.k result.s false w.new }
 {
     let x = p as u32;
     let y = q as u32;
@@ -91,11 +89,10 @@ fn knit(
 }
 
 // The class b goes under the class a.
-fn fuse(w: &mut [u32], k: usize, s: usize, n: usize, a: usize, b: usize) -> Result<Progress, Clash>
-    requires n_bound { (n ≤ NODES) × (SIZE ≤ length w.old) }
-    requires fusing { Fusing n w.old a b }
-    requires some_state { SomeState n k s w.old }
-    ensures { Merged n k s w.old a b (entries_of result) (frames_of s result) (clashes result) w.new }
+fn fuse(w: &mut Area, k: usize, s: usize, n: Nodes, a: usize, b: usize) -> Result<Progress, Clash>
+    requires fusing { Fusing n.count w.old a b }
+    requires some_state { SomeState n.count k s w.old }
+    ensures { Merged n.count k s w.old a b (entries_of result) (frames_of s result) (clashes result) w.new }
 {
     let came = held_by(w, b);
     if let Held::Nothing = came {
@@ -128,16 +125,16 @@ fn fuse(w: &mut [u32], k: usize, s: usize, n: usize, a: usize, b: usize) -> Resu
 
 // The classes of x and y become one, whichever they are.
 pub fn blend(
-    w: &mut [u32],
+    w: &mut Area,
     k: usize,
     s: usize,
-    n: usize,
+    n: Nodes,
     x: usize,
     y: usize,
 ) -> Result<Progress, Clash>
-    requires x_lt_n { (x < n) × ((y < n) × ((n ≤ NODES) × (SIZE ≤ length w.old))) }
-    requires some_state { SomeState n k s w.old }
-    ensures { Merged n k s w.old x y (entries_of result) (frames_of s result) (clashes result) w.new }
+    requires x_lt_n { (x < n.count) × (y < n.count) }
+    requires some_state { SomeState n.count k s w.old }
+    ensures { Merged n.count k s w.old x y (entries_of result) (frames_of s result) (clashes result) w.new }
 {
     let a = find(w, n, x);
     let b = find(w, n, y);
@@ -151,8 +148,8 @@ pub fn blend(
 }
 
 // Whether y is a class by itself that holds nothing, as a node is that has just come.
-fn is_by_itself(w: &[u32], y: usize) -> bool
-    requires { (y < NODES) × (SIZE ≤ length w.now) }
+fn is_by_itself(w: &Area, y: usize) -> bool
+    requires { y < NODES }
     ensures { result ≡ true → ByItself w.now y }
 {
     w[PARENT + y] == y as u32 && w[HELD + y] == 0
@@ -160,10 +157,10 @@ fn is_by_itself(w: &[u32], y: usize) -> bool
 
 // Of x and y, one that is a class by itself goes under the other's class at once where that has the lower number. The log's entries after
 // it; or None, where none of them did.
-pub fn adopt_new(w: &mut [u32], k: usize, s: usize, n: usize, x: usize, y: usize) -> Option<usize>
-    requires x_lt_n { (x < n) × ((y < n) × ((n ≤ NODES) × (SIZE ≤ length w.old))) }
-    requires some_state { SomeState n k s w.old }
-    ensures { AdoptedNew n k s w.old x y result w.new }
+pub fn adopt_new(w: &mut Area, k: usize, s: usize, n: Nodes, x: usize, y: usize) -> Option<usize>
+    requires x_lt_n { (x < n.count) × (y < n.count) }
+    requires some_state { SomeState n.count k s w.old }
+    ensures { AdoptedNew n.count k s w.old x y result w.new }
 {
     if is_by_itself(w, y) {
         let a = find(w, n, x);
@@ -182,16 +179,16 @@ pub fn adopt_new(w: &mut [u32], k: usize, s: usize, n: usize, x: usize, y: usize
 
 // The classes of x and y become one.
 pub fn join(
-    w: &mut [u32],
+    w: &mut Area,
     k: usize,
     s: usize,
-    n: usize,
+    n: Nodes,
     x: usize,
     y: usize,
 ) -> Result<Progress, Clash>
-    requires x_lt_n { (x < n) × ((y < n) × ((n ≤ NODES) × (SIZE ≤ length w.old))) }
-    requires some_state { SomeState n k s w.old }
-    ensures { Merged n k s w.old x y (entries_of result) (frames_of s result) (clashes result) w.new }
+    requires x_lt_n { (x < n.count) × (y < n.count) }
+    requires some_state { SomeState n.count k s w.old }
+    ensures { Merged n.count k s w.old x y (entries_of result) (frames_of s result) (clashes result) w.new }
 {
     match adopt_new(w, k, s, n, x, y) {
         Some(e) => Ok(Progress { k: e, s }),

@@ -1,6 +1,7 @@
 // The full step, on marks that the quick step left, by either engine.
 ghost use Rattle.leaving.specs.Fulled.{Fulling, Fulls};
 
+use area::map::{Area, Nodes};
 use counting::choices::count_both;
 use leaving::leave::{Left, NoneLeft, leave};
 use limits::{CHOICE_LIMIT, DEPTH_LIMIT};
@@ -16,9 +17,9 @@ pub enum Engine {
 }
 
 // Drops every alternative that stands in no consistent choice, where k entries in the log are what is certain after the quick step.
-pub fn full(engine: Engine, w: &mut [u32], k: usize, n: usize) -> Result<Left, NoneLeft>
-    requires { Fulling n k w.old }
-    ensures { Fulls n k w.old result w.new }
+pub fn full(engine: Engine, w: &mut Area, k: usize, n: Nodes) -> Result<Left, NoneLeft>
+    requires { Fulling n.count k w.old }
+    ensures { Fulls n.count k w.old result w.new }
 {
     let choices = count_both(w, DEPTH_LIMIT);
     if CHOICE_LIMIT < choices {

@@ -2,7 +2,7 @@
 ghost use Rattle.leaving.specs.Restarted.{Restarting, Restarts};
 ghost use Rattle.leaving.specs.Kept.{Keeping, Keeps};
 
-use area::map::SECOND;
+use area::map::{Area, Nodes, SECOND};
 use classes::push::back;
 use entering::enter::enter;
 use limits::DEPTH_LIMIT;
@@ -23,9 +23,9 @@ pub enum NoneLeft {
 }
 
 // Takes back all that is pushed, the k entries of the log, and pushes all that is certain in both inputs.
-fn restart(w: &mut [u32], k: usize, n: usize) -> Option<usize>
-    requires { Restarting n k w.old }
-    ensures { Restarts n k w.old result w.new }
+fn restart(w: &mut Area, k: usize, n: Nodes) -> Option<usize>
+    requires { Restarting n.count k w.old }
+    ensures { Restarts n.count k w.old result w.new }
 {
     back(w, k, 0);
     let first = enter(w, 0, n, 0, DEPTH_LIMIT)?;
@@ -33,9 +33,9 @@ fn restart(w: &mut [u32], k: usize, n: usize) -> Option<usize>
 }
 
 // Drops every alternative that was not found, where so many readings were; k entries in the log are what was certain before.
-pub fn leave(w: &mut [u32], k: usize, n: usize, readings: u32) -> Result<Left, NoneLeft>
-    requires { Keeping n k w.old readings }
-    ensures { Keeps n k w.old readings result w.new }
+pub fn leave(w: &mut Area, k: usize, n: Nodes, readings: u32) -> Result<Left, NoneLeft>
+    requires { Keeping n.count k w.old readings }
+    ensures { Keeps n.count k w.old readings result w.new }
 {
     if readings == 0 {
         return Err(NoneLeft::NoChoice);

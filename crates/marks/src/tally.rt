@@ -5,6 +5,7 @@ ghost use Rattle.marks.specs.Tallied.{remnant_of, Tallied};
 
 use crate::marking::kept;
 use crate::positions::{after_at, mark_at};
+use area::map::Area;
 
 // None of the alternatives is left, or one, by its position, or several, by their number: three answers, and none of them a failure.
 #[derive(Clone, Copy)]
@@ -34,7 +35,7 @@ fn remnant_of(found: usize, first: usize) -> Remnant
 }
 
 // Tells what is left of the `count` alternatives from p on.
-pub fn count_kept(w: &[u32], p: usize, count: usize) -> Tally
+pub fn count_kept(w: &Area, p: usize, count: usize) -> Tally
     requires { Alternatives w.now p count }
     ensures { (s : Alternatives w.now p count) → Tallied w.now s result.remnant result.after }
 {

@@ -1,13 +1,13 @@
 -- The two definite graphs are pushed, one after the other, on the loaded inputs.
 -- Assumes nothing.
-use Prim.Native.Nat.{ℕ, ◌+◌, ◌-◌, ◌≤◌}
+use Prim.Native.Nat.{ℕ, ◌+◌, ◌≤◌}
 use native.Mathlib.Omega.{arith}
 use mathlib.Core.Path.{◌≡◌, refl, sym, ap, subst, ◌∙◌}
 use mathlib.Core.Logic.{⊎_elim}
 use mathlib.Core.List.Memᴰ
 use mathlib.Core.List.{List, [], ◌∷◌, ◌++◌, Memᴰ}
-use lib.ListN.{length, get_or, take, drop, length-append, length-drop}
-use lib.Seq.{length-take-le, take_at, drop_at, get_or-drop, get_or-append-add}
+use lib.ListN.{length, get_or, take, drop, length-drop}
+use lib.Seq.{length-take-le}
 use Rattle.theory.specs.Limits.{input_limit, depth_limit}
 use Rattle.theory.specs.Net.{Clash}
 use Rattle.theory.specs.Descr.{Desc, desc}
@@ -17,8 +17,9 @@ use Rattle.theory.proofs.Sets.{clash_within}
 use Rattle.loading.specs.Entry.{Entry}
 use Rattle.loading.specs.Loaded.{nodes_in}
 use Rattle.loading.proofs.Names.{alts_few}
-use Rattle.area.specs.Map.{WORDS, MARKS, SIZE, SECOND}
+use Rattle.area.specs.Map.{NODES, WORDS, MARKS, SIZE, SECOND}
 use Rattle.area.specs.Region.{region}
+use Rattle.area.specs.declared.map.Nodes.{Nodes}
 use Rattle.area.proofs.Region.{region_ext, back, back_length, back_part, back_rest}
 use Rattle.classes.specs.Entry.{Comes}
 use Rattle.classes.specs.Holds.{Holds, Pushing, Pushes, Undoable, Starts}
@@ -134,8 +135,8 @@ module _ (w a b t : List ℕ) (o : Opening w a b) (n : ℕ) (p : Paired (take 20
         pub second_clashes : y ≡ None → OpenedAs w₄ d e None
         second_clashes q = both w₄ d e ((v.clashed q).1 (one ∷ []) two (at_definite SECOND (nodes_in d) e) held second_comes).0
 
-        pub joined : (j : ℕ) → y ≡ Some j → OpenedAs w₄ d e (Some (record { nodes = n; log = j }))
-        joined j q = (
+        pub joined : (m : Nodes) → m.count ≡ n → (j : ℕ) → y ≡ Some j → OpenedAs w₄ d e (Some (record { nodes = m; log = j }))
+        joined m c j q = rw c (
           stand w₄ (v.len ∙ u.len) (λ i h. v.rest i h ∙ u.rest i h),
           (v.inside j q).1 (one ∷ []) two (at_definite SECOND (nodes_in d) e) held second_comes,
           undoable_on n k w₃ undoable j w₄ (v.inside j q).0,
@@ -150,6 +151,9 @@ module _ (w a b t : List ℕ) (o : Opening w a b) (n : ℕ) (p : Paired (take 20
     second_is =
         o.inputs.second.2;
   }
+
+  pub nodes_few : n ≤ NODES
+  nodes_few = few o.inputs.first.0 o.inputs.second.0 first
 
   pub asks_first : Pushing n 0 w₂ 0
   asks_first = first_pushing o.inputs.first.0 o.inputs.second.0 first
@@ -187,10 +191,10 @@ module _ (w a b t : List ℕ) (o : Opening w a b) (n : ℕ) (p : Paired (take 20
           told = λ d e r. second_clashes d e r w₃ k x u z w₄ y v q;
         }
 
-        pub opens_joined : (j : ℕ) → y ≡ Some j → Opens w a b (Some (record { nodes = n; log = j })) w₄
-        opens_joined j q = record {
+        pub opens_joined : (m : Nodes) → m.count ≡ n → (j : ℕ) → y ≡ Some j → Opens w a b (Some (record { nodes = m; log = j })) w₄
+        opens_joined m c j q = record {
           len = len₄;
           rest = rest₄;
           stands = stands₄;
-          told = λ d e r. joined d e r w₃ k x u z w₄ y v j q;
+          told = λ d e r. joined d e r w₃ k x u z w₄ y v m c j q;
         }

@@ -55,8 +55,8 @@ definite p n (desc g ds) = record { at = p; number = n; graph = g }
 -- "0, join. The graph is the join of both definite graphs (a clash there is a clash in all modes).": both are pushed and can be taken
 -- back, or they clash
 abbrev pub OpenedAs : List ℕ → Desc → Desc → Option Opened → Type 0
-OpenedAs w d e (Some o) = Stand (region WORDS LOADED w) d e o.nodes
-    × Holds o.nodes (definite 0 0 d ∷ definite SECOND (nodes_in d) e ∷ []) o.log w × Undoable o.nodes o.log w
+OpenedAs w d e (Some o) = Stand (region WORDS LOADED w) d e o.nodes.count
+    × Holds o.nodes.count (definite 0 0 d ∷ definite SECOND (nodes_in d) e ∷ []) o.log w × Undoable o.nodes.count o.log w
 OpenedAs w (desc g ds) (desc h es) None = Clash (g ∷ h ∷ [])
 
 pub record Opens (w a b : List ℕ) (r : Option Opened) (w' : List ℕ) : Type 0 where

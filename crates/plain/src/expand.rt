@@ -4,6 +4,7 @@ ghost use Rattle.plain.specs.Expanded.{Expanding};
 
 use crate::light::{light_taken, listed};
 use area::log::undo;
+use area::map::{Area, Nodes};
 use choosing::choose::choose_both;
 use choosing::word::{is_new, place_of};
 use classes::visit::{one_node, span};
@@ -12,9 +13,9 @@ use forest::settle::unite;
 use packing::{nodes_of, number_of};
 
 // How many of the `total` choices of both inputs over the kept alternatives are consistent; every alternative in one of them is found.
-pub fn expand(w: &mut [u32], k: usize, n: usize, total: u32) -> u32
-    requires { Expanding n k w.old total }
-    ensures { Searches n k w.old result w.new }
+pub fn expand(w: &mut Area, k: usize, n: Nodes, total: u32) -> u32
+    requires { Expanding n.count k w.old total }
+    ensures { Searches n.count k w.old result w.new }
 {
     let mut found: u32 = 0;
     // The first clash leaves a choice at once: the loops over its graphs and their nodes are left by the label.

@@ -1,23 +1,23 @@
 // The marks of what a choice takes are lit.
-ghost use Rattle.std.specs.Prelude.{◌≡◌, ◌+◌, ◌≤◌, ◌<◌, length, get_or};
-ghost use Rattle.area.specs.Map.{NODES, RESULT, SIZE};
+ghost use Rattle.std.specs.Prelude.{◌≡◌, ◌+◌, ◌<◌, get_or};
+ghost use Rattle.area.specs.Map.{NODES, RESULT};
 ghost use Rattle.plain.specs.Lit.{Lighting, Lights};
 
-use area::map::RESULT;
+use area::map::{Area, RESULT};
 use choosing::word::place_of;
 use marks::marking::light;
 use marks::positions::mark_at;
 
 // The word that stands for the alternative i of the choice that is listed.
-pub fn listed(w: &[u32], i: usize) -> u32
-    requires { (i < NODES) × (SIZE ≤ length w.now) }
+pub fn listed(w: &Area, i: usize) -> u32
+    requires { i < NODES }
     ensures { result ≡ get_or w.now (RESULT + i) 0 }
 {
     w[RESULT + i]
 }
 
 // Each of the `many` alternatives that are listed is found.
-pub fn light_taken(w: &mut [u32], many: usize)
+pub fn light_taken(w: &mut Area, many: usize)
     requires { Lighting w.old many }
     ensures { Lights w.old many w.new }
 {

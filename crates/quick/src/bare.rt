@@ -4,14 +4,15 @@ ghost use Rattle.sieving.specs.Sieved.{Sieved};
 ghost use Rattle.quick.specs.Stepped.{TriesBare};
 
 use crate::step::Step;
+use area::map::{Area, Nodes};
 use classes::push::{back, push};
 use trying::guess::guess_through;
 use trying::told::Guess;
 
 // Tries the alternative at g by its graph, which is pushed and taken back.
-fn push_bare(w: &mut [u32], k: usize, n: usize, g: usize) -> Option<Step>
-    requires { Pushing n k w.old g }
-    ensures { TriesBare n k w.old g result w.new }
+fn push_bare(w: &mut Area, k: usize, n: Nodes, g: usize) -> Option<Step>
+    requires { Pushing n.count k w.old g }
+    ensures { TriesBare n.count k w.old g result w.new }
 {
     let log = push(w, k, n, g)?;
     back(w, log, k);
@@ -19,10 +20,10 @@ fn push_bare(w: &mut [u32], k: usize, n: usize, g: usize) -> Option<Step>
 }
 
 // Tries the alternative at g. Mostly its graph need not be pushed for that.
-pub fn try_bare(w: &mut [u32], k: usize, n: usize, g: usize, t: &[u32]) -> Option<Step>
-    requires pushing { Pushing n k w.old g }
-    requires sieved { Sieved n w.old t.now }
-    ensures { TriesBare n k w.old g result w.new }
+pub fn try_bare(w: &mut Area, k: usize, n: Nodes, g: usize, t: &[u32]) -> Option<Step>
+    requires pushing { Pushing n.count k w.old g }
+    requires sieved { Sieved n.count w.old t.now }
+    ensures { TriesBare n.count k w.old g result w.new }
 {
     let told = guess_through(w, k, n, g, t);
     match told {

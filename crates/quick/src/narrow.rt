@@ -9,6 +9,7 @@ ghost use Rattle.quick.specs.Stepped.{Narrowing, Narrows, Choosing, Chooses, Tri
 
 use crate::bare::try_bare;
 use crate::step::Step;
+use area::map::{Area, Nodes};
 use classes::push::back;
 use entering::enter::enter;
 use entering::settle::settle;
@@ -20,10 +21,10 @@ use sieving::gather::{SIEVE_SIZE, gather, renew};
 // Tries the alternative at g: it is entered and narrowed, and all that was pushed for it taken back. Mostly it has no disjunctions,
 // and there is nothing to narrow.
 #[cycle(narrow_narrow_one_sift_try_one)]
-fn try_one(w: &mut [u32], k: usize, n: usize, g: usize, left: u32, t: &[u32]) -> Option<Step>
-    requires entering { Entering n k w.old g left }
-    requires sieved { Sieved n w.old t.now }
-    ensures { Tries n k w.old g left result w.new }
+fn try_one(w: &mut Area, k: usize, n: Nodes, g: usize, left: u32, t: &[u32]) -> Option<Step>
+    requires entering { Entering n.count k w.old g left }
+    requires sieved { Sieved n.count w.old t.now }
+    ensures { Tries n.count k w.old g left result w.new }
 {
     let e = tail_at(w, g);
     let more = disjunctions_at(w, e);
@@ -44,9 +45,9 @@ fn try_one(w: &mut [u32], k: usize, n: usize, g: usize, left: u32, t: &[u32]) ->
 
 // Narrows the disjunctions of the description at g, in order.
 #[cycle(narrow_narrow_one_sift_try_one)]
-pub fn narrow(w: &mut [u32], k: usize, n: usize, g: usize, left: u32) -> Option<Step>
-    requires { Narrowing n k w.old g left }
-    ensures { Narrows n k w.old g left result w.new }
+pub fn narrow(w: &mut Area, k: usize, n: Nodes, g: usize, left: u32) -> Option<Step>
+    requires { Narrowing n.count k w.old g left }
+    ensures { Narrows n.count k w.old g left result w.new }
 {
     let e = tail_at(w, g);
     let more = disjunctions_at(w, e);
@@ -76,19 +77,19 @@ pub fn narrow(w: &mut [u32], k: usize, n: usize, g: usize, left: u32) -> Option<
 // Narrows one disjunction, whose `count` alternatives stand from p on; `which` says what is left of them.
 #[cycle(narrow_narrow_one_sift_try_one)]
 fn narrow_one(
-    w: &mut [u32],
+    w: &mut Area,
     k: usize,
-    n: usize,
+    n: Nodes,
     p: usize,
     count: usize,
     which: Remnant,
     left: u32,
     t: &[u32],
 ) -> Option<Step>
-    requires choosing { Choosing n k w.old p count left }
+    requires choosing { Choosing n.count k w.old p count left }
     requires by_index { (after : ℕ) × ((s : Alternatives w.old p count) → Tallied w.old s which after) }
-    requires sieved { Sieved n w.old t.now }
-    ensures { Chooses n k w.old p count left result w.new }
+    requires sieved { Sieved n.count w.old t.now }
+    ensures { Chooses n.count k w.old p count left result w.new }
 {
     match which {
         Remnant::Nothing => {
@@ -109,10 +110,10 @@ fn narrow_one(
 
 // Tries each kept one of the `count` alternatives from p on, and drops those that fail. How many alternatives were dropped, at every depth.
 #[cycle(narrow_narrow_one_sift_try_one)]
-fn sift(w: &mut [u32], k: usize, n: usize, p: usize, count: usize, left: u32, t: &[u32]) -> usize
-    requires alternating { Alternating n k w.old p count left }
-    requires sieved { Sieved n w.old t.now }
-    ensures { Sifts n k w.old p count left result w.new }
+fn sift(w: &mut Area, k: usize, n: Nodes, p: usize, count: usize, left: u32, t: &[u32]) -> usize
+    requires alternating { Alternating n.count k w.old p count left }
+    requires sieved { Sieved n.count w.old t.now }
+    ensures { Sifts n.count k w.old p count left result w.new }
 {
     let mut at = p;
     let mut drops: usize = 0;

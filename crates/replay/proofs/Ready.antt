@@ -19,6 +19,7 @@ use Rattle.classes.specs.Holds.{Holds}
 use Rattle.classes.proofs.Laws.{holds_agree}
 use Rattle.std.specs.Prelude.{Some}
 use Rattle.area.specs.Map.{SECOND}
+use Rattle.area.specs.declared.map.Nodes.{Nodes}
 use Rattle.opening.specs.Opening.{Acceptable, definite, Opens}
 use Rattle.writing.specs.Writing.{Writing}
 
@@ -40,14 +41,14 @@ joined n e es k w h c = go (join (graphs (e ∷ es))) refl
     go (some G) q = (G, join_some e.graph (graphs es) c G q)
     go none q = absurd (holds_agree n (e ∷ es) k w h (join_none e.graph (graphs es) c q))
 
-pub ready : (v a b w : List ℕ) (n k : ℕ) → Acceptable a b → Opens v a b (Some (record { nodes = n; log = k })) w → Writing n k w 0
+pub ready : (v a b w : List ℕ) (n : Nodes) (k : ℕ) → Acceptable a b → Opens v a b (Some (record { nodes = n; log = k })) w → Writing n.count k w 0
 ready v a b w n k i o =
     let d = i.first.0 in
     let e = i.second.0 in
     let t = o.told d e record { first_well = i.first.1; second_well = i.second.1; first_is = i.first.2; second_is = i.second.2 } in
     let es : List Entry = definite 0 0 d ∷ definite SECOND (nodes_in d) e ∷ [] in
     let c = canonical d e 0 SECOND 0 (nodes_in d) i.first.1 i.second.1 in
-    let j = joined n (definite 0 0 d) (definite SECOND (nodes_in d) e ∷ []) k w t.1 c in
+    let j = joined n.count (definite 0 0 d) (definite SECOND (nodes_in d) e ∷ []) k w t.1 c in
     let x = joined_weight (graphs es) c j.0 j.1 in
     let y = heavier d 0 0 in let z = heavier e SECOND (nodes_in d) in
     let p = ap length i.first.2 in let q = ap length i.second.2 in let f = i.first_few in let g = i.second_few in

@@ -1,10 +1,7 @@
 // Joins the definite graphs of two inputs by the layers below the modes: opened, and written.
-ghost use Rattle.std.specs.Prelude.{◌≤◌, length};
-ghost use Rattle.area.specs.Map.{SIZE};
 ghost use Rattle.opening.specs.Opening.{Opening};
 
-use crate::areas::MOST_WORK;
-use area::map::RESULT;
+use area::map::{Area, RESULT};
 use layout::reading::judge;
 use opening::open;
 use vectors::lent::zeros;
@@ -14,9 +11,7 @@ use writing::graph::write_graph;
 const LONGEST: usize = 1024;
 
 // Whether the r words that are written and a 0 are the stored ones.
-fn written(w: &[u32], r: usize, words: &[u32]) -> bool
-    requires { SIZE ≤ length w.now }
-{
+fn written(w: &Area, r: usize, words: &[u32]) -> bool {
     let Some((last, front)) = words.split_last() else {
         return false;
     };
@@ -24,7 +19,7 @@ fn written(w: &[u32], r: usize, words: &[u32]) -> bool
 }
 
 // Whether the joined graph, or the clash, is the stored one.
-fn opened(w: &mut [u32], a: &[u32], b: &[u32], number: u32, words: &[u32]) -> bool
+fn opened(w: &mut Area, a: &[u32], b: &[u32], number: u32, words: &[u32]) -> bool
     requires { Opening w.old a.now b.now }
 {
     let Some(came) = open(w, a, b) else {
@@ -42,6 +37,6 @@ pub fn joined(a: &[u32], b: &[u32], number: u32, words: &[u32]) -> bool {
     if !judge(a) || !judge(b) {
         return false;
     }
-    let mut w: [u32; MOST_WORK] = zeros();
+    let mut w: Area = zeros();
     opened(&mut w, a, b, number, words)
 }

@@ -1,9 +1,10 @@
 // What is still to be gone through, frame by frame: the position of a frame's next disjunction, and how many are left in it.
-ghost use Rattle.std.specs.Prelude.{◌≡◌, ◌⊎◌, List, [], ◌∷◌, ◌+◌, ◌≤◌, ◌<◌, length};
-ghost use Rattle.area.specs.Map.{SIZE, LOADED};
+ghost use Rattle.std.specs.Prelude.{◌≡◌, ◌⊎◌, List, [], ◌∷◌, ◌+◌, ◌<◌};
+ghost use Rattle.area.specs.Map.{LOADED};
 ghost use Rattle.marks.specs.Positions.{tail_at, disjunctions_at};
 ghost use Rattle.search.specs.Frames.{Slot, Lists, onto};
 
+use area::map::Area;
 use marks::positions::{disjunctions_at, tail_at};
 
 // Of a frame: where its next disjunction stands, and how many are left.
@@ -57,8 +58,8 @@ pub fn before(at: usize, more: usize, a: Agenda) -> Agenda
 }
 
 // The disjunctions of the description at g, and then what is left.
-pub fn descend(w: &[u32], g: usize, a: Agenda) -> Agenda
-    requires g_bound { (g < LOADED) × (SIZE ≤ length w.now) }
+pub fn descend(w: &Area, g: usize, a: Agenda) -> Agenda
+    requires g_bound { g < LOADED }
     requires g_bound_2 { tail_at w.now g < LOADED }
     requires fact { (disjunctions_at w.now (tail_at w.now g) ≡ 0) ⊎ (a.frames < 5) }
     ensures { (l : List Slot) → Lists a l →

@@ -4,7 +4,7 @@ ghost use Rattle.search.specs.Searched.{Noting, Notes, Resuming, Resumes, Taking
 
 use crate::agenda::{Agenda, after, before, descend, nothing};
 use crate::foresee::foresee;
-use area::map::SECOND;
+use area::map::{Area, Nodes, SECOND};
 use classes::push::back;
 use counting::choices::capped;
 use entering::enter::enter;
@@ -18,7 +18,7 @@ use trying::told::Guess;
 const NONE: u32 = 0;
 
 // Where anything was found with it, the alternative at g is found.
-fn note(w: &mut [u32], g: usize, found: u32)
+fn note(w: &mut Area, g: usize, found: u32)
     requires { Noting w.old g }
     ensures { Notes w.old g found w.new }
 {
@@ -30,9 +30,9 @@ fn note(w: &mut [u32], g: usize, found: u32)
 
 // How many consistent choices there are of what is left, stopping at 4,097.
 #[cycle(choose_resume_take)]
-fn resume(w: &mut [u32], k: usize, n: usize, a: Agenda) -> u32
-    requires { Resuming n k w.old a }
-    ensures { Resumes n k w.old a result w.new }
+fn resume(w: &mut Area, k: usize, n: Nodes, a: Agenda) -> u32
+    requires { Resuming n.count k w.old a }
+    ensures { Resumes n.count k w.old a result w.new }
 {
     if a.frames == 0 {
         return 1;
@@ -63,9 +63,9 @@ fn resume(w: &mut [u32], k: usize, n: usize, a: Agenda) -> u32
 
 // The same with one of the `count` alternatives from p on, which are several.
 #[cycle(choose_resume_take)]
-fn choose(w: &mut [u32], k: usize, n: usize, p: usize, count: usize, a: Agenda) -> u32
-    requires { Branching n k w.old p count a }
-    ensures { Branches n k w.old p count a result w.new }
+fn choose(w: &mut Area, k: usize, n: Nodes, p: usize, count: usize, a: Agenda) -> u32
+    requires { Branching n.count k w.old p count a }
+    ensures { Branches n.count k w.old p count a result w.new }
 {
     let mut at = p;
     let mut sum: u32 = 0;
@@ -84,9 +84,9 @@ fn choose(w: &mut [u32], k: usize, n: usize, p: usize, count: usize, a: Agenda) 
 // The same with the alternative at g, which is entered and taken back. Where it clashes, or nothing is left with it or after it, that
 // is mostly told without.
 #[cycle(choose_resume_take)]
-fn take(w: &mut [u32], k: usize, n: usize, g: usize, a: Agenda) -> u32
-    requires { Taking n k w.old g a }
-    ensures { Takes n k w.old g a result w.new }
+fn take(w: &mut Area, k: usize, n: Nodes, g: usize, a: Agenda) -> u32
+    requires { Taking n.count k w.old g a }
+    ensures { Takes n.count k w.old g a result w.new }
 {
     let told = foresee(w, k, n, g, a.frames);
     match told {
@@ -111,9 +111,9 @@ fn take(w: &mut [u32], k: usize, n: usize, g: usize, a: Agenda) -> u32
 
 // How many consistent choices there are of both inputs over the kept alternatives, stopping at 4,097; every alternative in one of them
 // is found.
-pub fn search(w: &mut [u32], k: usize, n: usize) -> u32
-    requires { Searching n k w.old }
-    ensures { Searches n k w.old result w.new }
+pub fn search(w: &mut Area, k: usize, n: Nodes) -> u32
+    requires { Searching n.count k w.old }
+    ensures { Searches n.count k w.old result w.new }
 {
     let none = nothing();
     let second = descend(w, SECOND, none);

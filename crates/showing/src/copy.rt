@@ -1,13 +1,13 @@
 // A graph as it was loaded is put out as it came in: each target by its number within the graph.
 ghost use Rattle.showing.specs.Copying.{arcs_piece, node_piece, nodes_piece, Copying, Copies, Graphing, Graphs};
 
-use area::map::RESULT;
+use area::map::{Area, RESULT};
 use limits::CODE_LIMIT;
 use marks::positions::{number_at, word_at};
 use packing::nodes_of;
 
 // Copies the `count` arcs at p of the loaded words to o of the result. Where they end.
-fn copy_arcs(w: &mut [u32], number: u32, p: usize, count: u32, o: usize) -> usize
+fn copy_arcs(w: &mut Area, number: u32, p: usize, count: u32, o: usize) -> usize
     requires { Copying (arcs_piece count) w.old number p o }
     ensures { Copies (arcs_piece count) w.old number p o result w.new }
 {
@@ -25,7 +25,7 @@ fn copy_arcs(w: &mut [u32], number: u32, p: usize, count: u32, o: usize) -> usiz
 }
 
 // Copies a node: its head as it is, and its arcs.
-fn copy_node(w: &mut [u32], number: u32, p: usize, o: usize) -> usize
+fn copy_node(w: &mut Area, number: u32, p: usize, o: usize) -> usize
     requires { Copying node_piece w.old number p o }
     ensures { Copies node_piece w.old number p o result w.new }
 {
@@ -38,7 +38,7 @@ fn copy_node(w: &mut [u32], number: u32, p: usize, o: usize) -> usize
 }
 
 // Copies the `count` nodes of a graph.
-fn copy_nodes(w: &mut [u32], number: u32, p: usize, count: usize, o: usize) -> usize
+fn copy_nodes(w: &mut Area, number: u32, p: usize, count: usize, o: usize) -> usize
     requires { Copying (nodes_piece count) w.old number p o }
     ensures { Copies (nodes_piece count) w.old number p o result w.new }
 {
@@ -53,7 +53,7 @@ fn copy_nodes(w: &mut [u32], number: u32, p: usize, count: usize, o: usize) -> u
 }
 
 // Copies the graph at g of the loaded words to o of the result. Where it ends.
-pub fn copy_graph(w: &mut [u32], g: usize, o: usize) -> usize
+pub fn copy_graph(w: &mut Area, g: usize, o: usize) -> usize
     requires { Graphing w.old g o }
     ensures { Graphs w.old g o result w.new }
 {

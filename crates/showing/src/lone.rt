@@ -3,11 +3,12 @@ ghost use Rattle.std.specs.Prelude.{ℕ};
 ghost use Rattle.marks.specs.Readable.{Readable};
 ghost use Rattle.showing.specs.Alone.{Looks};
 
+use area::map::Area;
 use marks::positions::{alternatives_at, disjunctions_at, tail_at};
 use marks::tally::{Remnant, count_kept};
 
 // Has the description at g a disjunction with one alternative left?
-pub fn lone(w: &[u32], g: usize) -> bool
+pub fn lone(w: &Area, g: usize) -> bool
     requires { (left : ℕ) × Readable w.now g left }
     ensures { Looks w.now g result }
 {

@@ -2,7 +2,7 @@
 ghost use Rattle.showing.specs.Putting.{Describing, Describes, Disjoining, Disjoins, Varying, Varies, Offering, Offers};
 
 use crate::graph::put_graph;
-use area::map::RESULT;
+use area::map::{Area, Nodes, RESULT};
 use marks::marking::kept;
 use marks::positions::{after_at, alternatives_at, disjunctions_at, mark_at, tail_at};
 use marks::tally::{Remnant, count_kept};
@@ -24,9 +24,9 @@ struct One {
 
 // Writes the description at g at o of the result. Where it ends.
 #[cycle(put_alternatives_put_description_put_disjunctions_put_one)]
-fn put_description(w: &mut [u32], n: usize, g: usize, left: u32, o: usize) -> usize
-    requires { Describing n w.old g left o }
-    ensures { Describes n w.old g left o result w.new }
+fn put_description(w: &mut Area, n: Nodes, g: usize, left: u32, o: usize) -> usize
+    requires { Describing n.count w.old g left o }
+    ensures { Describes n.count w.old g left o result w.new }
 {
     let e = put_graph(w, n, g, left, o);
     let rest = put_disjunctions(w, n, g, left, e + 1);
@@ -37,9 +37,9 @@ fn put_description(w: &mut [u32], n: usize, g: usize, left: u32, o: usize) -> us
 
 // Writes the disjunctions of the description at g, in order.
 #[cycle(put_alternatives_put_description_put_disjunctions_put_one)]
-pub fn put_disjunctions(w: &mut [u32], n: usize, g: usize, left: u32, o: usize) -> Put
-    requires { Disjoining n w.old g left o }
-    ensures { Disjoins n w.old g left o result.at result.count w.new }
+pub fn put_disjunctions(w: &mut Area, n: Nodes, g: usize, left: u32, o: usize) -> Put
+    requires { Disjoining n.count w.old g left o }
+    ensures { Disjoins n.count w.old g left o result.at result.count w.new }
 {
     let e = tail_at(w, g);
     let more = disjunctions_at(w, e);
@@ -58,9 +58,9 @@ pub fn put_disjunctions(w: &mut [u32], n: usize, g: usize, left: u32, o: usize) 
 
 // Writes one disjunction, whose `of` alternatives stand from p on. If one stands alone, its disjunctions come in its place.
 #[cycle(put_alternatives_put_description_put_disjunctions_put_one)]
-fn put_one(w: &mut [u32], n: usize, p: usize, of: usize, left: u32, o: usize) -> One
-    requires { Varying n w.old p of left o }
-    ensures { Varies n w.old p of left o result.at result.count result.after w.new }
+fn put_one(w: &mut Area, n: Nodes, p: usize, of: usize, left: u32, o: usize) -> One
+    requires { Varying n.count w.old p of left o }
+    ensures { Varies n.count w.old p of left o result.at result.count result.after w.new }
 {
     let tally = count_kept(w, p, of);
     let after = tally.after;
@@ -88,9 +88,9 @@ fn put_one(w: &mut [u32], n: usize, p: usize, of: usize, left: u32, o: usize) ->
 
 // Writes each kept one of the `of` alternatives from p on.
 #[cycle(put_alternatives_put_description_put_disjunctions_put_one)]
-fn put_alternatives(w: &mut [u32], n: usize, p: usize, of: usize, left: u32, o: usize) -> usize
-    requires { Offering n w.old p of left o }
-    ensures { Offers n w.old p of left o result w.new }
+fn put_alternatives(w: &mut Area, n: Nodes, p: usize, of: usize, left: u32, o: usize) -> usize
+    requires { Offering n.count w.old p of left o }
+    ensures { Offers n.count w.old p of left o result w.new }
 {
     let mut at = p;
     let mut out = o;

@@ -4,6 +4,7 @@ ghost use Rattle.std.specs.Prelude.{◌≡◌, ◌≤◌, ◌<◌, length};
 ghost use Rattle.classes.specs.Holds.{Labelled};
 ghost use Rattle.sieving.specs.Sieved.{SIEVE_SIZE, Blank, Sieved};
 
+use area::map::{Area, Nodes};
 use forest::chain::{loaded, next};
 use forest::forest::find;
 use forest::held::{Held, held_by};
@@ -13,11 +14,11 @@ use limits::wide;
 pub const SIEVE_SIZE: usize = 256;
 
 // Notes in t, where nothing is noted yet, the arcs on the chain of the class of all roots.
-pub fn gather(w: &[u32], n: usize, t: &mut [u32])
-    requires n_nonzero { (0 < n) × (SIEVE_SIZE ≤ length t.old) }
-    requires labelled { Labelled n w.now }
+pub fn gather(w: &Area, n: Nodes, t: &mut [u32])
+    requires n_nonzero { (0 < n.count) × (SIEVE_SIZE ≤ length t.old) }
+    requires labelled { Labelled n.count w.now }
     requires blank { Blank t.old }
-    ensures { Sieved n w.now t.new }
+    ensures { Sieved n.count w.now t.new }
 {
     let c = find(w, n, 0);
     let held = held_by(w, c);
@@ -36,11 +37,11 @@ pub fn gather(w: &[u32], n: usize, t: &mut [u32])
 }
 
 // Gathers t anew where the log, which had k entries when t told the same, has another number j of them now.
-pub fn renew(w: &[u32], n: usize, t: &mut [u32; SIEVE_SIZE], k: usize, j: usize)
-    requires n_nonzero { (0 < n) × (length t.old ≡ SIEVE_SIZE) }
-    requires labelled { Labelled n w.now }
-    requires sieved { j ≡ k → Sieved n w.now t.old }
-    ensures { (length t.new ≡ SIEVE_SIZE) × Sieved n w.now t.new }
+pub fn renew(w: &Area, n: Nodes, t: &mut [u32; SIEVE_SIZE], k: usize, j: usize)
+    requires n_nonzero { (0 < n.count) × (length t.old ≡ SIEVE_SIZE) }
+    requires labelled { Labelled n.count w.now }
+    requires sieved { j ≡ k → Sieved n.count w.now t.old }
+    ensures { (length t.new ≡ SIEVE_SIZE) × Sieved n.count w.now t.new }
 {
     if j == k {
         return;

@@ -9,6 +9,7 @@ ghost use Rattle.trying.specs.Leaf.{Anchored, Suits, LeafTold, LeavesTold};
 ghost use Rattle.trying.specs.Guessed.{Guesses};
 
 use crate::told::Guess;
+use area::map::{Area, Nodes};
 use classes::push::class_of;
 use forest::chain::{loaded, target};
 use forest::forest::find;
@@ -18,11 +19,11 @@ use packing::{nodes_of, number_of};
 use sieving::through::look_through;
 
 // Whether the atom's head v may stand under the feature f of the roots, whose chain begins with the code x.
-fn suit(w: &[u32], n: usize, x: usize, f: u32, v: u32, t: &[u32]) -> Guess
-    requires anchored { Anchored n w.now x }
+fn suit(w: &Area, n: Nodes, x: usize, f: u32, v: u32, t: &[u32]) -> Guess
+    requires anchored { Anchored n.count w.now x }
     requires sieves { Sieves w.now t.now x }
     requires atom_code { AtomCode v }
-    ensures { Suits n w.now f v result }
+    ensures { Suits n.count w.now f v result }
 {
     let Some(arc) = look_through(w, x, f, t) else {
         return Guess::Agrees;
@@ -44,20 +45,11 @@ fn suit(w: &[u32], n: usize, x: usize, f: u32, v: u32, t: &[u32]) -> Guess
 }
 
 // The arc i of the d arcs of the root of the graph at g, whose number is `base`, and the leaf that it leads to.
-fn lead(
-    w: &[u32],
-    n: usize,
-    g: usize,
-    base: usize,
-    d: usize,
-    x: usize,
-    i: usize,
-    t: &[u32],
-) -> Guess
-    requires anchored { Anchored n w.now x }
+fn lead(w: &Area, n: Nodes, g: usize, base: usize, d: usize, x: usize, i: usize, t: &[u32]) -> Guess
+    requires anchored { Anchored n.count w.now x }
     requires sieves { Sieves w.now t.now x }
     requires base_bound { (base < NODES) × ((i < d) × (g + 2 + 3 * d ≤ LOADED)) }
-    ensures { LeafTold n w.now g base d i result }
+    ensures { LeafTold n.count w.now g base d i result }
 {
     let at = g + 2 + 2 * i;
     let to = target(w, at);
@@ -76,11 +68,11 @@ fn lead(
 }
 
 // All the d arcs.
-fn lead_all(w: &[u32], n: usize, g: usize, base: usize, d: usize, x: usize, t: &[u32]) -> Guess
-    requires anchored { Anchored n w.now x }
+fn lead_all(w: &Area, n: Nodes, g: usize, base: usize, d: usize, x: usize, t: &[u32]) -> Guess
+    requires anchored { Anchored n.count w.now x }
     requires sieves { Sieves w.now t.now x }
     requires base_bound { (base < NODES) × (g + 2 + 3 * d ≤ LOADED) }
-    ensures { LeavesTold n w.now g base d result }
+    ensures { LeavesTold n.count w.now g base d result }
 {
     for i in 0..d {
         let one = lead(w, n, g, base, d, x, i, t);
@@ -93,10 +85,10 @@ fn lead_all(w: &[u32], n: usize, g: usize, base: usize, d: usize, x: usize, t: &
 
 // Tells of the graph at g whether it agrees with the graphs that are pushed, where it is flat and that is plain. Features are looked
 // for through the sieve t.
-pub fn guess_through(w: &[u32], k: usize, n: usize, g: usize, t: &[u32]) -> Guess
-    requires pushing { Pushing n k w.now g }
-    requires sieved { Sieved n w.now t.now }
-    ensures { Guesses n k w.now g result }
+pub fn guess_through(w: &Area, k: usize, n: Nodes, g: usize, t: &[u32]) -> Guess
+    requires pushing { Pushing n.count k w.now g }
+    requires sieved { Sieved n.count w.now t.now }
+    ensures { Guesses n.count k w.now g result }
 {
     let head = loaded(w, g);
     let c = nodes_of(head);
@@ -121,9 +113,9 @@ pub fn guess_through(w: &[u32], k: usize, n: usize, g: usize, t: &[u32]) -> Gues
 }
 
 // The same without a sieve: one of no words tells nothing.
-pub fn guess(w: &[u32], k: usize, n: usize, g: usize) -> Guess
-    requires { Pushing n k w.now g }
-    ensures { Guesses n k w.now g result }
+pub fn guess(w: &Area, k: usize, n: Nodes, g: usize) -> Guess
+    requires { Pushing n.count k w.now g }
+    ensures { Guesses n.count k w.now g result }
 {
     guess_through(w, k, n, g, &[])
 }

@@ -16,6 +16,7 @@ use Rattle.theory.specs.Modes.{joined}
 use Rattle.theory.proofs.Instance.{none_join}
 use Rattle.area.specs.Map.{WORDS, SIZE}
 use Rattle.area.specs.Region.{region, loaded_words}
+use Rattle.area.specs.declared.map.Nodes.{Nodes}
 use Rattle.area.proofs.Region.{words_same}
 use Rattle.classes.proofs.Laws.{holds_frame, undoable_frame}
 use Rattle.marks.specs.Marked.{Cleared}
@@ -58,7 +59,7 @@ module _ (w a b : List ℕ) (o : Opening w a b) (r : Option Opened) (w₁ : List
           (clash_none g h ds es q.first_well q.second_well c, opened_told w a b o r w₁ p i w₂ l g h ds es q c)
 
   -- they join: all alternatives are kept
-  module _ (n k : ℕ) (e : r ≡ Some (begun n k)) (w₂ : List ℕ) (c : Cleared w₁ w₂) where
+  module _ (n : Nodes) (k : ℕ) (e : r ≡ Some (begun n k)) (w₂ : List ℕ) (c : Cleared w₁ w₂) where
     pub begins_joined : Begins w a b (Ok (begun n k)) w₂
     begins_joined = record {
       len = c.len ∙ p.len;
@@ -72,9 +73,9 @@ module _ (w a b : List ℕ) (o : Opening w a b) (r : Option Opened) (w₁ : List
         told : (d f : Desc) → Read a b d f → OpenedAs w₁ d f (Some (begun n k)) → Begun d f w₂ (Ok (begun n k))
         told d f q t =
             let l = c.len in let h = long in
-            let s : Stand (loaded_words w₂) d f n = subst (λ (z : List ℕ). Stand z d f n) (loaded_again w₁ w₂ long c) t.0 in
-            let held = holds_frame n _ k w₁ t.1 w₂ c.len (λ j m. c.rest j (inl m)) in
-            let u = undoable_frame n k w₁ t.2 w₂ c.len (λ j m. c.rest j (inl m)) in
-            let x = first_stage w₂ d f n (omega arith) q.first_well q.second_well (few a d q.first_is o.inputs.first_few)
+            let s : Stand (loaded_words w₂) d f n.count = subst (λ (z : List ℕ). Stand z d f n.count) (loaded_again w₁ w₂ long c) t.0 in
+            let held = holds_frame n.count _ k w₁ t.1 w₂ c.len (λ j m. c.rest j (inl m)) in
+            let u = undoable_frame n.count k w₁ t.2 w₂ c.len (λ j m. c.rest j (inl m)) in
+            let x = first_stage w₂ d f n.count (omega arith) q.first_well q.second_well (few a d q.first_is o.inputs.first_few)
             (few b f q.second_is o.inputs.second_few) s k held u c.marks in
             (x.0, x.1.0, x.1.1.0, x.1.1.1, c.marks)

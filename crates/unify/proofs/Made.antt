@@ -8,6 +8,7 @@ use mathlib.Core.Option.{none}
 use Rattle.engine.specs.Marks.{all_kept}
 use Rattle.engine.specs.Quickly.{quick_at, Leaves}
 use Rattle.area.specs.Region.{loaded_words}
+use Rattle.area.specs.declared.map.Nodes.{Nodes}
 use Rattle.marks.specs.Marked.{marking}
 use Rattle.opening.specs.Opening.{Read, Opening}
 use Rattle.opening.specs.declared.Opened.{Opened}
@@ -56,15 +57,15 @@ module _ (mode : ℕ) (a b w : List ℕ) (r : Result Opened Failure) (w₁ : Lis
       clash : (d h : Desc) → Begun d h w₁ (Err f) → Meant mode d h w₁ (Err f)
       clash d h (i, is, c) = subst (λ (f : Failure). Meant mode d h w₁ (Err f)) (sym is) c
 
-  module _ (n k : ℕ) (q : r ≡ Ok (begun n k)) where
+  module _ (n : Nodes) (k : ℕ) (q : r ≡ Ok (begun n k)) where
     opened : (d e : Desc) → Read a b d e → Begun d e w₁ (Ok (begun n k))
     opened d e h = subst (Begun d e w₁) q (g.told d e h)
 
     -- ---- mode 0
-    pub asks_show : Opening w a b → Showing n k w₁
-    asks_show o = let x = opened (one o) (two o) (reads o) in joined_showing n _ x.0 k w₁ x.3 x.4
+    pub asks_show : Opening w a b → Showing n.count k w₁
+    asks_show o = let x = opened (one o) (two o) (reads o) in joined_showing n.count _ x.0 k w₁ x.3 x.4
 
-    pub makes_join : mode ≡ 0 → (l : ℕ) (w₂ : List ℕ) → Shows n k w₁ l w₂ → Makes mode w a b (done l 0) w₂
+    pub makes_join : mode ≡ 0 → (l : ℕ) (w₂ : List ℕ) → Shows n.count k w₁ l w₂ → Makes mode w a b (done l 0) w₂
     makes_join z l w₂ s = record {
       len = s.len ∙ g.len;
       rest = λ j h. s.rest j (omega arith)
@@ -73,14 +74,14 @@ module _ (mode : ℕ) (a b w : List ℕ) (r : Result Opened Failure) (w₁ : Lis
     }
       where
         told : (d e : Desc) → Begun d e w₁ (Ok (begun n k)) → Meant 0 d e w₂ (done l 0)
-        told d e x = let y = s.told (joined_showing n _ x.0 k w₁ x.3 x.4) in
+        told d e x = let y = s.told (joined_showing n.count _ x.0 k w₁ x.3 x.4) in
             meant_of x.0 0 w₂ (done l 0) d e x.1 x.2 (meant_join x.0 (marking w₁) w₂ l x.4 y.0 y.1)
 
     -- ---- modes 1 and 2
-    pub asks_quick : Opening w a b → Quickening n k w₁
+    pub asks_quick : Opening w a b → Quickening n.count k w₁
     asks_quick o = let x = opened (one o) (two o) (reads o) in record { t = loaded_words w₁; p = x.0; stage = x.3; every = x.4 }
 
-    module _ (s : Option ℕ) (w₂ : List ℕ) (f : Quickens n k w₁ s w₂) where
+    module _ (s : Option ℕ) (w₂ : List ℕ) (f : Quickens n.count k w₁ s w₂) where
       pub makes_quick_fails : 1 ≤ mode → s ≡ None → Makes mode w a b (Err QuickFails) w₂
       makes_quick_fails h e =
           let (m, c) = f.failing e in
@@ -92,7 +93,7 @@ module _ (mode : ℕ) (a b w : List ℕ) (r : Result Opened Failure) (w₁ : Lis
           }
         where
           told : (d e : Desc) → Begun d e w₁ (Ok (begun n k)) →
-              ((t : List ℕ) (p : Pair n t) → Stage n t p k w₁ → marking w₁ ≡ all_kept → quick_at p.j ≡ none) →
+              ((t : List ℕ) (p : Pair n.count t) → Stage n.count t p k w₁ → marking w₁ ≡ all_kept → quick_at p.j ≡ none) →
               Meant mode d e w₂ (Err QuickFails)
           told d e x c =
               meant_of x.0 mode w₂ (Err QuickFails) d e x.1 x.2 (meant_fails x.0 mode w₂ h (c (loaded_words w₁) x.0 x.3 x.4))
@@ -101,14 +102,14 @@ module _ (mode : ℕ) (a b w : List ℕ) (r : Result Opened Failure) (w₁ : Lis
         moved : Moved k w₁ k' w₂
         moved = (f.standing k' e).0
 
-        left : (d e : Desc) (x : Begun d e w₁ (Ok (begun n k))) → Leaves x.0.j (marking w₂) × Stage n (loaded_words w₁) x.0 k' w₂
+        left : (d e : Desc) (x : Begun d e w₁ (Ok (begun n k))) → Leaves x.0.j (marking w₂) × Stage n.count (loaded_words w₁) x.0 k' w₂
         left d z x = (f.standing k' e).1 (loaded_words w₁) x.0 x.3 x.4
 
-        pub asks_show_quick : Opening w a b → Showing n k' w₂
+        pub asks_show_quick : Opening w a b → Showing n.count k' w₂
         asks_show_quick o = let x = opened (one o) (two o) (reads o) in let y = left (one o) (two o) x in
-            quick_showing n (loaded_words w₁) x.0 k' w₂ y.1 y.0
+            quick_showing n.count (loaded_words w₁) x.0 k' w₂ y.1 y.0
 
-        pub makes_quick : mode ≡ 1 → (l : ℕ) (w₃ : List ℕ) → Shows n k' w₂ l w₃ → Makes mode w a b (done l 0) w₃
+        pub makes_quick : mode ≡ 1 → (l : ℕ) (w₃ : List ℕ) → Shows n.count k' w₂ l w₃ → Makes mode w a b (done l 0) w₃
         makes_quick z l w₃ v = record {
           len = v.len ∙ moved.len ∙ g.len;
           rest = λ j h. v.rest j (omega arith) ∙ moved.rest j (omega arith) ∙ g.rest j (omega arith);
@@ -118,14 +119,14 @@ module _ (mode : ℕ) (a b w : List ℕ) (r : Result Opened Failure) (w₁ : Lis
             told : (d e : Desc) → Begun d e w₁ (Ok (begun n k)) → Meant 1 d e w₃ (done l 0)
             told d e x =
                 let y = left d e x in
-                let u = v.told (quick_showing n (loaded_words w₁) x.0 k' w₂ y.1 y.0) in
+                let u = v.told (quick_showing n.count (loaded_words w₁) x.0 k' w₂ y.1 y.0) in
                 meant_of x.0 1 w₃ (done l 0) d e x.1 x.2 (meant_quick x.0 (marking w₂) y.0 w₃ l u.0 u.1)
 
-        pub asks_complete : Opening w a b → Completing n k' w₂
+        pub asks_complete : Opening w a b → Completing n.count k' w₂
         asks_complete o = let x = opened (one o) (two o) (reads o) in let y = left (one o) (two o) x in
             record { t = loaded_words w₁; p = x.0; stage = y.1; left = y.0 }
 
-        pub makes_full : mode ≡ 2 → (v : Made) (w₃ : List ℕ) → Completes n k' w₂ v w₃ → Makes mode w a b v w₃
+        pub makes_full : mode ≡ 2 → (v : Made) (w₃ : List ℕ) → Completes n.count k' w₂ v w₃ → Makes mode w a b v w₃
         makes_full z v w₃ c = record {
           len = c.len ∙ moved.len ∙ g.len;
           rest = λ j h. c.rest j h ∙ moved.rest j (omega arith) ∙ g.rest j (omega arith);

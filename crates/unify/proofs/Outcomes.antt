@@ -4,8 +4,11 @@ use mathlib.Core.Logic.{◌⊎◌, inl, inr}
 use mathlib.Core.List.{List, [], ◌++◌}
 use Prim.Native.Nat.{ℕ, ◌+◌, ◌≤◌, ◌<◌}
 use native.Mathlib.Omega.{arith}
-use lib.ListN.{length, drop, get_or, replicate, length-drop}
-use lib.Seq.{ext_get_or, get_or-drop}
+use lib.ListN.{length, take, drop, replicate, length-append, length-take}
+use Rattle.std.specs.Array.{IsFirstChunk}
+use lib.Seq.{drop_at}
+use Rattle.std.proofs.Math.ListN.{drop_of_length-le}
+use Rattle.std.proofs.lemmas.List.{append-nil, take-append-drop}
 use Rattle.theory.specs.Limits.{input_limit, working_size}
 use Rattle.theory.specs.Descr.{Desc}
 use Rattle.theory.specs.Layout.{words}
@@ -34,14 +37,14 @@ stands_region : (ws xs : List ℕ) (p q : ℕ) → Stands ws p xs q → region p
 unfolding region
 stands_region ws xs p q h = stands_taken ws xs p q h
 
--- only the first n words of two areas differ
-wiped_alike : (n : ℕ) (w w' : List ℕ) → length w' ≡ length w → ((j : ℕ) → n ≤ j → get_or w' j 0 ≡ get_or w j 0) → wiped n w' ≡ wiped n w
+-- n words are wiped, with what stands behind them and without
+wiped_all : (n : ℕ) (w : List ℕ) → length w ≡ n → wiped n w ≡ replicate n 0
 unfolding wiped
-wiped_alike n w w' e h =
-    let a = length-drop n w in
-    let b = length-drop n w' in
-    ap (λ (l : List ℕ). replicate n 0 ++ l)
-    (ext_get_or 0 (drop n w') (drop n w) (omega arith) (λ j l. get_or-drop n w' j 0 ∙ h (n + j) (omega arith) ∙ sym (get_or-drop n w j 0)))
+wiped_all n w e = ap (λ (l : List ℕ). replicate n 0 ++ l) (drop_of_length-le w {i = n} (omega arith)) ∙ append-nil (replicate n 0)
+
+wiped_front : (n : ℕ) (w rest : List ℕ) → length w ≡ n → wiped n (w ++ rest) ≡ replicate n 0 ++ rest
+unfolding wiped
+wiped_front n w rest e = ap (λ (l : List ℕ). replicate n 0 ++ l) (drop_at w rest n e)
 
 -- the row of a refusal
 abbrev told : ℕ → Row
@@ -82,6 +85,30 @@ module _ (c : Call) (s w : List ℕ) where
         pub bad_second : Image c.first → ¬ (Image c.second) → Outcome c areas (told 5) areas
         bad_second i h = refused 5 (omega arith) (omega arith) (five m l fa fb i h)
 
+-- ---- the area v is lent as the first words of w, and given back
+module _ (c : Call) (s v w : List ℕ) (k : IsFirstChunk w v working_size) where
+  abbrev behind : List ℕ
+  behind = drop working_size w
+
+  lent_back : v ++ behind ≡ w
+  lent_back = ap (λ (l : List ℕ). l ++ behind) k.same ∙ take-append-drop working_size w
+
+  pub lent_long : working_size ≤ length v
+  lent_long = let e : length v ≡ length (take working_size w) = ap length k.same in omega (arith, e, k.enough, length-take working_size w)
+
+  -- as it was
+  pub lent_kept : (r : Row) → Outcome c (record { result = s; working = w }) r (record { result = s; working = w }) →
+      Outcome c (record { result = s; working = w }) r (record { result = s; working = v ++ behind })
+  lent_kept r o =
+      subst (λ (z : List ℕ). Outcome c (record { result = s; working = w }) r (record { result = s; working = z })) (sym lent_back) o
+
+  -- as v' with what stands behind
+  pub lent_changed : (r : Row) (s' v' : List ℕ) →
+      Outcome c (record { result = s; working = v ++ behind }) r (record { result = s'; working = v' ++ behind }) →
+      Outcome c (record { result = s; working = w }) r (record { result = s'; working = v' ++ behind })
+  lent_changed r s' v' o =
+      subst (λ (z : List ℕ). Outcome c (record { result = s; working = z }) r (record { result = s'; working = v' ++ behind })) lent_back o
+
 -- a judgement that is not "accepted"
 pub no_image : (ws : List ℕ) (r : Bool) → r ≡ false → Judged ws r → ¬ (Image ws)
 no_image ws r e j i = let f : r ≡ true = j.complete i in let z : ◌≡◌ {A = ℕ} 0 1 = cc in absurd (omega arith)
@@ -104,10 +131,10 @@ module _ (mode : ℕ) (a b w : List ℕ) (m : mode ≤ 2) (o : Opening w a b) wh
   abbrev asked : Call
   asked = record { mode = mode; first = a; second = b }
 
-  accepted : Accepted asked (length w) d e
-  accepted = record {
+  accepted : (words : ℕ) → working_size ≤ words → Accepted asked words d e
+  accepted words fine = record {
     mode_fine = m;
-    area_fine = o.long;
+    area_fine = fine;
     first_short = o.inputs.first_few;
     second_short = o.inputs.second_few;
     first_well = read.first_well;
@@ -130,15 +157,25 @@ module _ (mode : ℕ) (a b w : List ℕ) (m : mode ≤ 2) (o : Opening w a b) wh
         go (Err failure.NoChoice) h = tt
         go (Ok u) (c, t, x, q, l, v, h) = stands_within w₁ (words x) RESULT (RESULT + u.length) within h
 
-    module _ (s w₂ : List ℕ) (z : w₂ ≡ wiped working_size w₁) where
-      zeros : w₂ ≡ wiped working_size w
-      zeros = z ∙ wiped_alike working_size w w₁ k.len k.rest
+    -- the area is the first words of those that were lent
+    module _ (s w₂ : List ℕ) (z : w₂ ≡ wiped working_size w₁) (size : length w ≡ working_size) (rest : List ℕ) where
+      abbrev whole : List ℕ
+      whole = w ++ rest
+
+      abbrev whole₂ : List ℕ
+      whole₂ = w₂ ++ rest
+
+      fine : Accepted asked (length whole) d e
+      fine = accepted (length whole) (omega (arith, length-append w rest, size))
+
+      zeros : whole₂ ≡ wiped working_size whole
+      zeros = ap (λ (l : List ℕ). l ++ rest) (z ∙ wiped_all working_size w₁ (k.len ∙ size)) ∙ sym (wiped_front working_size w rest size)
 
       abbrev Comes : Reply → List ℕ → Type 0
-      Comes y s₁ = Outcome asked (record { result = s; working = w }) (row_of y) (record { result = s₁; working = w₂ })
+      Comes y s₁ = Outcome asked (record { result = s; working = whole }) (row_of y) (record { result = s₁; working = whole₂ })
 
       pub concluded : (y : Reply) (s₁ : List ℕ) → Handed w₁ s r y s₁ →
-          Outcome asked (record { result = s; working = w }) (row_of y) (record { result = s₁; working = w₂ })
+          Outcome asked (record { result = s; working = whole }) (row_of y) (record { result = s₁; working = whole₂ })
       concluded y s₁ = go r (k.told d e read)
         where
           at : (y' : Reply) (s' : List ℕ) → Comes y' s' → y ≡ y' → s₁ ≡ s' → Comes y s₁
@@ -151,8 +188,8 @@ module _ (mode : ℕ) (a b w : List ℕ) (m : mode ≤ 2) (o : Opening w a b) wh
           nothing_given : ℕ → ℕ → Answer
           nothing_given n i = record { number = n; extent = 0; readings = 0; node = i; result = [] }
 
-          refusal : (n i : ℕ) → 6 ≤ n → Given asked (length s) (length w) (nothing_given n i) →
-              Outcome asked (record { result = s; working = w }) (nothing_told n i) (record { result = s; working = w₂ })
+          refusal : (n i : ℕ) → 6 ≤ n → Given asked (length s) (length whole) (nothing_given n i) →
+              Outcome asked (record { result = s; working = whole }) (nothing_told n i) (record { result = s; working = whole₂ })
           refusal n i h g = record {
             answer = nothing_given n i;
             given = g;
@@ -161,29 +198,29 @@ module _ (mode : ℕ) (a b w : List ℕ) (m : mode ≤ 2) (o : Opening w a b) wh
             the_readings = refl;
             the_node = refl;
             the_result = refl;
-            the_working = zeros ∙ sym (worked_more n w h);
+            the_working = zeros ∙ sym (worked_more n whole h);
           }
 
           go : (r : Made) → Meant mode d e w₁ r → Handed w₁ s r y s₁ → Comes y s₁
-          go (Err (failure.Clash i)) (h, n) (p, q) = at (Err (Clash i)) s (refusal 6 i (omega arith) (six d e i accepted h n)) p q
-          go (Err failure.QuickFails) (j, h, f) (p, q) = at (Err QuickFails) s (refusal 10 0 (omega arith) (ten d e accepted j h f)) p q
-          go (Err failure.TooMany) (c, t) (p, q) = at (Err TooMany) s (refusal 7 0 (omega arith) (seven d e accepted c t)) p q
-          go (Err failure.NoChoice) (c, t, h, z) (p, q) = at (Err NoChoice) s (refusal 11 0 (omega arith) (eleven d e accepted c t h z)) p q
+          go (Err (failure.Clash i)) (h, n) (p, q) = at (Err (Clash i)) s (refusal 6 i (omega arith) (six d e i fine h n)) p q
+          go (Err failure.QuickFails) (j, h, f) (p, q) = at (Err QuickFails) s (refusal 10 0 (omega arith) (ten d e fine j h f)) p q
+          go (Err failure.TooMany) (c, t) (p, q) = at (Err TooMany) s (refusal 7 0 (omega arith) (seven d e fine c t)) p q
+          go (Err failure.NoChoice) (c, t, h, z) (p, q) = at (Err NoChoice) s (refusal 11 0 (omega arith) (eleven d e fine c t h z)) p q
           go (Ok u) (c, t, x, f, l, v, h) (inl (short, p, q)) =
               at (Err (NoRoom u.length)) s (record {
                 answer = no_room (length (words x));
-                given = eight d e x accepted c t f (omega arith);
+                given = eight d e x fine c t f (omega arith);
                 the_number = refl;
                 the_extent = l;
                 the_readings = refl;
                 the_node = refl;
                 the_result = refl;
-                the_working = zeros ∙ sym (worked_more 8 w (omega arith));
+                the_working = zeros ∙ sym (worked_more 8 whole (omega arith));
               }) p q
           go (Ok u) (c, t, x, f, l, v, h) (inr (fits, p, q)) =
               at (Ok u) (region RESULT u.length w₁ ++ drop u.length s) (record {
                 answer = success (mode_readings mode d e) (words x);
-                given = done d e x accepted c t f (omega arith);
+                given = done d e x fine c t f (omega arith);
                 the_number = refl;
                 the_extent = l;
                 the_readings = v;
@@ -191,5 +228,5 @@ module _ (mode : ℕ) (a b w : List ℕ) (m : mode ≤ 2) (o : Opening w a b) wh
                 the_result =
                     ap (λ (i : ℕ). region RESULT i w₁ ++ drop i s) l
                     ∙ ap (λ (z : List ℕ). z ++ drop (length (words x)) s) (stands_region w₁ (words x) RESULT (RESULT + u.length) h);
-                the_working = zeros ∙ sym (worked_zero w);
+                the_working = zeros ∙ sym (worked_zero whole);
               }) p q

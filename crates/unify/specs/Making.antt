@@ -14,6 +14,7 @@ use Rattle.engine.specs.Marks.{all_kept}
 use Rattle.engine.specs.Quickly.{Leaves}
 use Rattle.area.specs.Map.{RESULT, SIZE}
 use Rattle.area.specs.Region as area
+use Rattle.area.specs.declared.map.Nodes.{Nodes}
 use Rattle.marks.specs.Marked.{marking}
 use Rattle.opening.specs.Opening.{Read}
 use Rattle.opening.specs.declared.Opened.{Opened}
@@ -27,14 +28,14 @@ abbrev pub DefiniteClash : Desc → Desc → ℕ → Type 0
 DefiniteClash d e i = (joined d e ≡ none) × ClashNode (definite_graph d) (definite_graph e) i
 
 -- both inputs are opened, with n nodes and k entries in the log
-abbrev pub begun : ℕ → ℕ → Opened
+abbrev pub begun : Nodes → ℕ → Opened
 begun n k = record { nodes = n; log = k }
 
 -- "0, join. The graph is the join of both definite graphs (a clash there is a clash in all modes).": both stand loaded with all
 -- alternatives kept, or they clash, at a node: "Joining two graphs shall tell the smallest node …. Unification passes it on"
 abbrev pub Begun : Desc → Desc → List ℕ → Result Opened Failure → Type 0
-Begun d e w (Ok o) = (p : Pair o.nodes (area.loaded_words w)) × (p.d ≡ d) × (p.e ≡ e)
-    × Stage o.nodes (area.loaded_words w) p o.log w × (marking w ≡ all_kept)
+Begun d e w (Ok o) = (p : Pair o.nodes.count (area.loaded_words w)) × (p.d ≡ d) × (p.e ≡ e)
+    × Stage o.nodes.count (area.loaded_words w) p o.log w × (marking w ≡ all_kept)
 Begun d e w (Err f) = (i : ℕ) × (f ≡ Clash i) × DefiniteClash d e i
 
 pub record Begins (w a b : List ℕ) (r : Result Opened Failure) (w' : List ℕ) : Type 0 where

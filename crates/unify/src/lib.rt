@@ -3,7 +3,7 @@
 
 pub mod making;
 
-ghost use Rattle.std.specs.Prelude.{◌≤◌};
+ghost use Rattle.std.specs.Prelude.{◌≤◌, ◌++◌, List, ℕ};
 ghost use Rattle.theory.specs.Outcome.{Outcome};
 ghost use Rattle.opening.specs.Opening.{Opening};
 ghost use Rattle.answering.specs.Number.{row_of};
@@ -14,7 +14,7 @@ use answering::answer::{Answer, Refusal};
 use answering::areas::wipe;
 use answering::cause::cause_in;
 use answering::hand::hand_over;
-use area::map::SIZE;
+use area::map::{Area, SIZE};
 use full::full::Engine;
 use layout::reading::judge;
 use limits::INPUT_LIMIT;
@@ -22,19 +22,20 @@ use limits::INPUT_LIMIT;
 // "mode above 2"
 const LAST_MODE: u32 = 2;
 
-// The answer to two inputs that are well formed and not too long.
+// The answer to two inputs that are well formed and not too long, whatever stands behind the working area.
 fn conclude(
     mode: u32,
     engine: Engine,
     first: &[u32],
     second: &[u32],
     res: &mut [u32],
-    working: &mut [u32],
+    working: &mut Area,
 ) -> Answer
     requires { (mode ≤ 2) × Opening working.old first.now second.now }
-    ensures outcome { Outcome (record { mode = mode; first = first.now; second = second.now })
-        (record { result = res.old; working = working.old }) (row_of result)
-        (record { result = res.new; working = working.new }) }
+    ensures outcome { (rest : List ℕ) →
+        Outcome (record { mode = mode; first = first.now; second = second.now })
+        (record { result = res.old; working = working.old ++ rest }) (row_of result)
+        (record { result = res.new; working = working.new ++ rest }) }
     ensures caused { Caused first.now second.now result }
 {
     let made = make(mode, engine, working, first, second);
@@ -60,9 +61,9 @@ fn run(
     if LAST_MODE < mode {
         return Err(Refusal::BadMode);
     }
-    if working.len() < SIZE {
+    let Some(area) = working.first_chunk_mut::<SIZE>() else {
         return Err(Refusal::SmallArea);
-    }
+    };
     if INPUT_LIMIT < first.len() {
         return Err(Refusal::TooLong);
     }
@@ -75,7 +76,7 @@ fn run(
     if !judge(second) {
         return Err(Refusal::BadSecond(cause_in(second)));
     }
-    conclude(mode, engine, first, second, res, working)
+    conclude(mode, engine, first, second, res, area)
 }
 
 // Unifies two descriptions.

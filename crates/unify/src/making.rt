@@ -5,6 +5,7 @@ ghost use Rattle.unify.specs.Making.{Begins, Makes, Completing, Completes};
 
 use answering::answer::Unified;
 use answering::hand::{Failure, Made};
+use area::map::{Area, Nodes};
 use finding_clash::finding::clash_node;
 use full::full::{Engine, full};
 use leaving::leave::{Left, NoneLeft};
@@ -15,7 +16,7 @@ use showing::show::show;
 
 // Opens both inputs, and keeps all alternatives. Where they clash, the node is looked for only then, so that other calls cost nothing
 // more.
-fn begin(w: &mut [u32], a: &[u32], b: &[u32]) -> Result<Opened, Failure>
+fn begin(w: &mut Area, a: &[u32], b: &[u32]) -> Result<Opened, Failure>
     requires { Opening w.old a.now b.now }
     ensures { Begins w.old a.now b.now result w.new }
 {
@@ -28,9 +29,9 @@ fn begin(w: &mut [u32], a: &[u32], b: &[u32]) -> Result<Opened, Failure>
 }
 
 // The full step after the quick one.
-fn complete(engine: Engine, w: &mut [u32], k: usize, n: usize) -> Made
-    requires { Completing n k w.old }
-    ensures { Completes n k w.old result w.new }
+fn complete(engine: Engine, w: &mut Area, k: usize, n: Nodes) -> Made
+    requires { Completing n.count k w.old }
+    ensures { Completes n.count k w.old result w.new }
 {
     douse(w);
     // No `?` here: `leaving` knows nothing of how a call ends, and `answering` nothing of the full step.
@@ -45,7 +46,7 @@ fn complete(engine: Engine, w: &mut [u32], k: usize, n: usize) -> Made
 }
 
 // Makes what the mode makes of both inputs, whichever engine completes it.
-pub fn make(mode: u32, engine: Engine, w: &mut [u32], a: &[u32], b: &[u32]) -> Made
+pub fn make(mode: u32, engine: Engine, w: &mut Area, a: &[u32], b: &[u32]) -> Made
     requires { (mode ≤ 2) × Opening w.old a.now b.now }
     ensures { Makes mode w.old a.now b.now result w.new }
 {

@@ -1,4 +1,5 @@
 -- `unify::conclude` meets its contract. Assumes nothing.
+use native.Mathlib.Omega.{arith}
 use Rattle.answering.proofs.Handing.{handed_caused}
 use Rattle.unify.proofs.Outcomes.{made_room, concluded}
 use Rattle.unify.proofs.conclude.Goals as goal
@@ -11,7 +12,7 @@ hand_over-answer-requires c = made_room _ _ _ _ c.requires.0
 pub returns : goal.returns
 returns c =
     record {
-      outcome = concluded _ _ _ _ c.requires.0 c.requires.1 _ _ c.make-made.ensures _ _ c.wipe.ensures _ _
+      outcome = λ rest. concluded _ _ _ _ c.requires.0 c.requires.1 _ _ c.make-made.ensures _ _ c.wipe.ensures (omega arith) rest _ _
           c.hand_over-answer.ensures;
       caused = handed_caused _ _ _ _ c.make-made.result _ _ c.hand_over-answer.ensures;
     }

@@ -25,12 +25,12 @@ picks-from : {w w₀ : List ℕ} {p count left i : ℕ} {new : Bool} {at r : ℕ
 picks-from {w} {w₀} {p} {count} {left} {i} {new} {at} {r} {w'} e k = subst (λ (z : List ℕ). Picks z p count left i new at r w') e k
 
 pub choose-tail_at-e-requires : goal.choose-tail_at-e-requires
-choose-tail_at-e-requires t c = ((going_starts c.requires).0, c.requires.room)
+choose-tail_at-e-requires t c = (going_starts c.requires).0
 
 pub choose-disjunctions_at-more-requires : goal.choose-disjunctions_at-more-requires
 choose-disjunctions_at-more-requires t c =
     let h = (going_starts c.requires).1 in
-    (omega arith, c.requires.room)
+    omega arith
 
 pub choose-overflow_add-p : goal.choose-overflow_add-p
 choose-overflow_add-p t c =
@@ -43,7 +43,7 @@ choose-loop-init t c =
 
 pub choose-alternatives_at-count-requires : goal.choose-alternatives_at-count-requires
 choose-alternatives_at-count-requires t c =
-    going_here c.requires _ _ (c.loop.invariant.1 c.requires) c.loop.invariant.0 (omega arith)
+    (going_here c.requires _ _ (c.loop.invariant.1 c.requires) c.loop.invariant.0 (omega arith)).0
 
 pub choose-overflow_add-first : goal.choose-overflow_add-first
 choose-overflow_add-first t c =
@@ -85,9 +85,6 @@ choose-loop-preserved t c = (
   λ d. rw sub-add-eq (going_on d _ _ (c.loop.invariant.1 d) c.loop.invariant.0 (omega arith) c.alternatives_at-count.ensures c.sum_choices-sum.ensures _ refl c.count_kept-tally.ensures c.beside_other-beside.ensures c.pick-to.ensures _ refl),
 )
 
-pub choose-shape_of-w : goal.choose-shape_of-w
-choose-shape_of-w t c = c.loop.invariant.0.len
-
 pub choose-returns : goal.choose-returns
 choose-returns t c = record { beyond = c.loop.invariant.0; writes = λ k. going_none k _ _ (c.loop.invariant.1 k) (omega arith) }
 
@@ -97,12 +94,12 @@ pick-loop-init t c = (refl, λ k. rw sub-zero (goes_all k _ _))
 pub pick-mark_at-requires : goal.pick-mark_at-requires
 pick-mark_at-requires t c =
     let k = still-asks c.loop.invariant.0 c.requires in
-    let old : _ × _ = goes_here k _ _ _ (c.loop.invariant.1 k) (omega arith) in record { p_bound = old.0; p_bound_2 = old.1 }
+    let old : _ × _ = goes_here k _ _ _ (c.loop.invariant.1 k) (omega arith) in record { p_bound = old.0.0; p_bound_2 = old.1 }
 
 pub pick-kept-requires : goal.pick-kept-requires
 pick-kept-requires t c =
     let k = still-asks c.loop.invariant.0 c.requires in
-    (c.mark_at.ensures.1, k.sums.room)
+    c.mark_at.ensures.1
 
 pub pick-count_choices-total-requires : goal.pick-count_choices-total-requires
 pick-count_choices-total-requires t c =
@@ -147,11 +144,6 @@ pick-choose-requires t c =
     let k = still-asks c.loop.invariant.0 c.requires in
     (omega arith, goes_asks_in k _ _ _ (c.loop.invariant.1 k) (omega arith) _ c.mark_at.ensures _ (cc) c.count_choices-total.ensures (omega arith) _ c.word_of.ensures)
 
-pub pick-shape_of-w-then-index-total : goal.pick-shape_of-w-then-index-total
-pick-shape_of-w-then-index-total t c =
-    let k = still-asks c.loop.invariant.0 c.requires in
-    (goes_beyond k _ _ _ (c.loop.invariant.1 k) (omega arith) _ c.mark_at.ensures _ (cc) c.count_choices-total.ensures (omega arith) _ c.word_of.ensures _ _ c.choose.ensures).len ∙ ap length c.loop.invariant.0
-
 pub pick-returns-then-index-total : goal.pick-returns-then-index-total
 pick-returns-then-index-total t c =
     let k = still-asks c.loop.invariant.0 c.requires in
@@ -163,7 +155,7 @@ pick-returns-then-index-total t c =
 pub pick-after_at-g-requires : goal.pick-after_at-g-requires
 pick-after_at-g-requires t c =
     let k = still-asks c.loop.invariant.0 c.requires in
-    let old : _ × _ = goes_here k _ _ _ (c.loop.invariant.1 k) (omega arith) in record { p_bound = old.0; p_bound_2 = old.1 }
+    let old : _ × _ = goes_here k _ _ _ (c.loop.invariant.1 k) (omega arith) in record { p_bound = old.0.0; p_bound_2 = old.1 }
 
 pub pick-loop-preserved : goal.pick-loop-preserved
 pick-loop-preserved t c = (
@@ -174,9 +166,6 @@ pick-loop-preserved t c = (
         | pick-else-kept u ↦ skipped (cc) u.index-is
       ]) _ c.after_at-g.ensures),
 )
-
-pub pick-shape_of-w : goal.pick-shape_of-w
-pick-shape_of-w t c = ap length c.loop.invariant.0
 
 pub pick-returns : goal.pick-returns
 pick-returns t c =

@@ -12,10 +12,10 @@ pub loop-init : goal.loop-init
 loop-init c = (λ k. rw sub-zero (sum_none k), omega arith)
 
 pub mark_at-requires : goal.mark_at-requires
-mark_at-requires c = let old : _ × _ = sum_here c.requires _ (c.loop.invariant.0 c.requires) (omega arith) in record { p_bound = old.0; p_bound_2 = old.1 }
+mark_at-requires c = let old : _ × _ = sum_here c.requires _ (c.loop.invariant.0 c.requires) (omega arith) in record { p_bound = old.0.0; p_bound_2 = old.1 }
 
 pub kept-requires : goal.kept-requires
-kept-requires c = (c.mark_at.ensures.1, c.requires.room)
+kept-requires c = c.mark_at.ensures.1
 
 pub count_choices-one-requires : goal.count_choices-one-requires
 count_choices-one-requires c =
@@ -26,7 +26,7 @@ overflow_add-sum c = omega arith
 
 pub after_at-at-requires : goal.after_at-at-requires
 after_at-at-requires c =
-    let old : _ × _ = sum_here c.requires _ (c.loop.invariant.0 c.requires) (omega arith) in record { p_bound = old.0; p_bound_2 = old.1 }
+    let old : _ × _ = sum_here c.requires _ (c.loop.invariant.0 c.requires) (omega arith) in record { p_bound = old.0.0; p_bound_2 = old.1 }
 
 pub loop-preserved : goal.loop-preserved
 loop-preserved c = (

@@ -11,22 +11,22 @@ use Rattle.classes.proofs.ask.atom_of.Goals as goal
 
 pub held_by-requires : goal.held_by-requires
 held_by-requires c =
-    let l = asked_low c.args.n c.args.w.now c.args.x c.requires.x_lt_n c.class_of-c.result c.class_of-c.ensures c.requires.labelled in
-    (omega arith, c.requires.labelled.holds.long)
+    let l = asked_low c.args.n.count c.args.w.now c.args.x c.requires.x_lt_n c.class_of-c.result c.class_of-c.ensures c.requires.labelled in
+    omega arith
 
 pub overflow_sub-result : goal.overflow_sub-result
 overflow_sub-result c =
     let bears = told_atom _ _ _ (sym c.held_by.ensures ∙ c.in-Atom.is) in
-    let l = asked-head c.args.n c.args.w.now c.args.x c.requires.x_lt_n c.class_of-c.result c.class_of-c.ensures c.requires.labelled (omega arith) in
+    let l = asked-head c.args.n.count c.args.w.now c.args.x c.requires.x_lt_n c.class_of-c.result c.class_of-c.ensures c.requires.labelled (omega arith) in
     omega arith
 
 pub returns-in-Atom : goal.returns-in-Atom
 returns-in-Atom c =
     let bears = told_atom _ _ _ (sym c.held_by.ensures ∙ c.in-Atom.is) in
-    subst (λ (v : ℕ). AtomOf c.args.n c.args.w.now c.args.x (Some (v - 65536))) (sym bears.0)
-    (atom-there c.args.n c.args.w.now c.args.x c.requires.x_lt_n c.class_of-c.result c.class_of-c.ensures (omega arith))
+    subst (λ (v : ℕ). AtomOf c.args.n.count c.args.w.now c.args.x (Some (v - 65536))) (sym bears.0)
+    (atom-there c.args.n.count c.args.w.now c.args.x c.requires.x_lt_n c.class_of-c.result c.class_of-c.ensures (omega arith))
 
 pub returns-in-Nothing : goal.returns-in-Nothing
 returns-in-Nothing c =
-    atom-none c.args.n c.args.w.now c.args.x c.requires.x_lt_n c.class_of-c.result c.class_of-c.ensures
+    atom-none c.args.n.count c.args.w.now c.args.x c.requires.x_lt_n c.class_of-c.result c.class_of-c.ensures
     (told_chain _ _ _ c.held_by.ensures (λ x e. ⊎_elim (λ i. cc) (λ i. let k = i.1 in cc) c.in-Nothing.is))

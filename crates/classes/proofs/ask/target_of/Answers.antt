@@ -13,22 +13,21 @@ use Rattle.classes.proofs.ask.target_of.Goals as goal
 
 pub held_by-requires : goal.held_by-requires
 held_by-requires c =
-    let l = asked_low c.args.n c.args.w.now c.args.x c.requires.x_lt_n c.class_of-c.result c.class_of-c.ensures c.requires.labelled in
-    (omega arith, c.requires.labelled.holds.long)
+    let l = asked_low c.args.n.count c.args.w.now c.args.x c.requires.x_lt_n c.class_of-c.result c.class_of-c.ensures c.requires.labelled in
+    omega arith
 
 pub returns-in_default : goal.returns-in_default
 returns-in_default c =
-    ⊎_elim (target-void c.args.n c.args.w.now c.args.x c.requires.x_lt_n c.class_of-c.result c.class_of-c.ensures c.args.f)
-    (target-bare c.args.n c.args.w.now c.args.x c.requires.x_lt_n c.class_of-c.result c.class_of-c.ensures c.args.f)
+    ⊎_elim (target-void c.args.n.count c.args.w.now c.args.x c.requires.x_lt_n c.class_of-c.result c.class_of-c.ensures c.args.f)
+    (target-bare c.args.n.count c.args.w.now c.args.x c.requires.x_lt_n c.class_of-c.result c.class_of-c.ensures c.args.f)
     (told_other _ _ _ c.held_by.ensures c.in_default.not-Arcs)
 
 pub look-requires : goal.look-requires
 look-requires c =
     let chain = told_arcs _ _ _ (sym c.held_by.ensures ∙ c.in-Arcs.is) in
     record {
-      in_bounds = c.requires.labelled.holds.long;
       runs = subst (Runs c.args.w.now) (sym chain.0)
-          (asked-runs c.args.n c.args.w.now c.args.x c.requires.x_lt_n
+          (asked-runs c.args.n.count c.args.w.now c.args.x c.requires.x_lt_n
           c.class_of-c.result c.class_of-c.ensures
           c.requires.labelled (omega arith));
     }
@@ -37,7 +36,7 @@ pub returns-in_err-arc : goal.returns-in_err-arc
 returns-in_err-arc c =
     let chain = told_arcs _ _ _ (sym c.held_by.ensures ∙ c.in-Arcs.is) in
     rw c.from_residual.ensures
-    (target_none c.args.n c.args.w.now c.args.x c.requires.x_lt_n c.class_of-c.result c.class_of-c.ensures c.args.f (omega arith)
+    (target_none c.args.n.count c.args.w.now c.args.x c.requires.x_lt_n c.class_of-c.result c.class_of-c.ensures c.args.f (omega arith)
     (subst (λ (z : ℕ). Looked (loaded_words c.args.w.now) c.args.w.now c.args.f z 0) chain.0 c.in_err-arc.ensures))
 
 pub target-y-requires : goal.target-y-requires
@@ -45,14 +44,11 @@ target-y-requires c =
     let chain = told_arcs _ _ _ (sym c.held_by.ensures ∙ c.in-Arcs.is) in
     let k : Looked (loaded_words c.args.w.now) c.args.w.now c.args.f (get_or c.args.w.now c.class_of-c.result 0)
     (suc c.in_ok-arc.arc) = subst (λ (z : ℕ). Looked (loaded_words c.args.w.now) c.args.w.now c.args.f z (suc c.in_ok-arc.arc))
-    chain.0 c.in_ok-arc.ensures in (
-      (target_low c.args.n c.args.w.now c.args.x c.requires.x_lt_n
-          c.class_of-c.result c.class_of-c.ensures c.args.f
-          (omega arith) c.in_ok-arc.arc
-          k
-          c.requires.labelled).0,
-      c.requires.labelled.holds.long,
-    )
+    chain.0 c.in_ok-arc.ensures in (target_low c.args.n.count c.args.w.now c.args.x c.requires.x_lt_n
+    c.class_of-c.result c.class_of-c.ensures c.args.f
+    (omega arith) c.in_ok-arc.arc
+    k
+    c.requires.labelled).0
 
 pub class_of-requires : goal.class_of-requires
 class_of-requires c =
@@ -61,7 +57,7 @@ class_of-requires c =
     (suc c.in_ok-arc.arc) =
     subst (λ (z : ℕ). Looked (loaded_words c.args.w.now) c.args.w.now c.args.f z (suc c.in_ok-arc.arc)) chain.0
     c.in_ok-arc.ensures in
-    let l = (target_low c.args.n c.args.w.now c.args.x c.requires.x_lt_n
+    let l = (target_low c.args.n.count c.args.w.now c.args.x c.requires.x_lt_n
     c.class_of-c.result
     c.class_of-c.ensures c.args.f (omega arith)
     c.in_ok-arc.arc
@@ -79,8 +75,8 @@ returns c =
     (suc c.in_ok-arc.arc) =
     subst (λ (z : ℕ). Looked (loaded_words c.args.w.now) c.args.w.now c.args.f z (suc c.in_ok-arc.arc))
     chain.0 c.in_ok-arc.ensures in
-    let v = subst (λ (z : ℕ). Classed c.args.n c.args.w.now z c.class_of.result) c.target-y.ensures c.class_of.ensures in
-    target-there c.args.n c.args.w.now c.args.x c.requires.x_lt_n
+    let v = subst (λ (z : ℕ). Classed c.args.n.count c.args.w.now z c.class_of.result) c.target-y.ensures c.class_of.ensures in
+    target-there c.args.n.count c.args.w.now c.args.x c.requires.x_lt_n
     c.class_of-c.result
     c.class_of-c.ensures c.args.f
     (omega arith) c.in_ok-arc.arc

@@ -8,43 +8,28 @@ use Rattle.classes.proofs.push.add.Goals as goal
 
 pub unite-requires : goal.unite-requires
 unite-requires c =
-    let lo = add_low c.args.n c.args.k c.args.w.now c.args.g c.args.base c.args.c c.requires in
+    let lo = add_low c.args.n.count c.args.k c.args.w.now c.args.g c.args.base c.args.c c.requires in
     let l0 = lo.0 in
-    let l1 = lo.1.0 in
-    let l2 = lo.1.1.0 in
-    let l3 = lo.1.1.1 in
     record {
-      n_bound = (l1, l2);
       x_lt_n = (omega arith, l0);
-      uniting = add_asked c.args.n c.args.k c.args.w.now c.args.g c.args.base c.args.c c.requires;
+      uniting = add_asked c.args.n.count c.args.k c.args.w.now c.args.g c.args.base c.args.c c.requires;
     }
 
 pub returns-in_err-e : goal.returns-in_err-e
 returns-in_err-e c =
     let p = err_from_is_err_and c.from_residual.result c.from_residual.ensures.1 in
-    rw (p.1, p.2) (adds_bad c.args.n c.args.k c.args.w.now c.args.g c.args.base c.args.c _ _ _ c.in_err-e.ensures refl)
+    rw (p.1, p.2) (adds_bad c.args.n.count c.args.k c.args.w.now c.args.g c.args.base c.args.c _ _ _ c.in_err-e.ensures refl)
 
 pub nodes-requires : goal.nodes-requires
 nodes-requires c =
-    let lo = add_low c.args.n c.args.k c.args.w.now c.args.g c.args.base c.args.c c.requires in
-    let l0 = lo.0 in
-    let l1 = lo.1.0 in
-    let l2 = lo.1.1.0 in
-    let l3 = lo.1.1.1 in
-    let wl = words_later c.args.k c.args.w.now _ c.unite.new.w l2 c.unite.ensures.later in
-    let tl = targets_later c.args.k c.args.w.now _ c.unite.new.w l2 c.unite.ensures.later in record {
-      n_bound = (l1, omega (arith, c.unite.ensures.later.len));
-      listing = rw (wl, tl) (add_listing c.args.n c.args.k c.args.w.now c.args.g c.args.base c.args.c _ _ _ c.in_ok-e.ensures refl c.requires);
+    let wl = words_later c.args.k c.args.w.now _ c.unite.new.w (omega arith) c.unite.ensures.later in
+    let tl = targets_later c.args.k c.args.w.now _ c.unite.new.w (omega arith) c.unite.ensures.later in record {
+      listing = rw (wl, tl) (add_listing c.args.n.count c.args.k c.args.w.now c.args.g c.args.base c.args.c _ _ _ c.in_ok-e.ensures refl c.requires);
     }
 
 pub returns : goal.returns
 returns c =
-    let lo = add_low c.args.n c.args.k c.args.w.now c.args.g c.args.base c.args.c c.requires in
-    let l0 = lo.0 in
-    let l1 = lo.1.0 in
-    let l2 = lo.1.1.0 in
-    let l3 = lo.1.1.1 in
-    let wl = words_later c.args.k c.args.w.now _ c.unite.new.w l2 c.unite.ensures.later in
-    let tl = targets_later c.args.k c.args.w.now _ c.unite.new.w l2 c.unite.ensures.later in
-    adds c.args.n c.args.k c.args.w.now c.args.g c.args.base c.args.c _ _ _ c.in_ok-e.ensures refl _ _ _
+    let wl = words_later c.args.k c.args.w.now _ c.unite.new.w (omega arith) c.unite.ensures.later in
+    let tl = targets_later c.args.k c.args.w.now _ c.unite.new.w (omega arith) c.unite.ensures.later in
+    adds c.args.n.count c.args.k c.args.w.now c.args.g c.args.base c.args.c _ _ _ c.in_ok-e.ensures refl _ _ _
     (rw (wl, tl) at c.nodes.ensures)

@@ -16,9 +16,8 @@ visit-requires c =
     let le : length c.loop-i.w ≡ length c.args.w.now = c.loop-i.invariant.later.len in
     let wl = words_later c.args.k c.args.w.now c.loop-i.came.k c.loop-i.w (omega arith) c.loop-i.invariant.later in
     let tl = targets_later c.args.k c.args.w.now c.loop-i.came.k c.loop-i.w (omega arith) c.loop-i.invariant.later in record {
-      n_bound = (omega arith, omega arith);
       x_lt_n = (omega arith, omega arith);
-      coming = rw (wl, tl) (stringing_coming F T c.args.n c.args.k c.args.w.now c.args.x c.args.from c.args.d c.loop-i.i c.loop-i.came.k c.loop-i.came.at c.loop-i.w c.loop-i.invariant
+      coming = rw (wl, tl) (stringing_coming F T c.args.n.count c.args.k c.args.w.now c.args.x c.args.from c.args.d c.loop-i.i c.loop-i.came.k c.loop-i.came.at c.loop-i.w c.loop-i.invariant
           c.loop-i-test.true c.requires.batched);
       ordered = rw wl c.loop-i.invariant.order;
     }
@@ -31,7 +30,7 @@ returns-in_err-came c =
     let wl = words_later c.args.k c.args.w.now c.loop-i.came.k c.loop-i.w (omega arith) c.loop-i.invariant.later in
     let tl = targets_later c.args.k c.args.w.now c.loop-i.came.k c.loop-i.w (omega arith) c.loop-i.invariant.later in
     let p = err_from_is_err_and c.from_residual.result c.from_residual.ensures.1 in
-    rw (p.1, p.2) (run_bad F T c.args.n c.args.k c.args.w.now c.args.x c.args.from c.args.d c.loop-i.i c.loop-i.came.k c.loop-i.came.at c.loop-i.w c.loop-i.invariant
+    rw (p.1, p.2) (run_bad F T c.args.n.count c.args.k c.args.w.now c.args.x c.args.from c.args.d c.loop-i.i c.loop-i.came.k c.loop-i.came.at c.loop-i.w c.loop-i.invariant
     c.loop-i-test.true _ _ _ _ (rw (wl, tl) at c.in_err-came.ensures) refl)
 
 pub loop-i-preserved : goal.loop-i-preserved
@@ -41,5 +40,5 @@ loop-i-preserved c =
     let le : length c.loop-i.w ≡ length c.args.w.now = c.loop-i.invariant.later.len in
     let wl = words_later c.args.k c.args.w.now c.loop-i.came.k c.loop-i.w (omega arith) c.loop-i.invariant.later in
     let tl = targets_later c.args.k c.args.w.now c.loop-i.came.k c.loop-i.w (omega arith) c.loop-i.invariant.later in
-    stringing_turn F T c.args.n c.args.k c.args.w.now c.args.x c.args.from c.args.d c.loop-i.i c.loop-i.came.k c.loop-i.came.at c.loop-i.w c.loop-i.invariant
+    stringing_turn F T c.args.n.count c.args.k c.args.w.now c.args.x c.args.from c.args.d c.loop-i.i c.loop-i.came.k c.loop-i.came.at c.loop-i.w c.loop-i.invariant
     c.loop-i-test.true _ _ _ _ (rw (wl, tl) at c.in_ok-came.ensures) refl

@@ -4,4 +4,4 @@ use Rattle.classes.proofs.Runs.{Stringing}
 use Rattle.classes.proofs.visit.arcs.Given as goal
 
 abbrev pub invariant-loop-i : goal.invariant-loop-i
-invariant-loop-i l = Stringing (loaded_words l.initial.w) (targets l.initial.w) l.n l.k l.initial.w l.x l.from l.d l.i l.came.k l.came.at l.w
+invariant-loop-i l = Stringing (loaded_words l.initial.w) (targets l.initial.w) l.n.count l.k l.initial.w l.x l.from l.d l.i l.came.k l.came.at l.w

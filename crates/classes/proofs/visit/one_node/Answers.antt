@@ -4,7 +4,6 @@ use Rattle.classes.proofs.visit.one_node.Goals as goal
 
 pub nodes-requires : goal.nodes-requires
 nodes-requires c = record {
-  n_bound = c.requires.n_bound;
   listing = listing_one _ _ _ _ _ _ _ c.requires.noding;
 }
 

@@ -26,7 +26,7 @@ pub returns-then-bears_atom : goal.returns-then-bears_atom
 returns-then-bears_atom c =
     let bears = told_bears _ _ _ c.bears_atom.ensures c.if-bears_atom.true in
     record {
-      visited = visit_clash (loaded_words c.args.w.now) (targets c.args.w.now) c.args.n c.args.k c.args.w.now c.requires.n_bound.0 c.requires.n_bound.1 c.args.x c.requires.x_lt_n.0
+      visited = visit_clash (loaded_words c.args.w.now) (targets c.args.w.now) c.args.n.count c.args.k c.args.w.now c.args.n.in_area (omega arith) c.args.x c.requires.x_lt_n.0
           c.find-c.result c.find-c.ensures c.args.t c.requires.coming.state.logged (omega arith);
       next = λ z. let y : ◌≡◌ {A = ℕ} 0 1 = cc in absurd (omega arith);
     }
@@ -35,8 +35,8 @@ pub locate-place-requires : goal.locate-place-requires
 locate-place-requires c =
     let chained = told_bare _ _ _ c.bears_atom.ensures c.if-bears_atom.false in
     record {
-      c_bound = (omega arith, omega arith);
-      runs = class_runs (loaded_words c.args.w.now) (targets c.args.w.now) c.args.n c.args.k c.args.w.now c.requires.n_bound.0 c.requires.n_bound.1 c.args.x c.requires.x_lt_n.0
+      c_bound = omega arith;
+      runs = class_runs (loaded_words c.args.w.now) (targets c.args.w.now) c.args.n.count c.args.k c.args.w.now c.args.n.in_area (omega arith) c.args.x c.requires.x_lt_n.0
           c.find-c.result c.find-c.ensures c.requires.coming.G c.requires.coming.H
           c.requires.coming.state chained;
       hint = λ z. c.requires.ordered.hint z
@@ -52,11 +52,11 @@ returns-in_default c =
     (subst (λ (f : ℕ). Located (loaded_words c.args.w.now) c.args.w.now f c.find-c.result c.locate-place.result.link (arc_code c.locate-place.result.arc)) c.loaded-f.ensures c.locate-place.ensures) in
     let hung : Hung c.args.k c.args.w.now c.args.t c.locate-place.result.link c.args.at c.hang.result.k c.hang.result.at c.hang.new.w = c.hang.ensures in
     let two_more : c.args.k + 2 ≤ 4096 = let g = c.requires.coming in omega (arith, g.fresh.room, g.state.room) in
-    let visited_hung = visit_hung (loaded_words c.args.w.now) (targets c.args.w.now) c.args.n c.args.k c.args.w.now c.requires.n_bound.0 c.requires.n_bound.1 c.args.x c.requires.x_lt_n.0 _ c.find-c.ensures
+    let visited_hung = visit_hung (loaded_words c.args.w.now) (targets c.args.w.now) c.args.n.count c.args.k c.args.w.now c.args.n.in_area (omega arith) c.args.x c.requires.x_lt_n.0 _ c.find-c.ensures
     c.args.t (omega arith) chained _ _ hint located _ refl two_more _ _ _ _ hung.before hung.after in
-    let ordered_hung : 0 < c.args.at → Ordered (loaded_words c.args.w.now) c.args.n c.hang.new.w c.args.x (NEXT + c.args.t) =
+    let ordered_hung : 0 < c.args.at → Ordered (loaded_words c.args.w.now) c.args.n.count c.hang.new.w c.args.x (NEXT + c.args.t) =
     let g = c.requires.coming in
-    hung_ordered _ _ _ _ _ c.requires.n_bound.0 c.requires.n_bound.1 _ c.requires.x_lt_n.0 _ c.find-c.ensures _ (omega arith) chained _ _ hint
+    hung_ordered _ _ _ _ _ c.args.n.in_area (omega arith) _ c.requires.x_lt_n.0 _ c.find-c.ensures _ (omega arith) chained _ _ hint
     located _ refl two_more _ _ _ _ hung.before hung.after g.G g.H g.state g.fresh in
     record {
       visited = visited_hung;
@@ -69,10 +69,10 @@ target-q-requires c =
     let looked : Looked (loaded_words c.args.w.now) c.args.w.now (get_or (loaded_words c.args.w.now) c.args.t 0) (get_or c.args.w.now c.find-c.result 0) (suc c.in-Some.r) =
     subst (Looked (loaded_words c.args.w.now) c.args.w.now (get_or (loaded_words c.args.w.now) c.args.t 0) (get_or c.args.w.now c.find-c.result 0)) (ap arc_code c.in-Some.is)
     (rw c.loaded-f.ensures at c.locate-place.ensures.looked) in
-    let there : (get_or (targets c.args.w.now) c.in-Some.r 0 < c.args.n) × (c.in-Some.r < 2047) = let g = c.requires.coming in
-    found_arc _ _ _ _ _ c.requires.n_bound.0 c.requires.n_bound.1 _ c.requires.x_lt_n.0 _ c.find-c.ensures _ (suc c.in-Some.r) c.in-Some.r
+    let there : (get_or (targets c.args.w.now) c.in-Some.r 0 < c.args.n.count) × (c.in-Some.r < 2047) = let g = c.requires.coming in
+    found_arc _ _ _ _ _ c.args.n.in_area (omega arith) _ c.requires.x_lt_n.0 _ c.find-c.ensures _ (suc c.in-Some.r) c.in-Some.r
     chained looked refl g.G g.H g.state in
-    (omega arith, omega arith)
+    omega arith
 
 pub unite-requires : goal.unite-requires
 unite-requires c =
@@ -80,15 +80,14 @@ unite-requires c =
     let looked : Looked (loaded_words c.args.w.now) c.args.w.now (get_or (loaded_words c.args.w.now) c.args.t 0) (get_or c.args.w.now c.find-c.result 0) (suc c.in-Some.r) =
     subst (Looked (loaded_words c.args.w.now) c.args.w.now (get_or (loaded_words c.args.w.now) c.args.t 0) (get_or c.args.w.now c.find-c.result 0)) (ap arc_code c.in-Some.is)
     (rw c.loaded-f.ensures at c.locate-place.ensures.looked) in
-    let there : (get_or (targets c.args.w.now) c.in-Some.r 0 < c.args.n) × (c.in-Some.r < 2047) = let g = c.requires.coming in
-    found_arc _ _ _ _ _ c.requires.n_bound.0 c.requires.n_bound.1 _ c.requires.x_lt_n.0 _ c.find-c.ensures _ (suc c.in-Some.r) c.in-Some.r
+    let there : (get_or (targets c.args.w.now) c.in-Some.r 0 < c.args.n.count) × (c.in-Some.r < 2047) = let g = c.requires.coming in
+    found_arc _ _ _ _ _ c.args.n.in_area (omega arith) _ c.requires.x_lt_n.0 _ c.find-c.ensures _ (suc c.in-Some.r) c.in-Some.r
     chained looked refl g.G g.H g.state in
     let same : Equal c.requires.coming.G (loaded_words c.args.w.now) (targets c.args.w.now) (get_or (targets c.args.w.now) c.args.t 0) (get_or (targets c.args.w.now) c.in-Some.r 0) = let g = c.requires.coming in
-    found_same _ _ _ _ _ c.requires.n_bound.0 c.requires.n_bound.1 _ c.requires.x_lt_n.0 _ c.find-c.ensures _ (suc c.in-Some.r) c.in-Some.r
+    found_same _ _ _ _ _ c.args.n.in_area (omega arith) _ c.requires.x_lt_n.0 _ c.find-c.ensures _ (suc c.in-Some.r) c.in-Some.r
     chained looked refl g.G g.H g.state g.fresh in
     let g = c.requires.coming in
     record {
-      n_bound = c.requires.n_bound;
       x_lt_n = (
         omega (arith, c.target-p.ensures, (g.state.arcs c.args.t g.fresh.arc).1.1),
         omega (arith, c.target-q.ensures, there.0),
@@ -104,7 +103,7 @@ returns-in_err-e c =
     (rw c.loaded-f.ensures at c.locate-place.ensures.looked) in
     let p = err_from_is_err_and c.from_residual.result c.from_residual.ensures.1 in
     rw (p.1, p.2) (record {
-      visited = visit_found _ _ _ _ _ c.requires.n_bound.0 c.requires.n_bound.1 _ c.requires.x_lt_n.0 _ c.find-c.ensures _ (suc c.in-Some.r) c.in-Some.r
+      visited = visit_found _ _ _ _ _ c.args.n.in_area (omega arith) _ c.requires.x_lt_n.0 _ c.find-c.ensures _ (suc c.in-Some.r) c.in-Some.r
           chained looked refl _ _ _
           (rw (c.target-p.ensures, c.target-q.ensures) at c.in_err-e.ensures);
       next = λ z. never z;
@@ -117,18 +116,18 @@ onward-a-requires c =
     let looked : Looked (loaded_words c.args.w.now) c.args.w.now (get_or (loaded_words c.args.w.now) c.args.t 0) (get_or c.args.w.now c.find-c.result 0) (suc c.in-Some.r) =
     subst (Looked (loaded_words c.args.w.now) c.args.w.now (get_or (loaded_words c.args.w.now) c.args.t 0) (get_or c.args.w.now c.find-c.result 0)) (ap arc_code c.in-Some.is)
     (rw c.loaded-f.ensures at c.locate-place.ensures.looked) in
-    let there : (get_or (targets c.args.w.now) c.in-Some.r 0 < c.args.n) × (c.in-Some.r < 2047) = let g = c.requires.coming in
-    found_arc _ _ _ _ _ c.requires.n_bound.0 c.requires.n_bound.1 _ c.requires.x_lt_n.0 _ c.find-c.ensures _ (suc c.in-Some.r) c.in-Some.r
+    let there : (get_or (targets c.args.w.now) c.in-Some.r 0 < c.args.n.count) × (c.in-Some.r < 2047) = let g = c.requires.coming in
+    found_arc _ _ _ _ _ c.args.n.in_area (omega arith) _ c.requires.x_lt_n.0 _ c.find-c.ensures _ (suc c.in-Some.r) c.in-Some.r
     chained looked refl g.G g.H g.state in
     let same : Equal c.requires.coming.G (loaded_words c.args.w.now) (targets c.args.w.now) (get_or (targets c.args.w.now) c.args.t 0) (get_or (targets c.args.w.now) c.in-Some.r 0) = let g = c.requires.coming in
-    found_same _ _ _ _ _ c.requires.n_bound.0 c.requires.n_bound.1 _ c.requires.x_lt_n.0 _ c.find-c.ensures _ (suc c.in-Some.r) c.in-Some.r
+    found_same _ _ _ _ _ c.args.n.in_area (omega arith) _ c.requires.x_lt_n.0 _ c.find-c.ensures _ (suc c.in-Some.r) c.in-Some.r
     chained looked refl g.G g.H g.state g.fresh in
     let g = c.requires.coming in
     let rr = g.fresh.room in
     let rq = g.state.room in
-    let wl = words_later _ c.args.w.now _ _ c.requires.n_bound.1 c.unite.ensures.later in
+    let wl = words_later _ c.args.w.now _ _ (omega arith) c.unite.ensures.later in
     record {
-      x_lt_n = (omega arith, (omega arith, omega (arith, c.unite.ensures.later.len)));
+      x_lt_n = omega arith;
       r_bound = (omega arith, omega arith);
       turning = rw wl (record {
         steady = record {
@@ -149,9 +148,9 @@ returns c =
     let looked : Looked (loaded_words c.args.w.now) c.args.w.now (get_or (loaded_words c.args.w.now) c.args.t 0) (get_or c.args.w.now c.find-c.result 0) (suc c.in-Some.r) =
     subst (Looked (loaded_words c.args.w.now) c.args.w.now (get_or (loaded_words c.args.w.now) c.args.t 0) (get_or c.args.w.now c.find-c.result 0)) (ap arc_code c.in-Some.is)
     (rw c.loaded-f.ensures at c.locate-place.ensures.looked) in
-    let wl = words_later _ c.args.w.now _ _ c.requires.n_bound.1 c.unite.ensures.later in
+    let wl = words_later _ c.args.w.now _ _ (omega arith) c.unite.ensures.later in
     record {
-      visited = visit_found _ _ _ _ _ c.requires.n_bound.0 c.requires.n_bound.1 _ c.requires.x_lt_n.0 _ c.find-c.ensures _ (suc c.in-Some.r) c.in-Some.r
+      visited = visit_found _ _ _ _ _ c.args.n.in_area (omega arith) _ c.requires.x_lt_n.0 _ c.find-c.ensures _ (suc c.in-Some.r) c.in-Some.r
           chained looked refl _ _ _
           (rw (c.target-p.ensures, c.target-q.ensures) at c.in_ok-e.ensures);
       next = λ z. rw wl at c.onward-a.ensures;

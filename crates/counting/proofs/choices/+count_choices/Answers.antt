@@ -10,24 +10,21 @@ use Rattle.counting.proofs.choices.+count_choices.Goals as goal
 use Rattle.counting.proofs.choices.+count_choices.Goals.{then-kept, else-kept}
 
 pub tail_at-e-requires : goal.tail_at-e-requires
-tail_at-e-requires t c = ((starts _ _ _ c.requires).0, c.requires.room)
+tail_at-e-requires t c = (starts _ _ _ c.requires).0
 
 pub overflow_add-at : goal.overflow_add-at
 overflow_add-at t c = let h = (starts _ _ _ c.requires).1 in omega arith
 
 pub disjunctions_at-disjunction-end-requires : goal.disjunctions_at-disjunction-end-requires
 disjunctions_at-disjunction-end-requires t c =
-    (let h = (starts _ _ _ c.requires).1 in omega arith, c.requires.room)
+    let h = (starts _ _ _ c.requires).1 in omega arith
 
 pub loop-disjunction-init : goal.loop-disjunction-init
 loop-disjunction-init t c = (λ k. multiply_none _ _ _ k _ _ c.tail_at-e.ensures (omega (arith, c.disjunctions_at-disjunction-end.ensures)), omega arith)
 
 pub alternatives_at-count-requires : goal.alternatives_at-count-requires
-alternatives_at-count-requires t c = (
-  multiply_here _ _ _ c.requires _ _ _
-      (c.loop-disjunction.invariant.0 c.requires) (omega arith),
-  c.requires.room,
-)
+alternatives_at-count-requires t c = multiply_here _ _ _ c.requires _ _ _
+    (c.loop-disjunction.invariant.0 c.requires) (omega arith)
 
 pub overflow_add-at-in-loop-disjunction : goal.overflow_add-at-in-loop-disjunction
 overflow_add-at-in-loop-disjunction t c = let h = multiply_here _ _ _ c.requires _ _ _
@@ -41,7 +38,7 @@ loop-alternative-init t c = (
 
 pub mark_at-requires : goal.mark_at-requires
 mark_at-requires t c = let h = sum_here _ _ _ c.requires _ _ _ _ _ (c.loop-alternative.invariant.0 c.requires) (omega arith) in record {
-  p_bound = (h.0, c.requires.room);
+  p_bound = h.0;
   p_bound_2 = h.1;
 }
 
@@ -69,7 +66,7 @@ after_at-at-requires t c = let h =
     (c.loop-alternative.invariant.0
     c.requires) (omega arith) in
     record {
-      p_bound = (h.0, c.requires.room);
+      p_bound = h.0;
       p_bound_2 = h.1;
     }
 

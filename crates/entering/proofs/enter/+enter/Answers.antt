@@ -20,24 +20,15 @@ returns-in_err-log t c = rw c.from_residual.ensures (enters_own _ _ _ _ _ _ _ c.
 
 pub tail_at-e-requires : goal.tail_at-e-requires
 tail_at-e-requires t c = let r =
-    reach_own _ _ _ _ _ _ _ c.push.ensures c.in_ok-log.was in (
-      (starts _ _ _ _ _ c.requires _ _ r).0,
-      omega (arith, r.len, c.requires.s.holds.long),
-    )
+    reach_own _ _ _ _ _ _ _ c.push.ensures c.in_ok-log.was in (starts _ _ _ _ _ c.requires _ _ r).0
 
 pub disjunctions_at-more-requires : goal.disjunctions_at-more-requires
 disjunctions_at-more-requires t c = let r =
     reach_own _ _ _ _ _ _ _ c.push.ensures
-    c.in_ok-log.was in (
-      let h = (starts _ _ _ _ _
-          c.requires _ _ r).1 in
-          omega arith,
-      omega (
-        arith,
-        r.len,
-        c.requires.s.holds.long,
-      ),
-    )
+    c.in_ok-log.was in
+    let h = (starts _ _ _ _ _
+    c.requires _ _ r).1 in
+    omega arith
 
 pub overflow_add-at : goal.overflow_add-at
 overflow_add-at t c = let h = (starts _ _ _ _ _ c.requires _ _
@@ -48,7 +39,7 @@ loop-init t c = λ v e r u. (r, rw sub-zero u)
 
 pub alternatives_at-count-requires : goal.alternatives_at-count-requires
 alternatives_at-count-requires t c = let v = c.loop.invariant _ c.requires (reach_own _ _ _ _ _ _ _ c.push.ensures c.in_ok-log.was) (walk_start _ _ _ _ _ c.requires _ _ (reach_own _ _ _ _ _ _ _ c.push.ensures c.in_ok-log.was) _ c.push.ensures c.in_ok-log.was _ _ c.tail_at-e.ensures c.disjunctions_at-more.ensures) in
-    (walk_here _ _ _ _ _ c.requires _ _ v.0 _ _ v.1 (omega arith), omega (arith, v.1.holds.long))
+    walk_here _ _ _ _ _ c.requires _ _ v.0 _ _ v.1 (omega arith)
 
 pub overflow_add-at-in-loop : goal.overflow_add-at-in-loop
 overflow_add-at-in-loop t c = let v = c.loop.invariant _ c.requires (reach_own _ _ _ _ _ _ _ c.push.ensures c.in_ok-log.was)
@@ -83,11 +74,6 @@ back-requires t c = let v = c.loop.invariant _ c.requires (reach_own _ _ _ _ _ _
       since_trans _ _ _ _ _ _ v.0.since (c.enter.ensures.clashed c.in_default-enter.is).0;
 }
 
-pub shape_of-w-in_default-enter : goal.shape_of-w-in_default-enter
-shape_of-w-in_default-enter t c = let v = c.loop.invariant _ c.requires (reach_own _ _ _ _ _ _ _ c.push.ensures c.in_ok-log.was)
-    (walk_start _ _ _ _ _ c.requires _ _ (reach_own _ _ _ _ _ _ _ c.push.ensures c.in_ok-log.was) _ c.push.ensures c.in_ok-log.was _ _ c.tail_at-e.ensures c.disjunctions_at-more.ensures) in c.back.ensures.len
-    ∙ c.enter.ensures.len ∙ v.0.len
-
 pub returns-in_default-enter : goal.returns-in_default-enter
 returns-in_default-enter t c = let p = c.requires
     in
@@ -121,9 +107,6 @@ loop-preserved t c = λ w e r u. let v = c.loop.invariant w e r u in
       | in-One+in-Some x ↦ one _ _ _ _ x.in-One.is x.enter.ensures x.in-Some.is x.w-is x.log-is
       | in_default x ↦ none x.in_default.not-One x.w-is x.log-is
     ]))
-
-pub shape_of-w : goal.shape_of-w
-shape_of-w t c = let v = c.loop.invariant _ c.requires (reach_own _ _ _ _ _ _ _ c.push.ensures c.in_ok-log.was) (walk_start _ _ _ _ _ c.requires _ _ (reach_own _ _ _ _ _ _ _ c.push.ensures c.in_ok-log.was) _ c.push.ensures c.in_ok-log.was _ _ c.tail_at-e.ensures c.disjunctions_at-more.ensures) in v.0.len
 
 pub returns : goal.returns
 returns t c = let v = c.loop.invariant _ c.requires (reach_own _ _ _ _ _ _ _ c.push.ensures c.in_ok-log.was) (walk_start _ _ _ _ _ c.requires _ _ (reach_own _ _ _ _ _ _ _ c.push.ensures c.in_ok-log.was) _ c.push.ensures c.in_ok-log.was _ _ c.tail_at-e.ensures c.disjunctions_at-more.ensures) in

@@ -1,6 +1,9 @@
 -- `finding_clash::finding::clash_node` meets its contract. Assumes nothing.
-use Rattle.finding_clash.proofs.Found.{strip_asked, second_low, push_asked, note_asked, seek_asked, locates}
+use Rattle.finding_clash.proofs.Found.{strip_asked, second_low, all_low, push_asked, note_asked, seek_asked, locates}
 use Rattle.finding_clash.proofs.finding.clash_node.Goals as goal
+
+pub invariant_of-n : goal.invariant_of-n
+invariant_of-n c = record { in_area = all_low _ _ _ _ c.nodes_of-c.ensures c.nodes_of-d.ensures c.number_of-b.ensures c.requires }
 
 pub strip-requires : goal.strip-requires
 strip-requires c =

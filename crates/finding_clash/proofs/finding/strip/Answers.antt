@@ -9,10 +9,6 @@ pub bare-requires-2 : goal.bare-requires-2
 bare-requires-2 c =
     asks_two _ c.requires.long c.requires.g c.requires.h c.requires.b c.requires.lie _ c.requires.first_many _ c.bare.ensures _ c.requires.second_many
 
-pub shape_of-w : goal.shape_of-w
-shape_of-w c =
-    (strips _ _ _ c.requires _ _ c.bare.ensures c.bare-2.ensures).len
-
 pub returns : goal.returns
 returns c =
     strips _ _ _ c.requires _ _ c.bare.ensures c.bare-2.ensures

@@ -8,12 +8,12 @@ use Rattle.finding_clash.proofs.heads.bare.Goals as goal
 pub loop-node-init : goal.loop-node-init
 loop-node-init c =
     let all : c.args.i + c.args.count - c.args.i ≡ c.args.count = omega arith in
-    rw all (bare_begin _ _ _ c.args.i _ refl)
+    (omega arith, rw all (bare_begin _ _ _ c.args.i _ refl))
 
 pub bare_node-at-requires : goal.bare_node-at-requires
 bare_node-at-requires c =
-    bare_asks _ _ _ _ _ _ _ _ c.loop-node.invariant (omega arith) c.requires c.loop-node.auto.w (omega arith)
+    bare_asks _ _ _ _ _ _ _ _ c.loop-node.invariant.1 (omega arith) c.requires (omega arith) (omega arith)
 
 pub loop-node-preserved : goal.loop-node-preserved
 loop-node-preserved c =
-    bare_go_on _ _ _ _ _ _ _ _ c.loop-node.invariant (omega arith) _ _ c.bare_node-at.ensures _ _ (omega arith) (omega arith)
+    (omega arith, bare_go_on _ _ _ _ _ _ _ _ c.loop-node.invariant.1 (omega arith) _ _ c.bare_node-at.ensures _ _ (omega arith) (omega arith))

@@ -1,6 +1,6 @@
 -- `finding_clash::heads::bare_node` meets its contract. Assumes nothing.
 use native.Mathlib.Omega.{arith}
-use Rattle.finding_clash.proofs.Baring.{node_there, node_still, bares_atom, bares_arcs}
+use Rattle.finding_clash.proofs.Baring.{node_there, bares_atom, bares_arcs}
 use Rattle.finding_clash.proofs.heads.bare_node.Goals as goal
 
 pub offset_bounds-w-p : goal.offset_bounds-w-p
@@ -13,7 +13,7 @@ pub offset_bounds-w-p-then-head-ge-CODE_LIMIT : goal.offset_bounds-w-p-then-head
 offset_bounds-w-p-then-head-ge-CODE_LIMIT c = let t = node_there _ _ _ c.requires in omega arith
 
 pub bounds-w-p-then-head-ge-CODE_LIMIT : goal.bounds-w-p-then-head-ge-CODE_LIMIT
-bounds-w-p-then-head-ge-CODE_LIMIT c = node_still _ _ _ c.requires _
+bounds-w-p-then-head-ge-CODE_LIMIT c = let t = node_there _ _ _ c.requires in omega arith
 
 pub overflow_add-result : goal.overflow_add-result
 overflow_add-result c = let t = node_there _ _ _ c.requires in omega arith

@@ -7,7 +7,7 @@ pub find-r-requires : goal.find-r-requires
 find-r-requires c =
     let a = c.requires.notes_asked.inside _ c.requires.i_lt_m.0 in
     record {
-      i_lt_n = (omega arith, (c.requires.notes_asked.below, c.requires.notes_asked.long));
+      i_lt_n = omega arith;
       shape = c.requires.notes_asked.labels.shape;
     }
 

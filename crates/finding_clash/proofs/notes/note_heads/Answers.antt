@@ -22,4 +22,4 @@ pub returns : goal.returns
 returns c =
     let e : c.loop-i.i ≡ c.args.m = omega arith in
     up_to_all _ _ _ _ _ c.clear.new.w _ c.requires.notes_asked.long c.requires.notes_asked.below c.requires.notes_asked.few (only_zeroed _ _ _ c.clear.ensures)
-    (subst (λ (k : ℕ). NotesUpTo c.args.n c.args.c c.args.b c.args.m k c.clear.new.w c.loop-i.w) e c.loop-i.invariant.1)
+    (subst (λ (k : ℕ). NotesUpTo c.args.n.count c.args.c c.args.b c.args.m k c.clear.new.w c.loop-i.w) e c.loop-i.invariant.1)

@@ -3,4 +3,4 @@ use Rattle.finding_clash.proofs.Passing.{NotesUpTo}
 use Rattle.finding_clash.proofs.notes.note_heads.Given as goal
 
 abbrev pub invariant-loop-i : goal.invariant-loop-i
-invariant-loop-i l = NotesAsked l.n l.c l.b l.m l.w × NotesUpTo l.n l.c l.b l.m l.i l.initial.w l.w
+invariant-loop-i l = NotesAsked l.n.count l.c l.b l.m l.w × NotesUpTo l.n.count l.c l.b l.m l.i l.initial.w l.w

@@ -15,13 +15,13 @@ loop-p-init c = (search rules, (c.parent-p.ensures.0, λ L f. refl))
 
 pub loop-p-smaller : goal.loop-p-smaller
 loop-p-smaller c =
-    let l : length (parents c.args.n c.args.w.now) ≡ c.args.n = length_parents c.args.n c.args.w.now (omega arith) in
-    rw c.loop-p.invariant.1.0 (climb_less (parents c.args.n c.args.w.now) c.requires.shape c.loop-p.x (omega arith)
+    let l : length (parents c.args.n.count c.args.w.now) ≡ c.args.n.count = length_parents c.args.n.count c.args.w.now (omega arith) in
+    rw c.loop-p.invariant.1.0 (climb_less (parents c.args.n.count c.args.w.now) c.requires.shape c.loop-p.x (omega arith)
     (λ e. c.loop-p-test.true (c.loop-p.invariant.1.0 ∙ e)))
 
 pub loop-p-preserved : goal.loop-p-preserved
 loop-p-preserved c =
-    let l : length (parents c.args.n c.args.w.now) ≡ c.args.n = length_parents c.args.n c.args.w.now (omega arith) in (
+    let l : length (parents c.args.n.count c.args.w.now) ≡ c.args.n.count = length_parents c.args.n.count c.args.w.now (omega arith) in (
       omega arith,
       (
         c.parent-p-in-loop-p.ensures.0,
@@ -32,6 +32,6 @@ loop-p-preserved c =
 
 pub returns : goal.returns
 returns c =
-    let l : length (parents c.args.n c.args.w.now) ≡ c.args.n = length_parents c.args.n c.args.w.now (omega arith) in
+    let l : length (parents c.args.n.count c.args.w.now) ≡ c.args.n.count = length_parents c.args.n.count c.args.w.now (omega arith) in
     let t = sym c.loop-p.invariant.1.0 ∙ c.loop-p-test.false in
     record { low = omega arith; top = t; is = λ L f. c.loop-p.invariant.1.1 L f ∙ f.tops c.loop-p.x (omega arith) t }

@@ -30,8 +30,8 @@ overflow_sub-x c =
     let F = loaded_words c.args.w.now in
     let T = targets c.args.w.now in
     let le : length c.loop-x.w ≡ length c.args.w.now = c.loop-x.invariant.later.len in
-    let v = walk_working F T c.args.n c.args.k c.args.s c.args.w.now c.args.from c.args.to c.loop-x.m.k c.loop-x.m.s c.loop-x.w c.loop-x.x c.requires.working c.loop-x.invariant in
-    let ps = arc_pos v.G v.H F T c.args.n c.loop-x.m.k c.loop-x.m.s c.loop-x.x c.args.to v.fs c.loop-x.w (omega arith) (omega arith) v.state
+    let v = walk_working F T c.args.n.count c.args.k c.args.s c.args.w.now c.args.from c.args.to c.loop-x.m.k c.loop-x.m.s c.loop-x.w c.loop-x.x c.requires.working c.loop-x.invariant in
+    let ps = arc_pos v.G v.H F T c.args.n.count c.loop-x.m.k c.loop-x.m.s c.loop-x.x c.args.to v.fs c.loop-x.w (omega arith) (omega arith) v.state
     c.loop-x-test.true in
     search rules
 
@@ -40,10 +40,10 @@ next-x-requires c =
     let F = loaded_words c.args.w.now in
     let T = targets c.args.w.now in
     let le : length c.loop-x.w ≡ length c.args.w.now = c.loop-x.invariant.later.len in
-    let v = walk_working F T c.args.n c.args.k c.args.s c.args.w.now c.args.from c.args.to c.loop-x.m.k c.loop-x.m.s c.loop-x.w c.loop-x.x c.requires.working c.loop-x.invariant in
-    let al = arc_low v.G v.H F T c.args.n c.loop-x.m.k c.loop-x.m.s c.loop-x.x c.args.to v.fs c.loop-x.w (omega arith) (omega arith) v.state
+    let v = walk_working F T c.args.n.count c.args.k c.args.s c.args.w.now c.args.from c.args.to c.loop-x.m.k c.loop-x.m.s c.loop-x.w c.loop-x.x c.requires.working c.loop-x.invariant in
+    let al = arc_low v.G v.H F T c.args.n.count c.loop-x.m.k c.loop-x.m.s c.loop-x.x c.args.to v.fs c.loop-x.w (omega arith) (omega arith) v.state
     c.loop-x-test.true in
-    (omega arith, omega (arith, c.step.ensures.later.len))
+    omega arith
 
 pub loop-x-preserved : goal.loop-x-preserved
 loop-x-preserved c =

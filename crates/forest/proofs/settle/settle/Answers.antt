@@ -8,11 +8,13 @@ use Rattle.forest.proofs.Walks.{some}
 use Rattle.forest.proofs.Drain.{settle_working, settle_turn, settled_bad, settled_end, drained_here}
 use Rattle.forest.proofs.settle.settle.Goals as goal
 
-pub drain-requires-clause-working : goal.drain-requires-clause-working
-drain-requires-clause-working c =
+pub drain-requires : goal.drain-requires
+drain-requires c =
     let le : length c.loop-m.w ≡ length c.args.w.now = c.loop-m.invariant.later.len in
-    rw (words_later _ _ _ _ (omega arith) c.loop-m.invariant.later, targets_later _ _ _ _ (omega arith) c.loop-m.invariant.later)
-    (settle_working _ _ _ _ _ _ _ _ _ _ _ c.requires.stacked c.loop-m.invariant (some _ c.loop-m-test.true) c.wide-from.ensures c.wide-to.ensures)
+    record {
+      working = rw (words_later _ _ _ _ (omega arith) c.loop-m.invariant.later, targets_later _ _ _ _ (omega arith) c.loop-m.invariant.later)
+          (settle_working _ _ _ _ _ _ _ _ _ _ _ c.requires.stacked c.loop-m.invariant (some _ c.loop-m-test.true) c.wide-from.ensures c.wide-to.ensures);
+    }
 
 pub returns-in_err-m : goal.returns-in_err-m
 returns-in_err-m c =

@@ -6,7 +6,7 @@ use Rattle.forest.proofs.Drain.{Settling}
 use Rattle.forest.proofs.settle.settle.Given as goal
 
 abbrev pub invariant-loop-m : goal.invariant-loop-m
-invariant-loop-m l = Settling (loaded_words l.initial.w) (targets l.initial.w) l.n l.k l.s l.initial.w l.m.k l.m.s l.w
+invariant-loop-m l = Settling (loaded_words l.initial.w) (targets l.initial.w) l.n.count l.k l.s l.initial.w l.m.k l.m.s l.w
 
 abbrev pub decreases-loop-m : goal.decreases-loop-m
-decreases-loop-m l = l.m.s + tops 0 (parents l.n l.w)
+decreases-loop-m l = l.m.s + tops 0 (parents l.n.count l.w)

@@ -17,18 +17,20 @@ returns-in_err-m c =
     let p = err_from_is_err_and c.from_residual.result c.from_residual.ensures.1 in
     rw (p.1, p.2) (united_bad (loaded_words c.args.w.now) (targets c.args.w.now) _ _ _ _ _ _ _ _ (rw c.in_default.ensures at c.in_err-m.ensures))
 
-pub settle-requires-clause-stacked : goal.settle-requires-clause-stacked
-settle-requires-clause-stacked c =
+pub settle-requires : goal.settle-requires
+settle-requires c =
     let merged = rw c.in_default.ensures at c.in_ok-m.ensures in
     let wl = words_later _ c.args.w.now _ c.blend.new.w (omega arith) merged.later in
     let tl = targets_later _ c.args.w.now _ c.blend.new.w (omega arith) merged.later in
-    rw (wl, tl)
-    (united_stacked (loaded_words c.args.w.now) (targets c.args.w.now) _ _ _ _ _ _ _ _ _ c.requires.uniting.G c.requires.uniting.H c.requires.uniting.state c.requires.uniting.same
-    merged refl)
+    record {
+      stacked = rw (wl, tl)
+          (united_stacked (loaded_words c.args.w.now) (targets c.args.w.now) _ _ _ _ _ _ _ _ _ c.requires.uniting.G c.requires.uniting.H c.requires.uniting.state c.requires.uniting.same
+          merged refl);
+    }
 
 pub returns : goal.returns
 returns c =
     let merged = rw c.in_default.ensures at c.in_ok-m.ensures in
-    let wl = words_later _ c.args.w.now _ c.blend.new.w c.requires.n_bound.1 merged.later in
-    let tl = targets_later _ c.args.w.now _ c.blend.new.w c.requires.n_bound.1 merged.later in
+    let wl = words_later _ c.args.w.now _ c.blend.new.w (omega arith) merged.later in
+    let tl = targets_later _ c.args.w.now _ c.blend.new.w (omega arith) merged.later in
     united (loaded_words c.args.w.now) (targets c.args.w.now) _ _ _ _ _ _ _ _ _ _ _ _ merged refl (rw (wl, tl) at c.settle.ensures)

@@ -4,4 +4,4 @@ use Rattle.marks.proofs.Marks.{mark_at}
 use Rattle.marks.proofs.marking.kept.Goals as goal
 
 pub returns : goal.returns
-returns c = sym (mark_at c.args.w.now c.args.x c.requires.0)
+returns c = sym (mark_at c.args.w.now c.args.x c.requires)

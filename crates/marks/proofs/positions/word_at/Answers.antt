@@ -4,4 +4,4 @@ use Rattle.area.proofs.Region.{word_at}
 use Rattle.marks.proofs.positions.word_at.Goals as goal
 
 pub returns : goal.returns
-returns c = sym (word_at c.args.w.now c.args.p c.requires.0)
+returns c = sym (word_at c.args.w.now c.args.p c.requires)

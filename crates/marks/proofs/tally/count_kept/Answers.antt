@@ -7,12 +7,12 @@ use Rattle.marks.proofs.tally.count_kept.Goals.{then-here, else-here+then-found-
 pub mark_at-requires : goal.mark_at-requires
 mark_at-requires c =
     let r = tally_read _ _ _ c.requires _ _ _ _ (c.loop.invariant.0 c.requires) (omega arith) in
-    record { p_bound = (r.0, c.requires.room); p_bound_2 = r.1 }
+    record { p_bound = r.0; p_bound_2 = r.1 }
 
 pub after_at-at-requires : goal.after_at-at-requires
 after_at-at-requires c =
     let r = tally_read _ _ _ c.requires _ _ _ _ (c.loop.invariant.0 c.requires) (omega arith) in
-    record { p_bound = (r.0, c.requires.room); p_bound_2 = r.1 }
+    record { p_bound = r.0; p_bound_2 = r.1 }
 
 pub loop-preserved : goal.loop-preserved
 loop-preserved c = (

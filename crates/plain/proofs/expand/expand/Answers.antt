@@ -19,7 +19,7 @@ choose_both-many-requires c =
 
 pub loop-i-init : goal.loop-i-init
 loop-i-init c =
-    let step : Step c.args.n c.args.k c.args.w.now c.args.total c.choices.next c.choices.found c.choose_both-many.result
+    let step : Step c.args.n.count c.args.k c.args.w.now c.args.total c.choices.next c.choices.found c.choose_both-many.result
     c.choose_both-many.new.w = record {
       pre = c.requires;
       w = c.choices.w;
@@ -27,12 +27,12 @@ loop-i-init c =
       some = c.choices-test.true;
       chosen = c.choose_both-many.ensures;
     } in
-    let choice : Choice c.args.n c.args.k c.choose_both-many.new.w c.choose_both-many.result = step_choice step in
+    let choice : Choice c.args.n.count c.args.k c.choose_both-many.new.w c.choose_both-many.result = step_choice step in
     through_none _ _ _ _ choice.holds.state.logged
 
 pub listed-word-requires : goal.listed-word-requires
 listed-word-requires c =
-    let step : Step c.args.n c.args.k c.args.w.now c.args.total c.choices.next c.choices.found c.choose_both-many.result
+    let step : Step c.args.n.count c.args.k c.args.w.now c.args.total c.choices.next c.choices.found c.choose_both-many.result
     c.choose_both-many.new.w = record {
       pre = c.requires;
       w = c.choices.w;
@@ -40,8 +40,8 @@ listed-word-requires c =
       some = c.choices-test.true;
       chosen = c.choose_both-many.ensures;
     } in
-    let choice : Choice c.args.n c.args.k c.choose_both-many.new.w c.choose_both-many.result = step_choice step in
-    (omega (arith, step_few step), omega (arith, c.loop-i.invariant.later.len, choice.holds.long))
+    let choice : Choice c.args.n.count c.args.k c.choose_both-many.new.w c.choose_both-many.result = step_choice step in
+    omega (arith, step_few step)
 
 pub loop-i-preserved-then-not-is_new : goal.loop-i-preserved-then-not-is_new
 loop-i-preserved-then-not-is_new c =
@@ -49,7 +49,7 @@ loop-i-preserved-then-not-is_new c =
 
 pub loaded-head-requires : goal.loaded-head-requires
 loaded-head-requires c =
-    let step : Step c.args.n c.args.k c.args.w.now c.args.total c.choices.next c.choices.found c.choose_both-many.result
+    let step : Step c.args.n.count c.args.k c.args.w.now c.args.total c.choices.next c.choices.found c.choose_both-many.result
     c.choose_both-many.new.w = record {
       pre = c.requires;
       w = c.choices.w;
@@ -57,12 +57,12 @@ loaded-head-requires c =
       some = c.choices-test.true;
       chosen = c.choose_both-many.ensures;
     } in
-    let choice : Choice c.args.n c.args.k c.choose_both-many.new.w c.choose_both-many.result = step_choice step in
-    through_place c.loop-i.invariant c.loop-i-test.true choice c.listed-word.ensures c.place_of-g.ensures
+    let choice : Choice c.args.n.count c.args.k c.choose_both-many.new.w c.choose_both-many.result = step_choice step in
+    (through_place c.loop-i.invariant c.loop-i-test.true choice c.listed-word.ensures c.place_of-g.ensures).0
 
 pub unite-requires-clause-x_lt_n : goal.unite-requires-clause-x_lt_n
 unite-requires-clause-x_lt_n c =
-    let step : Step c.args.n c.args.k c.args.w.now c.args.total c.choices.next c.choices.found c.choose_both-many.result
+    let step : Step c.args.n.count c.args.k c.args.w.now c.args.total c.choices.next c.choices.found c.choose_both-many.result
     c.choose_both-many.new.w = record {
       pre = c.requires;
       w = c.choices.w;
@@ -70,8 +70,8 @@ unite-requires-clause-x_lt_n c =
       some = c.choices-test.true;
       chosen = c.choose_both-many.ensures;
     } in
-    let choice : Choice c.args.n c.args.k c.choose_both-many.new.w c.choose_both-many.result = step_choice step in
-    let coming : Coming c.args.n c.args.k c.choose_both-many.new.w c.choose_both-many.result c.loop-i.i c.loop-i.log c.loop-i.w
+    let choice : Choice c.args.n.count c.args.k c.choose_both-many.new.w c.choose_both-many.result = step_choice step in
+    let coming : Coming c.args.n.count c.args.k c.choose_both-many.new.w c.choose_both-many.result c.loop-i.i c.loop-i.log c.loop-i.w
     c.place_of-g.result c.number_of-first.result c.nodes_of-count.result = record {
       through = c.loop-i.invariant;
       some = c.loop-i-test.true;
@@ -88,7 +88,7 @@ unite-requires-clause-x_lt_n c =
 
 pub unite-requires-clause-uniting : goal.unite-requires-clause-uniting
 unite-requires-clause-uniting c =
-    let step : Step c.args.n c.args.k c.args.w.now c.args.total c.choices.next c.choices.found c.choose_both-many.result
+    let step : Step c.args.n.count c.args.k c.args.w.now c.args.total c.choices.next c.choices.found c.choose_both-many.result
     c.choose_both-many.new.w = record {
       pre = c.requires;
       w = c.choices.w;
@@ -96,8 +96,8 @@ unite-requires-clause-uniting c =
       some = c.choices-test.true;
       chosen = c.choose_both-many.ensures;
     } in
-    let choice : Choice c.args.n c.args.k c.choose_both-many.new.w c.choose_both-many.result = step_choice step in
-    let coming : Coming c.args.n c.args.k c.choose_both-many.new.w c.choose_both-many.result c.loop-i.i c.loop-i.log c.loop-i.w
+    let choice : Choice c.args.n.count c.args.k c.choose_both-many.new.w c.choose_both-many.result = step_choice step in
+    let coming : Coming c.args.n.count c.args.k c.choose_both-many.new.w c.choose_both-many.result c.loop-i.i c.loop-i.log c.loop-i.w
     c.place_of-g.result c.number_of-first.result c.nodes_of-count.result = record {
       through = c.loop-i.invariant;
       some = c.loop-i-test.true;
@@ -114,7 +114,7 @@ unite-requires-clause-uniting c =
 
 pub choices-preserved-in-Err : goal.choices-preserved-in-Err
 choices-preserved-in-Err c =
-    let step : Step c.args.n c.args.k c.args.w.now c.args.total c.choices.next c.choices.found c.choose_both-many.result
+    let step : Step c.args.n.count c.args.k c.args.w.now c.args.total c.choices.next c.choices.found c.choose_both-many.result
     c.choose_both-many.new.w = record {
       pre = c.requires;
       w = c.choices.w;
@@ -122,7 +122,7 @@ choices-preserved-in-Err c =
       some = c.choices-test.true;
       chosen = c.choose_both-many.ensures;
     } in
-    let coming : Coming c.args.n c.args.k c.choose_both-many.new.w c.choose_both-many.result c.loop-i.i c.loop-i.log c.loop-i.w
+    let coming : Coming c.args.n.count c.args.k c.choose_both-many.new.w c.choose_both-many.result c.loop-i.i c.loop-i.log c.loop-i.w
     c.place_of-g.result c.number_of-first.result c.nodes_of-count.result = record {
       through = c.loop-i.invariant;
       some = c.loop-i-test.true;
@@ -139,7 +139,7 @@ choices-preserved-in-Err c =
 
 pub overflow_add-at : goal.overflow_add-at
 overflow_add-at c =
-    let step : Step c.args.n c.args.k c.args.w.now c.args.total c.choices.next c.choices.found c.choose_both-many.result
+    let step : Step c.args.n.count c.args.k c.args.w.now c.args.total c.choices.next c.choices.found c.choose_both-many.result
     c.choose_both-many.new.w = record {
       pre = c.requires;
       w = c.choices.w;
@@ -147,8 +147,8 @@ overflow_add-at c =
       some = c.choices-test.true;
       chosen = c.choose_both-many.ensures;
     } in
-    let choice : Choice c.args.n c.args.k c.choose_both-many.new.w c.choose_both-many.result = step_choice step in
-    let coming : Coming c.args.n c.args.k c.choose_both-many.new.w c.choose_both-many.result c.loop-i.i c.loop-i.log c.loop-i.w
+    let choice : Choice c.args.n.count c.args.k c.choose_both-many.new.w c.choose_both-many.result = step_choice step in
+    let coming : Coming c.args.n.count c.args.k c.choose_both-many.new.w c.choose_both-many.result c.loop-i.i c.loop-i.log c.loop-i.w
     c.place_of-g.result c.number_of-first.result c.nodes_of-count.result = record {
       through = c.loop-i.invariant;
       some = c.loop-i-test.true;
@@ -168,9 +168,9 @@ pub loop-node-init : goal.loop-node-init
 loop-node-init c =
     rw add-sub_cancel_left (onward_none _ _ _ _ _ _)
 
-pub one_node-requires-clause-noding : goal.one_node-requires-clause-noding
-one_node-requires-clause-noding c =
-    let step : Step c.args.n c.args.k c.args.w.now c.args.total c.choices.next c.choices.found c.choose_both-many.result
+pub one_node-requires : goal.one_node-requires
+one_node-requires c =
+    let step : Step c.args.n.count c.args.k c.args.w.now c.args.total c.choices.next c.choices.found c.choose_both-many.result
     c.choose_both-many.new.w = record {
       pre = c.requires;
       w = c.choices.w;
@@ -178,8 +178,8 @@ one_node-requires-clause-noding c =
       some = c.choices-test.true;
       chosen = c.choose_both-many.ensures;
     } in
-    let choice : Choice c.args.n c.args.k c.choose_both-many.new.w c.choose_both-many.result = step_choice step in
-    let coming : Coming c.args.n c.args.k c.choose_both-many.new.w c.choose_both-many.result c.loop-i.i c.loop-i.log c.loop-i.w
+    let choice : Choice c.args.n.count c.args.k c.choose_both-many.new.w c.choose_both-many.result = step_choice step in
+    let coming : Coming c.args.n.count c.args.k c.choose_both-many.new.w c.choose_both-many.result c.loop-i.i c.loop-i.log c.loop-i.w
     c.place_of-g.result c.number_of-first.result c.nodes_of-count.result = record {
       through = c.loop-i.invariant;
       some = c.loop-i-test.true;
@@ -192,15 +192,15 @@ one_node-requires-clause-noding c =
       first = c.number_of-first.ensures;
       nodes = c.nodes_of-count.ensures;
     } in
-    let nodes : Nodes c.args.n c.args.k c.choose_both-many.new.w c.choose_both-many.result c.loop-i.i c.loop-node.node c.loop-node.at
+    let nodes : Nodes c.args.n.count c.args.k c.choose_both-many.new.w c.choose_both-many.result c.loop-i.i c.loop-node.node c.loop-node.at
     (c.number_of-first.result + c.nodes_of-count.result - c.loop-node.node) c.loop-node.log c.loop-node.w =
     nodes_come coming c.in-Ok.ensures refl c.loop-node.invariant in
     let more : 0 < c.number_of-first.result + c.nodes_of-count.result - c.loop-node.node = omega arith in
-    (node_asks nodes choice more).1
+    record { noding = (node_asks nodes choice more).1 }
 
 pub undo-requires-in-Err-one_node-clause-m_le_n : goal.undo-requires-in-Err-one_node-clause-m_le_n
 undo-requires-in-Err-one_node-clause-m_le_n c =
-    let step : Step c.args.n c.args.k c.args.w.now c.args.total c.choices.next c.choices.found c.choose_both-many.result
+    let step : Step c.args.n.count c.args.k c.args.w.now c.args.total c.choices.next c.choices.found c.choose_both-many.result
     c.choose_both-many.new.w = record {
       pre = c.requires;
       w = c.choices.w;
@@ -208,8 +208,8 @@ undo-requires-in-Err-one_node-clause-m_le_n c =
       some = c.choices-test.true;
       chosen = c.choose_both-many.ensures;
     } in
-    let choice : Choice c.args.n c.args.k c.choose_both-many.new.w c.choose_both-many.result = step_choice step in
-    let coming : Coming c.args.n c.args.k c.choose_both-many.new.w c.choose_both-many.result c.loop-i.i c.loop-i.log c.loop-i.w
+    let choice : Choice c.args.n.count c.args.k c.choose_both-many.new.w c.choose_both-many.result = step_choice step in
+    let coming : Coming c.args.n.count c.args.k c.choose_both-many.new.w c.choose_both-many.result c.loop-i.i c.loop-i.log c.loop-i.w
     c.place_of-g.result c.number_of-first.result c.nodes_of-count.result = record {
       through = c.loop-i.invariant;
       some = c.loop-i-test.true;
@@ -222,7 +222,7 @@ undo-requires-in-Err-one_node-clause-m_le_n c =
       first = c.number_of-first.ensures;
       nodes = c.nodes_of-count.ensures;
     } in
-    let nodes : Nodes c.args.n c.args.k c.choose_both-many.new.w c.choose_both-many.result c.loop-i.i c.loop-node.node c.loop-node.at
+    let nodes : Nodes c.args.n.count c.args.k c.choose_both-many.new.w c.choose_both-many.result c.loop-i.i c.loop-node.node c.loop-node.at
     (c.number_of-first.result + c.nodes_of-count.result - c.loop-node.node) c.loop-node.log c.loop-node.w =
     nodes_come coming c.in-Ok.ensures refl c.loop-node.invariant in
     let more : 0 < c.number_of-first.result + c.nodes_of-count.result - c.loop-node.node = omega arith in
@@ -231,7 +231,7 @@ undo-requires-in-Err-one_node-clause-m_le_n c =
 
 pub choices-preserved-in-Err-one_node : goal.choices-preserved-in-Err-one_node
 choices-preserved-in-Err-one_node c =
-    let step : Step c.args.n c.args.k c.args.w.now c.args.total c.choices.next c.choices.found c.choose_both-many.result
+    let step : Step c.args.n.count c.args.k c.args.w.now c.args.total c.choices.next c.choices.found c.choose_both-many.result
     c.choose_both-many.new.w = record {
       pre = c.requires;
       w = c.choices.w;
@@ -239,8 +239,8 @@ choices-preserved-in-Err-one_node c =
       some = c.choices-test.true;
       chosen = c.choose_both-many.ensures;
     } in
-    let choice : Choice c.args.n c.args.k c.choose_both-many.new.w c.choose_both-many.result = step_choice step in
-    let coming : Coming c.args.n c.args.k c.choose_both-many.new.w c.choose_both-many.result c.loop-i.i c.loop-i.log c.loop-i.w
+    let choice : Choice c.args.n.count c.args.k c.choose_both-many.new.w c.choose_both-many.result = step_choice step in
+    let coming : Coming c.args.n.count c.args.k c.choose_both-many.new.w c.choose_both-many.result c.loop-i.i c.loop-i.log c.loop-i.w
     c.place_of-g.result c.number_of-first.result c.nodes_of-count.result = record {
       through = c.loop-i.invariant;
       some = c.loop-i-test.true;
@@ -253,7 +253,7 @@ choices-preserved-in-Err-one_node c =
       first = c.number_of-first.ensures;
       nodes = c.nodes_of-count.ensures;
     } in
-    let nodes : Nodes c.args.n c.args.k c.choose_both-many.new.w c.choose_both-many.result c.loop-i.i c.loop-node.node c.loop-node.at
+    let nodes : Nodes c.args.n.count c.args.k c.choose_both-many.new.w c.choose_both-many.result c.loop-i.i c.loop-node.node c.loop-node.at
     (c.number_of-first.result + c.nodes_of-count.result - c.loop-node.node) c.loop-node.log c.loop-node.w =
     nodes_come coming c.in-Ok.ensures refl c.loop-node.invariant in
     let more : 0 < c.number_of-first.result + c.nodes_of-count.result - c.loop-node.node = omega arith in
@@ -262,7 +262,7 @@ choices-preserved-in-Err-one_node c =
 
 pub loaded-requires : goal.loaded-requires
 loaded-requires c =
-    let step : Step c.args.n c.args.k c.args.w.now c.args.total c.choices.next c.choices.found c.choose_both-many.result
+    let step : Step c.args.n.count c.args.k c.args.w.now c.args.total c.choices.next c.choices.found c.choose_both-many.result
     c.choose_both-many.new.w = record {
       pre = c.requires;
       w = c.choices.w;
@@ -270,8 +270,8 @@ loaded-requires c =
       some = c.choices-test.true;
       chosen = c.choose_both-many.ensures;
     } in
-    let choice : Choice c.args.n c.args.k c.choose_both-many.new.w c.choose_both-many.result = step_choice step in
-    let coming : Coming c.args.n c.args.k c.choose_both-many.new.w c.choose_both-many.result c.loop-i.i c.loop-i.log c.loop-i.w
+    let choice : Choice c.args.n.count c.args.k c.choose_both-many.new.w c.choose_both-many.result = step_choice step in
+    let coming : Coming c.args.n.count c.args.k c.choose_both-many.new.w c.choose_both-many.result c.loop-i.i c.loop-i.log c.loop-i.w
     c.place_of-g.result c.number_of-first.result c.nodes_of-count.result = record {
       through = c.loop-i.invariant;
       some = c.loop-i-test.true;
@@ -284,16 +284,16 @@ loaded-requires c =
       first = c.number_of-first.ensures;
       nodes = c.nodes_of-count.ensures;
     } in
-    let nodes : Nodes c.args.n c.args.k c.choose_both-many.new.w c.choose_both-many.result c.loop-i.i c.loop-node.node c.loop-node.at
+    let nodes : Nodes c.args.n.count c.args.k c.choose_both-many.new.w c.choose_both-many.result c.loop-i.i c.loop-node.node c.loop-node.at
     (c.number_of-first.result + c.nodes_of-count.result - c.loop-node.node) c.loop-node.log c.loop-node.w =
     nodes_come coming c.in-Ok.ensures refl c.loop-node.invariant in
     let more : 0 < c.number_of-first.result + c.nodes_of-count.result - c.loop-node.node = omega arith in
     let l = node_here nodes more c.in-Ok-one_node.ensures choice in
-    (l.0, l.1.1.1)
+    l.0
 
 pub overflow_add-at-in-loop-node : goal.overflow_add-at-in-loop-node
 overflow_add-at-in-loop-node c =
-    let step : Step c.args.n c.args.k c.args.w.now c.args.total c.choices.next c.choices.found c.choose_both-many.result
+    let step : Step c.args.n.count c.args.k c.args.w.now c.args.total c.choices.next c.choices.found c.choose_both-many.result
     c.choose_both-many.new.w = record {
       pre = c.requires;
       w = c.choices.w;
@@ -301,8 +301,8 @@ overflow_add-at-in-loop-node c =
       some = c.choices-test.true;
       chosen = c.choose_both-many.ensures;
     } in
-    let choice : Choice c.args.n c.args.k c.choose_both-many.new.w c.choose_both-many.result = step_choice step in
-    let coming : Coming c.args.n c.args.k c.choose_both-many.new.w c.choose_both-many.result c.loop-i.i c.loop-i.log c.loop-i.w
+    let choice : Choice c.args.n.count c.args.k c.choose_both-many.new.w c.choose_both-many.result = step_choice step in
+    let coming : Coming c.args.n.count c.args.k c.choose_both-many.new.w c.choose_both-many.result c.loop-i.i c.loop-i.log c.loop-i.w
     c.place_of-g.result c.number_of-first.result c.nodes_of-count.result = record {
       through = c.loop-i.invariant;
       some = c.loop-i-test.true;
@@ -315,7 +315,7 @@ overflow_add-at-in-loop-node c =
       first = c.number_of-first.ensures;
       nodes = c.nodes_of-count.ensures;
     } in
-    let nodes : Nodes c.args.n c.args.k c.choose_both-many.new.w c.choose_both-many.result c.loop-i.i c.loop-node.node c.loop-node.at
+    let nodes : Nodes c.args.n.count c.args.k c.choose_both-many.new.w c.choose_both-many.result c.loop-i.i c.loop-node.node c.loop-node.at
     (c.number_of-first.result + c.nodes_of-count.result - c.loop-node.node) c.loop-node.log c.loop-node.w =
     nodes_come coming c.in-Ok.ensures refl c.loop-node.invariant in
     let more : 0 < c.number_of-first.result + c.nodes_of-count.result - c.loop-node.node = omega arith in
@@ -329,7 +329,7 @@ loop-node-preserved c =
 
 pub loop-i-preserved : goal.loop-i-preserved
 loop-i-preserved c =
-    let step : Step c.args.n c.args.k c.args.w.now c.args.total c.choices.next c.choices.found c.choose_both-many.result
+    let step : Step c.args.n.count c.args.k c.args.w.now c.args.total c.choices.next c.choices.found c.choose_both-many.result
     c.choose_both-many.new.w = record {
       pre = c.requires;
       w = c.choices.w;
@@ -337,8 +337,8 @@ loop-i-preserved c =
       some = c.choices-test.true;
       chosen = c.choose_both-many.ensures;
     } in
-    let choice : Choice c.args.n c.args.k c.choose_both-many.new.w c.choose_both-many.result = step_choice step in
-    let coming : Coming c.args.n c.args.k c.choose_both-many.new.w c.choose_both-many.result c.loop-i.i c.loop-i.log c.loop-i.w
+    let choice : Choice c.args.n.count c.args.k c.choose_both-many.new.w c.choose_both-many.result = step_choice step in
+    let coming : Coming c.args.n.count c.args.k c.choose_both-many.new.w c.choose_both-many.result c.loop-i.i c.loop-i.log c.loop-i.w
     c.place_of-g.result c.number_of-first.result c.nodes_of-count.result = record {
       through = c.loop-i.invariant;
       some = c.loop-i-test.true;
@@ -351,14 +351,14 @@ loop-i-preserved c =
       first = c.number_of-first.ensures;
       nodes = c.nodes_of-count.ensures;
     } in
-    let nodes : Nodes c.args.n c.args.k c.choose_both-many.new.w c.choose_both-many.result c.loop-i.i c.loop-node.node c.loop-node.at
+    let nodes : Nodes c.args.n.count c.args.k c.choose_both-many.new.w c.choose_both-many.result c.loop-i.i c.loop-node.node c.loop-node.at
     (c.number_of-first.result + c.nodes_of-count.result - c.loop-node.node) c.loop-node.log c.loop-node.w =
     nodes_come coming c.in-Ok.ensures refl c.loop-node.invariant in
     through_next nodes choice (omega arith)
 
 pub light_taken-requires : goal.light_taken-requires
 light_taken-requires c =
-    let step : Step c.args.n c.args.k c.args.w.now c.args.total c.choices.next c.choices.found c.choose_both-many.result
+    let step : Step c.args.n.count c.args.k c.args.w.now c.args.total c.choices.next c.choices.found c.choose_both-many.result
     c.choose_both-many.new.w = record {
       pre = c.requires;
       w = c.choices.w;
@@ -370,7 +370,7 @@ light_taken-requires c =
 
 pub choices-preserved : goal.choices-preserved
 choices-preserved c =
-    let step : Step c.args.n c.args.k c.args.w.now c.args.total c.choices.next c.choices.found c.choose_both-many.result
+    let step : Step c.args.n.count c.args.k c.args.w.now c.args.total c.choices.next c.choices.found c.choose_both-many.result
     c.choose_both-many.new.w = record {
       pre = c.requires;
       w = c.choices.w;

@@ -8,25 +8,22 @@ loop-i-init c = litup_none _ _
 
 pub listed-requires : goal.listed-requires
 listed-requires c =
-    (omega (arith, c.requires.few), omega (arith, c.requires.room, c.loop-i.invariant.len))
+    omega (arith, c.requires.few)
 
 pub mark_at-x-requires : goal.mark_at-x-requires
 mark_at-x-requires c = let old : _ × _ = litup_asks c.loop-i.invariant
     c.requires c.loop-i-test.true
-    c.listed.ensures c.place_of-g.ensures in record { p_bound = old.0; p_bound_2 = old.1 }
+    c.listed.ensures c.place_of-g.ensures in record { p_bound = old.0.0; p_bound_2 = old.1 }
 
 pub light-requires : goal.light-requires
 light-requires c =
-    (c.mark_at-x.ensures.1, omega (arith, c.requires.room, c.loop-i.invariant.len))
+    c.mark_at-x.ensures.1
 
 pub loop-i-preserved : goal.loop-i-preserved
 loop-i-preserved c =
     litup_more c.loop-i.invariant c.loop-i-test.true c.listed.ensures
     c.place_of-g.ensures c.mark_at-x.ensures
     c.light.ensures
-
-pub shape_of-w : goal.shape_of-w
-shape_of-w c = c.loop-i.invariant.len
 
 pub returns : goal.returns
 returns c = litup_done c.loop-i.invariant (omega arith)

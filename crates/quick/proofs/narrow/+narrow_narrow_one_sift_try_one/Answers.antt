@@ -21,10 +21,10 @@ use Rattle.quick.proofs.narrow.+narrow_narrow_one_sift_try_one.Goals as goal
 use Rattle.quick.proofs.narrow.+narrow_narrow_one_sift_try_one.Goals.{sift-then-kept+in-Some, sift-then-kept+in_default, sift-else-kept}
 
 pub narrow-tail_at-e-requires : goal.narrow-tail_at-e-requires
-narrow-tail_at-e-requires t c = ((narrow_starts _ _ _ _ _ c.requires).0, c.requires.s.holds.long)
+narrow-tail_at-e-requires t c = (narrow_starts _ _ _ _ _ c.requires).0
 
 pub narrow-disjunctions_at-more-requires : goal.narrow-disjunctions_at-more-requires
-narrow-disjunctions_at-more-requires t c = (let h = (narrow_starts _ _ _ _ _ c.requires).1 in omega arith, c.requires.s.holds.long)
+narrow-disjunctions_at-more-requires t c = let h = (narrow_starts _ _ _ _ _ c.requires).1 in omega arith
 
 pub narrow-returns-then-more-eq0 : goal.narrow-returns-then-more-eq0
 narrow-returns-then-more-eq0 t c = narrows_stands _ _ _ _ _ _ _ _ (moved_start _ _ _ _ _ c.requires) (fewer_none _)
@@ -54,7 +54,7 @@ narrow-loop-init t c = (
 )
 
 pub narrow-alternatives_at-count-requires : goal.narrow-alternatives_at-count-requires
-narrow-alternatives_at-count-requires t c = (narrow_here _ _ _ _ _ c.requires _ _ _ _ c.loop.invariant.0 (c.loop.invariant.2 c.requires) (omega arith), omega (arith, c.loop.invariant.0.len, c.requires.s.holds.long))
+narrow-alternatives_at-count-requires t c = narrow_here _ _ _ _ _ c.requires _ _ _ _ c.loop.invariant.0 (c.loop.invariant.2 c.requires) (omega arith)
 
 pub narrow-overflow_add-at-in-loop : goal.narrow-overflow_add-at-in-loop
 narrow-overflow_add-at-in-loop t c = let h = narrow_here _ _ _ _ _ c.requires _ _ _ _ c.loop.invariant.0 (c.loop.invariant.2 c.requires) (omega arith) in omega arith
@@ -93,12 +93,6 @@ narrow-back-requires t c = record {
       since_trans _ _ _ _ _ _ c.loop.invariant.0.since
       (c.narrow_one.ensures.failing c.in_default.is).0.since;
 }
-
-pub narrow-shape_of-w-in_default : goal.narrow-shape_of-w-in_default
-narrow-shape_of-w-in_default t c = (moved_back _ _ _ _ _ c.requires _ _ _ _ c.loop.invariant.0 (c.loop.invariant.2 c.requires) (omega arith) _
-    c.alternatives_at-count.ensures _
-    _ c.narrow_one.ensures
-    c.in_default.is _ c.back.ensures).len
 
 pub narrow-returns-in_default : goal.narrow-returns-in_default
 narrow-returns-in_default t c = narrows_fails _ _ _ _ _ _
@@ -146,9 +140,6 @@ narrow-loop-preserved t c = (
   c.renew.ensures.1,
 )
 
-pub narrow-shape_of-w : goal.narrow-shape_of-w
-narrow-shape_of-w t c = c.loop.invariant.0.len
-
 pub narrow-returns : goal.narrow-returns
 narrow-returns t c = narrows_stands _ _ _ _ _ _ _ _ c.loop.invariant.0 c.loop.invariant.1 (λ d. narrow_done _ _ _ _ _ d _ _ _ _ c.loop.invariant.0 (c.loop.invariant.2 d) (omega arith))
 
@@ -162,9 +153,6 @@ narrow_one-narrow-requires t c = (
   asks_alone _ _ _ _ _ _ _ _ c.requires.by_index.1 _ c.in-One.is
       c.requires.choosing,
 )
-
-pub narrow_one-shape_of-w-in-One : goal.narrow_one-shape_of-w-in-One
-narrow_one-shape_of-w-in-One t c = narrows_len _ _ _ _ _ _ _ c.narrow.ensures
 
 pub narrow_one-returns-in-One : goal.narrow_one-returns-in-One
 narrow_one-returns-in-One t c = chooses_one _ _ _ _ _ _ _ _
@@ -180,9 +168,6 @@ narrow_one-sift-drops-requires t c = (
     c.requires.sieved,
   ),
 )
-
-pub narrow_one-shape_of-w-then-drops-eq0 : goal.narrow_one-shape_of-w-then-drops-eq0
-narrow_one-shape_of-w-then-drops-eq0 t c = c.sift-drops.ensures.moved.len
 
 pub narrow_one-returns-then-drops-eq0 : goal.narrow_one-returns-then-drops-eq0
 narrow_one-returns-then-drops-eq0 t c = chooses_still _ _ _ _ _ _ _ _
@@ -205,10 +190,6 @@ narrow_one-returns-in_err-log t c = rw c.from_residual.ensures (chooses_fails _ 
     _ c.sift-drops.ensures _ _
     c.settle.ensures c.in_err-log.was)
 
-pub narrow_one-shape_of-w : goal.narrow_one-shape_of-w
-narrow_one-shape_of-w t c = c.settle.ensures.len
-    ∙ c.sift-drops.ensures.moved.len
-
 pub narrow_one-returns : goal.narrow_one-returns
 narrow_one-returns t c = chooses_stands _ _ _ _ _ _ _ _
     c.requires.by_index.1 _ c.in-Several.is
@@ -219,10 +200,10 @@ pub sift-loop-init : goal.sift-loop-init
 sift-loop-init t c = (moved_none _ _ _ _ _ _ c.requires.alternating, fewer_none _, λ d. rw sub-zero (sift_start _ _ _ _ _ _ d))
 
 pub sift-mark_at-x-requires : goal.sift-mark_at-x-requires
-sift-mark_at-x-requires t c = let old : _ × _ = sift_here _ _ _ _ _ _ c.requires.alternating _ _ _ c.loop.invariant.0 (c.loop.invariant.2 c.requires.alternating) (omega arith) in record { p_bound = old.0; p_bound_2 = old.1 }
+sift-mark_at-x-requires t c = let old : _ × _ = sift_here _ _ _ _ _ _ c.requires.alternating _ _ _ c.loop.invariant.0 (c.loop.invariant.2 c.requires.alternating) (omega arith) in record { p_bound = old.0.0; p_bound_2 = old.1 }
 
 pub sift-kept-requires : goal.sift-kept-requires
-sift-kept-requires t c = (c.mark_at-x.ensures.1, omega (arith, c.loop.invariant.0.len, c.requires.alternating.s.holds.long))
+sift-kept-requires t c = c.mark_at-x.ensures.1
 
 pub sift-try_one-requires : goal.sift-try_one-requires
 sift-try_one-requires t c = (
@@ -240,17 +221,14 @@ sift-overflow_add-drops t c = let a = fewer_small _ _ _ c.loop.invariant.1 in
     omega arith
 
 pub sift-drop-requires : goal.sift-drop-requires
-sift-drop-requires t c = (
-  c.mark_at-x.ensures.1,
-  omega (arith, c.try_one.ensures.moved.len, c.loop.invariant.0.len, c.requires.alternating.s.holds.long),
-)
+sift-drop-requires t c = c.mark_at-x.ensures.1
 
 pub sift-overflow_add-drops-in_default : goal.sift-overflow_add-drops-in_default
 sift-overflow_add-drops-in_default t c = let a = fewer_small _ _ _ c.loop.invariant.1 in omega arith
 
 pub sift-after_at-at-requires : goal.sift-after_at-at-requires
 sift-after_at-at-requires t c =
-    let turned : Turn c.args.n
+    let turned : Turn c.args.n.count
     c.args.k
     c.loop.w c.loop.at
     c.mark_at-x.result c.args.left
@@ -259,11 +237,11 @@ sift-after_at-at-requires t c =
       | sift-then-kept+in_default u ↦ failed _ _ _ (cc) u.try_one.ensures u.in_default.is u.drop.ensures u.w-is u.drops-is
       | sift-else-kept u ↦ skipped (cc) u.w-is u.drops-is
     ] in let old : _ × _ = turn_inside _ _ _ _ _ _ c.requires.alternating _ _ _ c.loop.invariant.0 (c.loop.invariant.2 c.requires.alternating) (omega arith) _ c.mark_at-x.ensures _ _ _
-    (turned) in record { p_bound = old.0; p_bound_2 = old.1 }
+    (turned) in record { p_bound = old.0.0; p_bound_2 = old.1 }
 
 pub sift-loop-preserved : goal.sift-loop-preserved
 sift-loop-preserved t c =
-    let turned : Turn c.args.n
+    let turned : Turn c.args.n.count
     c.args.k
     c.loop.w c.loop.at
     c.mark_at-x.result c.args.left
@@ -280,29 +258,20 @@ sift-loop-preserved t c =
           (turned) _ c.after_at-at.ensures),
     )
 
-pub sift-shape_of-w : goal.sift-shape_of-w
-sift-shape_of-w t c = c.loop.invariant.0.len
-
 pub sift-returns : goal.sift-returns
 sift-returns t c = record { moved = c.loop.invariant.0; fewer = c.loop.invariant.1; sifted = λ d. sift_done _ _ _ _ _ _ d _ _ _ (c.loop.invariant.2 d) (omega arith) }
 
 pub try_one-tail_at-e-requires : goal.try_one-tail_at-e-requires
-try_one-tail_at-e-requires t c = ((tried_starts _ _ _ _ _ c.requires.entering).0, c.requires.entering.s.holds.long)
+try_one-tail_at-e-requires t c = (tried_starts _ _ _ _ _ c.requires.entering).0
 
 pub try_one-disjunctions_at-more-requires : goal.try_one-disjunctions_at-more-requires
-try_one-disjunctions_at-more-requires t c = (let h = (tried_starts _ _ _ _ _ c.requires.entering).1 in omega arith, c.requires.entering.s.holds.long)
+try_one-disjunctions_at-more-requires t c = let h = (tried_starts _ _ _ _ _ c.requires.entering).1 in omega arith
 
 pub try_one-try_bare-requires : goal.try_one-try_bare-requires
 try_one-try_bare-requires t c = record {
   pushing = asks_own _ _ _ _ _ c.requires.entering;
   sieved = c.requires.sieved;
 }
-
-pub try_one-shape_of-w-then-more-eq0 : goal.try_one-shape_of-w-then-more-eq0
-try_one-shape_of-w-then-more-eq0 t c = (c.try_bare.ensures.tries _
-    c.requires.entering
-    (ap (disjunctions_at _) (sym c.tail_at-e.ensures)
-    ∙ sym c.disjunctions_at-more.ensures ∙ c.if-more-eq0.true)).moved.len
 
 pub try_one-returns-then-more-eq0 : goal.try_one-returns-then-more-eq0
 try_one-returns-then-more-eq0 t c = c.try_bare.ensures.tries _
@@ -336,13 +305,6 @@ try_one-back-requires t c =
     c.narrow.ensures _
     (c.narrow.ensures.failing c.in_default.is).0
 
-pub try_one-shape_of-w-in_default : goal.try_one-shape_of-w-in_default
-try_one-shape_of-w-in_default t c = (tries_fails _ _ _ _ _ _ _
-    c.enter.ensures c.requires.entering _
-    c.in_ok-log.was _ _
-    c.narrow.ensures
-    c.in_default.is _ c.back.ensures).moved.len
-
 pub try_one-returns-in_default : goal.try_one-returns-in_default
 try_one-returns-in_default t c = tries_fails _ _ _ _ _ _ _
     c.enter.ensures c.requires.entering _
@@ -356,13 +318,6 @@ try_one-back-requires-2 t c =
     c.in_ok-log.was _ _
     c.narrow.ensures _
     (c.narrow.ensures.standing _ _ c.in-Some.is).0
-
-pub try_one-shape_of-w : goal.try_one-shape_of-w
-try_one-shape_of-w t c = (tries_stands _ _ _ _ _ _ _
-    c.enter.ensures c.requires.entering _
-    c.in_ok-log.was _ _
-    c.narrow.ensures _ _
-    c.in-Some.is _ c.back-2.ensures).moved.len
 
 pub try_one-returns : goal.try_one-returns
 try_one-returns t c = tries_stands _ _ _ _ _ _ _

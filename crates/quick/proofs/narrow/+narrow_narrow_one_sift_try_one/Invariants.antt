@@ -25,10 +25,10 @@ decreases-try_one l = 4 * l.left + 1
 
 abbrev pub invariant-narrow-loop : goal.invariant-narrow-loop
 invariant-narrow-loop l =
-    Moved l.k l.initial.w l.log l.w × Fewer l.drops (marking l.initial.w) (marking l.w) × ((c : Narrowing l.n l.k l.initial.w l.g l.left) → Going l.n l.k l.initial.w l.g l.left c (l.more - l.counter) l.at l.log l.w)
-    × (length l.t ≡ 256) × Sieved l.n l.w l.t
+    Moved l.k l.initial.w l.log l.w × Fewer l.drops (marking l.initial.w) (marking l.w) × ((c : Narrowing l.n.count l.k l.initial.w l.g l.left) → Going l.n.count l.k l.initial.w l.g l.left c (l.more - l.counter) l.at l.log l.w)
+    × (length l.t ≡ 256) × Sieved l.n.count l.w l.t
 
 abbrev pub invariant-sift-loop : goal.invariant-sift-loop
 invariant-sift-loop l =
     Moved l.k l.initial.w l.k l.w × Fewer l.drops (marking l.initial.w) (marking l.w)
-    × ((c : Alternating l.n l.k l.initial.w l.p l.count l.left) → Sifting l.n l.k l.initial.w l.p l.count l.left c (l.count - l.counter) l.at l.w)
+    × ((c : Alternating l.n.count l.k l.initial.w l.p l.count l.left) → Sifting l.n.count l.k l.initial.w l.p l.count l.left c (l.count - l.counter) l.at l.w)

@@ -15,12 +15,6 @@ pub back-requires : goal.back-requires
 back-requires c = rounds_undo _ _ _ _ _ _ c.loop-again.invariant _ _
     c.pass.ensures c.in_default.is
 
-pub shape_of-w-in_default : goal.shape_of-w-in_default
-shape_of-w-in_default c = c.back.ensures.len
-    ∙ (c.pass.ensures.failing
-    c.in_default.is).0.len
-    ∙ c.loop-again.invariant.moved.len
-
 pub returns-in_default : goal.returns-in_default
 returns-in_default c = quick_fails _ _ _ _ _ _ c.loop-again.invariant _
     _ c.pass.ensures
@@ -34,9 +28,6 @@ loop-again-smaller c = rounds_less _ _ _ _ _ _ c.loop-again.invariant _ _
 pub loop-again-preserved : goal.loop-again-preserved
 loop-again-preserved c = rounds_on _ _ _ _ _ _ c.loop-again.invariant _ _
     c.pass.ensures _ _ c.in-Some.is
-
-pub shape_of-w : goal.shape_of-w
-shape_of-w c = c.loop-again.invariant.moved.len
 
 pub returns : goal.returns
 returns c = quick_stands _ _ _ _ _ _ c.loop-again.invariant c.loop-again-test.false

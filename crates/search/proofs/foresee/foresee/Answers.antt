@@ -19,13 +19,13 @@ pub returns-then-left-ne0 : goal.returns-then-left-ne0
 returns-then-left-ne0 c = foresees_unsure _ _ _ _ _
 
 pub tail_at-e-requires : goal.tail_at-e-requires
-tail_at-e-requires c = (foresee_here _ _ _ _ _ c.requires).0
+tail_at-e-requires c = (foresee_here _ _ _ _ _ c.requires).0.0
 
 pub disjunctions_at-more-requires : goal.disjunctions_at-more-requires
 disjunctions_at-more-requires c =
     let h = foresee_here _ _ _ _ _ c.requires in
     let l = h.1 in
-    (omega arith, h.0.1)
+    omega arith
 
 pub returns-then-more-ne0 : goal.returns-then-more-ne0
 returns-then-more-ne0 c = foresees_unsure _ _ _ _ _
@@ -34,6 +34,6 @@ pub returns : goal.returns
 returns c =
     let none = ap (disjunctions_at c.args.w.now) (sym c.tail_at-e.ensures) ∙ sym c.disjunctions_at-more.ensures
     ∙ c.if-more-ne0.false in
-    foresees_one c.args.n c.args.k c.args.w.now c.args.g c.args.left c.if-left-ne0.false none
-    (subst (Guesses c.args.n c.args.k c.args.w.now c.args.g) c.in-Agrees.is
+    foresees_one c.args.n.count c.args.k c.args.w.now c.args.g c.args.left c.if-left-ne0.false none
+    (subst (Guesses c.args.n.count c.args.k c.args.w.now c.args.g) c.in-Agrees.is
     c.guess-told.ensures)

@@ -18,14 +18,14 @@ pub choose-loop-init : goal.choose-loop-init
 choose-loop-init t c = (choose_moved _ _ _ _ _ _ c.requires, λ d. rw sub-zero (choose_start _ _ _ _ _ _ d))
 
 pub choose-mark_at-x-requires : goal.choose-mark_at-x-requires
-choose-mark_at-x-requires t c = let old : _ × _ = choose_here _ _ _ _ _ _ c.requires _ _ _ _ c.loop.invariant.0 (c.loop.invariant.1 c.requires) (omega arith) in record { p_bound = old.0; p_bound_2 = old.1 }
+choose-mark_at-x-requires t c = let old : _ × _ = choose_here _ _ _ _ _ _ c.requires _ _ _ _ c.loop.invariant.0 (c.loop.invariant.1 c.requires) (omega arith) in record { p_bound = old.0.0; p_bound_2 = old.1 }
 
 pub choose-after_at-next-requires : goal.choose-after_at-next-requires
-choose-after_at-next-requires t c = let old : _ × _ = choose_here _ _ _ _ _ _ c.requires _ _ _ _ c.loop.invariant.0 (c.loop.invariant.1 c.requires) (omega arith) in record { p_bound = old.0; p_bound_2 = old.1 }
+choose-after_at-next-requires t c = let old : _ × _ = choose_here _ _ _ _ _ _ c.requires _ _ _ _ c.loop.invariant.0 (c.loop.invariant.1 c.requires) (omega arith) in record { p_bound = old.0.0; p_bound_2 = old.1 }
 
 pub choose-kept-requires : goal.choose-kept-requires
 choose-kept-requires t c =
-    (c.mark_at-x.ensures.1, omega (arith, c.loop.invariant.0.len, c.requires.s.holds.long))
+    c.mark_at-x.ensures.1
 
 pub choose-take-found-requires : goal.choose-take-found-requires
 choose-take-found-requires t c =
@@ -43,7 +43,7 @@ choose-overflow_add-sum t c =
 
 pub choose-loop-preserved : goal.choose-loop-preserved
 choose-loop-preserved t c =
-    let turned : Turn c.args.n c.args.k c.loop.w c.loop.at
+    let turned : Turn c.args.n.count c.args.k c.loop.w c.loop.at
     c.mark_at-x.result c.args.a c.loop.sum c.if-kept.sum c.if-kept.w = elim c.if-kept.branch [
       | choose-then-kept u ↦ took _ _ (cc) u.take-found.ensures u.w-is (u.sum-is ∙ u.capped-sum.ensures)
       | choose-else-kept u ↦ skipped (cc) u.w-is u.sum-is
@@ -52,9 +52,6 @@ choose-loop-preserved t c =
       λ d. rw sub-add-eq (turn_on _ _ _ _ _ _ d _ _ _ _ c.loop.invariant.0 (c.loop.invariant.1 d) (omega arith) _ c.mark_at-x.ensures _ _ (turned) _ c.after_at-next.ensures),
     )
 
-pub choose-shape_of-w : goal.choose-shape_of-w
-choose-shape_of-w t c = c.loop.invariant.0.len
-
 pub choose-returns : goal.choose-returns
 choose-returns t c = record { moved = c.loop.invariant.0; found = λ d. choose_done _ _ _ _ _ _ d _ _ _ _ (c.loop.invariant.1 d) (omega arith) }
 
@@ -62,7 +59,7 @@ pub resume-returns-then-a-eq0 : goal.resume-returns-then-a-eq0
 resume-returns-then-a-eq0 t c = resumes_leaf _ _ _ _ c.requires (omega arith)
 
 pub resume-alternatives_at-count-requires : goal.resume-alternatives_at-count-requires
-resume-alternatives_at-count-requires t c = resume_here _ _ _ _ c.if-a-eq0.false c.requires
+resume-alternatives_at-count-requires t c = (resume_here _ _ _ _ c.if-a-eq0.false c.requires).0
 
 pub resume-overflow_add-at : goal.resume-overflow_add-at
 resume-overflow_add-at t c = let h =
@@ -100,7 +97,7 @@ resume-descend-inner-requires t c =
     c.alternatives_at-count.ensures _ _
     c.count_kept-tally.ensures _ c.after-later.ensures _
     c.before-rest.ensures _ c.in-One.is
-    c.requires in record { g_bound = old.0; g_bound_2 = old.1.0; fact = old.1.1 }
+    c.requires in record { g_bound = old.0.0; g_bound_2 = old.1.0; fact = old.1.1 }
 
 pub resume-resume-found-requires : goal.resume-resume-found-requires
 resume-resume-found-requires t c = (
@@ -127,10 +124,6 @@ resume-note-requires t c = one_notes _ _ _ _ c.if-a-eq0.false _
     c.in-One.is _
     c.descend-inner.ensures _ _ c.resume-found.ensures
     c.requires
-
-pub resume-shape_of-w-in-One : goal.resume-shape_of-w-in-One
-resume-shape_of-w-in-One t c = c.note.ensures.len
-    ∙ c.resume-found.ensures.moved.len
 
 pub resume-returns-in-One : goal.resume-returns-in-One
 resume-returns-in-One t c = resumes_one _ _ _ _ c.if-a-eq0.false _
@@ -177,9 +170,6 @@ resume-choose-requires t c = (
       c.requires,
 )
 
-pub resume-shape_of-w-in-Several : goal.resume-shape_of-w-in-Several
-resume-shape_of-w-in-Several t c = c.choose.ensures.moved.len
-
 pub resume-returns-in-Several : goal.resume-returns-in-Several
 resume-returns-in-Several t c = resumes_several _ _ _ _ c.if-a-eq0.false _ c.alternatives_at-count.ensures _ _
     c.count_kept-tally.ensures _
@@ -191,9 +181,6 @@ take-foresee-told-requires t c = record { a = c.args.a; many = refl; taking = c.
 
 pub take-note-requires : goal.take-note-requires
 take-note-requires t c = alone_notes _ _ _ _ _ c.requires
-
-pub take-shape_of-w-in-Agrees : goal.take-shape_of-w-in-Agrees
-take-shape_of-w-in-Agrees t c = c.note.ensures.len
 
 pub take-returns-in-Agrees : goal.take-returns-in-Agrees
 take-returns-in-Agrees t c = takes_one _ _ _ _ _ c.requires _
@@ -207,9 +194,6 @@ take-returns-in-Clashes t c = takes_none _ _ _ _ _ c.requires _ c.foresee-told.e
 pub take-enter-requires : goal.take-enter-requires
 take-enter-requires t c = asks_enter _ _ _ _ _ c.requires
 
-pub take-shape_of-w-in_default : goal.take-shape_of-w-in_default
-take-shape_of-w-in_default t c = c.enter.ensures.len
-
 pub take-returns-in_default : goal.take-returns-in_default
 take-returns-in_default t c = takes_clash _ _ _ _ _ _ _ c.enter.ensures
     c.requires c.in_default.is
@@ -218,7 +202,7 @@ pub take-descend-inner-requires : goal.take-descend-inner-requires
 take-descend-inner-requires t c =
     let old : _ × (_ × _) = take_opens _ _ _ _ _ _ _ c.enter.ensures
     c.requires _
-    c.in-Some.is in record { g_bound = old.0; g_bound_2 = old.1.0; fact = old.1.1 }
+    c.in-Some.is in record { g_bound = old.0.0; g_bound_2 = old.1.0; fact = old.1.1 }
 
 pub take-resume-found-requires : goal.take-resume-found-requires
 take-resume-found-requires t c = (
@@ -244,11 +228,6 @@ take-note-requires-2 t c = take_notes _ _ _ _ _ _ _
     c.in-Some.is _
     c.descend-inner.ensures _ _
     c.resume-found.ensures _ c.back.ensures
-
-pub take-shape_of-w : goal.take-shape_of-w
-take-shape_of-w t c = c.note-2.ensures.len ∙ c.back.ensures.len
-    ∙ c.resume-found.ensures.moved.len
-    ∙ c.enter.ensures.len
 
 pub take-returns : goal.take-returns
 take-returns t c = takes_found _ _ _ _ _ _ _

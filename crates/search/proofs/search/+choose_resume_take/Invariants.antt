@@ -17,4 +17,4 @@ decreases-take l = 3 * (2048 - l.g) + 1
 
 abbrev pub invariant-choose-loop : goal.invariant-choose-loop
 invariant-choose-loop l =
-    Moved l.k l.initial.w l.k l.w × ((c : Branching l.n l.k l.initial.w l.p l.count l.a) → Going l.n l.k l.initial.w l.p l.count l.a c (l.count - l.counter) l.at l.sum l.w)
+    Moved l.k l.initial.w l.k l.w × ((c : Branching l.n.count l.k l.initial.w l.p l.count l.a) → Going l.n.count l.k l.initial.w l.p l.count l.a c (l.count - l.counter) l.at l.sum l.w)

@@ -13,14 +13,14 @@ loop-init c = λ d. rw sub-zero (arcs_start _ _ _ _ _ d)
 
 pub word_at-feature-requires : goal.word_at-feature-requires
 word_at-feature-requires c = let v = c.loop.invariant c.requires in
-    let h = arcs_here _ _ _ _ _ c.requires _ _ _ _ v (omega arith) in let x = h.0 in (omega arith, h.2)
+    let h = arcs_here _ _ _ _ _ c.requires _ _ _ _ v (omega arith) in let x = h.0 in omega arith
 
 pub overflow_add-at : goal.overflow_add-at
 overflow_add-at c = let v = c.loop.invariant c.requires in
     let h = arcs_here _ _ _ _ _ c.requires _ _ _ _ v (omega arith) in let x = h.0 in omega arith
 
 pub word_at-target-requires : goal.word_at-target-requires
-word_at-target-requires c = let v = c.loop.invariant c.requires in let h = arcs_here _ _ _ _ _ c.requires _ _ _ _ v (omega arith) in (h.0, h.2)
+word_at-target-requires c = let v = c.loop.invariant c.requires in let h = arcs_here _ _ _ _ _ c.requires _ _ _ _ v (omega arith) in h.0
 
 pub overflow_add-w : goal.overflow_add-w
 overflow_add-w c = let v = c.loop.invariant c.requires in let h = arcs_here _ _ _ _ _ c.requires _ _ _ _ v (omega arith) in let x = h.1 in omega arith
@@ -61,9 +61,6 @@ overflow_add-out c = let v = c.loop.invariant c.requires in let h = arcs_here _ 
 pub loop-preserved : goal.loop-preserved
 loop-preserved c = λ d. rw sub-add-eq (arcs_on _ _ _ _ _ d _ _ _ _ (c.loop.invariant d) (omega arith) _ _
     c.word_at-feature.ensures c.word_at-target.ensures)
-
-pub shape_of-w : goal.shape_of-w
-shape_of-w c = arcs_same _ _ _ _ _ c.requires _ _ _ _ (c.loop.invariant c.requires)
 
 pub returns : goal.returns
 returns c = λ d. arcs_done _ _ _ _ _ d _ _ _ _ (c.loop.invariant d) (omega arith)

@@ -23,8 +23,5 @@ pub loop-preserved : goal.loop-preserved
 loop-preserved c = λ d. rw sub-add-eq (nodes_on _ _ _ _ _ d _ _ _ _ (c.loop.invariant d) (omega arith) _ _
     c.copy_node-end.ensures)
 
-pub shape_of-w : goal.shape_of-w
-shape_of-w c = nodes_same _ _ _ _ _ c.requires _ _ _ _ (c.loop.invariant c.requires)
-
 pub returns : goal.returns
 returns c = λ d. nodes_done _ _ _ _ _ d _ _ _ _ (c.loop.invariant d) (omega arith)

@@ -9,10 +9,6 @@ lone-requires c = asks_look _ _ _ _ _ c.requires
 pub copy_graph-requires : goal.copy_graph-requires
 copy_graph-requires c = asks_copy _ _ _ _ _ c.requires _ c.lone.ensures (cc)
 
-pub shape_of-w : goal.shape_of-w
-shape_of-w c = (owned _ _ _ _ _ c.requires _
-    c.lone.ensures (cc) _ _ c.copy_graph.ensures).len
-
 pub returns : goal.returns
 returns c = λ d. owned _ _ _ _ _ d _ c.lone.ensures (cc) _ _
     c.copy_graph.ensures

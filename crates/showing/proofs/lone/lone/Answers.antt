@@ -8,11 +8,11 @@ use Rattle.showing.proofs.Looking.{look_reads, look_start, look_done, look_here,
 use Rattle.showing.proofs.lone.lone.Goals as goal
 
 pub tail_at-e-requires : goal.tail_at-e-requires
-tail_at-e-requires c = ((look_reads _ _ _ c.requires.1).0, c.requires.1.room)
+tail_at-e-requires c = (look_reads _ _ _ c.requires.1).0
 
 pub disjunctions_at-more-requires : goal.disjunctions_at-more-requires
 disjunctions_at-more-requires c =
-    (let h = (look_reads _ _ _ c.requires.1).1 in omega arith, c.requires.1.room)
+    let h = (look_reads _ _ _ c.requires.1).1 in omega arith
 
 pub overflow_add-at : goal.overflow_add-at
 overflow_add-at c = let h = (look_reads _ _ _ c.requires.1).1 in omega arith
@@ -21,7 +21,7 @@ pub loop-init : goal.loop-init
 loop-init c = λ left d. rw sub-zero (look_start _ _ _ d _ _ c.tail_at-e.ensures c.disjunctions_at-more.ensures)
 
 pub alternatives_at-of-requires : goal.alternatives_at-of-requires
-alternatives_at-of-requires c = (look_here _ _ _ c.requires.1 _ _ (c.loop.invariant _ c.requires.1) (omega arith), c.requires.1.room)
+alternatives_at-of-requires c = look_here _ _ _ c.requires.1 _ _ (c.loop.invariant _ c.requires.1) (omega arith)
 
 pub overflow_add-at-in-loop : goal.overflow_add-at-in-loop
 overflow_add-at-in-loop c = let h = look_here _ _ _ c.requires.1 _ _ (c.loop.invariant _ c.requires.1) (omega arith) in omega arith

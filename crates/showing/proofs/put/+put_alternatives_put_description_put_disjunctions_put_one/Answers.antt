@@ -23,10 +23,10 @@ put_alternatives-loop-init t c = λ d. rw sub-zero (offer_start _ _ _ _ _ _ d)
 
 pub put_alternatives-mark_at-x-requires : goal.put_alternatives-mark_at-x-requires
 put_alternatives-mark_at-x-requires t c = let v = c.loop.invariant c.requires in
-    let old : _ × _ = offer_here _ _ _ _ _ _ c.requires _ _ _ _ v (omega arith) in record { p_bound = old.0; p_bound_2 = old.1 }
+    let old : _ × _ = offer_here _ _ _ _ _ _ c.requires _ _ _ _ v (omega arith) in record { p_bound = old.0.0; p_bound_2 = old.1 }
 
 pub put_alternatives-kept-requires : goal.put_alternatives-kept-requires
-put_alternatives-kept-requires t c = (c.mark_at-x.ensures.1, offer_long _ _ _ _ _ _ c.requires _ _ _ _ (c.loop.invariant c.requires))
+put_alternatives-kept-requires t c = c.mark_at-x.ensures.1
 
 pub put_alternatives-put_description-out-requires : goal.put_alternatives-put_description-out-requires
 put_alternatives-put_description-out-requires t c = let v = c.loop.invariant c.requires in (
@@ -36,18 +36,18 @@ put_alternatives-put_description-out-requires t c = let v = c.loop.invariant c.r
 
 pub put_alternatives-after_at-at-requires : goal.put_alternatives-after_at-at-requires
 put_alternatives-after_at-at-requires t c =
-    let turned : Turn c.args.n
+    let turned : Turn c.args.n.count
     c.loop.w c.loop.at
     c.mark_at-x.result c.args.left
     c.loop.out c.if-kept.out c.if-kept.w = elim c.if-kept.branch [
       | put_alternatives-then-kept u ↦ taken _ _ (cc) u.put_description-out.ensures u.w-is u.out-is
       | put_alternatives-else-kept u ↦ skipped (cc) u.w-is u.out-is
     ] in let v = c.loop.invariant c.requires in
-    let old : _ × _ = turn_inside _ _ _ _ _ _ c.requires _ _ _ _ v (omega arith) _ c.mark_at-x.ensures _ _ (turned) in record { p_bound = old.0; p_bound_2 = old.1 }
+    let old : _ × _ = turn_inside _ _ _ _ _ _ c.requires _ _ _ _ v (omega arith) _ c.mark_at-x.ensures _ _ (turned) in record { p_bound = old.0.0; p_bound_2 = old.1 }
 
 pub put_alternatives-loop-preserved : goal.put_alternatives-loop-preserved
 put_alternatives-loop-preserved t c =
-    let turned : Turn c.args.n
+    let turned : Turn c.args.n.count
     c.loop.w c.loop.at
     c.mark_at-x.result c.args.left
     c.loop.out c.if-kept.out c.if-kept.w = elim c.if-kept.branch [
@@ -55,9 +55,6 @@ put_alternatives-loop-preserved t c =
       | put_alternatives-else-kept u ↦ skipped (cc) u.w-is u.out-is
     ] in λ d. rw sub-add-eq (turn_on _ _ _ _ _ _ d _ _ _ _ (c.loop.invariant d) (omega arith) _
     c.mark_at-x.ensures _ _ (turned) _ c.after_at-at.ensures)
-
-pub put_alternatives-shape_of-w : goal.put_alternatives-shape_of-w
-put_alternatives-shape_of-w t c = offer_same _ _ _ _ _ _ c.requires _ _ _ _ (c.loop.invariant c.requires)
 
 pub put_alternatives-returns : goal.put_alternatives-returns
 put_alternatives-returns t c = λ d. offer_done _ _ _ _ _ _ d _ _ _ _ (c.loop.invariant d) (omega arith)
@@ -98,24 +95,16 @@ put_description-bounds-w-e t c = let h =
     c.requires _ _ _
     c.put_disjunctions-rest.ensures in omega arith
 
-pub put_description-shape_of-w : goal.put_description-shape_of-w
-put_description-shape_of-w t c =
-    (describes _ _ _ _ _ _ _ c.put_graph-e.ensures _ _ _
-    c.put_disjunctions-rest.ensures c.requires).len
-
 pub put_description-returns : goal.put_description-returns
 put_description-returns t c = describes _ _ _ _ _ _ _ c.put_graph-e.ensures _ _ _
     c.put_disjunctions-rest.ensures
 
 pub put_disjunctions-tail_at-e-requires : goal.put_disjunctions-tail_at-e-requires
-put_disjunctions-tail_at-e-requires t c = ((go_reads _ _ _ _ _ c.requires).0, c.requires.base.holds.long)
+put_disjunctions-tail_at-e-requires t c = (go_reads _ _ _ _ _ c.requires).0
 
 pub put_disjunctions-disjunctions_at-more-requires : goal.put_disjunctions-disjunctions_at-more-requires
-put_disjunctions-disjunctions_at-more-requires t c = (
-  let h = (go_reads _ _ _ _ _ c.requires).1 in
-      omega arith,
-  c.requires.base.holds.long,
-)
+put_disjunctions-disjunctions_at-more-requires t c = let h = (go_reads _ _ _ _ _ c.requires).1 in
+    omega arith
 
 pub put_disjunctions-overflow_add-at : goal.put_disjunctions-overflow_add-at
 put_disjunctions-overflow_add-at t c = let h = (go_reads _ _ _ _ _ c.requires).1 in omega arith
@@ -124,7 +113,7 @@ pub put_disjunctions-loop-init : goal.put_disjunctions-loop-init
 put_disjunctions-loop-init t c = λ d. rw sub-zero (go_start _ _ _ _ _ d _ _ c.tail_at-e.ensures c.disjunctions_at-more.ensures)
 
 pub put_disjunctions-alternatives_at-of-requires : goal.put_disjunctions-alternatives_at-of-requires
-put_disjunctions-alternatives_at-of-requires t c = let v = c.loop.invariant c.requires in (go_here _ _ _ _ _ c.requires _ _ _ _ _ v (omega arith), (go_small _ _ _ _ _ c.requires _ _ _ _ _ v).1)
+put_disjunctions-alternatives_at-of-requires t c = let v = c.loop.invariant c.requires in go_here _ _ _ _ _ c.requires _ _ _ _ _ v (omega arith)
 
 pub put_disjunctions-overflow_add-at-in-loop : goal.put_disjunctions-overflow_add-at-in-loop
 put_disjunctions-overflow_add-at-in-loop t c = let v = c.loop.invariant c.requires in let h = go_here _ _ _ _ _ c.requires _ _ _ _ _ v (omega arith) in omega arith
@@ -149,9 +138,6 @@ pub put_disjunctions-loop-preserved : goal.put_disjunctions-loop-preserved
 put_disjunctions-loop-preserved t c = λ d. rw sub-add-eq (go_on _ _ _ _ _ d _ _ _ _ _ (c.loop.invariant d) (omega arith) _
     c.alternatives_at-of.ensures _ _ _ _ c.put_one-one.ensures)
 
-pub put_disjunctions-shape_of-w : goal.put_disjunctions-shape_of-w
-put_disjunctions-shape_of-w t c = go_same _ _ _ _ _ c.requires _ _ _ _ _ (c.loop.invariant c.requires)
-
 pub put_disjunctions-returns : goal.put_disjunctions-returns
 put_disjunctions-returns t c = λ d. go_done _ _ _ _ _ d _ _ _ _ _ (c.loop.invariant d) (omega arith)
 
@@ -163,12 +149,6 @@ put_one-put_disjunctions-inner-requires t c = (
   omega (arith, c.decreases),
   vary_inner _ _ _ _ _ _ c.requires _ _ c.count_kept-tally.ensures _ c.in-One.is,
 )
-
-pub put_one-shape_of-w-in-One : goal.put_one-shape_of-w-in-One
-put_one-shape_of-w-in-One t c = (c.put_disjunctions-inner.ensures
-    (vary_inner _ _ _ _ _ _ c.requires _ _
-    c.count_kept-tally.ensures _
-    c.in-One.is)).0.len
 
 pub put_one-returns-in-One : goal.put_one-returns-in-One
 put_one-returns-in-One t c = λ d. vary_one _ _ _ _ _ _ d _ _ c.count_kept-tally.ensures _
@@ -234,16 +214,6 @@ put_one-put_alternatives-at-requires t c =
       vary_offers _ _ _ _ _ _ c.requires _ _ c.count_kept-tally.ensures
           _ (many),
     )
-
-pub put_one-shape_of-w : goal.put_one-shape_of-w
-put_one-shape_of-w t c =
-    let many : ((c.count_kept-tally.result.remnant ≡ Nothing) × (c.match-which.many ≡ 0))
-    ⊎ ((x : ℕ) × (c.count_kept-tally.result.remnant ≡ Several x) × (c.match-which.many ≡ x)) = elim c.match-which.branch [
-      | put_one-in-Nothing u ↦ inl (u.in-Nothing.is, u.many-is)
-      | put_one-in-Several u ↦ inr (u.in-Several.several, u.in-Several.is, u.many-is)
-    ] in (vary_several _ _ _ _ _ _ c.requires _ _
-    c.count_kept-tally.ensures _ (many)
-    _ _ c.put_alternatives-at.ensures).0.len
 
 pub put_one-returns : goal.put_one-returns
 put_one-returns t c =

@@ -19,9 +19,9 @@ abbrev pub decreases-put_one : goal.decreases-put_one
 decreases-put_one l = 4 * l.left + 3
 
 abbrev pub invariant-put_alternatives-loop : goal.invariant-put_alternatives-loop
-invariant-put_alternatives-loop l = (d : Offering l.n l.initial.w l.p l.of l.left l.o) →
-    offering.Going l.n l.initial.w l.p l.of l.left l.o d (l.of - l.counter) l.at l.out l.w
+invariant-put_alternatives-loop l = (d : Offering l.n.count l.initial.w l.p l.of l.left l.o) →
+    offering.Going l.n.count l.initial.w l.p l.of l.left l.o d (l.of - l.counter) l.at l.out l.w
 
 abbrev pub invariant-put_disjunctions-loop : goal.invariant-put_disjunctions-loop
-invariant-put_disjunctions-loop l = (d : Disjoining l.n l.initial.w l.g l.left l.o) →
-    disjoining.Going l.n l.initial.w l.g l.left l.o d (l.more - l.counter) l.at l.out l.count l.w
+invariant-put_disjunctions-loop l = (d : Disjoining l.n.count l.initial.w l.g l.left l.o) →
+    disjoining.Going l.n.count l.initial.w l.g l.left l.o d (l.more - l.counter) l.at l.out l.count l.w

@@ -10,8 +10,8 @@ pub write_graph-e-requires : goal.write_graph-e-requires
 write_graph-e-requires c = show_writes _ _ _ c.requires
 
 pub disjunctions-requires : goal.disjunctions-requires
-disjunctions-requires c = show_reads _ _ _ c.requires _ _
-    c.write_graph-e.ensures
+disjunctions-requires c = let (first, second, long) = show_reads _ _ _ c.requires _ _
+    c.write_graph-e.ensures in (first, second)
 
 pub overflow_add-w : goal.overflow_add-w
 overflow_add-w c = let h = show_near _ _ _ c.requires _ _
@@ -30,10 +30,6 @@ bounds-w-e c = let h = show_near _ _ _ c.requires _ _
 pub overflow_add-result : goal.overflow_add-result
 overflow_add-result c = let h = show_near _ _ _ c.requires _ _
     c.write_graph-e.ensures in omega arith
-
-pub shape_of-w-then-disjunctions-eq0 : goal.shape_of-w-then-disjunctions-eq0
-shape_of-w-then-disjunctions-eq0 c = (plain _ _ _ c.requires _ _
-    c.write_graph-e.ensures (omega arith)).len
 
 pub returns-then-disjunctions-eq0 : goal.returns-then-disjunctions-eq0
 returns-then-disjunctions-eq0 c = plain _ _ _ c.requires _ _
@@ -93,13 +89,6 @@ bounds-w-e-2 c = let h = show_long _ _ _
     c.back.ensures _ _ _
     c.put_disjunctions-first.ensures _ _ _
     c.put_disjunctions-second.ensures in omega arith
-
-pub shape_of-w : goal.shape_of-w
-shape_of-w c = (shows _ _ _ c.requires _ _
-    c.write_graph-e.ensures _
-    c.back.ensures _ _ _
-    c.put_disjunctions-first.ensures _ _ _
-    c.put_disjunctions-second.ensures).len
 
 pub returns : goal.returns
 returns c = shows _ _ _ c.requires _ _

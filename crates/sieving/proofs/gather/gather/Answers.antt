@@ -17,13 +17,13 @@ use Rattle.sieving.proofs.gather.gather.Goals.{then-t-i-eq0, else-t-i-eq0}
 pub find-c-requires : goal.find-c-requires
 find-c-requires c =
     record {
-      i_lt_n = (c.requires.n_nonzero.0, (c.requires.labelled.holds.below, c.requires.labelled.holds.long));
+      i_lt_n = c.requires.n_nonzero.0;
       shape = c.requires.labelled.holds.state.shape;
     }
 
 pub held_by-held-requires : goal.held_by-held-requires
 held_by-held-requires c =
-    (omega arith, c.requires.labelled.holds.long)
+    omega arith
 
 pub returns-in_default : goal.returns-in_default
 returns-in_default c =
@@ -41,10 +41,7 @@ overflow_sub-j c =
     some _ c.loop-y-test.true
 
 pub loaded-requires : goal.loaded-requires
-loaded-requires c = (
-  runs_below _ _ c.loop-y.invariant.1.runs (some _ c.loop-y-test.true),
-  c.requires.labelled.holds.long,
-)
+loaded-requires c = runs_below _ _ c.loop-y.invariant.1.runs (some _ c.loop-y-test.true)
 
 pub bounds-t-i : goal.bounds-t-i
 bounds-t-i c =
@@ -64,11 +61,8 @@ bounds-t-i-then-t-i-eq0 c =
     )
 
 pub next-y-requires : goal.next-y-requires
-next-y-requires c = (
-  runs_below _ _ c.loop-y.invariant.1.runs
-      (some _ c.loop-y-test.true),
-  c.requires.labelled.holds.long,
-)
+next-y-requires c = runs_below _ _ c.loop-y.invariant.1.runs
+    (some _ c.loop-y-test.true)
 
 pub loop-y-smaller : goal.loop-y-smaller
 loop-y-smaller c =

@@ -8,7 +8,6 @@ use Rattle.sieving.proofs.through.look_through.Goals.{then-i-t, else-i-t}
 pub look-requires : goal.look-requires
 look-requires c =
     record {
-      in_bounds = c.requires.in_bounds;
       runs = through_runs _ _ _ c.requires.sieves _ _ c.wide-i.ensures _
           (elim c.if-i-t.branch [ then-i-t u ↦ inl (u.if-i-t.true, u.y-is ∙ u.wide-y.ensures) | else-i-t u ↦ inr u.y-is ]) c.requires.runs;
     }

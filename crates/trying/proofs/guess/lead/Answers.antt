@@ -24,6 +24,6 @@ suit-requires c =
 
 pub returns : goal.returns
 returns c =
-    leads_atom c.args.n c.args.w.now c.args.g c.args.base c.args.d c.args.i (sym c.target-to.ensures
+    leads_atom c.args.n.count c.args.w.now c.args.g c.args.base c.args.d c.args.i (sym c.target-to.ensures
     ∙ c.if-to-base.false) (omega (arith, c.if-v-lt-CODE_LIMIT.false)) c.suit.result
     (rw (← c.loaded-v.ensures, ← c.loaded-f.ensures) c.suit.ensures)

@@ -11,15 +11,15 @@ loop-i-init c = leaves_none _ _ _ _ _
 
 pub returns-in_default : goal.returns-in_default
 returns-in_default c =
-    all_stop c.args.n c.args.w.now c.args.g c.args.base c.args.d c.loop-i.i c.lead-one.result (omega arith) c.loop-i.invariant
+    all_stop c.args.n.count c.args.w.now c.args.g c.args.base c.args.d c.loop-i.i c.lead-one.result (omega arith) c.loop-i.invariant
     c.lead-one.ensures c.in_default.not-Agrees
 
 pub loop-i-preserved : goal.loop-i-preserved
 loop-i-preserved c =
-    leaves_more c.args.n c.args.w.now c.args.g c.args.base c.args.d c.loop-i.i c.loop-i.invariant
-    (subst (LeafTold c.args.n c.args.w.now c.args.g c.args.base c.args.d c.loop-i.i) c.in-Agrees.is c.lead-one.ensures)
+    leaves_more c.args.n.count c.args.w.now c.args.g c.args.base c.args.d c.loop-i.i c.loop-i.invariant
+    (subst (LeafTold c.args.n.count c.args.w.now c.args.g c.args.base c.args.d c.loop-i.i) c.in-Agrees.is c.lead-one.ensures)
 
 pub returns : goal.returns
 returns c =
     let e : c.loop-i.i ≡ c.args.d = omega arith in
-    all_agree c.args.n c.args.w.now c.args.g c.args.base c.args.d (subst (FirstLeaves c.args.n c.args.w.now c.args.g c.args.base c.args.d) e c.loop-i.invariant)
+    all_agree c.args.n.count c.args.w.now c.args.g c.args.base c.args.d (subst (FirstLeaves c.args.n.count c.args.w.now c.args.g c.args.base c.args.d) e c.loop-i.invariant)

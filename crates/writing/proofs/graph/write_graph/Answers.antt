@@ -5,18 +5,18 @@ use Rattle.writing.proofs.graph.write_graph.Goals as goal
 
 pub find-c-requires : goal.find-c-requires
 find-c-requires c =
-    let old : _ × _ = writing_find c.args.n c.args.k c.args.w.now c.args.o c.requires c.clear.new.w
-    c.clear.ensures in record { i_lt_n = old.0; shape = old.1 }
+    let old : _ × _ = writing_find c.args.n.count c.args.k c.args.w.now c.args.o c.requires c.clear.new.w
+    c.clear.ensures in record { i_lt_n = old.0.0; shape = old.1 }
 
 pub number-requires : goal.number-requires
 number-requires c =
-    writing_number c.args.n c.args.k c.args.w.now c.args.o c.requires
+    writing_number c.args.n.count c.args.k c.args.w.now c.args.o c.requires
     c.clear.new.w c.clear.ensures
     c.find-c.result c.find-c.ensures
 
 pub nodes-p-requires : goal.nodes-p-requires
 nodes-p-requires c =
-    writing_nodes c.args.n c.args.k c.args.w.now c.args.o c.requires
+    writing_nodes c.args.n.count c.args.k c.args.w.now c.args.o c.requires
     c.clear.new.w
     c.clear.ensures
     c.find-c.result c.find-c.ensures
@@ -24,7 +24,7 @@ nodes-p-requires c =
 
 pub overflow_cast-w : goal.overflow_cast-w
 overflow_cast-w c =
-    let l = (writing_small c.args.n c.args.k c.args.w.now c.args.o c.requires
+    let l = (writing_small c.args.n.count c.args.k c.args.w.now c.args.o c.requires
     c.clear.new.w
     c.clear.ensures
     c.find-c.result
@@ -34,7 +34,7 @@ overflow_cast-w c =
 
 pub returns : goal.returns
 returns c =
-    writes c.args.n c.args.k c.args.w.now c.args.o c.requires
+    writes c.args.n.count c.args.k c.args.w.now c.args.o c.requires
     c.clear.new.w
     c.clear.ensures
     c.find-c.result
