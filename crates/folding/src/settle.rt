@@ -1,8 +1,7 @@
 // Alternatives are settled from the last to the first, and their words written before those of what follows.
 ghost use Rattle.std.specs.Prelude.{suc, ◌*◌, ◌≤◌, ◌<◌, ◌≡◌, length};
 ghost use Rattle.theory.specs.Limits.{code_limit, input_limit};
-ghost use Rattle.formulas.specs.Tables.{tables};
-ghost use Rattle.parting.specs.Parted.{Parting};
+ghost use Rattle.parting.specs.Parted.{tables_of, Parting};
 ghost use Rattle.folding.specs.Homing.{Rehomes};
 ghost use Rattle.folding.specs.Settled.{SettlingRoom, Beside, Settling, AlternativeCloses, AlternativeSettles, BranchSettling};
 ghost use Rattle.folding.specs.Settled.{KeptFirst, alternative_of, count_of, inner_of, Concludes, BranchSettles};
@@ -10,7 +9,10 @@ ghost use Rattle.folding.specs.Settled.{KeptFirst, alternative_of, count_of, inn
 use crate::buffer::{put, put_all};
 use limits::{INPUT_LIMIT, wide};
 use parting::part::part;
+use parting::tables::Tables;
 use sheets::drawing::Undrawn;
+
+// `homes`, `words`, `len` and `k` stand beside the tables: they are written, or are others at each call; a struct is no plainer.
 
 // What is left of an alternative: the number of its disjunctions, and how many words there are from them on and from it on.
 #[derive(Clone, Copy)]
@@ -58,24 +60,21 @@ fn beside(alts: &[u32], c: usize, g: u32) -> bool
 
 // Draws the graph of the alternative k, before the words of its disjunctions and their number.
 fn close(
-    arcs: &[u32],
-    atoms: &[u32],
-    ties: &[u32],
-    alts: &[u32],
+    tables: &Tables,
     homes: &[u32],
     words: &mut [u32],
     len: usize,
     count: u32,
     k: usize,
 ) -> Option<Settled>
-    requires parting { Parting (tables arcs.now atoms.now ties.now alts.now) homes.now k }
-    requires settling_room { SettlingRoom homes.now alts.now words.old len × (k < length homes.now) }
-    ensures { AlternativeCloses (tables arcs.now atoms.now ties.now alts.now)
+    requires parting { Parting (tables_of tables.now) homes.now k }
+    requires settling_room { SettlingRoom homes.now tables.now.alts.now words.old len × (k < length homes.now) }
+    ensures { AlternativeCloses (tables_of tables.now)
         homes.now
         words.old len count k result words.new }
 {
     let mut out = [0; INPUT_LIMIT];
-    match part(arcs, atoms, ties, alts, homes, k, &mut out) {
+    match part(tables, homes, k, &mut out) {
         Ok(n) => {
             let tail = put(words, len, count);
             let whole = put_all(words, tail, &out[..n]);
@@ -131,10 +130,7 @@ fn conclude(
 // Settles the disjunction of the alternative k whose last alternative is `last`.
 #[cycle(settle_settle_disjunction)]
 fn settle_disjunction(
-    arcs: &[u32],
-    atoms: &[u32],
-    ties: &[u32],
-    alts: &[u32],
+    tables: &Tables,
     homes: &mut [u32],
     words: &mut [u32],
     len: usize,
@@ -142,19 +138,19 @@ fn settle_disjunction(
     last: usize,
     left: u32,
 ) -> Option<Branch>
-    requires branch_settling { BranchSettling (tables arcs.now atoms.now ties.now alts.now) homes.old k last left }
-    requires settling_room { SettlingRoom homes.old alts.now words.old len }
-    ensures { BranchSettles (tables arcs.now atoms.now ties.now alts.now)
+    requires branch_settling { BranchSettling (tables_of tables.now) homes.old k last left }
+    requires settling_room { SettlingRoom homes.old tables.now.alts.now words.old len }
+    ensures { BranchSettles (tables_of tables.now)
         homes.old
         words.old len k last left result homes.new words.new }
 {
-    let g = alts[4 * last];
+    let g = tables.alts[4 * last];
     let mut c = last;
     let mut kept: u32 = 0;
     let mut first = None;
     let mut at = len;
-    while beside(alts, c, g) {
-        if let Some(settled) = settle(arcs, atoms, ties, alts, homes, words, at, c, left) {
+    while beside(tables.alts, c, g) {
+        if let Some(settled) = settle(tables, homes, words, at, c, left) {
             kept += 1;
             first = Some(Kept {
                 alternative: c,
@@ -162,7 +158,7 @@ fn settle_disjunction(
             });
             at = settled.whole;
         }
-        c = wide(alts[4 * c + 1]);
+        c = wide(tables.alts[4 * c + 1]);
     }
     conclude(homes, words, k, kept, first, at, c)
 }
@@ -170,41 +166,27 @@ fn settle_disjunction(
 // Settles the alternative k, under which disjunctions nest at most `left` deep.
 #[cycle(settle_settle_disjunction)]
 pub fn settle(
-    arcs: &[u32],
-    atoms: &[u32],
-    ties: &[u32],
-    alts: &[u32],
+    tables: &Tables,
     homes: &mut [u32],
     words: &mut [u32],
     len: usize,
     k: usize,
     left: u32,
 ) -> Option<Settled>
-    requires settling { Settling (tables arcs.now atoms.now ties.now alts.now) homes.old k left }
-    requires settling_room { SettlingRoom homes.old alts.now words.old len }
-    ensures { AlternativeSettles (tables arcs.now atoms.now ties.now alts.now)
+    requires settling { Settling (tables_of tables.now) homes.old k left }
+    requires settling_room { SettlingRoom homes.old tables.now.alts.now words.old len }
+    ensures { AlternativeSettles (tables_of tables.now)
         homes.old
         words.old len k left result homes.new words.new }
 {
-    let mut last = wide(alts[4 * k + 2]);
+    let mut last = wide(tables.alts[4 * k + 2]);
     let mut count: u32 = 0;
     let mut at = len;
     while last != 0 {
-        let branch = settle_disjunction(
-            arcs,
-            atoms,
-            ties,
-            alts,
-            homes,
-            words,
-            at,
-            k,
-            last,
-            left - 1,
-        )?;
+        let branch = settle_disjunction(tables, homes, words, at, k, last, left - 1)?;
         count += branch.count;
         at = branch.inner;
         last = branch.before;
     }
-    close(arcs, atoms, ties, alts, homes, words, at, count, k)
+    close(tables, homes, words, at, count, k)
 }

@@ -8,12 +8,17 @@ use Rattle.theory.specs.Join.{Edge}
 use Rattle.layout.specs.Standing.{Stands, graph_words}
 use Rattle.formulas.specs.Sheet.{Sheet, Sound, sheet_graph}
 use Rattle.formulas.specs.Flat.{Item}
-use Rattle.formulas.specs.Tables.{Tables, edge, Trail, TablesFit}
+use Rattle.formulas.specs.Tables.{Tables, tables, edge, Trail, TablesFit}
 use Rattle.closing.specs.Rows.{in_edges}
 use Rattle.closing.specs.Chains.{Arcs}
 use Rattle.sheets.specs.declared.drawing.Undrawn.{Undrawn}
 use Rattle.sheets.specs.declared.drawing.Undrawn.TheVariants.{Clash, Long}
 use Rattle.parting.specs.Gathered.{Members, row_in, home_in}
+use Rattle.parting.specs.declared.tables.Tables as declared
+
+-- the tables that are handed on
+abbrev pub tables_of : declared.Tables → Tables
+tables_of t = tables t.arcs.now t.atoms.now t.ties.now t.alts.now
 
 -- the sheet A has the arcs from the root to the spot of k, and the rows that have come to k
 pub record Part (T : Tables) (hm : List ℕ) (k : ℕ) (A : Sheet) : Type 0 where

@@ -3,3 +3,4 @@
 
 mod gather;
 pub mod part;
+pub mod tables;

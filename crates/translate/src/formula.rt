@@ -12,6 +12,7 @@ use crate::homes::own_homes;
 use folding::settle::settle;
 use laying::laying::{Rows, lay};
 use limits::{DEPTH_LIMIT, INPUT_LIMIT, wide};
+use parting::tables::Tables;
 use rows::flags::mark_groups;
 use signs::reading::read_signs;
 
@@ -23,49 +24,43 @@ const ROWS: usize = 4096;
 
 // Settles the formula that lies in these tables, in the room for the homes of its alternatives and for its words.
 fn settle_in(
-    arcs: &[u32],
-    atoms: &[u32],
-    ties: &[u32],
-    alts: &[u32],
+    tables: &Tables,
     homes: &mut [u32],
     words: &mut [u32],
     res: &mut [u32],
 ) -> Result<usize, Refusal>
-    requires { ((φ : Formula) × TreeTabled φ arcs.now atoms.now ties.now alts.now (length homes.old))
+    requires { ((φ : Formula) × TreeTabled φ
+        tables.now.arcs.now tables.now.atoms.now tables.now.ties.now tables.now.alts.now (length homes.old))
         × (length words.old ≡ input_limit) }
-    ensures { TreeSettled arcs.now atoms.now ties.now alts.now
+    ensures { TreeSettled
+        tables.now.arcs.now tables.now.atoms.now tables.now.ties.now tables.now.alts.now
         (length homes.old) res.old result res.new }
 {
     own_homes(homes);
-    let settled = settle(arcs, atoms, ties, alts, homes, words, 0, 0, DEPTH_LIMIT);
+    let settled = settle(tables, homes, words, 0, 0, DEPTH_LIMIT);
     let whole = settled.ok_or(Refusal::Clash)?.whole;
     hand_over(words, whole, res)
 }
 
 // Settles the formula that was laid out in the first rows of these tables.
-fn settle_rows(
-    arcs: &[u32],
-    atoms: &[u32],
-    ties: &[u32],
-    alts: &[u32],
-    rows: Rows,
-    res: &mut [u32],
-) -> Result<usize, Refusal>
-    requires { (φ : Formula) × TreeLaid φ arcs.now atoms.now ties.now alts.now rows.arcs rows.atoms rows.ties rows.alts }
-    ensures { LaidSettled arcs.now atoms.now ties.now alts.now rows.arcs rows.atoms rows.ties rows.alts
+fn settle_rows(tables: &Tables, rows: Rows, res: &mut [u32]) -> Result<usize, Refusal>
+    requires { (φ : Formula) × TreeLaid φ
+        tables.now.arcs.now tables.now.atoms.now tables.now.ties.now tables.now.alts.now
+        rows.arcs rows.atoms rows.ties rows.alts }
+    ensures { LaidSettled
+        tables.now.arcs.now tables.now.atoms.now tables.now.ties.now tables.now.alts.now
+        rows.arcs rows.atoms rows.ties rows.alts
         res.old result res.new }
 {
     let mut homes = [0; SPOTS];
     let mut words = [0; INPUT_LIMIT];
-    settle_in(
-        &arcs[..2 * wide(rows.arcs)],
-        &atoms[..2 * wide(rows.atoms)],
-        &ties[..2 * wide(rows.ties)],
-        alts,
-        &mut homes[..wide(rows.alts)],
-        &mut words,
-        res,
-    )
+    let laid = Tables {
+        arcs: &tables.arcs[..2 * wide(rows.arcs)],
+        atoms: &tables.atoms[..2 * wide(rows.atoms)],
+        ties: &tables.ties[..2 * wide(rows.ties)],
+        alts: tables.alts,
+    };
+    settle_in(&laid, &mut homes[..wide(rows.alts)], &mut words, res)
 }
 
 // Lays out the marked signs in tables, and settles the formula: "21 over 4 disjunctions nested in the text".
@@ -89,7 +84,13 @@ fn lay_tree(signs: &[u32], flagged: bool, res: &mut [u32]) -> Result<usize, Refu
         &mut frames,
     );
     let rows = laid.ok_or(Refusal::TooDeep)?;
-    settle_rows(&arcs, &atoms, &ties, &alts, rows, res)
+    let tables = Tables {
+        arcs: &arcs,
+        atoms: &atoms,
+        ties: &ties,
+        alts: &alts,
+    };
+    settle_rows(&tables, rows, res)
 }
 
 // Marks the groups that have alternatives, and goes on.

@@ -57,13 +57,13 @@ settle_disjunction-overflow_mul-g t c =
     let low = last_low _ _ _ _ _ c.requires.branch_settling in
     omega arith
 
-pub settle_disjunction-offset_bounds-alts-last : goal.settle_disjunction-offset_bounds-alts-last
-settle_disjunction-offset_bounds-alts-last t c =
+pub settle_disjunction-offset_bounds-tables-last : goal.settle_disjunction-offset_bounds-tables-last
+settle_disjunction-offset_bounds-tables-last t c =
     let low = last_low _ _ _ _ _ c.requires.branch_settling in
     omega arith
 
-pub settle_disjunction-bounds-alts-last : goal.settle_disjunction-bounds-alts-last
-settle_disjunction-bounds-alts-last t c =
+pub settle_disjunction-bounds-tables-last : goal.settle_disjunction-bounds-tables-last
+settle_disjunction-bounds-tables-last t c =
     let low = last_low _ _ _ _ _ c.requires.branch_settling in
     omega arith
 
@@ -96,13 +96,13 @@ settle_disjunction-overflow_add-c t c =
     let low = going_low c.loop-homes.invariant.0 c.requires.branch_settling in
     omega arith
 
-pub settle_disjunction-offset_bounds-alts-c : goal.settle_disjunction-offset_bounds-alts-c
-settle_disjunction-offset_bounds-alts-c t c =
+pub settle_disjunction-offset_bounds-tables-c : goal.settle_disjunction-offset_bounds-tables-c
+settle_disjunction-offset_bounds-tables-c t c =
     let low = going_low c.loop-homes.invariant.0 c.requires.branch_settling in
     omega arith
 
-pub settle_disjunction-bounds-alts-c : goal.settle_disjunction-bounds-alts-c
-settle_disjunction-bounds-alts-c t c =
+pub settle_disjunction-bounds-tables-c : goal.settle_disjunction-bounds-tables-c
+settle_disjunction-bounds-tables-c t c =
     let low = going_low c.loop-homes.invariant.0 c.requires.branch_settling in
     omega arith
 
