@@ -7,68 +7,73 @@ ghost use Rattle.area.specs.Region.{loaded_words};
 ghost use Rattle.forest.specs.Held.{AtomCode};
 ghost use Rattle.forest.specs.State.{targets, Coming, Heading, Headed};
 ghost use Rattle.forest.specs.Order.{Ordered, Steady, Turning, VisitedInOrder};
-ghost use Rattle.forest.specs.Outcome.{log_of, clashes};
+ghost use Rattle.forest.specs.Outcome.{log_of, clashes, link_code};
 ghost use Rattle.classes.specs.Came.{log_after, link_after};
 ghost use Rattle.classes.specs.Nodes.{Follows, Hung, Batched, Run, Noding, Noded, Listing, Listed};
 
 use area::log::put;
 use area::map::{Area, HELD, NEXT, Nodes};
-use forest::chain::{loaded, locate, rises, target};
+use forest::chain::{Start, loaded, locate, rises, target};
 use forest::forest::find;
 use forest::held::{Held, bears_atom, held_by};
 use forest::merge::Clash;
 use forest::settle::unite;
 use limits::{CODE_LIMIT, wide};
 
-// The log's entries after an arc, and the link to go on from with the next one.
-// The link is 0 where the chain of the class is not known to rise, and 1 where the next arc is looked for from the first on.
+// The log's entries after an arc, and where to look for the next one.
 #[derive(Clone, Copy)]
 pub struct Came {
     pub k: usize,
-    pub at: usize,
+    pub at: Start,
 }
 
-// 1 where the chain of the class of x rises, or 0.
-fn afresh(w: &Area, k: usize, n: Nodes, x: usize) -> usize
+// From the first arc on, where the chain of the class of x rises.
+fn afresh(w: &Area, k: usize, n: Nodes, x: usize) -> Start
     requires x_lt_n { x < n.count }
     requires steady { Steady n.count k w.now }
-    ensures { Ordered (loaded_words w.now) n.count w.now x result }
+    ensures { Ordered (loaded_words w.now) n.count w.now x (link_code result) }
 {
     let c = find(w, n, x);
     match held_by(w, c) {
-        Held::Nothing => 1,
-        Held::Arcs(chain) => { if rises(w, chain) { 1 } else { 0 } }
-        Held::Atom(_) => 0,
+        Held::Nothing => Start::First,
+        Held::Arcs(chain) => {
+            if rises(w, chain) {
+                Start::First
+            } else {
+                Start::Unordered
+            }
+        }
+        Held::Atom(_) => Start::Unordered,
     }
 }
 
-// The link to begin with for the d arcs of x. Where they are few, each is looked for by itself.
-fn outset(w: &Area, k: usize, n: Nodes, x: usize, d: usize) -> usize
+// Where to look for the first of the d arcs of x. Where they are few, each is looked for by itself.
+fn outset(w: &Area, k: usize, n: Nodes, x: usize, d: usize) -> Start
     requires x_lt_n { x < n.count }
     requires steady { Steady n.count k w.now }
-    ensures { Ordered (loaded_words w.now) n.count w.now x result }
+    ensures { Ordered (loaded_words w.now) n.count w.now x (link_code result) }
 {
     if d < 4 {
-        return 0;
+        return Start::Unordered;
     }
     afresh(w, k, n, x)
 }
 
-// The link to go on from after a union that took the log from k entries to e: where it took three at most, no chain has changed, and the
+// Where to go on from after a union that took the log from k entries to e: where it took three at most, no chain has changed, and the
 // arc r is still on that of the class c.
-fn onward(w: &Area, k: usize, e: usize, n: Nodes, x: usize, c: usize, r: usize, at: usize) -> usize
+fn onward(w: &Area, k: usize, e: usize, n: Nodes, x: usize, c: usize, r: usize, at: Start) -> Start
     requires x_lt_n { x < n.count }
     requires r_bound { (r < LOADED) × (k ≤ ENTRIES) }
-    requires turning { Turning (loaded_words w.now) n.count k e w.now c r at }
-    ensures { Ordered (loaded_words w.now) n.count w.now x result }
+    requires turning { Turning (loaded_words w.now) n.count k e w.now c r (link_code at) }
+    ensures { Ordered (loaded_words w.now) n.count w.now x (link_code result) }
 {
-    if at == 0 {
-        return 0;
+    if let Start::Unordered = at {
+        return Start::Unordered;
     }
     let d = find(w, n, x);
     if d == c {
         if e <= k + 3 {
-            return NEXT + r;
+            return Start::After(r);
         }
     }
     afresh(w, e, n, x)
@@ -87,25 +92,28 @@ fn follow(w: &mut Area, k: usize, t: usize, y: u32) -> usize
     put(w, k, NEXT + t, y)
 }
 
-// The arc t goes onto a chain at the link l. The link to go on from is that after t, or 0 where `at` is.
-fn hang(w: &mut Area, k: usize, t: usize, l: usize, at: usize) -> Came
+// The arc t goes onto a chain at the link l. The next arc is looked for after t, where the chain is known to rise.
+fn hang(w: &mut Area, k: usize, t: usize, l: usize, at: Start) -> Came
     requires l_bound { (l < LOG) × (t < TARGETS) }
     requires logged { Logged k w.old × (k + 2 ≤ ENTRIES) }
     requires t_value { get_or w.old (NEXT + t) 0 ≡ 0 }
-    ensures { Hung k w.old t l at result.k result.at w.new }
+    ensures { Hung k w.old t l (link_code at) result.k (link_code result.at) w.new }
 {
     let y = w[l];
     let e = follow(w, k, t, y);
     let d = put(w, e, l, (t + 1) as u32);
-    let a = if at == 0 { 0 } else { NEXT + t };
-    Came { k: d, at: a }
+    let at = match at {
+        Start::Unordered => Start::Unordered,
+        _ => Start::After(t),
+    };
+    Came { k: d, at }
 }
 
 // The arc t of the node x: it goes onto the chain of its class, or its target joins that of the arc there with its feature.
-fn visit(w: &mut Area, k: usize, n: Nodes, x: usize, t: usize, at: usize) -> Result<Came, Clash>
+fn visit(w: &mut Area, k: usize, n: Nodes, x: usize, t: usize, at: Start) -> Result<Came, Clash>
     requires x_lt_n { (x < n.count) × (t < TARGETS) }
     requires coming { Coming (loaded_words w.old) (targets w.old) n.count k w.old x t }
-    requires ordered { Ordered (loaded_words w.old) n.count w.old x at }
+    requires ordered { Ordered (loaded_words w.old) n.count w.old x (link_code at) }
     ensures { VisitedInOrder (loaded_words w.old) (targets w.old) n.count k w.old x t (log_after result)
         (link_after result) (clashes result) w.new }
 {

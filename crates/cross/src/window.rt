@@ -6,6 +6,7 @@ use std::io::Read;
 use streams::read_full;
 
 // They stand from `start` up to `end`; `over` says that no more will come.
+// A flag: both positions hold whether more come or not, so an enum's two cases would have the same fields.
 #[derive(Clone, Copy)]
 pub struct Window {
     pub start: usize,

@@ -29,6 +29,7 @@ impl Program for Explain {
     }
 }
 
+// The mains of meet, explain, formula and report stay alike: each names its own rooms and answer, and that is all it has.
 fn main(rt: HostRuntime) -> io::Result<()> {
     let mut text = area::<TEXT_ROOM>();
     let mut out = area::<OUT_ROOM>();

@@ -194,6 +194,7 @@ fn turn<R: Read>(input: &mut R, counts: &mut [u32]) -> io::Result<bool> {
 }
 
 // Runs all vectors.
+// replay_reading has the same six lines over its own `turn`: a closure that lends the counts would be longer.
 fn all<R: Read>(input: &mut R, counts: &mut [u32]) -> io::Result<()> {
     for _ in 0..MOST_TURNS {
         if !turn(input, counts)? {

@@ -8,7 +8,7 @@ use lib.ListN.{get_or}
 use Rattle.area.specs.Region.{loaded_words}
 use Rattle.area.specs.Map.{NEXT}
 use Rattle.forest.specs.State.{targets, Looked, withPair, Equal}
-use Rattle.forest.specs.Outcome.{arc_code}
+use Rattle.forest.specs.Outcome.{arc_code, link_code}
 use Rattle.forest.specs.Order.{Located, Hint, Ordered}
 use Rattle.forest.proofs.Contents.{told_bears, told_bare}
 use Rattle.forest.proofs.Words.{words_later}
@@ -46,15 +46,15 @@ locate-place-requires c =
 pub returns-in_default : goal.returns-in_default
 returns-in_default c =
     let chained : ChainCode (get_or c.args.w.now c.find-c.result 0) = told_bare _ _ _ c.bears_atom.ensures c.if-bears_atom.false in
-    let hint : 0 < c.args.at → Hint (loaded_words c.args.w.now) c.args.w.now c.find-c.result c.args.at = λ z. c.requires.ordered.hint z c.find-c.result c.find-c.ensures in
+    let hint : 0 < link_code c.args.at → Hint (loaded_words c.args.w.now) c.args.w.now c.find-c.result (link_code c.args.at) = λ z. c.requires.ordered.hint z c.find-c.result c.find-c.ensures in
     let located : Located (loaded_words c.args.w.now) c.args.w.now (get_or (loaded_words c.args.w.now) c.args.t 0) c.find-c.result c.locate-place.result.link 0 =
     subst (Located (loaded_words c.args.w.now) c.args.w.now (get_or (loaded_words c.args.w.now) c.args.t 0) c.find-c.result c.locate-place.result.link) (ap arc_code c.in_default.is)
     (subst (λ (f : ℕ). Located (loaded_words c.args.w.now) c.args.w.now f c.find-c.result c.locate-place.result.link (arc_code c.locate-place.result.arc)) c.loaded-f.ensures c.locate-place.ensures) in
-    let hung : Hung c.args.k c.args.w.now c.args.t c.locate-place.result.link c.args.at c.hang.result.k c.hang.result.at c.hang.new.w = c.hang.ensures in
+    let hung : Hung c.args.k c.args.w.now c.args.t c.locate-place.result.link (link_code c.args.at) c.hang.result.k (link_code c.hang.result.at) c.hang.new.w = c.hang.ensures in
     let two_more : c.args.k + 2 ≤ 4096 = let g = c.requires.coming in omega (arith, g.fresh.room, g.state.room) in
     let visited_hung = visit_hung (loaded_words c.args.w.now) (targets c.args.w.now) c.args.n.count c.args.k c.args.w.now c.args.n.in_area (omega arith) c.args.x c.requires.x_lt_n.0 _ c.find-c.ensures
     c.args.t (omega arith) chained _ _ hint located _ refl two_more _ _ _ _ hung.before hung.after in
-    let ordered_hung : 0 < c.args.at → Ordered (loaded_words c.args.w.now) c.args.n.count c.hang.new.w c.args.x (NEXT + c.args.t) =
+    let ordered_hung : 0 < link_code c.args.at → Ordered (loaded_words c.args.w.now) c.args.n.count c.hang.new.w c.args.x (NEXT + c.args.t) =
     let g = c.requires.coming in
     hung_ordered _ _ _ _ _ c.args.n.in_area (omega arith) _ c.requires.x_lt_n.0 _ c.find-c.ensures _ (omega arith) chained _ _ hint
     located _ refl two_more _ _ _ _ hung.before hung.after g.G g.H g.state g.fresh in
@@ -112,7 +112,7 @@ returns-in_err-e c =
 pub onward-a-requires : goal.onward-a-requires
 onward-a-requires c =
     let chained : ChainCode (get_or c.args.w.now c.find-c.result 0) = told_bare _ _ _ c.bears_atom.ensures c.if-bears_atom.false in
-    let hint : 0 < c.args.at → Hint (loaded_words c.args.w.now) c.args.w.now c.find-c.result c.args.at = λ z. c.requires.ordered.hint z c.find-c.result c.find-c.ensures in
+    let hint : 0 < link_code c.args.at → Hint (loaded_words c.args.w.now) c.args.w.now c.find-c.result (link_code c.args.at) = λ z. c.requires.ordered.hint z c.find-c.result c.find-c.ensures in
     let looked : Looked (loaded_words c.args.w.now) c.args.w.now (get_or (loaded_words c.args.w.now) c.args.t 0) (get_or c.args.w.now c.find-c.result 0) (suc c.in-Some.r) =
     subst (Looked (loaded_words c.args.w.now) c.args.w.now (get_or (loaded_words c.args.w.now) c.args.t 0) (get_or c.args.w.now c.find-c.result 0)) (ap arc_code c.in-Some.is)
     (rw c.loaded-f.ensures at c.locate-place.ensures.looked) in

@@ -1,11 +1,10 @@
 -- `forest::settle::step` meets its contract. Assumes nothing.
 use Prim.Native.Nat.{ℕ, suc, ◌-◌, ◌<◌}
-use mathlib.Core.Path.{◌≡◌, refl, subst}
+use mathlib.Core.Path.{refl, subst}
 use native.Mathlib.Omega.{arith}
 use lib.ListN.{get_or}
 use Rattle.area.specs.Region.{loaded_words}
 use Rattle.forest.specs.State.{targets, Looked}
-use Rattle.forest.proofs.Walks.{some}
 use Rattle.forest.proofs.Turns.{after_runs, arc_pos, arc_low, arc_target, match_target, turned_miss, turned_hit}
 use borrow.Author.Rules.{rules}
 use Rattle.forest.proofs.settle.step.Goals as goal
