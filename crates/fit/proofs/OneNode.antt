@@ -11,7 +11,7 @@ use Rattle.theory.specs.Limits.{code_limit}
 use Rattle.theory.specs.Net.{atom, Graph, nodeAt, arcsOf, met}
 use Rattle.theory.proofs.Number.{TestLt, less, geq, test_lt}
 use Rattle.theory.proofs.Fit.{numbered_rising}
-use Rattle.fit.specs.Parts.{node_limit, arcs_in, after_node, arcsOfWords, lastArcs, nodeFrom, graphIn}
+use Rattle.fit.specs.Parts.{arcs_in, after_node, arcsOfWords, lastArcs, nodeFrom, graphIn}
 use Rattle.fit.specs.Sending.{SentArcs, Sent, SentHere, Agrees, NoMap, Sends, ArcsAsked, NodeAsked, Walks, Noted}
 use Rattle.std.specs.Prelude.{Option, Some, None}
 use Rattle.graphs.specs.Graph.{went}

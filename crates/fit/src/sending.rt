@@ -11,6 +11,14 @@ use limits::{CODE_LIMIT, wide};
 // A graph in an input has at most so many nodes: each but the root has an arc to it, so it takes three words.
 pub const NODE_LIMIT: usize = 342;
 
+// A structure's words, and where each of its nodes stands. That they do is `Noted` in the contracts: no ghost field stands beside a
+// reference.
+#[derive(Clone, Copy)]
+pub struct Structure<'a> {
+    pub words: &'a [u32],
+    pub places: &'a [u32; NODE_LIMIT],
+}
+
 // The target of the arc of a feature, and how many arcs come after that one.
 #[derive(Clone, Copy)]
 pub struct Found {
@@ -95,21 +103,20 @@ fn send_arcs(
 // Sends node i to the structure node that it is given: its atom, or its arcs.
 fn send_node(
     map: &mut [u32; NODE_LIMIT],
-    place: &[u32; NODE_LIMIT],
-    structure: &[u32],
+    structure: Structure,
     ws: &[u32],
     p: usize,
     i: u32,
     met: u32,
 ) -> Option<Walk>
-    requires noted { Noted structure.now place.now }
-    requires node_asked { NodeAsked structure.now ws.now p i map.old met }
-    ensures { Walks (graphIn structure.now 0) ws.now p i map.old met map.new result }
+    requires noted { Noted structure.words.now structure.places.now }
+    requires node_asked { NodeAsked structure.words.now ws.now p i map.old met }
+    ensures { Walks (graphIn structure.entry.words.now 0) ws.now p i map.old met map.new result }
 {
     let head = ws[p];
     let given = map[wide(i)];
-    let there = wide(place[wide(given)]);
-    let other = structure[there];
+    let there = wide(structure.places[wide(given)]);
+    let other = structure.words[there];
     if CODE_LIMIT <= head {
         if head == other {
             return Some(Walk { next: p + 1, met });
@@ -118,7 +125,7 @@ fn send_node(
     }
     let ahead = arcs_in(other);
     let end = there + 1 + 2 * wide(ahead);
-    let reached = send_arcs(map, structure, end, ahead, ws, p + 1, head, met)?;
+    let reached = send_arcs(map, structure.words, end, ahead, ws, p + 1, head, met)?;
     Some(Walk {
         next: p + 1 + 2 * wide(head),
         met: reached,
@@ -128,19 +135,18 @@ fn send_node(
 // Sends all nodes of a graph of so many nodes, where the root has its structure node: the position after them.
 pub fn send_nodes(
     map: &mut [u32; NODE_LIMIT],
-    place: &[u32; NODE_LIMIT],
-    structure: &[u32],
+    structure: Structure,
     ws: &[u32],
     p: usize,
     nodes: u32,
 ) -> Option<usize>
-    requires noted { Noted structure.now place.now }
-    requires nodes_asked { NodesAsked structure.now ws.now p nodes map.old }
-    ensures { SentNodes (graphIn structure.now 0) ws.now p nodes map.old result }
+    requires noted { Noted structure.words.now structure.places.now }
+    requires nodes_asked { NodesAsked structure.words.now ws.now p nodes map.old }
+    ensures { SentNodes (graphIn structure.entry.words.now 0) ws.now p nodes map.old result }
 {
     let mut walk = Walk { next: p, met: 1 };
     for i in 0..nodes {
-        walk = send_node(map, place, structure, ws, walk.next, i, walk.met)?;
+        walk = send_node(map, structure, ws, walk.next, i, walk.met)?;
     }
     Some(walk.next)
 }

@@ -4,45 +4,43 @@ ghost use Rattle.fit.specs.Sending.{Noted};
 ghost use Rattle.fit.specs.Testing.{graph_subject, disjunction_subject, description_subject, Testable, Answers, Skips, Tested};
 ghost use Rattle.fit.specs.Testing.{TestAsked};
 
-use crate::sending::{NODE_LIMIT, note, send_nodes};
+use crate::sending::{NODE_LIMIT, Structure, note, send_nodes};
 use layout::skipping::skip_description;
 use limits::DEPTH_LIMIT;
 
 // Tests a graph, whose root goes to the structure's: the position after it, or none where it does not fit.
 fn test_graph(
     map: &mut [u32; NODE_LIMIT],
-    place: &[u32; NODE_LIMIT],
-    structure: &[u32],
+    structure: Structure,
     ws: &[u32],
     p: usize,
 ) -> Option<usize>
-    requires noted { Noted structure.now place.now }
-    requires testable { Testable (graph_subject (graphIn structure.now 0)) ws.now p }
-    ensures { Answers (graph_subject (graphIn structure.now 0)) ws.now p result }
+    requires noted { Noted structure.words.now structure.places.now }
+    requires testable { Testable (graph_subject (graphIn structure.words.now 0)) ws.now p }
+    ensures { Answers (graph_subject (graphIn structure.entry.words.now 0)) ws.now p result }
 {
     let nodes = ws[p];
     map[0] = 0;
-    send_nodes(map, place, structure, ws, p + 1, nodes)
+    send_nodes(map, structure, ws, p + 1, nodes)
 }
 
 // Tests a description whose alternatives nest at most `left` deep, its graph and each disjunction: the position after it, or none.
 #[cycle(test_description_test_disjunction)]
 fn test_description(
     map: &mut [u32; NODE_LIMIT],
-    place: &[u32; NODE_LIMIT],
-    structure: &[u32],
+    structure: Structure,
     ws: &[u32],
     p: usize,
     left: u32,
 ) -> Option<usize>
-    requires noted { Noted structure.now place.now }
-    requires testable { Testable (description_subject (graphIn structure.now 0) left) ws.now p }
-    ensures { Answers (description_subject (graphIn structure.now 0) left) ws.now p result }
+    requires noted { Noted structure.words.now structure.places.now }
+    requires testable { Testable (description_subject (graphIn structure.words.now 0) left) ws.now p }
+    ensures { Answers (description_subject (graphIn structure.entry.words.now 0) left) ws.now p result }
 {
-    let q = test_graph(map, place, structure, ws, p)?;
+    let q = test_graph(map, structure, ws, p)?;
     let mut at = q + 1;
     for _ in 0..ws[q] {
-        at = test_disjunction(map, place, structure, ws, at, left)?;
+        at = test_disjunction(map, structure, ws, at, left)?;
     }
     Some(at)
 }
@@ -51,19 +49,18 @@ fn test_description(
 #[cycle(test_description_test_disjunction)]
 fn test_disjunction(
     map: &mut [u32; NODE_LIMIT],
-    place: &[u32; NODE_LIMIT],
-    structure: &[u32],
+    structure: Structure,
     ws: &[u32],
     p: usize,
     left: u32,
 ) -> Option<usize>
-    requires noted { Noted structure.now place.now }
-    requires testable { Testable (disjunction_subject (graphIn structure.now 0) left) ws.now p }
-    ensures { Answers (disjunction_subject (graphIn structure.now 0) left) ws.now p result }
+    requires noted { Noted structure.words.now structure.places.now }
+    requires testable { Testable (disjunction_subject (graphIn structure.words.now 0) left) ws.now p }
+    ensures { Answers (disjunction_subject (graphIn structure.entry.words.now 0) left) ws.now p result }
 {
     let mut at = p + 1;
     for others in (0..ws[p]).rev() {
-        if let Some(next) = test_description(map, place, structure, ws, at, left - 1) {
+        if let Some(next) = test_description(map, structure, ws, at, left - 1) {
             return Some(skip_alternatives(ws, next, others));
         }
         at = skip_description(ws, at);
@@ -87,8 +84,12 @@ pub fn satisfied(structure: &[u32], description: &[u32]) -> bool
     requires { TestAsked structure.now description.now }
     ensures { Tested structure.now description.now result }
 {
-    let mut place = [0; NODE_LIMIT];
-    note(&mut place, structure);
+    let mut places = [0; NODE_LIMIT];
+    note(&mut places, structure);
+    let noted = Structure {
+        words: structure,
+        places: &places,
+    };
     let mut map = [0; NODE_LIMIT];
-    test_description(&mut map, &place, structure, description, 0, DEPTH_LIMIT).is_some()
+    test_description(&mut map, noted, description, 0, DEPTH_LIMIT).is_some()
 }

@@ -5,8 +5,7 @@ use native.Mathlib.Omega.{arith}
 use mathlib.Core.Path.{◌≡◌, refl, ap, ◌∙◌}
 use mathlib.Core.Bool.{Bool, true, false}
 use mathlib.Core.List.{List}
-use lib.ListN.{length, take}
-use lib.Seq.{length-take-le}
+use lib.ListN.{length}
 use lib.Dec.{eqb, leb}
 use borrow.Author.Tests.{eqb-true, eqb-false, leb-true}
 use Rattle.blocks.specs.Block.{whichever, pair_at, intact, block_of}
@@ -75,7 +74,7 @@ goes f count e =
 
 -- block 0 is there, and counts few entries
 pub record Opens (f : List ℕ) (count : ℕ) : Type 0 where
-  pub size : length (take 512 f) ≡ 512
+  pub long : 512 ≤ length f
   pub few : count ≤ 60
 
 pub opens : (f : List ℕ) (count : ℕ) → Ok count ≡ index_of f → Opens f count
@@ -83,7 +82,7 @@ opens f count e =
     let o = goes f count e in
     let even = o.even in
     let some = o.some in
-    record { size = length-take-le 512 f (omega arith); few = o.few }
+    record { long = omega arith; few = o.few }
 
 -- the first entry, and those after it
 pub after_entry : (c low next p : ℕ) (b : List ℕ) (total : ℕ) → index_good (suc c) low next p b total ≡ true

@@ -1,5 +1,5 @@
 // The start of a library: its length, block 0 and the index in it.
-ghost use Rattle.std.specs.Prelude.{◌≡◌, ◌+◌, ◌*◌, ◌<◌, ◌≤◌, length};
+ghost use Rattle.std.specs.Prelude.{◌≡◌, ◌+◌, ◌*◌, ◌<◌, ◌≤◌};
 ghost use Rattle.library.specs.Index.{room_of, first_part, used_by, entry_good, index_good, found, start_of, index_of};
 ghost use Rattle.library.specs.Told.{index_number};
 
@@ -81,8 +81,8 @@ pub(crate) fn entry_at(i: usize) -> usize
 
 // Whether the entry at that byte breaks no rule, where identifiers from `low` on may stand and block `next` comes next.
 #[tactic(auto, unfolding(crate::specs::Index::entry_good))]
-fn is_entry_good(start: &[u8], at: usize, low: usize, next: usize) -> bool
-    requires { (length start.now ≡ 512) × (at < 500) }
+fn is_entry_good(start: &[u8; BLOCK], at: usize, low: usize, next: usize) -> bool
+    requires { at < 500 }
     ensures { result ≡ entry_good low next at start.now }
 {
     let words = read_pair(start, at + 4);
@@ -94,8 +94,8 @@ fn is_entry_good(start: &[u8], at: usize, low: usize, next: usize) -> bool
 }
 
 // Whether the index breaks no rule.
-fn is_index_good(start: &[u8], count: usize, total: usize) -> bool
-    requires { (length start.now ≡ 512) × (count ≤ 60) }
+fn is_index_good(start: &[u8; BLOCK], count: usize, total: usize) -> bool
+    requires { count ≤ 60 }
     ensures { result ≡ index_good count 0 1 2 start.now total }
 {
     let mut low = 0;
@@ -113,8 +113,7 @@ fn is_index_good(start: &[u8], count: usize, total: usize) -> bool
 
 // Judges block 0 of a library of so many blocks: how many entries its index has.
 #[tactic(auto, unfolding(crate::specs::Index::start_of))]
-fn judge_start(start: &[u8], total: usize) -> Result<usize, IndexError>
-    requires { length start.now ≡ 512 }
+fn judge_start(start: &[u8; BLOCK], total: usize) -> Result<usize, IndexError>
     ensures { result ≡ start_of start.now total }
 {
     let count = read_pair(start, 0);
@@ -138,15 +137,15 @@ pub fn judge_index(file: &[u8]) -> Result<usize, IndexError>
     if file.len() % BLOCK != 0 {
         return Err(IndexError::BadLength);
     }
-    if file.is_empty() {
+    let Some(start) = file.first_chunk::<BLOCK>() else {
         return Err(IndexError::BadLength);
-    }
-    judge_start(&file[..BLOCK], file.len() / BLOCK)
+    };
+    judge_start(start, file.len() / BLOCK)
 }
 
 // Looks an identifier up among the entries.
-pub(crate) fn find(start: &[u8], count: usize, identifier: usize) -> Option<Place>
-    requires { (length start.now ≡ 512) × (count ≤ 60) }
+pub(crate) fn find(start: &[u8; BLOCK], count: usize, identifier: usize) -> Option<Place>
+    requires { count ≤ 60 }
     ensures { result ≡ found identifier count 2 start.now }
 {
     for i in 0..count {

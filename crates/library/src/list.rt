@@ -26,8 +26,8 @@ impl From<IndexError> for ListError {
 }
 
 // Copies entries to dst, two words an entry.
-fn fill_list(dst: &mut [u32], start: &[u8])
-    requires { (length start.now ≡ 512) × (length dst.old ≤ 120) × (length dst.old % 2 ≡ 0) }
+fn fill_list(dst: &mut [u32], start: &[u8; BLOCK])
+    requires { (length dst.old ≤ 120) × (length dst.old % 2 ≡ 0) }
     ensures { dst.new ≡ listing (length dst.old / 2) 2 start.now }
 {
     for i in 0..dst.len() / 2 {
@@ -38,16 +38,18 @@ fn fill_list(dst: &mut [u32], start: &[u8])
 }
 
 // Lists the entries of a library whose index is good.
-#[tactic(auto, unfolding(crate::specs::List::list_answer_of))]
 fn list_entries(file: &[u8], count: usize, area: &mut [u32]) -> Result<usize, ListError>
     requires { Ok count ≡ index_of file.now }
     ensures { ListsEntries count file.now area.old area.new result }
 {
+    let Some(start) = file.first_chunk::<BLOCK>() else {
+        return Err(ListError::Index(IndexError::BadLength));
+    };
     let need = 2 * count;
     if area.len() < need {
         return Err(ListError::NoRoom { need });
     }
-    fill_list(&mut area[..need], &file[..BLOCK]);
+    fill_list(&mut area[..need], start);
     Ok(need)
 }
 

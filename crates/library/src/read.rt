@@ -38,7 +38,8 @@ fn read_word(bytes: &[u8], at: usize) -> u32
     u32::from_le_bytes([bytes[at], bytes[at + 1], bytes[at + 2], bytes[at + 3]])
 }
 
-// Whether all blocks of a description of so many words are intact, from block `first` on.
+// Whether all blocks of a description of so many words are intact, from block `first` on. That they stand within the file is a clause,
+// here and below: it speaks of the file's length, and no ghost field stands beside a reference.
 fn is_whole(file: &[u8], first: usize, words: usize) -> bool
     requires { StandsWithin first words file.now }
     ensures { result ≡ whole_blocks (room_of words) first words file.now }
@@ -93,7 +94,6 @@ fn read_description(
 }
 
 // Reads the description of an identifier in a library whose index is good.
-#[tactic(auto, unfolding(crate::specs::Read::fetch_answer_found, crate::specs::Read::words_found))]
 fn read_indexed(
     file: &[u8],
     count: usize,
@@ -104,7 +104,10 @@ fn read_indexed(
     ensures { FetchesFound (sought identifier count file.now) file.now area.old
         area.new result }
 {
-    let Some(place) = find(&file[..BLOCK], count, identifier) else {
+    let Some(start) = file.first_chunk::<BLOCK>() else {
+        return Err(ReadError::Index(IndexError::BadLength));
+    };
+    let Some(place) = find(start, count, identifier) else {
         return Err(ReadError::Absent);
     };
     read_description(file, place.first, place.words, area)

@@ -1,5 +1,5 @@
 // Checking a library block by block: whether a block is damaged, and which description that costs.
-ghost use Rattle.std.specs.Prelude.{◌≡◌, ◌<◌, ◌≤◌, length, Ok};
+ghost use Rattle.std.specs.Prelude.{◌≡◌, ◌<◌, ◌≤◌, Ok};
 ghost use Rattle.library.specs.declared.survey.CheckError.TheVariants.{Index};
 ghost use Rattle.library.specs.Index.{index_of};
 ghost use Rattle.library.specs.Check.{block_among, holder_of, held_checked, block_checked};
@@ -39,8 +39,8 @@ fn has_block(first: usize, words: usize, k: usize) -> bool
 }
 
 // Looks up among the entries to which description block k belongs.
-fn find_holder(start: &[u8], count: usize, k: usize) -> Option<Holder>
-    requires { (length start.now ≡ 512) × (count ≤ 60) }
+fn find_holder(start: &[u8; BLOCK], count: usize, k: usize) -> Option<Holder>
+    requires { count ≤ 60 }
     ensures { result ≡ holder_of k count 2 start.now }
 {
     for i in 0..count {
@@ -57,7 +57,7 @@ fn find_holder(start: &[u8], count: usize, k: usize) -> Option<Holder>
 }
 
 // Checks block k of a library whose index is good.
-#[tactic(auto, unfolding(crate::specs::Check::held_checked, crate::specs::Check::checked_in))]
+#[tactic(auto, unfolding(crate::specs::Check::held_checked))]
 fn check_held(file: &[u8], count: usize, k: usize) -> Result<Option<usize>, CheckError>
     requires { Ok count ≡ index_of file.now }
     ensures { result ≡ held_checked k count file.now }
@@ -65,7 +65,10 @@ fn check_held(file: &[u8], count: usize, k: usize) -> Result<Option<usize>, Chec
     if k == 0 {
         return Ok(None);
     }
-    let Some(holder) = find_holder(&file[..BLOCK], count, k) else {
+    let Some(start) = file.first_chunk::<BLOCK>() else {
+        return Err(CheckError::Index(IndexError::BadLength));
+    };
+    let Some(holder) = find_holder(start, count, k) else {
         return Err(CheckError::NoBlock);
     };
     if is_damaged(file, k, holder.used) {

@@ -135,12 +135,11 @@ more_blocks : (c k : ℕ) (ws : List ℕ)
 unfolding description_blocks
 more_blocks c k ws = refl
 
-pub one_block : (out x y ws : List ℕ) (k here : ℕ) → here ≡ first_part (length ws) → 0 < here → length x ≡ 512
+pub one_block : (x y ws : List ℕ) (k here : ℕ) → here ≡ first_part (length ws) → 0 < here
     → x ≡ block (filled (word_bytes (take here ws))) k
     → y ≡ description_blocks (room_of (length (tail_of here ws))) (k + 1) (tail_of here ws)
-    → take 512 (x ++ drop 512 out) ++ (y ++ drop (length (x ++ drop 512 out) - 512) (drop 512 (x ++ drop 512 out)))
-    ≡ description_blocks (room_of (length ws)) k ws
-one_block out x y ws k here e h size first others =
+    → x ++ y ≡ description_blocks (room_of (length ws)) k ws
+one_block x y ws k here e h first others =
     let n = length ws in
     let left : length (tail_of here ws) ≡ n - first_part n = tail_length here ws ∙ ap (λ (j : ℕ). n - j) e in
     let head : take here ws ≡ take 126 ws = ap (λ (j : ℕ). take j ws) e ∙ part_take ws in
@@ -150,7 +149,7 @@ one_block out x y ws k here e h size first others =
     others ∙ ap (λ (j : ℕ). description_blocks (room_of j) (k + 1) (tail_of here ws)) left ∙ ap (description_blocks c (k + 1)) rest in
     let x_is : x ≡ block (filled (word_bytes (take 126 ws))) k = first ∙ ap (λ (l : List ℕ). block (filled (word_bytes l)) k) head in
     let some : 0 < n = omega arith in
-    both_parts out x y 512 size ∙ ap (λ (l : List ℕ). l ++ y) x_is
+    ap (λ (l : List ℕ). l ++ y) x_is
     ∙ ap (λ (l : List ℕ). block (filled (word_bytes (take 126 ws))) k ++ l) y_is
     ∙ sym (ap (λ (j : ℕ). description_blocks j k ws) (room_first n some) ∙ more_blocks c k ws)
 

@@ -27,8 +27,8 @@ fn put_words(bytes: &mut [u8], words: &[u32])
 }
 
 // Makes the block of that number, which holds some words.
-fn write_block(bytes: &mut [u8], number: usize, words: &[u32])
-    requires { (length bytes.old ≡ 512) × (length words.now ≤ 126) }
+fn write_block(bytes: &mut [u8; BLOCK], number: usize, words: &[u32])
+    requires { length words.now ≤ 126 }
     ensures { bytes.new ≡ block (filled (word_bytes words.now)) number }
 {
     put_words(bytes, words);
@@ -40,9 +40,9 @@ pub(crate) fn write_description(out: &mut [u8], first: usize, words: &[u32])
     requires { (length out.old ≡ 512 * room_of (length words.now)) × (first + room_of (length words.now) ≤ 65536) }
     ensures { out.new ≡ description_blocks (room_of (length words.now)) first words.now }
 {
-    let here = first_part(words.len());
-    if 0 < here {
-        write_block(&mut out[..BLOCK], first, &words[..here]);
-        write_description(&mut out[BLOCK..], first + 1, &words[here..]);
+    if let Some((block, rest)) = out.split_first_chunk_mut::<BLOCK>() {
+        let here = first_part(words.len());
+        write_block(block, first, &words[..here]);
+        write_description(rest, first + 1, &words[here..]);
     }
 }

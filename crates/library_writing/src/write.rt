@@ -59,8 +59,8 @@ fn write_index(start: &mut [u8], at: usize, next: usize, entries: &[u32])
 }
 
 // Makes block 0.
-fn write_start(start: &mut [u8], entries: &[u32])
-    requires { InReach 1 entries.now × (length entries.now ≤ 120) × (length start.old ≡ 512) }
+fn write_start(start: &mut [u8; BLOCK], entries: &[u32])
+    requires { InReach 1 entries.now × (length entries.now ≤ 120) }
     ensures { start.new ≡
         block (filled (pair (length entries.now / 2) ++ index_asked 1 entries.now)) 0 }
 {
@@ -95,8 +95,10 @@ fn write_file(out: &mut [u8], entries: &[u32], words: &[u32])
         × (length out.old ≡ 512 * (1 + blocks_asked entries.now)) }
     ensures { out.new ≡ file (split entries.now words.now) }
 {
-    write_start(&mut out[..BLOCK], entries);
-    write_bodies(&mut out[BLOCK..], 1, entries, words);
+    if let Some((start, rest)) = out.split_first_chunk_mut::<BLOCK>() {
+        write_start(start, entries);
+        write_bodies(rest, 1, entries, words);
+    }
 }
 
 // Writes a library of the entries, whose descriptions follow each other in `words`, to the start of the file. So many bytes are

@@ -14,10 +14,10 @@ decreases-test_disjunction l = 2 * l.left
 
 abbrev pub invariant-test_description-loop : goal.invariant-test_description-loop
 invariant-test_description-loop l =
-    Left l.ws (description_subject (graphIn l.structure 0) l.left) l.p
-    (its_disjunctions (graphIn l.structure 0) l.left (l.end - l.counter)) l.at
+    Left l.ws (description_subject (graphIn l.structure.words.now 0) l.left) l.p
+    (its_disjunctions (graphIn l.structure.words.now 0) l.left (l.end - l.counter)) l.at
 
 abbrev pub invariant-test_disjunction-loop-others : goal.invariant-test_disjunction-loop-others
 invariant-test_disjunction-loop-others l =
-    Left l.ws (disjunction_subject (graphIn l.structure 0) l.left) l.p
-    (its_alternatives (graphIn l.structure 0) (l.left - 1) l.others) l.at
+    Left l.ws (disjunction_subject (graphIn l.structure.words.now 0) l.left) l.p
+    (its_alternatives (graphIn l.structure.words.now 0) (l.left - 1) l.others) l.at

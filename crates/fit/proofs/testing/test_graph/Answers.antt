@@ -8,13 +8,13 @@ use Rattle.fit.proofs.Things.{graph_there, graph_sends, graph_says}
 use Rattle.fit.proofs.testing.test_graph.Goals as goal
 
 pub offset_bounds-ws-p : goal.offset_bounds-ws-p
-offset_bounds-ws-p c = omega (arith, graph_there _ (graphIn c.args.structure.now 0) _ c.requires.testable)
+offset_bounds-ws-p c = omega (arith, graph_there _ (graphIn c.args.structure.words.now 0) _ c.requires.testable)
 
 pub bounds-ws-p : goal.bounds-ws-p
-bounds-ws-p c = omega (arith, graph_there _ (graphIn c.args.structure.now 0) _ c.requires.testable)
+bounds-ws-p c = omega (arith, graph_there _ (graphIn c.args.structure.words.now 0) _ c.requires.testable)
 
 pub overflow_add-p : goal.overflow_add-p
-overflow_add-p c = omega (arith, graph_there _ (graphIn c.args.structure.now 0) _ c.requires.testable)
+overflow_add-p c = omega (arith, graph_there _ (graphIn c.args.structure.words.now 0) _ c.requires.testable)
 
 pub send_nodes-requires-clause-nodes_asked : goal.send_nodes-requires-clause-nodes_asked
 send_nodes-requires-clause-nodes_asked c =

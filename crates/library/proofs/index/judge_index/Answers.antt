@@ -1,18 +1,10 @@
 -- `library::index::judge_index` meets its contract.
 -- Assumes nothing.
-use native.Mathlib.Omega.{arith}
-use mathlib.Core.Path.{sym}
-use lib.Seq.{length-take-le}
-use borrow.Author.Tests.{eqb-false}
-use lib.ListN.{length}
+use mathlib.Core.Path.{◌∙◌}
+use Rattle.library.proofs.Opening.{starts}
 use Rattle.library.proofs.index.judge_index.Goals as goal
 
-pub slice_bounds-judge_start-end : goal.slice_bounds-judge_start-end
-slice_bounds-judge_start-end c =
-    let some = eqb-false (length c.args.file.now) 0 (sym c.if-is_empty.ensures) in
-    sym (length-take-le 512 c.args.file.now (omega arith))
-
-pub judge_start-requires : goal.judge_start-requires
-judge_start-requires c =
-    let some = eqb-false (length c.args.file.now) 0 (sym c.if-is_empty.ensures) in
-    length-take-le 512 c.args.file.now (omega arith)
+pub returns : goal.returns
+returns c =
+    let first = c.in-Some.ensures.cases in
+    c.judge_start.ensures ∙ starts c.args.file.now _ first.same c.if-file-ne0.false first.enough
