@@ -34,7 +34,7 @@ fn digit_byte(d: u64) -> u8
     b'0' + d as u8
 }
 
-// Writes a number in decimal: what stands before its last digit, and that digit. By hand, since the contract says which bytes these are.
+// Writes a number in decimal: what stands before its last digit, and that digit.
 fn put_decimal(dst: &mut [u8], at: usize, value: u64) -> Option<usize>
     ensures { Appends (decimal value) dst.old at dst.new result }
 {

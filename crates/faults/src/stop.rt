@@ -6,7 +6,7 @@ use crate::nesting::{Expected, expected_after, nothing_open};
 use roles::cause::Cause;
 use roles::role::{Role, breaks};
 
-// The role of a word and its place, and the cause that the word breaks; none at the end.
+// The role of a word and its place, and why it breaks a rule; none at the end.
 #[derive(Clone, Copy)]
 pub struct Stop {
     pub role: Role,

@@ -7,7 +7,7 @@ ghost use Rattle.folding.specs.Buffer.{PutsBefore};
 use limits::INPUT_LIMIT;
 
 // Writes x before the last `len` words. Where it does not fit, only that is told.
-// One above the limit is a count, and no refusal: what does not fit is counted off again where an alternative clashes.
+// One above the limit tells that words do not fit, and is counted off again where an alternative clashes.
 pub fn put(b: &mut [u32], len: usize, x: u32) -> usize
     requires { (length b.old ≡ input_limit) × (len ≤ suc input_limit) }
     ensures { PutsBefore b.old len (x ∷ []) b.new result }

@@ -50,7 +50,7 @@ fn move_home(homes: &mut [u32], x: u32, k: u32)
 }
 
 // Is c an alternative, and of the disjunction that begins with g?
-// Where there is no further alternative the tables have 0, and no Option: their rows are words that the caller lends.
+// Where there is no further alternative the tables have 0: their rows are words still.
 fn beside(alts: &[u32], c: usize, g: u32) -> bool
     requires { 4 * c < length alts.now }
     ensures { Beside alts.now c g result }
@@ -84,7 +84,7 @@ fn close(
                 whole,
             })
         }
-        // words that do not fit are only counted
+        // that words do not fit is told by one above the limit
         Err(Undrawn::Long) => Some(Settled {
             count,
             inner: len,

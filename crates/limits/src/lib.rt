@@ -19,7 +19,7 @@ pub const CHOICE_LIMIT: u32 = 4096;
 pub const CHOICE_STOP: u32 = 4097;
 
 // A word as a position or a length.
-// A function: std has no From<u32> for usize, and `as` would owe at some 200 places that no bit is lost.
+// A function: std has no From<u32> for usize, and `as` would owe at each place that no bit is lost.
 pub fn wide(x: u32) -> usize
     ensures { result ≡ x }
 {

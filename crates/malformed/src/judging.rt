@@ -9,7 +9,7 @@ use faults::verdict::Fault;
 use limits::INPUT_LIMIT;
 use roles::cause::{cause_data, cause_number};
 
-// Three true answers: an input is over 1,024 words; or the first is malformed, or only the second, with the cause and the place of the word that decides.
+// An input is over 1,024 words; or the first is malformed, or only the second, with the cause and the place of the word that decides.
 #[derive(Clone, Copy, Debug, PartialEq, Eq)]
 pub enum Malformed {
     TooLong,

@@ -80,7 +80,7 @@ fn disjunctions_break(depth: u32, count: u32) -> Option<Cause>
     None
 }
 
-// The cause that is broken by a word in its role, if any, where alternatives are open so deep.
+// Why a word breaks the rule of its role, if it does, where alternatives are open so deep.
 pub fn breaks(role: Role, depth: u32, word: u32) -> Option<Cause>
     ensures { (s : Nesting) → length s ≡ depth → broken_of result ≡ breaks (expect (role_of role) s) word }
 {

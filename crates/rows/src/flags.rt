@@ -13,7 +13,7 @@ fn last(flags: &[bool], top: usize) -> bool
 }
 
 // One sign: `)` begins a group, `|` marks it, `(` takes its mark for its number. How many groups have a flag then.
-// `top` stands beside the flags since they are a stack in lent memory: there is no heap.
+// `top` stands beside the flags: they are a stack in an array.
 fn turn(signs: &mut [u32], i: usize, flags: &mut [bool], top: usize) -> usize
     requires i_in_bounds { (i < length signs.old) × (top < length flags.old) }
     requires sign_turning { SignTurning signs.old i flags.old top }

@@ -28,7 +28,7 @@ pub fn number(checked: Result<(), Refusal>) -> u32
 // "at most 64 records"
 const LIMIT: usize = 64;
 
-// Whether a record is fine: of its refusals 31 stands before 32.
+// Refuses a record that is not fine: of its refusals 31 stands before 32.
 pub fn judged(test: Test, space: usize) -> Result<(), Refusal>
     ensures { number_of result ≡ record_fault space test }
 {
@@ -49,7 +49,7 @@ pub fn judged(test: Test, space: usize) -> Result<(), Refusal>
     Ok(())
 }
 
-// Whether a table of n records is not too long.
+// Refuses a table of n records where that is too long.
 pub fn counted(n: usize) -> Result<(), Refusal>
     ensures { number_of result ≡ length_fault n }
 {
@@ -59,7 +59,7 @@ pub fn counted(n: usize) -> Result<(), Refusal>
     Ok(())
 }
 
-// Whether a table over an area of so many words may run: the lowest record that is refused decides.
+// Refuses a table over an area of so many words that may not run: the lowest record that is refused decides.
 pub(crate) fn checked(tests: &[Test], space: usize) -> Result<(), Refusal>
     ensures { number_of result ≡ table_fault space tests.now (length tests.now) }
 {
