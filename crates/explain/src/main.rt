@@ -24,8 +24,8 @@ impl Program for Explain {
     ghost suffices = { λ room. 32768 ≤ room };
 
     // There is always room.
-    fn answer(text: &[u8], out: &mut [u8]) -> usize {
-        explain_text(text, out).unwrap_or(0)
+    fn answer(text: &[u8], out: &mut [u8]) -> Option<usize> {
+        explain_text(text, out)
     }
 }
 

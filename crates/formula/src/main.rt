@@ -23,8 +23,8 @@ impl Program for Formula {
     ghost suffices = { λ room. 16384 ≤ room };
 
     // There is always room.
-    fn answer(text: &[u8], out: &mut [u8]) -> usize {
-        reply(text, out).unwrap_or(0)
+    fn answer(text: &[u8], out: &mut [u8]) -> Option<usize> {
+        reply(text, out)
     }
 }
 

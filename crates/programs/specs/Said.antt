@@ -1,11 +1,16 @@
 -- What a program says, in its area and in its output. Assumes nothing: these are definitions.
-use Rattle.std.specs.Prelude.{ℕ, ◌≤◌, List, length, take, Option}
+use Rattle.std.specs.Prelude.{ℕ, ◌≤◌, List, [], length, take, Option, Some, None}
 use Rattle.std.specs.Io.KnownBytes.{Appends}
 
 -- the first n bytes of the area are something that may be said
 pub record Answered (Says : List ℕ → Type 0) (n : ℕ) (area : List ℕ) : Type 0 where
   pub inside : n ≤ length area
   pub said : Says (take n area)
+
+-- so many bytes of the area are something that may be said; or there is no room, and nothing may be said too
+abbrev pub Answers : (List ℕ → Type 0) → Option ℕ → List ℕ → Type 0
+Answers Says (Some n) area = Answered Says n area
+Answers Says None area = Says []
 
 -- the output grows by something that may be said
 abbrev pub Prints : (List ℕ → Type 0) → Option (List ℕ) → Option (List ℕ) → Type 0

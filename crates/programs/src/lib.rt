@@ -2,7 +2,7 @@
 #![tactic(auto)]
 
 ghost use Rattle.std.specs.Prelude.{◌≡◌, List, ℕ, length, take, IfSome, OnOk};
-ghost use Rattle.programs.specs.Said.{Answered, Prints};
+ghost use Rattle.programs.specs.Said.{Answers, Prints};
 
 use std::io;
 use std::io::{Read, Write};
@@ -16,10 +16,10 @@ pub trait Program {
     // Whether an area of so many bytes is enough.
     ghost suffices: { ℕ → Type 0 };
 
-    // Writes what is said of the text to the start of `out`, and answers how many bytes that is.
-    fn answer(text: &[u8], out: &mut [u8]) -> usize
+    // Writes what is said of the text to the start of `out`, and answers how many bytes that is; or there is no room for it.
+    fn answer(text: &[u8], out: &mut [u8]) -> Option<usize>
         requires { suffices (length out.old) }
-        ensures { Answered (says (length out.old) text.now) result out.new };
+        ensures { Answers (says (length out.old) text.now) result out.new };
 }
 
 // An area of so many zeros.
@@ -29,12 +29,12 @@ pub fn area<const N: usize>() -> [u8; N]
     [0; N]
 }
 
-// Prints what the program says of the text.
+// Prints what the program says of the text; nothing where there is no room for it.
 pub fn print<P: Program, W: Write>(output: &mut W, text: &[u8], out: &mut [u8]) -> io::Result<()>
     requires { P.suffices (length out.old) }
     ensures { OnOk result (Prints (P.says (length out.old) text.now) (W.contents output.old) (W.contents output.new)) }
 {
-    let n = P::answer(text, out);
+    let n = P::answer(text, out).unwrap_or(0);
     output.write_all(&out[..n])
 }
 

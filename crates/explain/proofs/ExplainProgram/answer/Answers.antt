@@ -8,5 +8,5 @@ use Rattle.explain.proofs.ExplainProgram.answer.Goals as goal
 pub returns : goal.returns
 returns c =
     let told = c.explain_text.ensures in
-    rw c.unwrap_or.ensures (answered (ExplainedText (heard c.args.text.now)) _ _ _ _ told.wrote told.explained
+    (answered (ExplainedText (heard c.args.text.now)) _ _ _ _ told.wrote told.explained
     (λ long. absurd (omega (arith, told.small, c.requires, long))))

@@ -8,5 +8,5 @@ use Rattle.formula.proofs.FormulaProgram.answer.Goals as goal
 pub returns : goal.returns
 returns c =
     let replied = c.reply.ensures in
-    rw c.unwrap_or.ensures (answered (Prints c.args.text.now) _ _ _ _ replied.wrote replied.prints
+    (answered (Prints c.args.text.now) _ _ _ _ replied.wrote replied.prints
     (λ long. absurd (omega (arith, prints_small c.args.text.now replied.text replied.prints, c.requires, long))))

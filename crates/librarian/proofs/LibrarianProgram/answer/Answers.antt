@@ -8,5 +8,5 @@ use Rattle.librarian.proofs.LibrarianProgram.answer.Goals as goal
 pub returns : goal.returns
 returns c =
     let byte : (i : ℕ) → get_or c.args.text.now i 0 < 256 = λ i. omega (arith, c.type_inv.text i) in
-    rw c.unwrap_or.ensures (answered (λ said. said ≡ serves c.args.text.now) _ _ _ _ c.serve.ensures refl
+    (answered (λ said. said ≡ serves c.args.text.now) _ _ _ _ c.serve.ensures refl
     (λ long. absurd (omega (arith, serves_small c.args.text.now byte, long))))

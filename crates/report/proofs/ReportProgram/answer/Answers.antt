@@ -7,5 +7,5 @@ use Rattle.report.proofs.ReportProgram.answer.Goals as goal
 pub returns : goal.returns
 returns c =
     let text = suite_printed c.args.text.now in
-    rw c.unwrap_or.ensures (answered (λ said. length text ≤ length c.args.out.now → said ≡ text) _ _ _ _ c.report.ensures
+    (answered (λ said. length text ≤ length c.args.out.now → said ≡ text) _ _ _ _ c.report.ensures
     (λ _. refl) (λ long room. absurd (omega (arith, long, room))))
