@@ -1,6 +1,6 @@
 // Writing bytes, numbers and words one after the other. Each function answers where writing goes on; or nothing, where the text is longer
 // than the slice.
-ghost use Rattle.std.specs.Prelude.{◌≡◌, ◌+◌, ◌<◌, ◌∷◌, [], ◌++◌};
+ghost use Rattle.std.specs.Prelude.{◌≡◌, ◌+◌, ◌<◌, ◌∷◌, [], ◌++◌, drop};
 ghost use Rattle.answer_text.specs.Answer.{decimal, after_spaces, spaced, labelled, newline};
 ghost use Rattle.answer_text.specs.Going.{Appends};
 
@@ -69,8 +69,8 @@ fn put_after_space(dst: &mut [u8], at: usize, word: u32) -> Option<usize>
     put_decimal(dst, next, u64::from(word))
 }
 
-// Writes the words, each after a space.
-pub fn put_after_spaces(dst: &mut [u8], at: usize, words: &[u32]) -> Option<usize>
+// Writes words, each after a space.
+fn put_each_after_space(dst: &mut [u8], at: usize, words: &[u32]) -> Option<usize>
     ensures { Appends (after_spaces words.now) dst.old at dst.new result }
 {
     let mut end = at;
@@ -80,15 +80,22 @@ pub fn put_after_spaces(dst: &mut [u8], at: usize, words: &[u32]) -> Option<usiz
     Some(end)
 }
 
+// Writes the words from the one at `from` on, each after a space; past the end there are none.
+pub fn put_after_spaces(dst: &mut [u8], at: usize, words: &[u32], from: usize) -> Option<usize>
+    ensures { Appends (after_spaces (drop from words.now)) dst.old at dst.new result }
+{
+    put_each_after_space(dst, at, &words[from.min(words.len())..])
+}
+
 // Writes the words parted by single spaces.
 fn put_words(dst: &mut [u8], at: usize, words: &[u32]) -> Option<usize>
     ensures { Appends (spaced words.now) dst.old at dst.new result }
 {
-    let Some((word, others)) = words.split_first() else {
+    let Some(word) = words.first() else {
         return Some(at);
     };
     let next = put_decimal(dst, at, u64::from(*word))?;
-    put_after_spaces(dst, next, others)
+    put_after_spaces(dst, next, words, 1)
 }
 
 // Writes a line of words.

@@ -91,7 +91,7 @@ fn put_row(out: &mut [u8], at: usize, mode: u32, row: &[u32]) -> Option<usize>
 {
     let two = put_labelled(out, at, b"mode ", mode as u64)?;
     let three = put(out, two, b':')?;
-    let four = put_after_spaces(out, three, row)?;
+    let four = put_after_spaces(out, three, row, 0)?;
     put(out, four, b'\n')
 }
 

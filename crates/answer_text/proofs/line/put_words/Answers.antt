@@ -2,22 +2,23 @@
 -- Assumes nothing.
 use native.Mathlib.Omega.{arith}
 use mathlib.Core.List.{◌++◌, append_assoc}
-use Rattle.answer_text.specs.Answer.{after_spaces, spaced}
-use Rattle.answer_text.proofs.Answers.{spaced-none}
+use lib.ListN.{drop}
+use Rattle.answer_text.specs.Answer.{after_spaces}
+use Rattle.answer_text.proofs.Answers.{spaced-some, spaced-none}
 use Rattle.answer_text.proofs.line.put_words.Goals as goal
 
 pub returns-in_default : goal.returns-in_default
 returns-in_default c = λ old whole left g.
-    rw (← spaced-none c.args.words.now (omega (arith, c.in_default.ensures.cases))) at g
+    rw (← spaced-none c.args.words.now (omega (arith, c.in_default.ensures.item))) at g
 
 pub returns-in_err-next : goal.returns-in_err-next
-unfolding spaced
 returns-in_err-next c = λ old whole left g.
-    rw c.from_residual.ensures (c.in_err-next.ensures old whole (after_spaces c.in-Some.others.now ++ left)
-    (rw c.from.ensures (rw (c.in-Some.ensures.cases.0, append_assoc) at g)))
+    let (some, first) = c.in-Some.ensures.item.3 in
+    rw c.from_residual.ensures (c.in_err-next.ensures old whole (after_spaces (drop 1 c.args.words.now) ++ left)
+    (rw c.from.ensures (rw (← spaced-some c.args.words.now some, ← first 0, append_assoc) at g)))
 
 pub returns : goal.returns
-unfolding spaced
 returns c = λ old whole left g.
-    c.put_after_spaces.ensures old whole left (c.in_ok-next.ensures old whole (after_spaces c.in-Some.others.now ++ left)
-    (rw c.from.ensures (rw (c.in-Some.ensures.cases.0, append_assoc) at g)))
+    let (some, first) = c.in-Some.ensures.item.3 in
+    c.put_after_spaces.ensures old whole left (c.in_ok-next.ensures old whole (after_spaces (drop 1 c.args.words.now) ++ left)
+    (rw c.from.ensures (rw (← spaced-some c.args.words.now some, ← first 0, append_assoc) at g)))

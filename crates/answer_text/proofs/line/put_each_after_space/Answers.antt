@@ -1,9 +1,9 @@
--- `answer_text::line::put_after_spaces` meets its contract: what is left of the words goes on as the whole does.
+-- `answer_text::line::put_each_after_space` meets its contract: what is left of the words goes on as the whole does.
 -- Assumes nothing.
 use native.Mathlib.Omega.{arith}
 use mathlib.Core.List.{append_assoc}
 use Rattle.answer_text.proofs.Answers.{spaces-next, spaces_end}
-use Rattle.answer_text.proofs.line.put_after_spaces.Goals as goal
+use Rattle.answer_text.proofs.line.put_each_after_space.Goals as goal
 
 pub returns-in_err-end : goal.returns-in_err-end
 returns-in_err-end c = λ old whole left g.
