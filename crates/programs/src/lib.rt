@@ -1,7 +1,7 @@
 // What the programs have in common: a text is read, answered, and the answer printed.
 #![tactic(auto)]
 
-ghost use Rattle.std.specs.Prelude.{◌≡◌, List, ℕ, length, take, IfSome, OnOk};
+ghost use Rattle.std.specs.Prelude.{◌≡◌, List, ℕ, length, take, replicate, IfSome, OnOk};
 ghost use Rattle.programs.specs.Said.{Answers, Prints};
 
 use std::io;
@@ -16,15 +16,16 @@ pub trait Program {
     // Whether an area of so many bytes is enough.
     ghost suffices: { ℕ → Type 0 };
 
-    // Writes what is said of the text to the start of `out`, and answers how many bytes that is; or there is no room for it.
+    // Writes what is said of the text to the start of `out`, and nothing behind it; answers how many bytes, or that there is no room.
     fn answer(text: &[u8], out: &mut [u8]) -> Option<usize>
         requires { suffices (length out.old) }
-        ensures { Answers (says (length out.old) text.now) result out.new };
+        ensures { Answers (says (length out.old) text.now) out.old result out.new };
 }
 
 // An area of so many zeros.
 pub fn area<const N: usize>() -> [u8; N]
-    ensures { length result ≡ N }
+    ensures len { length result ≡ N }
+    ensures zeros { result ≡ replicate N 0 }
 {
     [0; N]
 }

@@ -1,11 +1,13 @@
 // The program `report`: the text of a suite from standard input, to standard output what came of it.
 #![tactic(auto)]
 
-ghost use Rattle.std.specs.Prelude.{◌≡◌, ◌≤◌, length, ⊤};
+ghost use Rattle.std.specs.Prelude.{◌≡◌, ◌≤◌, length, take, IfSome, OnOk, ⊤};
+ghost use Rattle.std.specs.Io.KnownBytes.{Appends};
 ghost use Rattle.suite_text.specs.Report.{suite_printed};
 
-use programs::{Program, area, run};
+use programs::{Program, area};
 use std::io;
+use std::io::{Read, Write};
 use suite_text::report;
 
 // A text of over 1,048,576 bytes is bad input: room for one byte more is enough to tell.
@@ -28,9 +30,23 @@ impl Program for Report {
     }
 }
 
-// The mains of meet, explain, formula and report stay alike: each names its own rooms and answer, and that is all it has.
+// Reads the text, and prints what came of it.
+fn run<R: Read, W: Write>(
+    input: &mut R,
+    output: &mut W,
+    text: &mut [u8],
+    out: &mut [u8],
+) -> io::Result<()>
+    ensures { OnOk result (IfSome (R.remaining input.old) (λ all.
+        length (suite_printed (take (length text.old) all)) ≤ length out.old
+        → Appends (W.contents output.old) (W.contents output.new) (suite_printed (take (length text.old) all)))) }
+{
+    programs::run::<Report, R, W>(input, output, text, out)
+}
+
+// The mains of meet, explain, formula and report stay alike: each lends its own rooms to its own run, and that is all it has.
 fn main(rt: HostRuntime) -> io::Result<()> {
     let mut text = area::<TEXT_ROOM>();
     let mut out = area::<OUT_ROOM>();
-    run::<Report, _, _>(&mut rt.stdin(), &mut rt.stdout(), &mut text, &mut out)
+    run(&mut rt.stdin(), &mut rt.stdout(), &mut text, &mut out)
 }

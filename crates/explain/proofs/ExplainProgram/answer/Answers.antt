@@ -9,4 +9,4 @@ pub returns : goal.returns
 returns c =
     let told = c.explain_text.ensures in
     (answered (ExplainedText (heard c.args.text.now)) _ _ _ _ told.wrote told.explained
-    (λ long. absurd (omega (arith, told.small, c.requires, long))))
+    (λ long any. absurd (omega (arith, told.small, c.requires, long))))

@@ -9,4 +9,4 @@ pub returns : goal.returns
 returns c =
     let replied = c.reply.ensures in
     (answered (Prints c.args.text.now) _ _ _ _ replied.wrote replied.prints
-    (λ long. absurd (omega (arith, prints_small c.args.text.now replied.text replied.prints, c.requires, long))))
+    (λ long any. absurd (omega (arith, prints_small c.args.text.now replied.text replied.prints, c.requires, long))))

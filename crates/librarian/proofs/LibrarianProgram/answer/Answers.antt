@@ -9,4 +9,4 @@ pub returns : goal.returns
 returns c =
     let byte : (i : ℕ) → get_or c.args.text.now i 0 < 256 = λ i. omega (arith, c.type_inv.text i) in
     (answered (λ said. said ≡ serves c.args.text.now) _ _ _ _ c.serve.ensures refl
-    (λ long. absurd (omega (arith, serves_small c.args.text.now byte, long))))
+    (λ long any. absurd (omega (arith, serves_small c.args.text.now byte, long))))

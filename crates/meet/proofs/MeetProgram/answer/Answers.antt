@@ -8,4 +8,4 @@ use Rattle.meet.proofs.MeetProgram.answer.Goals as goal
 pub returns : goal.returns
 returns c =
     (answered (λ said. said ≡ printed c.args.text.now) _ _ _ _ c.reply.ensures refl
-    (λ long. absurd (omega (arith, printed_small c.args.text.now, c.requires, long))))
+    (λ long any. absurd (omega (arith, printed_small c.args.text.now, c.requires, long))))
