@@ -32,7 +32,7 @@ struct Kept {
 // What is left of a disjunction: how many disjunctions come of it, how many words there are from them on, and the last alternative
 // before it.
 #[derive(Clone, Copy)]
-struct Branch {
+pub struct Branch {
     count: u32,
     inner: usize,
     before: usize,
