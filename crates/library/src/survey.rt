@@ -56,9 +56,9 @@ fn find_holder(start: &[u8; BLOCK], count: usize, k: usize) -> Option<Holder>
     None
 }
 
-// Checks block k of a library whose index is good.
+// Checks block k of a library whose index is good and counts so many entries; the index is not judged again.
 #[tactic(auto, unfolding(crate::specs::Check::held_checked))]
-fn check_held(file: &[u8], count: usize, k: usize) -> Result<Option<usize>, CheckError>
+pub fn check_held(file: &[u8], count: usize, k: usize) -> Result<Option<usize>, CheckError>
     requires { Ok count ≡ index_of file.now }
     ensures { result ≡ held_checked k count file.now }
 {
