@@ -16,6 +16,7 @@ use Rattle.std.specs.Prelude.{Option, Some, None, Ok, Err}
 use Rattle.library.specs.declared.index.Place.{Place}
 use Rattle.library.specs.declared.read.ReadError.TheVariants as error
 use Rattle.library.specs.declared.survey.Holder.{Holder}
+use Rattle.library.proofs.Opening.{block_held}
 use Rattle.library.proofs.Indices.{placed_is}
 use Rattle.library.proofs.Good.{Sound, goes, after_entry}
 use Rattle.library.proofs.Back.{first_found, later_found}
@@ -200,8 +201,7 @@ held_costs_is (Some h) k f id e = go h.identifier h.used (intact h.used k (block
 
 module _ (f : List ℕ) (count : ℕ) (good : index_of f ≡ Ok count) where
   checks : (k : ℕ) → block_checked k f ≡ held_checked k count f
-  unfolding block_checked checked_by
-  checks k = ap (λ (x : Index). checked_by x k f) good
+  checks k = sym (block_held k count f (sym good))
 
   reads : (id room : ℕ) → fetch_answer f id room ≡ fetch_answer_found (sought id count f) f room
   unfolding fetch_answer fetch_answer_by

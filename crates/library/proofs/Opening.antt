@@ -2,18 +2,18 @@
 -- Assumes nothing.
 use Prim.Native.Nat.{ℕ, ◌*◌, ◌/◌, ◌%◌, ◌≤◌, ◌<◌}
 use native.Mathlib.Omega.{arith}
-use mathlib.Core.Path.{◌≡◌, refl, sym}
+use mathlib.Core.Path.{◌≡◌, refl, sym, ap}
 use mathlib.Core.Bool.{true, false, not}
 use mathlib.Core.List.{List, ◌++◌}
 use lib.ListN.{length, take, drop}
 use lib.Seq.{length-take-le}
 use borrow.Author.Tests.{eq-eqb, ne_eqb, le-leb, lt-leb}
 use Rattle.blocks.specs.Block.{intact, block_of}
-use Rattle.library.specs.Index.{start_of, index_of, found}
+use Rattle.library.specs.Index.{Index, start_of, index_of, found}
 use Rattle.library.specs.Contents.{listing}
 use Rattle.library.specs.List.{list_answer_of, ListsEntries}
 use Rattle.library.specs.Read.{Fetched, fetch_answer_found, words_found, sought, FetchesAt, FetchesFound}
-use Rattle.library.specs.Check.{holder_of, checked_in, held_checked}
+use Rattle.library.specs.Check.{holder_of, checked_in, held_checked, checked_by, block_checked}
 use Rattle.library.specs.declared.index.Place.{Place}
 use Rattle.library.specs.declared.survey.Holder.{Holder}
 use Rattle.library.specs.declared.list.ListError.TheVariants as listing_error
@@ -26,6 +26,16 @@ use Rattle.std.specs.Prelude.{Option, Some, None, Ok, Err}
 -- a good index stands in a file that has a block
 pub never_short : (f : List ℕ) (count : ℕ) → Ok count ≡ index_of f → length f < 512 → ⊥
 never_short f count e h = let long = (opens f count e).long in omega arith
+
+-- a block of a library whose index counts so many entries is told as any block is
+pub block_held : (k count : ℕ) (f : List ℕ) → Ok count ≡ index_of f → held_checked k count f ≡ block_checked k f
+unfolding block_checked checked_by
+block_held k count f good = ap (λ (x : Index). checked_by x k f) good
+
+-- block 0 costs no description
+pub held_start : (k count : ℕ) (f : List ℕ) → k ≡ 0 → Ok None ≡ held_checked k count f
+unfolding held_checked
+held_start k count f start = rw (eq-eqb k 0 start)
 
 module _ (f b : List ℕ) (same : b ≡ take 512 f) where
   pub starts : length f % 512 ≡ 0 → 512 ≤ length f → start_of b (length f / 512) ≡ index_of f

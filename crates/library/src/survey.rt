@@ -2,9 +2,9 @@
 ghost use Rattle.std.specs.Prelude.{◌≡◌, ◌<◌, ◌≤◌, Ok};
 ghost use Rattle.library.specs.declared.survey.CheckError.TheVariants.{Index};
 ghost use Rattle.library.specs.Index.{index_of};
-ghost use Rattle.library.specs.Check.{block_among, holder_of, held_checked, block_checked};
+ghost use Rattle.library.specs.Check.{block_among, holder_of, block_checked};
 
-use crate::index::{IndexError, WORDS, blocks_for, entry_at, first_part, judge_index};
+use crate::index::{ENTRIES, IndexError, WORDS, blocks_for, entry_at, first_part, judge_index};
 use blocks::{BLOCK, is_damaged, read_pair};
 
 // The description that a block belongs to, and how many bytes of the block's content it uses.
@@ -56,12 +56,13 @@ fn find_holder(start: &[u8; BLOCK], count: usize, k: usize) -> Option<Holder>
     None
 }
 
-// Checks block k of a library whose index is good and counts so many entries; the index is not judged again.
-#[tactic(auto, unfolding(crate::specs::Check::held_checked))]
+// Checks block k of a library whose index counts so many entries; the index is not judged again.
 pub fn check_held(file: &[u8], count: usize, k: usize) -> Result<Option<usize>, CheckError>
-    requires { Ok count ≡ index_of file.now }
-    ensures { result ≡ held_checked k count file.now }
+    ensures { Ok count ≡ index_of file.now → result ≡ block_checked k file.now }
 {
+    if ENTRIES < count {
+        return Err(CheckError::Index(IndexError::BadIndex));
+    }
     if k == 0 {
         return Ok(None);
     }

@@ -14,7 +14,7 @@ use Rattle.library.specs.Index.{Index, index_of}
 use Rattle.library.specs.Read.{Fetched, fetch_answer, Fetches, words_asked}
 use Rattle.library.specs.List.{Listed, list_answer, ListsLibrary, list_by}
 use Rattle.library.specs.Told.{list_number, list_extent, fetch_number, fetch_extent}
-use Rattle.library.specs.Check.{Checked, held_checked, checked_by, block_checked}
+use Rattle.library.specs.Check.{Checked, block_checked}
 use Rattle.library.specs.File.{file}
 use Rattle.library.specs.declared.list.ListError.TheVariants as listing
 use Rattle.library.specs.declared.read.ReadError.TheVariants as reading
@@ -117,11 +117,6 @@ module _ (f : List ℕ) (id : ℕ) (area area' : List ℕ) where
         (p.answer ∙ ap (fetch_answer f id) size) (fetch_leaves r p) fetch_within
 
 -- ---- 3
--- a block of a library whose index counts so many entries is told as any block is
-pub block_held : (k count : ℕ) (f : List ℕ) → Ok count ≡ index_of f → held_checked k count f ≡ block_checked k f
-unfolding block_checked checked_by
-block_held k count f good = ap (λ (x : Index). checked_by x k f) good
-
 module _ (k : ℕ) (f : List ℕ) where
   pub line_checked : (x : Checked) → x ≡ block_checked k f → checked_line k x ≡ block_line k f
   unfolding block_line
