@@ -33,9 +33,9 @@ struct Kept {
 // before it.
 #[derive(Clone, Copy)]
 pub struct Branch {
-    count: u32,
-    inner: usize,
-    before: usize,
+    pub count: u32,
+    pub inner: usize,
+    pub before: usize,
 }
 
 // What was given to, or had come to, the alternative x comes to k.
