@@ -7,7 +7,7 @@ ghost use Rattle.call_text.specs.Call.{heard};
 ghost use Rattle.explaining.specs.Explained.{ExplainedText};
 
 use explaining::explain_text;
-use programs::{Program, area};
+use programs::{Exact, area};
 use std::io;
 use std::io::{Read, Write};
 
@@ -20,7 +20,7 @@ const OUT_ROOM: usize = 32768;
 #[derive(Clone, Copy)]
 struct Explain;
 
-impl Program for Explain {
+impl Exact for Explain {
     ghost says = { λ room text said. ExplainedText (heard text) said };
 
     ghost suffices = { λ room. 32768 ≤ room };

@@ -6,7 +6,7 @@ ghost use Rattle.std.specs.Io.KnownBytes.{Appends};
 ghost use Rattle.formula_text.specs.Printed.{Prints};
 
 use formula_text::reply;
-use programs::{Program, area};
+use programs::{Exact, area};
 use std::io;
 use std::io::{Read, Write};
 
@@ -19,7 +19,7 @@ const OUT_ROOM: usize = 16384;
 #[derive(Clone, Copy)]
 struct Formula;
 
-impl Program for Formula {
+impl Exact for Formula {
     ghost says = { λ room text said. Prints text said };
 
     ghost suffices = { λ room. 16384 ≤ room };

@@ -7,7 +7,7 @@ ghost use Rattle.answer_text.specs.Answer.{bad_text};
 ghost use Rattle.library_text.specs.Serves.{serves};
 
 use library_text::serve;
-use programs::{Program, area, print};
+use programs::{Exact, area, print};
 use std::io;
 use std::io::{Read, Write};
 use streams::read_full;
@@ -21,7 +21,7 @@ const OUT_ROOM: usize = 280000;
 #[derive(Clone, Copy)]
 struct Librarian;
 
-impl Program for Librarian {
+impl Exact for Librarian {
     ghost says = { λ room text said. said ≡ serves text };
 
     ghost suffices = { λ room. 280000 ≤ room };

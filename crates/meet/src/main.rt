@@ -5,7 +5,7 @@ ghost use Rattle.std.specs.Prelude.{◌≡◌, ◌≤◌, length, take, IfSome, 
 ghost use Rattle.std.specs.Io.KnownBytes.{Appends};
 ghost use Rattle.reply.specs.Printed.{printed};
 
-use programs::{Program, area};
+use programs::{Exact, area};
 use reply::reply;
 use std::io;
 use std::io::{Read, Write};
@@ -19,7 +19,7 @@ const OUT_ROOM: usize = 32768;
 #[derive(Clone, Copy)]
 struct Meet;
 
-impl Program for Meet {
+impl Exact for Meet {
     ghost says = { λ room text said. said ≡ printed text };
 
     ghost suffices = { λ room. 32768 ≤ room };

@@ -2,7 +2,7 @@
 #![tactic(auto)]
 
 ghost use Rattle.std.specs.Prelude.{◌≡◌, List, ℕ, length, take, replicate, IfSome, OnOk};
-ghost use Rattle.programs.specs.Said.{Answers, Prints};
+ghost use Rattle.programs.specs.Said.{Answers, AnswersExactly, Prints};
 
 use std::io;
 use std::io::{Read, Write};
@@ -16,10 +16,38 @@ pub trait Program {
     // Whether an area of so many bytes is enough.
     ghost suffices: { ℕ → Type 0 };
 
+    // Writes what is said of the text to the start of `out`, and answers how many bytes that is; or there is no room for it.
+    fn answer(text: &[u8], out: &mut [u8]) -> Option<usize>
+        requires { suffices (length out.old) }
+        ensures { Answers (says (length out.old) text.now) result out.new };
+}
+
+// A program that writes nothing behind what it says, and has no room only where whatever is said may be.
+pub trait Exact {
+    // What may be said of a text in an area of so many bytes.
+    ghost says: { ℕ → List ℕ → List ℕ → Type 0 };
+
+    // Whether an area of so many bytes is enough.
+    ghost suffices: { ℕ → Type 0 };
+
     // Writes what is said of the text to the start of `out`, and nothing behind it; answers how many bytes, or that there is no room.
     fn answer(text: &[u8], out: &mut [u8]) -> Option<usize>
         requires { suffices (length out.old) }
-        ensures { Answers (says (length out.old) text.now) out.old result out.new };
+        ensures { AnswersExactly (says (length out.old) text.now) out.old result out.new };
+}
+
+// Each exact program is a program, and answers exactly as one too.
+impl<P: Exact> Program for P {
+    ghost says = { P.Exact.says };
+
+    ghost suffices = { P.Exact.suffices };
+
+    fn answer(text: &[u8], out: &mut [u8]) -> Option<usize>
+        requires { P.Exact.suffices (length out.old) }
+        ensures { AnswersExactly (P.Exact.says (length out.old) text.now) out.old result out.new }
+    {
+        <P as Exact>::answer(text, out)
+    }
 }
 
 // An area of so many zeros.
@@ -53,3 +81,6 @@ pub fn run<P: Program, R: Read, W: Write>(
     let n = read_full(input, text)?;
     print::<P, W>(output, &text[..n], out)
 }
+
+#[cfg(test)]
+mod tests;

@@ -5,7 +5,7 @@ ghost use Rattle.std.specs.Prelude.{◌≡◌, ◌≤◌, length, take, IfSome, 
 ghost use Rattle.std.specs.Io.KnownBytes.{Appends};
 ghost use Rattle.suite_text.specs.Report.{suite_printed};
 
-use programs::{Program, area};
+use programs::{Exact, area};
 use std::io;
 use std::io::{Read, Write};
 use suite_text::report;
@@ -19,7 +19,7 @@ const OUT_ROOM: usize = 1114112;
 #[derive(Clone, Copy)]
 struct Report;
 
-impl Program for Report {
+impl Exact for Report {
     ghost says = { λ room text said. length (suite_printed text) ≤ room → said ≡ suite_printed text };
 
     ghost suffices = { λ room. ⊤ };
